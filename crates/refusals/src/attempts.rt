@@ -136,7 +136,7 @@ fn shown(alloc: Global, ready: &Ready) -> Result<String, AllocError> {
 }
 
 /// What is told of where the attempt stands.
-fn told(alloc: Global, next: &Next) -> Result<String, AllocError> {
+fn reported(alloc: Global, next: &Next) -> Result<String, AllocError> {
     match next {
         Next::Fetch { key, at } => format!(in alloc; "fetch {key} at {at}"),
         Next::Ready(ready) => shown(alloc, ready),
@@ -146,8 +146,8 @@ fn told(alloc: Global, next: &Next) -> Result<String, AllocError> {
 
 /// What is told of where it stood first and where it stands then.
 fn line_of(alloc: Global, first: &Next, then: &Next) -> Result<String, AllocError> {
-    let first = told(alloc, first)?;
-    let then = told(alloc, then)?;
+    let first = reported(alloc, first)?;
+    let then = reported(alloc, then)?;
     format!(in alloc; "{first}, {then}\n")
 }
 

@@ -53,7 +53,7 @@ fn put_both(store: &mut Store, txn: &Txn) -> Result<()> {
 }
 
 /// Grants both leases, and puts a key on each.
-fn hang_both(alloc: Global, store: &mut Store) -> Result<()> {
+fn attach_both(alloc: Global, store: &mut Store) -> Result<()> {
     grant_again(store, 1)?;
     grant_again(store, 2)?;
     let txn = puts_again(alloc)?;
@@ -92,7 +92,7 @@ fn advance_again(store: &mut Store, expired: &mut Vec<Expired>) -> Result<()> {
 }
 
 /// Tells how far an advance had come.
-fn tell_cut(rt: &impl Eprint, leases: usize) -> Result<()> {
+fn report_cut(rt: &impl Eprint, leases: usize) -> Result<()> {
     eprintln!(rt; "stopped with {leases} leases told")?;
     Ok(())
 }
@@ -104,7 +104,7 @@ fn go_on(rt: &impl Eprint, store: &mut Store, refused: AdvanceRefused) -> Result
     }
     let mut expired = refused.expired.into_vec();
     look_between(store, expired.as_slice())?;
-    tell_cut(rt, expired.len())?;
+    report_cut(rt, expired.len())?;
     advance_again(store, &mut expired)?;
     Ok(expired)
 }
@@ -137,7 +137,7 @@ fn line_again(alloc: Global, expired: &[Expired], left: usize) -> Result<String,
 
 /// Hangs both keys in a store, and ends their leases.
 fn lines_on(rt: &impl Eprint, alloc: Global, store: &mut Store) -> Result<String> {
-    hang_both(alloc, store)?;
+    attach_both(alloc, store)?;
     let expired = expire_both(rt, store)?;
     let line = line_again(alloc, expired.as_slice(), store.keys().len())?;
     Ok(line)

@@ -106,7 +106,7 @@ fn run_rest<T: Threads + Wait + Sync>(
 }
 
 /// Tells why a run was broken off. Fails where it should not have been.
-fn tell_cause(rt: &impl Eprint, cause: FaultCause) -> Result<()> {
+fn report_cause(rt: &impl Eprint, cause: FaultCause) -> Result<()> {
     match cause {
         FaultCause::OutOfMemory => eprintln!(rt; "broken off for want of memory")?,
         FaultCause::Spawn => eprintln!(rt; "broken off for want of a thread")?,
@@ -117,7 +117,7 @@ fn tell_cause(rt: &impl Eprint, cause: FaultCause) -> Result<()> {
 
 /// Tells why a run was broken off, and what the accounts have together.
 fn look_between(rt: &impl Eprint, fault: &RunFault) -> Result<u64> {
-    tell_cause(rt, fault.cause)?;
+    report_cause(rt, fault.cause)?;
     add_up(&fault.hall)
 }
 

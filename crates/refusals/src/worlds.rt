@@ -92,7 +92,7 @@ fn add_rest(replies: &mut Replies, before: Sequence<Expired>, rest: Replies) -> 
 }
 
 /// Tells how far a run had come.
-fn tell_stop(rt: &impl Eprint, stop: &RunStop) -> Result<()> {
+fn report_stop(rt: &impl Eprint, stop: &RunStop) -> Result<()> {
     let leases = stop.expired.len();
     eprintln!(rt; "stopped with {leases} leases told")?;
     Ok(())
@@ -112,7 +112,7 @@ fn go_on(
     if stop.done > events.len() {
         bail!("more events were taken than there are");
     }
-    tell_stop(rt, &stop)?;
+    report_stop(rt, &stop)?;
     let (taken, left) = events.split_at(stop.done);
     let rest = run_whole(world, left)?;
     let mut replies = replies_anew(alloc, opening, taken)?;

@@ -12,7 +12,7 @@ use Rattle.clap.specs.declared.parser.matches.ArgMatches.{ArgMatches}
 use Rattle.stm_arguments.specs.declared.arguments.Asked.{Asked}
 use Rattle.stm_arguments.specs.declared.arguments.Asked.TheVariants.{Script, Check, Threads, Recipe, Explore, Nothing}
 use Rattle.stm_arguments.specs.Asking.{Asks, AsksBy, HasFiles, HasName, HasSearch, HasNumbers, IsWhole}
-use Rattle.stm_arguments.specs.CommandLine.{IsStatusOf, IsToldBy, faults_of, stmrun_app}
+use Rattle.stm_arguments.specs.CommandLine.{IsStatusOf, IsReportedBy, faults_of, stmrun_app}
 
 module _ (app : App) (is : app ≡ stmrun_app) (words : List Text) where
   pub matched : (m : ArgMatches) → HasMatchesOf app words m → subcommand_rows_of m ≡ subcommand_of stmrun_app words
@@ -21,10 +21,10 @@ module _ (app : App) (is : app ≡ stmrun_app) (words : List Text) where
   pub no_fault : (m : ArgMatches) → (is_simple_and_free app ≡ true → FailsBy (fault_of app words) (Ok m)) → faults_of words ≡ []
   no_fault m fails = subst (λ (a : App). is_simple_and_free a ≡ true → FailsBy (fault_of a words) (Ok m)) is fails refl
 
-  pub failed : (e : Error) (status : ℕ) → (is_simple_and_free app ≡ true → FailsBy {T = ArgMatches} (fault_of app words) (Err e)) → IsToldBy (kind_of e) status
+  pub failed : (e : Error) (status : ℕ) → (is_simple_and_free app ≡ true → FailsBy {T = ArgMatches} (fault_of app words) (Err e)) → IsReportedBy (kind_of e) status
       → IsStatusOf (faults_of words) status
-  failed e status fails told =
-      (kind_of e, subst (λ (a : App). is_simple_and_free a ≡ true → FailsBy {T = ArgMatches} (fault_of a words) (Err e)) is fails refl, told)
+  failed e status fails reported =
+      (kind_of e, subst (λ (a : App). is_simple_and_free a ≡ true → FailsBy {T = ArgMatches} (fault_of a words) (Err e)) is fails refl, reported)
 
 asks_something : (rows : Option (Text × List Row)) (status : ℕ) → AsksBy rows (Nothing status) → ⊥
 asks_something None status by = by
@@ -48,9 +48,9 @@ no_number high text not is = not (is.0, is.1)
 -- one that spells a number spells none from 1 to another where that number is none of these
 pub none_in_range : (high : ℕ) (text : Text) (number : ℕ) (taken : Option ℕ) → number ≡ digits_value 10 (without_leading_plus text)
     → IfNone taken ((1 ≤ number) × (number ≤ high) → ⊥) → IfNone taken (IsUnsignedIn 1 high text → ⊥)
-none_in_range high text number (Some n) is told = tt
-none_in_range high text number None is told = λ range.
-    told (subst (λ (n : ℕ). 1 ≤ n) (sym is) range.2, subst (λ (n : ℕ). n ≤ high) (sym is) range.3)
+none_in_range high text number (Some n) is reported = tt
+none_in_range high text number None is reported = λ range.
+    reported (subst (λ (n : ℕ). 1 ≤ n) (sym is) range.2, subst (λ (n : ℕ). n ≤ high) (sym is) range.3)
 
 -- a parser of all numbers of 64 bits, narrowed to those from 1 to 16
 pub narrowed : (all parser : ValueParser) (low high : ℤ) → all ≡ Unsigned 0 18446744073709551615 → low ≡ pos 1 → high ≡ pos 16

@@ -94,8 +94,8 @@ status_of_kind OutOfMemory = 3
 status_of_kind _ = 2
 
 -- the status of a fault of this kind: for help and the version also 3, where it could not be printed
-abbrev pub IsToldBy : ErrorKind → ℕ → Type 0
-IsToldBy kind status = (status ≡ status_of_kind kind) ⊎ (((kind ≡ DisplayHelp) ⊎ (kind ≡ DisplayVersion)) × (status ≡ 3))
+abbrev pub IsReportedBy : ErrorKind → ℕ → Type 0
+IsReportedBy kind status = (status ≡ status_of_kind kind) ⊎ (((kind ≡ DisplayHelp) ⊎ (kind ≡ DisplayVersion)) × (status ≡ 3))
 
 -- the kinds that the first fault of a command line may have, the program's name first in it; none where it is right
 abbrev pub faults_of : List Text → Kinds
@@ -103,4 +103,4 @@ faults_of words = fault_of stmrun_app words
 
 -- the status is that of a fault of one of these kinds, or of want of memory
 abbrev pub IsStatusOf : Kinds → ℕ → Type 0
-IsStatusOf kinds status = (kind : ErrorKind) × ((kind ≡ OutOfMemory) ⊎ IsAmong kind kinds) × IsToldBy kind status
+IsStatusOf kinds status = (kind : ErrorKind) × ((kind ≡ OutOfMemory) ⊎ IsAmong kind kinds) × IsReportedBy kind status

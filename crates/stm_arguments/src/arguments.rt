@@ -2,7 +2,7 @@
 ghost use Rattle.std.specs.Prelude.{◌≡◌, ◌≤◌, ◌⊎◌, codes, false, true, IfOk, IfErr, IfNone, IfSome, Some, map, option_map, string_bytes};
 ghost use Rattle.clap.specs.Simple.{on_top};
 ghost use Rattle.clap.specs.Words.{IsUnsignedIn, app_of, first_of, found_of, kind_of, new_app, new_rule, rows_of, rule_of, subcommand_rows_of};
-ghost use Rattle.stm_arguments.specs.CommandLine.{format_rule, script_app, check_app, threads_app, recipe_app, stmrun_app, explain_rule, flag_rule, wanted, workers_rule, IsAddedAs, IsToldBy};
+ghost use Rattle.stm_arguments.specs.CommandLine.{format_rule, script_app, check_app, threads_app, recipe_app, stmrun_app, explain_rule, flag_rule, wanted, workers_rule, IsAddedAs, IsReportedBy};
 ghost use Rattle.stm_arguments.specs.Asking.{Asks, AsksAt, AsksBy, HasFiles, HasName, HasNumbers, IsWhole, NamesNumber, is_set};
 
 use crate::exploring::{explore_command, explore_of, option};
@@ -436,8 +436,8 @@ fn command<'a>(alloc: Global) -> Result<Command<'a>, AllocError>
 
 /// The status of a command line that is refused, or that asks for help or the version, once its text is printed: 0 for help and
 /// version that were printed, 3 for want of memory and where they could not be printed, and 2 for usage, printed or not.
-fn told<R: Print + Eprint>(rt: &R, error: &Error) -> u8
-    ensures { IsToldBy (kind_of error.now) result }
+fn reported<R: Print + Eprint>(rt: &R, error: &Error) -> u8
+    ensures { IsReportedBy (kind_of error.now) result }
 {
     match error.kind() {
         ErrorKind::OutOfMemory => fail(rt, "stmrun: out of memory", 3),
@@ -628,7 +628,7 @@ pub fn asked_of<'a, R: Print + Eprint>(rt: &R, alloc: Global, words: &'a [String
             Some(asked) => asked,
             None => unreachable!(),
         },
-        Err(error) => Asked::Nothing(told(rt, &error)),
+        Err(error) => Asked::Nothing(reported(rt, &error)),
     }
 }
 

@@ -40,22 +40,22 @@ read_nothing reads Fresh begun = begun
 read_nothing reads (Started m) begun = absurd begun
 read_nothing reads (Ended run) begun = absurd begun
 
-at_first : (before : Option ProgramTree) (reads prefetched : List ReadAnswer) (told : ℕ) (progress : Progress) → before ≡ None →
-    IsAttempt before reads prefetched told progress → reads ≡ []
-at_first None reads prefetched told progress none is = read_nothing reads progress is
-at_first (Some p) reads prefetched told progress none is = absurd (cc)
+at_first : (before : Option ProgramTree) (reads prefetched : List ReadAnswer) (reported : ℕ) (progress : Progress) → before ≡ None →
+    IsAttempt before reads prefetched reported progress → reads ≡ []
+at_first None reads prefetched reported progress none is = read_nothing reads progress is
+at_first (Some p) reads prefetched reported progress none is = absurd (cc)
 
-pub at_next : (program : ProgramTree) (before : Option ProgramTree) (reads prefetched : List ReadAnswer) (told : ℕ) (progress : Progress) →
-    before ≡ Some program → IsAttempt before reads prefetched told progress → IsUnderWay program reads prefetched told progress
-at_next program None reads prefetched told progress some is = absurd (cc)
-at_next program (Some p) reads prefetched told progress some is =
+pub at_next : (program : ProgramTree) (before : Option ProgramTree) (reads prefetched : List ReadAnswer) (reported : ℕ) (progress : Progress) →
+    before ≡ Some program → IsAttempt before reads prefetched reported progress → IsUnderWay program reads prefetched reported progress
+at_next program None reads prefetched reported progress some is = absurd (cc)
+at_next program (Some p) reads prefetched reported progress some is =
     let same : p ≡ program = cc in
-    subst (λ (q : ProgramTree). IsUnderWay q reads prefetched told progress) same is
+    subst (λ (q : ProgramTree). IsUnderWay q reads prefetched reported progress) same is
 
-pub attempt_of : (program : ProgramTree) (before : Option ProgramTree) (reads prefetched : List ReadAnswer) (told : ℕ) (progress : Progress) →
-    before ≡ Some program → IsUnderWay program reads prefetched told progress → IsAttempt before reads prefetched told progress
-attempt_of program before reads prefetched told progress some way =
-    subst (λ (o : Option ProgramTree). IsAttempt o reads prefetched told progress) (sym some) way
+pub attempt_of : (program : ProgramTree) (before : Option ProgramTree) (reads prefetched : List ReadAnswer) (reported : ℕ) (progress : Progress) →
+    before ≡ Some program → IsUnderWay program reads prefetched reported progress → IsAttempt before reads prefetched reported progress
+attempt_of program before reads prefetched reported progress some way =
+    subst (λ (o : Option ProgramTree). IsAttempt o reads prefetched reported progress) (sym some) way
 
 abbrev no_reads : List ReadAnswer
 no_reads = []
@@ -65,21 +65,21 @@ take_of_nothing zero = refl
 take_of_nothing (suc n) = refl
 
 -- an attempt without a program has read nothing
-pub seen_at_first : (old : AttemptState) (before : Option ProgramTree) (level : Level) (reads prefetched : List ReadAnswer) (told : ℕ) (progress : Progress) →
-    seen_as before level (take told reads) prefetched ≡ old → old.program ≡ None → IsAttempt before reads prefetched told progress →
+pub seen_at_first : (old : AttemptState) (before : Option ProgramTree) (level : Level) (reads prefetched : List ReadAnswer) (reported : ℕ) (progress : Progress) →
+    seen_as before level (take reported reads) prefetched ≡ old → old.program ≡ None → IsAttempt before reads prefetched reported progress →
     seen_as None level [] prefetched ≡ old
-seen_at_first old before level reads prefetched told progress view none is =
+seen_at_first old before level reads prefetched reported progress view none is =
     let first : before ≡ None = ap (λ (v : AttemptState). v.program) view ∙ none in
-    let empty : reads ≡ [] = at_first before reads prefetched told progress first is in
-    let front : take told reads ≡ [] = ap (λ (l : List ReadAnswer). take told l) empty ∙ take_of_nothing told in
-    sym (ap (λ (o : Option ProgramTree). seen_as o level (take told reads) prefetched) first
+    let empty : reads ≡ [] = at_first before reads prefetched reported progress first is in
+    let front : take reported reads ≡ [] = ap (λ (l : List ReadAnswer). take reported l) empty ∙ take_of_nothing reported in
+    sym (ap (λ (o : Option ProgramTree). seen_as o level (take reported reads) prefetched) first
     ∙ ap (λ (l : List ReadAnswer). seen_as None level l prefetched) front)
     ∙ view
 
 -- ---- all reads are told
 
-pub all_told : (told : ℕ) (reads : List ReadAnswer) → told ≡ length reads → take told reads ≡ reads
-all_told told reads whole = ap (λ (n : ℕ). take n reads) whole ∙ take-length reads
+pub all_reported : (reported : ℕ) (reads : List ReadAnswer) → reported ≡ length reads → take reported reads ≡ reads
+all_reported reported reads whole = ap (λ (n : ℕ). take n reads) whole ∙ take-length reads
 
 -- ---- what is answered, and what is left
 
@@ -87,102 +87,102 @@ pub next_from : (program : ProgramTree) (old : AttemptState) (before : Option Pr
     (next : Next) →
     seen_as before level front prefetched ≡ old → gone_on program (known_of reads prefetched) ≡ gone_on program (known_of front prefetched) →
     next ≡ next_of program level (known_of reads prefetched) → next ≡ next_of program old.level old.known
-next_from program old before level reads front prefetched next view ahead told =
-    told ∙ ap (next_on program level) ahead ∙ ap (λ (v : AttemptState). next_of program v.level v.known) view
+next_from program old before level reads front prefetched next view ahead reported =
+    reported ∙ ap (next_on program level) ahead ∙ ap (λ (v : AttemptState). next_of program v.level v.known) view
 
 pub left_from : (program : ProgramTree) (old : AttemptState) (before after_program : Option ProgramTree) (level : Level)
-    (reads front prefetched after : List ReadAnswer) (told : ℕ) →
+    (reads front prefetched after : List ReadAnswer) (reported : ℕ) →
     seen_as before level front prefetched ≡ old → gone_on program (known_of reads prefetched) ≡ gone_on program (known_of front prefetched) →
-    after_program ≡ Some program → told ≡ length after → after ≡ gone_on program (known_of reads prefetched) →
-    seen_as after_program level (take told after) prefetched ≡ advanced program old
-left_from program old before after_program level reads front prefetched after told view ahead kept whole settles =
-    ap (λ (o : Option ProgramTree). seen_as o level (take told after) prefetched) kept
-    ∙ ap (λ (l : List ReadAnswer). seen_as (Some program) level l prefetched) (all_told told after whole ∙ settles ∙ ahead)
+    after_program ≡ Some program → reported ≡ length after → after ≡ gone_on program (known_of reads prefetched) →
+    seen_as after_program level (take reported after) prefetched ≡ advanced program old
+left_from program old before after_program level reads front prefetched after reported view ahead kept whole settles =
+    ap (λ (o : Option ProgramTree). seen_as o level (take reported after) prefetched) kept
+    ∙ ap (λ (l : List ReadAnswer). seen_as (Some program) level l prefetched) (all_reported reported after whole ∙ settles ∙ ahead)
     ∙ ap (advanced program) view
 
 -- a refused call is not seen
-pub unseen : (program : ProgramTree) (old : AttemptState) (before : Option ProgramTree) (level : Level) (reads prefetched after : List ReadAnswer) (told : ℕ)
+pub unseen : (program : ProgramTree) (old : AttemptState) (before : Option ProgramTree) (level : Level) (reads prefetched after : List ReadAnswer) (reported : ℕ)
     (progress : Progress) →
-    seen_as before level (take told reads) prefetched ≡ old → IsUnderWay program reads prefetched told progress → Extends reads after →
-    seen_as before level (take told after) prefetched ≡ old
-unseen program old before level reads prefetched after told progress view way more =
-    ap (λ (l : List ReadAnswer). seen_as before level l prefetched) (front_stays told reads after way.within more) ∙ view
+    seen_as before level (take reported reads) prefetched ≡ old → IsUnderWay program reads prefetched reported progress → Extends reads after →
+    seen_as before level (take reported after) prefetched ≡ old
+unseen program old before level reads prefetched after reported progress view way more =
+    ap (λ (l : List ReadAnswer). seen_as before level l prefetched) (front_stays reported reads after way.within more) ∙ view
 
 pub asked_from : (program : ProgramTree) (old new : AttemptState) (next : Next) → new ≡ advanced program old →
     next ≡ next_of program old.level old.known → awaited new ≡ key_asked next
-asked_from program old new next left told = ap awaited left ∙ asked_is_awaited program old ∙ ap key_asked (sym told)
+asked_from program old new next left reported = ap awaited left ∙ asked_is_awaited program old ∙ ap key_asked (sym reported)
 
-pub asked_told : (program : ProgramTree) (old new : AttemptState) (told : Result Next AllocError) → OnOk told (new ≡ advanced program old) →
-    IfOk told (λ next. next ≡ next_of program old.level old.known) → IfOk told (λ next. awaited new ≡ key_asked next)
-asked_told program old new (Ok next) left is = asked_from program old new next left is
-asked_told program old new (Err error) left is = tt
+pub asked_reported : (program : ProgramTree) (old new : AttemptState) (reported : Result Next AllocError) → OnOk reported (new ≡ advanced program old) →
+    IfOk reported (λ next. next ≡ next_of program old.level old.known) → IfOk reported (λ next. awaited new ≡ key_asked next)
+asked_reported program old new (Ok next) left is = asked_from program old new next left is
+asked_reported program old new (Err error) left is = tt
 
 list_from : (program : ProgramTree) (old new : AttemptState) (next : Next) → new ≡ advanced program old →
     next ≡ next_of program old.level old.known → list_awaited new ≡ list_asked next
-list_from program old new next left told = ap list_awaited left ∙ list_is_awaited program old ∙ ap list_asked (sym told)
+list_from program old new next left reported = ap list_awaited left ∙ list_is_awaited program old ∙ ap list_asked (sym reported)
 
-pub list_told : (program : ProgramTree) (old new : AttemptState) (told : Result Next AllocError) → OnOk told (new ≡ advanced program old) →
-    IfOk told (λ next. next ≡ next_of program old.level old.known) → IfOk told (λ next. list_awaited new ≡ list_asked next)
-list_told program old new (Ok next) left is = list_from program old new next left is
-list_told program old new (Err error) left is = tt
+pub list_reported : (program : ProgramTree) (old new : AttemptState) (reported : Result Next AllocError) → OnOk reported (new ≡ advanced program old) →
+    IfOk reported (λ next. next ≡ next_of program old.level old.known) → IfOk reported (λ next. list_awaited new ≡ list_asked next)
+list_reported program old new (Ok next) left is = list_from program old new next left is
+list_reported program old new (Err error) left is = tt
 
 -- ---- an attempt that waits for a key
 
-pub record Waits (before : Option ProgramTree) (reads prefetched : List ReadAnswer) (told : ℕ) (progress : Progress) (key : List ℕ) : Type 0 where
+pub record Waits (before : Option ProgramTree) (reads prefetched : List ReadAnswer) (reported : ℕ) (progress : Progress) (key : List ℕ) : Type 0 where
   pub program : ProgramTree
   pub is : before ≡ Some program
-  pub way : IsUnderWay program reads prefetched told progress
-  pub whole : told ≡ length reads
+  pub way : IsUnderWay program reads prefetched reported progress
+  pub whole : reported ≡ length reads
   pub wants : wanted (run_on program reads) ≡ Some key
 
-waits_at : (before : Option ProgramTree) (level : Level) (reads prefetched : List ReadAnswer) (told : ℕ) (progress : Progress) (key : List ℕ) →
-    awaited (seen_as before level (take told reads) prefetched) ≡ Some key → IsAttempt before reads prefetched told progress →
-    Waits before reads prefetched told progress key
-waits_at None level reads prefetched told progress key asked is = absurd (cc)
-waits_at (Some program) level reads prefetched told progress key asked way =
-    let whole : told ≡ length reads = nothing_ahead program reads prefetched told key way.within way.ahead asked in
-    let front : wanted (run_on program (take told reads)) ≡ Some key =
-    wanted_by (serving (take told reads) prefetched) (wanted (run_on program (take told reads))) key
-    (awaits_unserved program (known_of (take told reads) prefetched) key asked) in
+waits_at : (before : Option ProgramTree) (level : Level) (reads prefetched : List ReadAnswer) (reported : ℕ) (progress : Progress) (key : List ℕ) →
+    awaited (seen_as before level (take reported reads) prefetched) ≡ Some key → IsAttempt before reads prefetched reported progress →
+    Waits before reads prefetched reported progress key
+waits_at None level reads prefetched reported progress key asked is = absurd (cc)
+waits_at (Some program) level reads prefetched reported progress key asked way =
+    let whole : reported ≡ length reads = nothing_ahead program reads prefetched reported key way.within way.ahead asked in
+    let front : wanted (run_on program (take reported reads)) ≡ Some key =
+    wanted_by (serving (take reported reads) prefetched) (wanted (run_on program (take reported reads))) key
+    (awaits_unserved program (known_of (take reported reads) prefetched) key asked) in
     record {
       program = program;
       is = refl;
       way = way;
       whole = whole;
-      wants = ap (λ (l : List ReadAnswer). wanted (run_on program l)) (sym (all_told told reads whole)) ∙ front;
+      wants = ap (λ (l : List ReadAnswer). wanted (run_on program l)) (sym (all_reported reported reads whole)) ∙ front;
     }
 
-pub waits : (old : AttemptState) (before : Option ProgramTree) (level : Level) (reads prefetched : List ReadAnswer) (told : ℕ) (progress : Progress)
-    (key : List ℕ) → seen_as before level (take told reads) prefetched ≡ old → awaited old ≡ Some key → IsAttempt before reads prefetched told progress →
-    Waits before reads prefetched told progress key
-waits old before level reads prefetched told progress key view asked is =
-    waits_at before level reads prefetched told progress key (ap awaited view ∙ asked) is
+pub waits : (old : AttemptState) (before : Option ProgramTree) (level : Level) (reads prefetched : List ReadAnswer) (reported : ℕ) (progress : Progress)
+    (key : List ℕ) → seen_as before level (take reported reads) prefetched ≡ old → awaited old ≡ Some key → IsAttempt before reads prefetched reported progress →
+    Waits before reads prefetched reported progress key
+waits old before level reads prefetched reported progress key view asked is =
+    waits_at before level reads prefetched reported progress key (ap awaited view ∙ asked) is
 
-pub new_key : (old : AttemptState) (before : Option ProgramTree) (level : Level) (reads prefetched : List ReadAnswer) (told : ℕ) (progress : Progress)
-    (key : List ℕ) → seen_as before level (take told reads) prefetched ≡ old → awaited old ≡ Some key → IsAttempt before reads prefetched told progress →
+pub new_key : (old : AttemptState) (before : Option ProgramTree) (level : Level) (reads prefetched : List ReadAnswer) (reported : ℕ) (progress : Progress)
+    (key : List ℕ) → seen_as before level (take reported reads) prefetched ≡ old → awaited old ≡ Some key → IsAttempt before reads prefetched reported progress →
     answer_in key reads ≡ None
-new_key old before level reads prefetched told progress key view asked is =
-    let w = waits old before level reads prefetched told progress key view asked is in
-    ap (λ (l : List ReadAnswer). answer_in key l) (sym (all_told told reads w.whole))
+new_key old before level reads prefetched reported progress key view asked is =
+    let w = waits old before level reads prefetched reported progress key view asked is in
+    ap (λ (l : List ReadAnswer). answer_in key l) (sym (all_reported reported reads w.whole))
     ∙ ap (λ (v : AttemptState). answer_in key v.known.reads) view
     ∙ awaited_is_new old key asked
 
-pub supplied_is : (old : AttemptState) (before : Option ProgramTree) (level : Level) (reads prefetched more : List ReadAnswer) (told count : ℕ)
-    (progress : Progress) (a : ReadAnswer) → seen_as before level (take told reads) prefetched ≡ old → awaited old ≡ Some a.key →
-    IsAttempt before reads prefetched told progress → more ≡ reads ++ a ∷ [] → count ≡ length more →
+pub supplied_is : (old : AttemptState) (before : Option ProgramTree) (level : Level) (reads prefetched more : List ReadAnswer) (reported count : ℕ)
+    (progress : Progress) (a : ReadAnswer) → seen_as before level (take reported reads) prefetched ≡ old → awaited old ≡ Some a.key →
+    IsAttempt before reads prefetched reported progress → more ≡ reads ++ a ∷ [] → count ≡ length more →
     seen_as before level (take count more) prefetched ≡ supplied a old
-supplied_is old before level reads prefetched more told count progress a view asked is pushed whole =
-    let w = waits old before level reads prefetched told progress a.key view asked is in
+supplied_is old before level reads prefetched more reported count progress a view asked is pushed whole =
+    let w = waits old before level reads prefetched reported progress a.key view asked is in
     ap (λ (l : List ReadAnswer). seen_as before level l prefetched)
-    (all_told count more whole ∙ pushed ∙ ap (λ (l : List ReadAnswer). l ++ a ∷ []) (sym (all_told told reads w.whole)))
+    (all_reported count more whole ∙ pushed ∙ ap (λ (l : List ReadAnswer). l ++ a ∷ []) (sym (all_reported reported reads w.whole)))
     ∙ ap (supplied a) view
 
-pub supplied_attempt : (old : AttemptState) (before : Option ProgramTree) (level : Level) (reads prefetched more : List ReadAnswer) (told count : ℕ)
-    (progress : Progress) (a : ReadAnswer) → seen_as before level (take told reads) prefetched ≡ old → awaited old ≡ Some a.key →
-    IsAttempt before reads prefetched told progress → more ≡ reads ++ a ∷ [] → count ≡ length more →
+pub supplied_attempt : (old : AttemptState) (before : Option ProgramTree) (level : Level) (reads prefetched more : List ReadAnswer) (reported count : ℕ)
+    (progress : Progress) (a : ReadAnswer) → seen_as before level (take reported reads) prefetched ≡ old → awaited old ≡ Some a.key →
+    IsAttempt before reads prefetched reported progress → more ≡ reads ++ a ∷ [] → count ≡ length more →
     IsAttempt before more prefetched count progress
-supplied_attempt old before level reads prefetched more told count progress a view asked is pushed whole =
-    let w = waits old before level reads prefetched told progress a.key view asked is in
+supplied_attempt old before level reads prefetched more reported count progress a view asked is pushed whole =
+    let w = waits old before level reads prefetched reported progress a.key view asked is in
     attempt_of w.program before more prefetched count progress w.is
     (under_way w.program more prefetched count progress whole
     (come_with_more w.program reads more a a.key progress pushed w.wants w.way.come))
@@ -220,7 +220,7 @@ pub all_supplied_is : (old : AttemptState) (before : Option ProgramTree) (level 
     seen_as before level reads prefetched ≡ old → more ≡ answers → count ≡ length more →
     seen_as before level (take count more) prefetched ≡ supplied_all answers old
 all_supplied_is old before level reads prefetched more answers count view same whole =
-    ap (λ (l : List ReadAnswer). seen_as before level l prefetched) (all_told count more whole ∙ same) ∙ ap (supplied_all answers) view
+    ap (λ (l : List ReadAnswer). seen_as before level l prefetched) (all_reported count more whole ∙ same) ∙ ap (supplied_all answers) view
 
 pub all_supplied_attempt : (old : AttemptState) (before : Option ProgramTree) (level : Level) (reads prefetched more : List ReadAnswer) (count : ℕ)
     (keys : List (List ℕ)) → seen_as before level reads prefetched ≡ old → list_awaited old ≡ Some keys → count ≡ length more →
@@ -238,64 +238,64 @@ fetch_leaves (KeyWanted key at) attempt = refl
 -- what is asked for is awaited then, too
 pub left_asked : (program : ProgramTree) (old : AttemptState) (next : Next) → next ≡ next_of program old.level old.known →
     awaited (left_by next (advanced program old)) ≡ key_asked next
-left_asked program old (FetchAll keys at) told = asked_is_awaited program old ∙ ap key_asked (sym told)
-left_asked program old (Fetch key at) told = asked_is_awaited program old ∙ ap key_asked (sym told)
-left_asked program old (Ready ready) told = refl
-left_asked program old (Aborted run) told = asked_is_awaited program old ∙ ap key_asked (sym told)
-left_asked program old (Faulted run) told = asked_is_awaited program old ∙ ap key_asked (sym told)
+left_asked program old (FetchAll keys at) reported = asked_is_awaited program old ∙ ap key_asked (sym reported)
+left_asked program old (Fetch key at) reported = asked_is_awaited program old ∙ ap key_asked (sym reported)
+left_asked program old (Ready ready) reported = refl
+left_asked program old (Aborted run) reported = asked_is_awaited program old ∙ ap key_asked (sym reported)
+left_asked program old (Faulted run) reported = asked_is_awaited program old ∙ ap key_asked (sym reported)
 
 pub left_list : (program : ProgramTree) (old : AttemptState) (next : Next) → next ≡ next_of program old.level old.known →
     list_awaited (left_by next (advanced program old)) ≡ list_asked next
-left_list program old (FetchAll keys at) told = list_is_awaited program old ∙ ap list_asked (sym told)
-left_list program old (Fetch key at) told = list_is_awaited program old ∙ ap list_asked (sym told)
-left_list program old (Ready ready) told = refl
-left_list program old (Aborted run) told = list_is_awaited program old ∙ ap list_asked (sym told)
-left_list program old (Faulted run) told = list_is_awaited program old ∙ ap list_asked (sym told)
+left_list program old (FetchAll keys at) reported = list_is_awaited program old ∙ ap list_asked (sym reported)
+left_list program old (Fetch key at) reported = list_is_awaited program old ∙ ap list_asked (sym reported)
+left_list program old (Ready ready) reported = refl
+left_list program old (Aborted run) reported = list_is_awaited program old ∙ ap list_asked (sym reported)
+left_list program old (Faulted run) reported = list_is_awaited program old ∙ ap list_asked (sym reported)
 
-pub left_asked_told : (program : ProgramTree) (old new : AttemptState) (told : Result Next AllocError) →
-    IfOk told (λ next. new ≡ left_by next (advanced program old)) → IfOk told (λ next. next ≡ next_of program old.level old.known) →
-    IfOk told (λ next. awaited new ≡ key_asked next)
-left_asked_told program old new (Ok next) left is = ap awaited left ∙ left_asked program old next is
-left_asked_told program old new (Err error) left is = tt
+pub left_asked_reported : (program : ProgramTree) (old new : AttemptState) (reported : Result Next AllocError) →
+    IfOk reported (λ next. new ≡ left_by next (advanced program old)) → IfOk reported (λ next. next ≡ next_of program old.level old.known) →
+    IfOk reported (λ next. awaited new ≡ key_asked next)
+left_asked_reported program old new (Ok next) left is = ap awaited left ∙ left_asked program old next is
+left_asked_reported program old new (Err error) left is = tt
 
-pub left_list_told : (program : ProgramTree) (old new : AttemptState) (told : Result Next AllocError) →
-    IfOk told (λ next. new ≡ left_by next (advanced program old)) → IfOk told (λ next. next ≡ next_of program old.level old.known) →
-    IfOk told (λ next. list_awaited new ≡ list_asked next)
-left_list_told program old new (Ok next) left is = ap list_awaited left ∙ left_list program old next is
-left_list_told program old new (Err error) left is = tt
+pub left_list_reported : (program : ProgramTree) (old new : AttemptState) (reported : Result Next AllocError) →
+    IfOk reported (λ next. new ≡ left_by next (advanced program old)) → IfOk reported (λ next. next ≡ next_of program old.level old.known) →
+    IfOk reported (λ next. list_awaited new ≡ list_asked next)
+left_list_reported program old new (Ok next) left is = ap list_awaited left ∙ left_list program old next is
+left_list_reported program old new (Err error) left is = tt
 
 -- what is left where the end of the run was given away
-pub given_is : (program : ProgramTree) (old : AttemptState) (before kept : Option ProgramTree) (level : Level) (first read reads front prefetched : List ReadAnswer) (told : ℕ)
+pub given_is : (program : ProgramTree) (old : AttemptState) (before kept : Option ProgramTree) (level : Level) (first read reads front prefetched : List ReadAnswer) (reported : ℕ)
     (next : Next) (progress : Progress) → seen_as before level front prefetched ≡ old →
     gone_on program (known_of first prefetched) ≡ gone_on program (known_of front prefetched) → before ≡ Some program →
-    read ≡ gone_on program (known_of first prefetched) → told ≡ length reads → IsLeftAtEnd next before read kept reads progress →
-    seen_as kept level (take told reads) prefetched ≡ left_by next (advanced program old)
-given_is program old before kept level first read reads front prefetched told (Ready ready) progress view ahead kept_is settles whole left =
-    ap (λ (o : Option ProgramTree). seen_as o level (take told reads) prefetched) left.no_program
-    ∙ ap (λ (l : List ReadAnswer). seen_as None level l prefetched) (all_told told reads whole ∙ left.no_reads)
+    read ≡ gone_on program (known_of first prefetched) → reported ≡ length reads → IsLeftAtEnd next before read kept reads progress →
+    seen_as kept level (take reported reads) prefetched ≡ left_by next (advanced program old)
+given_is program old before kept level first read reads front prefetched reported (Ready ready) progress view ahead kept_is settles whole left =
+    ap (λ (o : Option ProgramTree). seen_as o level (take reported reads) prefetched) left.no_program
+    ∙ ap (λ (l : List ReadAnswer). seen_as None level l prefetched) (all_reported reported reads whole ∙ left.no_reads)
     ∙ ap (λ (v : AttemptState). begun v.level v.known.prefetched) view
-given_is program old before kept level first read reads front prefetched told (Aborted run) progress view ahead kept_is settles whole left =
-    left_from program old before kept level first front prefetched reads told view ahead (left.keeps ∙ kept_is) whole (left.same_reads ∙ settles)
-given_is program old before kept level first read reads front prefetched told (Faulted run) progress view ahead kept_is settles whole left =
-    left_from program old before kept level first front prefetched reads told view ahead (left.keeps ∙ kept_is) whole (left.same_reads ∙ settles)
-given_is program old before kept level first read reads front prefetched told (FetchAll keys at) progress view ahead kept_is settles whole left = absurd left
-given_is program old before kept level first read reads front prefetched told (Fetch key at) progress view ahead kept_is settles whole left = absurd left
+given_is program old before kept level first read reads front prefetched reported (Aborted run) progress view ahead kept_is settles whole left =
+    left_from program old before kept level first front prefetched reads reported view ahead (left.keeps ∙ kept_is) whole (left.same_reads ∙ settles)
+given_is program old before kept level first read reads front prefetched reported (Faulted run) progress view ahead kept_is settles whole left =
+    left_from program old before kept level first front prefetched reads reported view ahead (left.keeps ∙ kept_is) whole (left.same_reads ∙ settles)
+given_is program old before kept level first read reads front prefetched reported (FetchAll keys at) progress view ahead kept_is settles whole left = absurd left
+given_is program old before kept level first read reads front prefetched reported (Fetch key at) progress view ahead kept_is settles whole left = absurd left
 
 -- its invariant
-pub given_attempt : (program : ProgramTree) (before kept : Option ProgramTree) (read reads prefetched : List ReadAnswer) (told : ℕ) (next : Next)
-    (progress : Progress) → before ≡ Some program → told ≡ length reads → IsLeftAtEnd next before read kept reads progress →
-    IsAttempt kept reads prefetched told progress
-given_attempt program before kept read reads prefetched told (Ready ready) progress is whole left =
-    subst (λ (o : Option ProgramTree). IsAttempt o reads prefetched told progress) (sym left.no_program)
+pub given_attempt : (program : ProgramTree) (before kept : Option ProgramTree) (read reads prefetched : List ReadAnswer) (reported : ℕ) (next : Next)
+    (progress : Progress) → before ≡ Some program → reported ≡ length reads → IsLeftAtEnd next before read kept reads progress →
+    IsAttempt kept reads prefetched reported progress
+given_attempt program before kept read reads prefetched reported (Ready ready) progress is whole left =
+    subst (λ (o : Option ProgramTree). IsAttempt o reads prefetched reported progress) (sym left.no_program)
     (subst (λ (p : Progress). HasNotBegun reads p) (sym left.fresh) left.no_reads)
-given_attempt program before kept read reads prefetched told (Aborted run) progress is whole left =
-    attempt_of program kept reads prefetched told progress (left.keeps ∙ is)
-    (under_way program reads prefetched told progress whole (subst (λ (p : Progress). HasCome program reads p) (sym left.fresh) tt))
-given_attempt program before kept read reads prefetched told (Faulted run) progress is whole left =
-    attempt_of program kept reads prefetched told progress (left.keeps ∙ is)
-    (under_way program reads prefetched told progress whole (subst (λ (p : Progress). HasCome program reads p) (sym left.fresh) tt))
-given_attempt program before kept read reads prefetched told (FetchAll keys at) progress is whole left = absurd left
-given_attempt program before kept read reads prefetched told (Fetch key at) progress is whole left = absurd left
+given_attempt program before kept read reads prefetched reported (Aborted run) progress is whole left =
+    attempt_of program kept reads prefetched reported progress (left.keeps ∙ is)
+    (under_way program reads prefetched reported progress whole (subst (λ (p : Progress). HasCome program reads p) (sym left.fresh) tt))
+given_attempt program before kept read reads prefetched reported (Faulted run) progress is whole left =
+    attempt_of program kept reads prefetched reported progress (left.keeps ∙ is)
+    (under_way program reads prefetched reported progress whole (subst (λ (p : Progress). HasCome program reads p) (sym left.fresh) tt))
+given_attempt program before kept read reads prefetched reported (FetchAll keys at) progress is whole left = absurd left
+given_attempt program before kept read reads prefetched reported (Fetch key at) progress is whole left = absurd left
 
 -- the program that it keeps
 pub kept_program : (program : ProgramTree) (old : AttemptState) (before : Option ProgramTree) (level : Level) (front prefetched : List ReadAnswer) →
@@ -303,23 +303,23 @@ pub kept_program : (program : ProgramTree) (old : AttemptState) (before : Option
 kept_program program old before level front prefetched view is = ap (λ (v : AttemptState). v.program) view ∙ is
 
 -- the end that is told is the attempt's answer
-pub end_told : (program : ProgramTree) (old : AttemptState) (before : Option ProgramTree) (level : Level) (first front reads prefetched : List ReadAnswer)
+pub end_reported : (program : ProgramTree) (old : AttemptState) (before : Option ProgramTree) (level : Level) (first front reads prefetched : List ReadAnswer)
     (next : Next) (progress : Progress) → seen_as before level front prefetched ≡ old →
     gone_on program (known_of first prefetched) ≡ gone_on program (known_of front prefetched) → HasEnded progress → HasCome program reads progress →
     next_of program level (known_of first prefetched) ≡ next_after program level reads (run_on program reads) →
     ((run : Run) → progress ≡ Ended run → next ≡ next_at_end program level reads run run.end) → next ≡ next_of program old.level old.known
-end_told program old before level first front reads prefetched next progress view ahead ended come at_end told =
-    next_from program old before level first front prefetched next view ahead (end_is program level reads progress next ended come told ∙ sym at_end)
+end_reported program old before level first front reads prefetched next progress view ahead ended come at_end reported =
+    next_from program old before level first front prefetched next view ahead (end_is program level reads progress next ended come reported ∙ sym at_end)
 
 -- so is what is waited for
-pub wanted_told : (program : ProgramTree) (old : AttemptState) (before : Option ProgramTree) (level : Level) (first front prefetched : List ReadAnswer)
+pub wanted_reported : (program : ProgramTree) (old : AttemptState) (before : Option ProgramTree) (level : Level) (first front prefetched : List ReadAnswer)
     (found : Option Wanted) (w : Wanted) (next : Next) → seen_as before level front prefetched ≡ old →
     gone_on program (known_of first prefetched) ≡ gone_on program (known_of front prefetched) → found ≡ Some w →
     IfSome found (λ x. next_wanted x ≡ next_of program level (known_of first prefetched)) → next ≡ next_wanted w →
     next ≡ next_of program old.level old.known
-wanted_told program old before level first front prefetched found w next view ahead found_is told next_is =
+wanted_reported program old before level first front prefetched found w next view ahead found_is reported next_is =
     next_from program old before level first front prefetched next view ahead
-    (next_is ∙ subst (λ (o : Option Wanted). IfSome o (λ x. next_wanted x ≡ next_of program level (known_of first prefetched))) found_is told)
+    (next_is ∙ subst (λ (o : Option Wanted). IfSome o (λ x. next_wanted x ≡ next_of program level (known_of first prefetched))) found_is reported)
 
 pub wanted_left : (program : ProgramTree) (old new : AttemptState) (w : Wanted) (next : Next) → new ≡ advanced program old → next ≡ next_wanted w →
     new ≡ left_by next (advanced program old)

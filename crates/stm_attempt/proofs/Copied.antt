@@ -15,28 +15,28 @@ not_begun reads Fresh is = is
 not_begun reads (Started m) is = absurd is
 not_begun reads (Ended run) is = absurd is
 
-fresh : (program : Option ProgramTree) (reads prefetched : List ReadAnswer) (told : ℕ) (progress : Progress) →
-    IsAttempt program reads prefetched told progress → IsAttempt program reads prefetched told Fresh
-fresh None reads prefetched told progress is = not_begun reads progress is
-fresh (Some p) reads prefetched told progress is = record { within = is.within; ahead = is.ahead; come = tt }
+fresh : (program : Option ProgramTree) (reads prefetched : List ReadAnswer) (reported : ℕ) (progress : Progress) →
+    IsAttempt program reads prefetched reported progress → IsAttempt program reads prefetched reported Fresh
+fresh None reads prefetched reported progress is = not_begun reads progress is
+fresh (Some p) reads prefetched reported progress is = record { within = is.within; ahead = is.ahead; come = tt }
 
 -- what contracts see of these fields
 abbrev pub shown_attempt : Option ProgramTree → Level → List ReadAnswer → ℕ → List ReadAnswer → AttemptState
-shown_attempt program level reads told prefetched =
-    record { program = program; level = level; known = record { reads = take told reads; prefetched = prefetched } }
+shown_attempt program level reads reported prefetched =
+    record { program = program; level = level; known = record { reads = take reported reads; prefetched = prefetched } }
 
-module _ (program copied_program : Option ProgramTree) (reads copied_reads prefetched copied_prefetched : List ReadAnswer) (told : ℕ)
+module _ (program copied_program : Option ProgramTree) (reads copied_reads prefetched copied_prefetched : List ReadAnswer) (reported : ℕ)
     (same_program : copied_program ≡ program) (same_reads : copied_reads ≡ reads) (same_prefetched : copied_prefetched ≡ prefetched) where
-  pub attempt_copied : (progress : Progress) → HaveDistinctKeys prefetched × IsAttempt program reads prefetched told progress →
-      HaveDistinctKeys copied_prefetched × IsAttempt copied_program copied_reads copied_prefetched told Fresh
+  pub attempt_copied : (progress : Progress) → HaveDistinctKeys prefetched × IsAttempt program reads prefetched reported progress →
+      HaveDistinctKeys copied_prefetched × IsAttempt copied_program copied_reads copied_prefetched reported Fresh
   attempt_copied progress is =
-      subst (λ (p : Option ProgramTree). HaveDistinctKeys copied_prefetched × IsAttempt p copied_reads copied_prefetched told Fresh) (sym same_program)
-      (subst (λ (rs : List ReadAnswer). HaveDistinctKeys copied_prefetched × IsAttempt program rs copied_prefetched told Fresh) (sym same_reads)
-      (subst (λ (ps : List ReadAnswer). HaveDistinctKeys ps × IsAttempt program reads ps told Fresh) (sym same_prefetched)
-      (is.0, fresh program reads prefetched told progress is.1)))
+      subst (λ (p : Option ProgramTree). HaveDistinctKeys copied_prefetched × IsAttempt p copied_reads copied_prefetched reported Fresh) (sym same_program)
+      (subst (λ (rs : List ReadAnswer). HaveDistinctKeys copied_prefetched × IsAttempt program rs copied_prefetched reported Fresh) (sym same_reads)
+      (subst (λ (ps : List ReadAnswer). HaveDistinctKeys ps × IsAttempt program reads ps reported Fresh) (sym same_prefetched)
+      (is.0, fresh program reads prefetched reported progress is.1)))
 
-  pub state_copied : (level : Level) → shown_attempt copied_program level copied_reads told copied_prefetched ≡ shown_attempt program level reads told prefetched
+  pub state_copied : (level : Level) → shown_attempt copied_program level copied_reads reported copied_prefetched ≡ shown_attempt program level reads reported prefetched
   state_copied level =
-      ap (λ (p : Option ProgramTree). shown_attempt p level copied_reads told copied_prefetched) same_program
-      ∙ ap (λ (rs : List ReadAnswer). shown_attempt program level rs told copied_prefetched) same_reads
-      ∙ ap (λ (ps : List ReadAnswer). shown_attempt program level reads told ps) same_prefetched
+      ap (λ (p : Option ProgramTree). shown_attempt p level copied_reads reported copied_prefetched) same_program
+      ∙ ap (λ (rs : List ReadAnswer). shown_attempt program level rs reported copied_prefetched) same_reads
+      ∙ ap (λ (ps : List ReadAnswer). shown_attempt program level reads reported ps) same_prefetched

@@ -56,9 +56,9 @@ due_is_nothing (key ∷ keys) [] due = refl
 due_is_nothing (key ∷ keys) (a ∷ reads) due = absurd (cc)
 
 -- whether it is due, by the keys that the code has at hand
-pub due_as : (listed keys : List (List ℕ)) (reads : List ReadAnswer) (told b : Bool) → told ≡ is_due keys reads → keys ≡ listed → told ≡ b
+pub due_as : (listed keys : List (List ℕ)) (reads : List ReadAnswer) (reported b : Bool) → reported ≡ is_due keys reads → keys ≡ listed → reported ≡ b
     → is_due listed reads ≡ b
-due_as listed keys reads told b is same holds = ap (λ (ks : List (List ℕ)). is_due ks reads) (sym same) ∙ sym is ∙ holds
+due_as listed keys reads reported b is same holds = ap (λ (ks : List (List ℕ)). is_due ks reads) (sym same) ∙ sym is ∙ holds
 
 -- ---- what is taken for a list
 
@@ -262,11 +262,11 @@ next_on_settled program level reads not =
 pub behind_next : (program : ProgramTree) (level : Level) (before entered prefetched : List ReadAnswer) (next : Next)
     → gone_on program (known_of entered prefetched) ≡ gone_on program (known_of before prefetched) → is_due program.prefetch entered ≡ false
     → next ≡ next_settled program level (known_of entered prefetched) → next ≡ next_of program level (known_of before prefetched)
-behind_next program level before entered prefetched next gone not told =
+behind_next program level before entered prefetched next gone not reported =
     let reads : List ReadAnswer = settled program (known_of entered prefetched) in
     let later : is_due program.prefetch reads ≡ false =
     not_due_after program.prefetch entered reads not (settled_extends program (known_of entered prefetched)) in
-    told ∙ sym (next_on_settled program level reads later) ∙ ap (next_on program level) (sym (gone_settled program (known_of entered prefetched) not) ∙ gone)
+    reported ∙ sym (next_on_settled program level reads later) ∙ ap (next_on program level) (sym (gone_settled program (known_of entered prefetched) not) ∙ gone)
 
 pub behind_reads : (program : ProgramTree) (before entered prefetched after : List ReadAnswer)
     → gone_on program (known_of entered prefetched) ≡ gone_on program (known_of before prefetched) → is_due program.prefetch entered ≡ false
@@ -288,9 +288,9 @@ pub behind_wanted : (program : ProgramTree) (level : Level) (before entered pref
     → gone_on program (known_of entered prefetched) ≡ gone_on program (known_of before prefetched) → is_due program.prefetch entered ≡ false
     → IfSome found (λ w. next_wanted w ≡ next_settled program level (known_of entered prefetched))
     → IfSome found (λ w. next_wanted w ≡ next_of program level (known_of before prefetched))
-behind_wanted program level before entered prefetched None gone not told = tt
-behind_wanted program level before entered prefetched (Some w) gone not told =
-    behind_next program level before entered prefetched (next_wanted w) gone not told
+behind_wanted program level before entered prefetched None gone not reported = tt
+behind_wanted program level before entered prefetched (Some w) gone not reported =
+    behind_next program level before entered prefetched (next_wanted w) gone not reported
 
 -- at the end of the run, which is the one that is told
 pub behind_end : (program : ProgramTree) (level : Level) (before entered prefetched after : List ReadAnswer)

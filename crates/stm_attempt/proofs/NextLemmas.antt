@@ -31,23 +31,23 @@ is_run_on program level reads run is done = record { run = run; is_run = is; is_
 
 at_end : (program : ProgramTree) (level : Level) (reads : List ReadAnswer) (run : Run) (end : End) (ready : ReadyRun) → run_on program reads ≡ Ended run →
     run.end ≡ end → next_at_end program level reads run end ≡ Ready ready → IsRunOnItsAnswers ready
-at_end program level reads run Done ready is done told =
+at_end program level reads run Done ready is done reported =
     let same : ready_run program level reads run ≡ ready = cc in subst IsRunOnItsAnswers same (is_run_on program level reads run is done)
-at_end program level reads run (AbortedEnd text) ready is done told = absurd (cc)
-at_end program level reads run (FaultedEnd fault) ready is done told = absurd (cc)
+at_end program level reads run (AbortedEnd text) ready is done reported = absurd (cc)
+at_end program level reads run (FaultedEnd fault) ready is done reported = absurd (cc)
 
 after : (program : ProgramTree) (level : Level) (reads : List ReadAnswer) (x : Answered) (ready : ReadyRun) → run_on program reads ≡ x →
     next_after program level reads x ≡ Ready ready → IsRunOnItsAnswers ready
-after program level reads (Wants key trace) ready is told = absurd (cc)
-after program level reads (Ended run) ready is told = at_end program level reads run run.end ready is refl told
+after program level reads (Wants key trace) ready is reported = absurd (cc)
+after program level reads (Ended run) ready is reported = at_end program level reads run run.end ready is refl reported
 
 on_reads : (program : ProgramTree) (level : Level) (reads : List ReadAnswer) (ready : ReadyRun) (due : Bool) →
     cond due (FetchAll program.prefetch 0) (next_after program level reads (run_on program reads)) ≡ Ready ready → IsRunOnItsAnswers ready
-on_reads program level reads ready true told = absurd (cc)
-on_reads program level reads ready false told = after program level reads (run_on program reads) ready refl told
+on_reads program level reads ready true reported = absurd (cc)
+on_reads program level reads ready false reported = after program level reads (run_on program reads) ready refl reported
 
 pub ready_is_the_run : ReadyIsTheRun
-ready_is_the_run program level known ready told = on_reads program level (gone_on program known) ready (is_due program.prefetch (gone_on program known)) told
+ready_is_the_run program level known ready reported = on_reads program level (gone_on program known) ready (is_due program.prefetch (gone_on program known)) reported
 
 -- ---- a call more
 
@@ -156,7 +156,7 @@ seen_as program level reads prefetched = record { program = program; level = lev
 
 pub next_is : (program : ProgramTree) (old : AttemptState) (before : Option ProgramTree) (level : Level) (reads prefetched : List ReadAnswer) (next : Next) →
     seen_as before level reads prefetched ≡ old → next ≡ next_of program level (known_of reads prefetched) → next ≡ next_of program old.level old.known
-next_is program old before level reads prefetched next is told = told ∙ ap (λ (v : AttemptState). next_of program v.level v.known) is
+next_is program old before level reads prefetched next is reported = reported ∙ ap (λ (v : AttemptState). next_of program v.level v.known) is
 
 pub advanced_is : (program kept : ProgramTree) (old : AttemptState) (before : Option ProgramTree) (level : Level) (reads prefetched after : List ReadAnswer) →
     seen_as before level reads prefetched ≡ old → kept ≡ program → after ≡ gone_on program (known_of reads prefetched) →
@@ -170,6 +170,6 @@ pub awaited_is : (program kept : ProgramTree) (old : AttemptState) (before : Opt
     (reads prefetched after : List ReadAnswer) (next : Next) →
     seen_as before level reads prefetched ≡ old → kept ≡ program → after ≡ gone_on program (known_of reads prefetched) →
     next ≡ next_of program level (known_of reads prefetched) → awaited (seen_as (Some kept) level after prefetched) ≡ key_asked next
-awaited_is program kept old before level reads prefetched after next is copied settles told =
+awaited_is program kept old before level reads prefetched after next is copied settles reported =
     ap awaited (advanced_is program kept old before level reads prefetched after is copied settles) ∙ asked_is_awaited program old
-    ∙ ap key_asked (sym (next_is program old before level reads prefetched next is told))
+    ∙ ap key_asked (sym (next_is program old before level reads prefetched next is reported))

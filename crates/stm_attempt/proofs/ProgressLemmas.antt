@@ -147,11 +147,11 @@ unserved_none answers None key is = absurd (cc)
 unserved_none answers (Some k) key is = unserved_by k key (answer_in k answers) is
 
 -- an attempt that waits for a key has read nothing that it has not told
-pub nothing_ahead : (program : ProgramTree) (reads prefetched : List ReadAnswer) (told : ℕ) (key : List ℕ) → told ≤ length reads →
-    gone_on program (known_of reads prefetched) ≡ gone_on program (known_of (take told reads) prefetched) →
-    awaited_by program (known_of (take told reads) prefetched) ≡ Some key → told ≡ length reads
-nothing_ahead program reads prefetched told key within ahead asked =
-    let front : List ReadAnswer = take told reads in
+pub nothing_ahead : (program : ProgramTree) (reads prefetched : List ReadAnswer) (reported : ℕ) (key : List ℕ) → reported ≤ length reads →
+    gone_on program (known_of reads prefetched) ≡ gone_on program (known_of (take reported reads) prefetched) →
+    awaited_by program (known_of (take reported reads) prefetched) ≡ Some key → reported ≡ length reads
+nothing_ahead program reads prefetched reported key within ahead asked =
+    let front : List ReadAnswer = take reported reads in
     let not : is_due program.prefetch front ≡ false = awaits_not_due program (known_of front prefetched) key asked in
     let none : served program prefetched front ≡ None =
     unserved_none (serving front prefetched) (wanted (run_on program front)) key (awaits_unserved program (known_of front prefetched) key asked) in
@@ -160,9 +160,9 @@ nothing_ahead program reads prefetched told key within ahead asked =
     settling_adds_prefetched program (known_of reads prefetched) in
     let same : front ≡ reads ++ more.added =
     sym stays ∙ sym (gone_settled program (known_of front prefetched) not) ∙ sym ahead
-    ∙ gone_settled program (known_of reads prefetched) (not_due_whole program.prefetch told reads not) ∙ more.follow in
+    ∙ gone_settled program (known_of reads prefetched) (not_due_whole program.prefetch reported reads not) ∙ more.follow in
     let count : length front ≡ length reads + length more.added = ap (λ (l : List ReadAnswer). length l) same ∙ length-append reads more.added in
-    let cut : length front ≡ told = length-take-le told reads within in
+    let cut : length front ≡ reported = length-take-le reported reads within in
     omega (arith, within, count, cut)
 
 -- ---- what comes behind the reads
@@ -177,9 +177,9 @@ one_added before mid after a so_far pushed =
       follow = pushed ∙ ap (λ (l : List ReadAnswer). l ++ a ∷ []) so_far.follow ∙ append_assoc before so_far.added (a ∷ []);
     }
 
-pub front_stays : (told : ℕ) (before after : List ReadAnswer) → told ≤ length before → Extends before after → take told after ≡ take told before
-front_stays told before after within more =
-    ap (λ (l : List ReadAnswer). take told l) more.follow ∙ take-append-le told before more.added within
+pub front_stays : (reported : ℕ) (before after : List ReadAnswer) → reported ≤ length before → Extends before after → take reported after ≡ take reported before
+front_stays reported before after within more =
+    ap (λ (l : List ReadAnswer). take reported l) more.follow ∙ take-append-le reported before more.added within
 
 -- ---- where a program has come
 
@@ -210,15 +210,15 @@ fetch_is program level reads (Wants k trace) key is =
 
 pub end_is : (program : ProgramTree) (level : Level) (reads : List ReadAnswer) (p : Progress) (next : Next) → HasEnded p → HasCome program reads p →
     ((run : Run) → p ≡ EndedProgress run → next ≡ next_at_end program level reads run run.end) → next ≡ next_after program level reads (run_on program reads)
-end_is program level reads Fresh next ended come told = absurd ended
-end_is program level reads (Started m) next ended come told = absurd ended
-end_is program level reads (EndedProgress run) next ended come told = told run refl ∙ ap (λ (x : Answered). next_after program level reads x) (sym come)
+end_is program level reads Fresh next ended come reported = absurd ended
+end_is program level reads (Started m) next ended come reported = absurd ended
+end_is program level reads (EndedProgress run) next ended come reported = reported run refl ∙ ap (λ (x : Answered). next_after program level reads x) (sym come)
 
 pub next_of_settled : (program : ProgramTree) (level : Level) (before prefetched reads : List ReadAnswer) (next : Next) →
     reads ≡ settled program (known_of before prefetched) → next ≡ next_after program level reads (run_on program reads) →
     next ≡ next_settled program level (known_of before prefetched)
-next_of_settled program level before prefetched reads next settles told =
-    told ∙ ap (λ (l : List ReadAnswer). next_after program level l (run_on program l)) settles
+next_of_settled program level before prefetched reads next settles reported =
+    reported ∙ ap (λ (l : List ReadAnswer). next_after program level l (run_on program l)) settles
 
 -- ---- what is left where the end of a run that is not done was told
 
@@ -229,22 +229,22 @@ left_at program level reads run (AbortedEnd text) kept after not fresh = record 
 left_at program level reads run (FaultedEnd fault) kept after not fresh = record { keeps = refl; same_reads = refl; fresh = fresh }
 
 pub left_untold : (program : ProgramTree) (level : Level) (reads : List ReadAnswer) (run : Run) (kept : Option ProgramTree) (before after : Progress)
-    (told : Result Next AllocError) → before ≡ EndedProgress run → (run.end ≡ Done → ⊥) →
-    IfOk told (λ next. (r : Run) → before ≡ EndedProgress r → next ≡ next_at_end program level reads r r.end) → OnOk told (after ≡ Fresh) →
-    IfOk told (λ next. IsLeftAtEnd next kept reads kept reads after)
+    (reported : Result Next AllocError) → before ≡ EndedProgress run → (run.end ≡ Done → ⊥) →
+    IfOk reported (λ next. (r : Run) → before ≡ EndedProgress r → next ≡ next_at_end program level reads r r.end) → OnOk reported (after ≡ Fresh) →
+    IfOk reported (λ next. IsLeftAtEnd next kept reads kept reads after)
 left_untold program level reads run kept before after (Err error) is not next fresh = tt
-left_untold program level reads run kept before after (Ok told) is not next fresh =
+left_untold program level reads run kept before after (Ok reported) is not next fresh =
     subst (λ (n : Next). IsLeftAtEnd n kept reads kept reads after) (sym (next run is)) (left_at program level reads run run.end kept after not fresh)
 
 -- ---- an attempt under way
 
 -- after a call that was refused
-pub still_under_way : (program : ProgramTree) (before after prefetched : List ReadAnswer) (told : ℕ) (old new : Progress) →
-    IsUnderWay program before prefetched told old → Extends before after → HasCome program after new →
-    gone_on program (known_of after prefetched) ≡ gone_on program (known_of before prefetched) → IsUnderWay program after prefetched told new
-still_under_way program before after prefetched told old new way more come settles =
+pub still_under_way : (program : ProgramTree) (before after prefetched : List ReadAnswer) (reported : ℕ) (old new : Progress) →
+    IsUnderWay program before prefetched reported old → Extends before after → HasCome program after new →
+    gone_on program (known_of after prefetched) ≡ gone_on program (known_of before prefetched) → IsUnderWay program after prefetched reported new
+still_under_way program before after prefetched reported old new way more come settles =
     let count : length after ≡ length before + length more.added = ap (λ (l : List ReadAnswer). length l) more.follow ∙ length-append before more.added in
-    let front : take told after ≡ take told before = front_stays told before after way.within more in
+    let front : take reported after ≡ take reported before = front_stays reported before after way.within more in
     record {
       within = omega (arith, way.within, count);
       ahead = settles ∙ way.ahead ∙ ap (λ (l : List ReadAnswer). gone_on program (known_of l prefetched)) (sym front);
@@ -252,10 +252,10 @@ still_under_way program before after prefetched told old new way more come settl
     }
 
 -- after a call that was not: all reads are told
-pub under_way : (program : ProgramTree) (reads prefetched : List ReadAnswer) (told : ℕ) (progress : Progress) → told ≡ length reads →
-    HasCome program reads progress → IsUnderWay program reads prefetched told progress
-under_way program reads prefetched told progress whole come =
-    let all : take told reads ≡ reads = ap (λ (n : ℕ). take n reads) whole ∙ take-length reads in
+pub under_way : (program : ProgramTree) (reads prefetched : List ReadAnswer) (reported : ℕ) (progress : Progress) → reported ≡ length reads →
+    HasCome program reads progress → IsUnderWay program reads prefetched reported progress
+under_way program reads prefetched reported progress whole come =
+    let all : take reported reads ≡ reads = ap (λ (n : ℕ). take n reads) whole ∙ take-length reads in
     record {
       within = omega (arith, whole);
       ahead = ap (λ (l : List ReadAnswer). gone_on program (known_of l prefetched)) (sym all);

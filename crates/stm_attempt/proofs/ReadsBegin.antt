@@ -60,26 +60,26 @@ whole (key ∷ keys) (a ∷ reads) not begins = begins
 
 ready_at_end : (program : ProgramTree) (level : Level) (reads : List ReadAnswer) (run : Run) (end : End) (ready : ReadyRun)
     → BeginsWith program.prefetch reads → next_at_end program level reads run end ≡ Ready ready → BeginsWith ready.program.prefetch ready.answers
-ready_at_end program level reads run Done ready begins told =
-    let same : ready_run program level reads run ≡ ready = cc told in
+ready_at_end program level reads run Done ready begins reported =
+    let same : ready_run program level reads run ≡ ready = cc reported in
     subst (λ (r : ReadyRun). BeginsWith r.program.prefetch r.answers) same begins
-ready_at_end program level reads run (AbortedEnd text) ready begins told = absurd (cc)
-ready_at_end program level reads run (FaultedEnd fault) ready begins told = absurd (cc)
+ready_at_end program level reads run (AbortedEnd text) ready begins reported = absurd (cc)
+ready_at_end program level reads run (FaultedEnd fault) ready begins reported = absurd (cc)
 
 ready_after : (program : ProgramTree) (level : Level) (reads : List ReadAnswer) (x : Answered) (ready : ReadyRun)
     → BeginsWith program.prefetch reads → next_after program level reads x ≡ Ready ready → BeginsWith ready.program.prefetch ready.answers
-ready_after program level reads (Wants key trace) ready begins told = absurd (cc)
-ready_after program level reads (Ended run) ready begins told = ready_at_end program level reads run run.end ready begins told
+ready_after program level reads (Wants key trace) ready begins reported = absurd (cc)
+ready_after program level reads (Ended run) ready begins reported = ready_at_end program level reads run run.end ready begins reported
 
 ready_on : (program : ProgramTree) (level : Level) (reads : List ReadAnswer) (ready : ReadyRun) (due : Bool) → is_due program.prefetch reads ≡ due
     → BeginsWithList program.prefetch reads
     → cond due (FetchAll program.prefetch 0) (next_after program level reads (run_on program reads)) ≡ Ready ready
     → BeginsWith ready.program.prefetch ready.answers
-ready_on program level reads ready true due begins told = absurd (cc)
-ready_on program level reads ready false not begins told =
-    ready_after program level reads (run_on program reads) ready (whole program.prefetch reads not begins) told
+ready_on program level reads ready true due begins reported = absurd (cc)
+ready_on program level reads ready false not begins reported =
+    ready_after program level reads (run_on program reads) ready (whole program.prefetch reads not begins) reported
 
 pub ready_begins_with_the_list : ReadyBeginsWithTheList
-ready_begins_with_the_list program level known ready begins told =
+ready_begins_with_the_list program level known ready begins reported =
     ready_on program level (gone_on program known) ready (is_due program.prefetch (gone_on program known)) refl
-    (reads_begin_with_the_list program known begins) told
+    (reads_begin_with_the_list program known begins) reported

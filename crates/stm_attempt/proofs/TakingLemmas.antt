@@ -72,11 +72,11 @@ pub take_goes_on : {A : Type 0} (keys : List (String A)) (first : String A) (key
     → copy ≡ a → more ≡ taken ++ copy ∷ []
     → found ≡ option_map (λ later. more ++ later) (answers_of_all (map string_bytes (take (length keys - 1) (drop 1 keys))) prefetched)
     → found ≡ option_map (λ later. taken ++ later) (answers_of_all (map string_bytes keys) prefetched)
-take_goes_on keys first key taken more prefetched a copy found some is bytes has copied pushed told =
+take_goes_on keys first key taken more prefetched a copy found some is bytes has copied pushed reported =
     let rest : List (List ℕ) = map string_bytes (take (length keys - 1) (drop 1 keys)) in
     let found_as : answer_in (string_bytes first) prefetched ≡ Some copy =
     ap (λ (k : List ℕ). answer_in k prefetched) (sym bytes) ∙ sym has ∙ ap (λ (x : ReadAnswer). (let o : Option ReadAnswer = Some x in o)) (sym copied) in
-    told
+    reported
     ∙ ap (λ (l : List ReadAnswer). option_map (λ later. l ++ later) (answers_of_all rest prefetched)) pushed
     ∙ sym (take_some taken (string_bytes first) rest prefetched copy found_as)
     ∙ sym (ap (λ (l : List (List ℕ)). option_map (λ later. taken ++ later) (answers_of_all l prefetched)) (first_and_rest keys first some is))
@@ -95,8 +95,8 @@ starts_once program taken keys none same fits =
 
 pub starts_taking : (program : ProgramTree) (taken prefetched : List ReadAnswer) (keys : List (List ℕ)) (found : Option (List ReadAnswer)) → taken ≡ []
     → keys ≡ program.prefetch → found ≡ option_map (λ more. taken ++ more) (answers_of_all keys prefetched) → found ≡ answers_of_all program.prefetch prefetched
-starts_taking program taken prefetched keys found none same told =
-    told
+starts_taking program taken prefetched keys found none same reported =
+    reported
     ∙ ap (λ (l : List ReadAnswer). option_map (λ more. l ++ more) (answers_of_all keys prefetched)) none
     ∙ take_all (answers_of_all keys prefetched)
     ∙ ap (λ (ks : List (List ℕ)). answers_of_all ks prefetched) same

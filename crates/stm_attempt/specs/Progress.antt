@@ -61,16 +61,16 @@ HasNotBegun reads Fresh = reads ≡ []
 HasNotBegun reads (Started m) = ⊥
 HasNotBegun reads (Ended run) = ⊥
 
--- The first `told` of the reads are those that the attempt is seen to have. Those behind them were prefetched, and taken by a call that was refused
+-- The first `reported` of the reads are those that the attempt is seen to have. Those behind them were prefetched, and taken by a call that was refused
 -- then: going on takes them again.
-pub record IsUnderWay (program : ProgramTree) (reads prefetched : List ReadAnswer) (told : ℕ) (progress : Progress) : Type 0 where
-  pub within : told ≤ length reads
-  pub ahead : gone_on program (known_of reads prefetched) ≡ gone_on program (known_of (take told reads) prefetched)
+pub record IsUnderWay (program : ProgramTree) (reads prefetched : List ReadAnswer) (reported : ℕ) (progress : Progress) : Type 0 where
+  pub within : reported ≤ length reads
+  pub ahead : gone_on program (known_of reads prefetched) ≡ gone_on program (known_of (take reported reads) prefetched)
   pub come : HasCome program reads progress
 
 abbrev pub IsAttempt : Option ProgramTree → List ReadAnswer → List ReadAnswer → ℕ → Progress → Type 0
-IsAttempt None reads prefetched told progress = HasNotBegun reads progress
-IsAttempt (Some program) reads prefetched told progress = IsUnderWay program reads prefetched told progress
+IsAttempt None reads prefetched reported progress = HasNotBegun reads progress
+IsAttempt (Some program) reads prefetched reported progress = IsUnderWay program reads prefetched reported progress
 
 -- The last writes of a run: these, or, where there are no others, its writes themselves.
 abbrev pub AreLatest : List Write → Option (List Write) → Type 0
@@ -84,7 +84,7 @@ pub record HasGiven (kept : Option ProgramTree) (reads : List ReadAnswer) (progr
   pub fresh : progress ≡ Fresh
 
 -- one from which the run alone was taken
-pub record HasToldEnd (before : Option ProgramTree) (read : List ReadAnswer) (kept : Option ProgramTree) (reads : List ReadAnswer) (progress : Progress) : Type 0 where
+pub record HasReportedEnd (before : Option ProgramTree) (read : List ReadAnswer) (kept : Option ProgramTree) (reads : List ReadAnswer) (progress : Progress) : Type 0 where
   pub keeps : kept ≡ before
   pub same_reads : reads ≡ read
   pub fresh : progress ≡ Fresh
@@ -92,7 +92,7 @@ pub record HasToldEnd (before : Option ProgramTree) (read : List ReadAnswer) (ke
 -- what is left where the end of the run was given away
 abbrev pub IsLeftAtEnd : Next → Option ProgramTree → List ReadAnswer → Option ProgramTree → List ReadAnswer → Progress → Type 0
 IsLeftAtEnd (Ready ready) before read kept reads progress = HasGiven kept reads progress
-IsLeftAtEnd (Aborted run) before read kept reads progress = HasToldEnd before read kept reads progress
-IsLeftAtEnd (Faulted run) before read kept reads progress = HasToldEnd before read kept reads progress
+IsLeftAtEnd (Aborted run) before read kept reads progress = HasReportedEnd before read kept reads progress
+IsLeftAtEnd (Faulted run) before read kept reads progress = HasReportedEnd before read kept reads progress
 IsLeftAtEnd (FetchAll keys at) before read kept reads progress = ⊥
 IsLeftAtEnd (Fetch key at) before read kept reads progress = ⊥

@@ -24,9 +24,9 @@ use stm_program::{Level, Program};
 pub struct Attempt {
     program: Option<Program>,
     level: Level,
-    // what was read, and behind the first `told` of it the prefetched answers that a refused call took
+    // what was read, and behind the first `reported` of it the prefetched answers that a refused call took
     reads: ReadSet,
-    told: usize,
+    reported: usize,
     prefetched: ReadSet,
     progress: Progress,
     alloc: Global,
@@ -38,7 +38,7 @@ impl Drop for Attempt {
             program: _,
             level: _,
             reads: _,
-            told: _,
+            reported: _,
             prefetched: _,
             progress: _,
             alloc: _,
@@ -57,11 +57,11 @@ impl Model for Attempt {
 
     ghost coded = { Prim.hlevel (codes, coded_program) };
 
-    ghost view = { λ a. record { program = a.program; level = a.level; known = record { reads = take a.told a.reads; prefetched = a.prefetched } } };
+    ghost view = { λ a. record { program = a.program; level = a.level; known = record { reads = take a.reported a.reads; prefetched = a.prefetched } } };
 
     ghost use Rattle.stm_attempt.specs.Progress.{IsAttempt};
 
-    ghost invariant = { λ a. HaveDistinctKeys a.prefetched × IsAttempt a.program a.reads a.prefetched a.told a.progress };
+    ghost invariant = { λ a. HaveDistinctKeys a.prefetched × IsAttempt a.program a.reads a.prefetched a.reported a.progress };
 }
 
 /// The first answers of these. It takes no memory.
@@ -110,7 +110,7 @@ impl Attempt {
             program: None,
             level,
             reads: ReadSet::new(alloc),
-            told: 0,
+            reported: 0,
             prefetched,
             progress: Progress::Fresh,
             alloc,
@@ -150,7 +150,7 @@ impl Attempt {
         ensures set { self.new ≡ record self.old { program = Some kept } }
     {
         self.program = Some(kept);
-        self.told = 0;
+        self.reported = 0;
     }
 
     /// The attempt is as it was before its first `advance`.
@@ -159,7 +159,7 @@ impl Attempt {
     {
         self.program = None;
         self.reads = ReadSet::new(self.alloc);
-        self.told = 0;
+        self.reported = 0;
         put(&mut self.progress, Progress::Fresh);
     }
 
@@ -194,7 +194,7 @@ impl Attempt {
             &mut self.reads,
             &mut self.progress,
         )?;
-        self.told = self.reads.len();
+        self.reported = self.reads.len();
         Ok(next)
     }
 
@@ -260,10 +260,10 @@ impl Attempt {
                 &mut self.reads,
                 &mut self.progress,
             )?;
-            self.told = self.reads.len();
+            self.reported = self.reads.len();
             return Ok(next);
         };
-        self.told = self.reads.len();
+        self.reported = self.reads.len();
         Ok(wanted.into_next())
     }
 
@@ -295,7 +295,7 @@ impl Attempt {
         ensures err { OnErr result (self.new ≡ self.old) }
     {
         self.reads.add(answer)?;
-        self.told = self.reads.len();
+        self.reported = self.reads.len();
         Ok(())
     }
 
@@ -316,7 +316,7 @@ impl Attempt {
         // No key of its list stands twice.
         program.prefetch();
         let reads = set_of(self.alloc, Sequence::of(answers))?;
-        self.told = reads.len();
+        self.reported = reads.len();
         drop(mem::replace(&mut self.reads, reads));
         put(&mut self.progress, Progress::Fresh);
         Ok(())
@@ -327,12 +327,12 @@ impl Attempt {
         ensures reads { result ≡ self.old.known.reads }
         ensures anew { self.new ≡ begun self.old.level self.old.known.prefetched }
     {
-        let told = self.told;
+        let reported = self.reported;
         let reads = mem::replace(&mut self.reads, ReadSet::new(self.alloc));
         self.program = None;
-        self.told = 0;
+        self.reported = 0;
         put(&mut self.progress, Progress::Fresh);
-        first_of(reads, told)
+        first_of(reads, reported)
     }
 }
 
@@ -357,7 +357,7 @@ impl Attempt {
             program,
             level: self.level,
             reads,
-            told: self.told,
+            reported: self.reported,
             prefetched,
             progress: Progress::Fresh,
             alloc: self.alloc,

@@ -164,7 +164,7 @@ fn made_ready(
 
 /// What an attempt answers at the end of its run. The run goes into the answer: where the program is run once more, it
 /// begins at the start. Want of memory leaves the run in its place.
-fn tell_end(
+fn report_end(
     alloc: Global,
     program: &Program,
     level: Level,
@@ -352,7 +352,7 @@ pub(crate) fn go_on(
     match come_on(alloc, program, level, prefetched, reads, progress)? {
         Some(wanted) => Ok(wanted.into_next()),
         None => {
-            let next = tell_end(alloc, program, level, reads, progress)?;
+            let next = report_end(alloc, program, level, reads, progress)?;
             Ok(next)
         }
     }
@@ -479,7 +479,7 @@ pub(crate) fn give_end(
             let ready = give_ready(alloc, program, level, kept, reads, progress)?;
             Ok(Next::Ready(ready))
         }
-        End::Aborted(_) => tell_end(alloc, program, level, reads, progress),
-        End::Faulted(_) => tell_end(alloc, program, level, reads, progress),
+        End::Aborted(_) => report_end(alloc, program, level, reads, progress),
+        End::Faulted(_) => report_end(alloc, program, level, reads, progress),
     }
 }

@@ -36,28 +36,28 @@ committed_by : (s after : Standing) (level : Level) (reads : List ReadAnswer) (w
     HasCommitted s after (Ok done) revision
 unfolding step_to
 committed_by s after level reads writes revision done None none same =
-    let told : Committed (now done.history) ≡ Committed revision = ap (λ (x : Step Sent). x.answer) same in
-    let number : now done.history ≡ revision = cc (told) in
+    let reported : Committed (now done.history) ≡ Committed revision = ap (λ (x : Step Sent). x.answer) same in
+    let number : now done.history ≡ revision = cc (reported) in
     record { done = done; taken = refl; none_failed = none; revision_is = sym number; left = sym (ap (λ (x : Step Sent). x.next) same) }
 committed_by s after level reads writes revision done (Some failed) some same =
     let about : Seen = seen_in (slice_get (seen_by reads writes) failed.index) in
-    let told : failed_at about failed.mod_rev (map (answer_now s.history) (reread_keys level reads)) ≡ Committed revision =
+    let reported : failed_at about failed.mod_rev (map (answer_now s.history) (reread_keys level reads)) ≡ Committed revision =
     ap (λ (x : Step Sent). x.answer) same in
-    absurd (cc (told))
+    absurd (cc (reported))
 
 committed_as : (s after : Standing) (level : Level) (reads : List ReadAnswer) (writes : List Write) (revision : ℕ) (o : Result Done Refusal) →
     sent_as s level reads writes o ≡ Ok (step_to (Committed revision) after) → HasCommitted s after o revision
-committed_as s after level reads writes revision (Ok done) told =
-    let same : decided s level reads writes done done.answer.failed ≡ step_to (Committed revision) after = cc (told) in
+committed_as s after level reads writes revision (Ok done) reported =
+    let same : decided s level reads writes done done.answer.failed ≡ step_to (Committed revision) after = cc (reported) in
     committed_by s after level reads writes revision done done.answer.failed refl same
-committed_as s after level reads writes revision (Err cause) told = absurd (cc)
+committed_as s after level reads writes revision (Err cause) reported = absurd (cc)
 
 pub has_committed : (s after : Standing) (level : Level) (reads : List ReadAnswer) (run : Run) (revision : ℕ) →
     sent s level reads run ≡ Ok record { answer = Committed revision; next = after } →
     HasCommitted s after (committed (terms_of s) level reads run) revision
 unfolding step_to
-has_committed s after level reads run revision told =
-    committed_as s after level reads (latest_writes run.writes) revision (committed (terms_of s) level reads run) told
+has_committed s after level reads run revision reported =
+    committed_as s after level reads (latest_writes run.writes) revision (committed (terms_of s) level reads run) reported
 
 -- ---- it is told as failed
 
@@ -82,7 +82,7 @@ record AreAlike (seen : Seen) (number : ℕ) (answers : List ReadAnswer) (key : 
 
 alike : (seen : Seen) (number : ℕ) (answers : List ReadAnswer) (key : List ℕ) (mod_rev now_modified : ℕ) (others : List ReadAnswer) →
     failed_at seen number answers ≡ Failed key mod_rev now_modified others → AreAlike seen number answers key mod_rev now_modified others
-alike seen number answers key mod_rev now_modified others told = record { key_is = cc; seen_is = cc; now_is = cc; answers_are = cc }
+alike seen number answers key mod_rev now_modified others reported = record { key_is = cc; seen_is = cc; now_is = cc; answers_are = cc }
 
 failed_by : (s after : Standing) (level : Level) (reads : List ReadAnswer) (writes : List Write) (key : List ℕ) (seen now_modified : ℕ)
     (answers : List ReadAnswer) (done : Done) (o : Option FailedCompare) → done.answer.failed ≡ o →
@@ -90,7 +90,7 @@ failed_by : (s after : Standing) (level : Level) (reads : List ReadAnswer) (writ
     HasFailed s after level reads writes (Ok done) key seen now_modified answers
 unfolding step_to
 failed_by s after level reads writes key seen now_modified answers done None none same =
-    let told : Committed (now done.history) ≡ Failed key seen now_modified answers = ap (λ (x : Step Sent). x.answer) same in absurd (cc (told))
+    let reported : Committed (now done.history) ≡ Failed key seen now_modified answers = ap (λ (x : Step Sent). x.answer) same in absurd (cc (reported))
 failed_by s after level reads writes key seen now_modified answers done (Some failed) some same =
     let about : Seen = seen_in (slice_get (seen_by reads writes) failed.index) in
     let parts = alike about failed.mod_rev (map (answer_now s.history) (reread_keys level reads)) key seen now_modified answers
@@ -111,26 +111,26 @@ failed_as : (s after : Standing) (level : Level) (reads : List ReadAnswer) (writ
     (answers : List ReadAnswer) (o : Result Done Refusal) →
     sent_as s level reads writes o ≡ Ok (step_to (Failed key seen now_modified answers) after) →
     HasFailed s after level reads writes o key seen now_modified answers
-failed_as s after level reads writes key seen now_modified answers (Ok done) told =
-    let same : decided s level reads writes done done.answer.failed ≡ step_to (Failed key seen now_modified answers) after = cc (told) in
+failed_as s after level reads writes key seen now_modified answers (Ok done) reported =
+    let same : decided s level reads writes done done.answer.failed ≡ step_to (Failed key seen now_modified answers) after = cc (reported) in
     failed_by s after level reads writes key seen now_modified answers done done.answer.failed refl same
-failed_as s after level reads writes key seen now_modified answers (Err cause) told = absurd (cc)
+failed_as s after level reads writes key seen now_modified answers (Err cause) reported = absurd (cc)
 
 pub has_failed : (s after : Standing) (level : Level) (reads : List ReadAnswer) (run : Run) (key : List ℕ) (seen now_modified : ℕ)
     (answers : List ReadAnswer) → sent s level reads run ≡ Ok record { answer = Failed key seen now_modified answers; next = after } →
     HasFailed s after level reads (latest_writes run.writes) (committed (terms_of s) level reads run) key seen now_modified answers
 unfolding step_to
-has_failed s after level reads run key seen now_modified answers told =
-    failed_as s after level reads (latest_writes run.writes) key seen now_modified answers (committed (terms_of s) level reads run) told
+has_failed s after level reads run key seen now_modified answers reported =
+    failed_as s after level reads (latest_writes run.writes) key seen now_modified answers (committed (terms_of s) level reads run) reported
 
 -- ---- it is refused
 
 refused_as : (s : Standing) (level : Level) (reads : List ReadAnswer) (writes : List Write) (cause : Refusal) (o : Result Done Refusal) →
     sent_as s level reads writes o ≡ Err cause → o ≡ Err cause
-refused_as s level reads writes cause (Ok done) told = absurd (cc)
-refused_as s level reads writes cause (Err first) told = let same : first ≡ cause = cc in ap (λ (r : Refusal). Err r) same
+refused_as s level reads writes cause (Ok done) reported = absurd (cc)
+refused_as s level reads writes cause (Err first) reported = let same : first ≡ cause = cc in ap (λ (r : Refusal). Err r) same
 
 pub is_refused : (s : Standing) (level : Level) (reads : List ReadAnswer) (run : Run) (cause : Refusal) → sent s level reads run ≡ Err cause →
     committed (terms_of s) level reads run ≡ Err cause
-is_refused s level reads run cause told =
-    refused_as s level reads (latest_writes run.writes) cause (committed (terms_of s) level reads run) told
+is_refused s level reads run cause reported =
+    refused_as s level reads (latest_writes run.writes) cause (committed (terms_of s) level reads run) reported

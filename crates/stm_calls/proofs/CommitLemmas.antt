@@ -33,7 +33,7 @@ use Rattle.stm_attempt.specs.ReadyRun.{ReadyRun, IsRunOnItsAnswers}
 use Rattle.stm_calls.specs.declared.sent.Sent.{Sent}
 use Rattle.stm_calls.specs.declared.sent.Sent.TheVariants.{Committed}
 use Rattle.stm_calls.specs.Reads.{reads_in}
-use Rattle.stm_calls.specs.Sent.{seen_in, failed_at, decided, sent_as, sent, Tells}
+use Rattle.stm_calls.specs.Sent.{seen_in, failed_at, decided, sent_as, sent, Returns}
 use Rattle.stm_calls.proofs.ReadLemmas.{all_reads}
 
 -- ---- the run of a ready attempt
@@ -107,31 +107,31 @@ is_judged terms level reads run done is =
 
 -- ---- as it is told
 
-told_as : Sent → Standing → Result (Step Sent) Refusal
-told_as answer next = Ok record { answer = answer; next = next }
+reported_as : Sent → Standing → Result (Step Sent) Refusal
+reported_as answer next = Ok record { answer = answer; next = next }
 
-told_revision : (h : History) (level : Level) (reads : List ReadAnswer) (done : Done) → IsJudged h level reads done → done.answer.failed ≡ None →
+reported_revision : (h : History) (level : Level) (reads : List ReadAnswer) (done : Done) → IsJudged h level reads done → done.answer.failed ≡ None →
     now done.history ≡ done.answer.revision
-told_revision h level reads done (applies none revision) is = sym revision
-told_revision h level reads done (turns_down failed same) is =
+reported_revision h level reads done (applies none revision) is = sym revision
+reported_revision h level reads done (turns_down failed same) is =
     let both : Some failed ≡ None = ap (λ (d : Done). d.answer.failed) same ∙ is in absurd (cc both)
 
 -- no compare failed
-pub tells_committed : (s after : Standing) (level : Level) (reads : List ReadAnswer) (run : Run) (answer : TxnAnswer) →
+pub reports_committed : (s after : Standing) (level : Level) (reads : List ReadAnswer) (run : Run) (answer : TxnAnswer) →
     step_of s (committed (terms_of s) level reads run) ≡ Ok record { answer = answer; next = after } → answer.failed ≡ None →
     sent s level reads run ≡ Ok record { answer = Committed answer.revision; next = after }
-unfolding told_as
-tells_committed s after level reads run answer step none =
+unfolding reported_as
+reports_committed s after level reads run answer step none =
     let t = is_taken s after answer (committed (terms_of s) level reads run) step in
     let failed : t.done.answer.failed ≡ None = ap (λ (a : TxnAnswer). a.failed) t.answered ∙ none in
     let judged : IsJudged s.history level reads t.done = is_judged (terms_of s) level reads run t.done t.taken in
     let revision : now t.done.history ≡ answer.revision =
-    told_revision s.history level reads t.done judged failed ∙ ap (λ (a : TxnAnswer). a.revision) t.answered in
+    reported_revision s.history level reads t.done judged failed ∙ ap (λ (a : TxnAnswer). a.revision) t.answered in
     ap (sent_as s level reads (latest_writes run.writes)) t.taken
-    ∙ ap (λ (o : Option FailedCompare). told_as (decided s level reads (latest_writes run.writes) t.done o).answer
+    ∙ ap (λ (o : Option FailedCompare). reported_as (decided s level reads (latest_writes run.writes) t.done o).answer
     (decided s level reads (latest_writes run.writes) t.done o).next) failed
-    ∙ ap (λ (n : ℕ). told_as (Committed n) (with_history s t.done.history)) revision
-    ∙ ap (λ (x : Standing). told_as (Committed answer.revision) x) t.left
+    ∙ ap (λ (n : ℕ). reported_as (Committed n) (with_history s t.done.history)) revision
+    ∙ ap (λ (x : Standing). reported_as (Committed answer.revision) x) t.left
 
 -- what a commit that was turned down read again, and what it left
 pub record IsTurnedDown (s after : Standing) (level : Level) (reads : List ReadAnswer) (answers : List OpAnswer) : Type 0 where
@@ -147,7 +147,7 @@ down_by s after level reads answer failed done (turns_down first same) answered 
   rereads =
       ap (λ (a : TxnAnswer). reads_in a.answers) (sym answered)
       ∙ ap (λ (d : Done). reads_in d.answer.answers) (sym same)
-      ∙ ap reads_in (failed_commit_rereads s.history level reads first).told
+      ∙ ap reads_in (failed_commit_rereads s.history level reads first).reported
       ∙ all_reads (map (answer_now s.history) (reread_keys level reads));
   unchanged = sym left ∙ ap (λ (d : Done). with_history s d.history) (sym same);
 }
@@ -160,37 +160,37 @@ is_turned_down s after level reads run answer failed step some =
     down_by s after level reads answer failed t.done (is_judged (terms_of s) level reads run t.done t.taken) t.answered t.left some
 
 -- a compare failed
-pub tells_failed : (s after : Standing) (level : Level) (reads : List ReadAnswer) (run : Run) (answer : TxnAnswer) (failed : FailedCompare) →
+pub reports_failed : (s after : Standing) (level : Level) (reads : List ReadAnswer) (run : Run) (answer : TxnAnswer) (failed : FailedCompare) →
     step_of s (committed (terms_of s) level reads run) ≡ Ok record { answer = answer; next = after } → answer.failed ≡ Some failed →
     sent s level reads run ≡ Ok record {
       answer = failed_at (seen_in (slice_get (seen_by reads (latest_writes run.writes)) failed.index)) failed.mod_rev (reads_in answer.answers);
       next = after;
     }
-unfolding told_as
-tells_failed s after level reads run answer failed step some =
+unfolding reported_as
+reports_failed s after level reads run answer failed step some =
     let t = is_taken s after answer (committed (terms_of s) level reads run) step in
     let down = is_turned_down s after level reads run answer failed step some in
     let is : t.done.answer.failed ≡ Some failed = ap (λ (a : TxnAnswer). a.failed) t.answered ∙ some in
     let about = seen_in (slice_get (seen_by reads (latest_writes run.writes)) failed.index) in
     ap (sent_as s level reads (latest_writes run.writes)) t.taken
-    ∙ ap (λ (o : Option FailedCompare). told_as (decided s level reads (latest_writes run.writes) t.done o).answer
+    ∙ ap (λ (o : Option FailedCompare). reported_as (decided s level reads (latest_writes run.writes) t.done o).answer
     (decided s level reads (latest_writes run.writes) t.done o).next) is
-    ∙ ap (λ (l : List ReadAnswer). told_as (failed_at about failed.mod_rev l) s) (sym down.rereads)
-    ∙ ap (λ (x : Standing). told_as (failed_at about failed.mod_rev (reads_in answer.answers)) x) (sym down.unchanged)
+    ∙ ap (λ (l : List ReadAnswer). reported_as (failed_at about failed.mod_rev l) s) (sym down.rereads)
+    ∙ ap (λ (x : Standing). reported_as (failed_at about failed.mod_rev (reads_in answer.answers)) x) (sym down.unchanged)
 
 -- as the code tells it, by the parts of the ready attempt
-pub tells_told : (s after : Standing) (ready : ReadyRun) (run : Run) (answer : TxnAnswer) (failed : FailedCompare) (told : Sent) →
+pub reports_reported : (s after : Standing) (ready : ReadyRun) (run : Run) (answer : TxnAnswer) (failed : FailedCompare) (reported : Sent) →
     ready.writes ≡ latest_writes run.writes →
     step_of s (committed (terms_of s) ready.level ready.answers run) ≡ Ok record { answer = answer; next = after } →
     answer.failed ≡ Some failed →
-    told ≡ failed_at (seen_in (slice_get (seen_by ready.answers ready.writes) failed.index)) failed.mod_rev (reads_in answer.answers) →
-    sent s ready.level ready.answers run ≡ Ok record { answer = told; next = after }
-unfolding told_as
-tells_told s after ready run answer failed told latest step some is =
-    tells_failed s after ready.level ready.answers run answer failed step some
-    ∙ ap (λ (writes : List Write). told_as
+    reported ≡ failed_at (seen_in (slice_get (seen_by ready.answers ready.writes) failed.index)) failed.mod_rev (reads_in answer.answers) →
+    sent s ready.level ready.answers run ≡ Ok record { answer = reported; next = after }
+unfolding reported_as
+reports_reported s after ready run answer failed reported latest step some is =
+    reports_failed s after ready.level ready.answers run answer failed step some
+    ∙ ap (λ (writes : List Write). reported_as
     (failed_at (seen_in (slice_get (seen_by ready.answers writes) failed.index)) failed.mod_rev (reads_in answer.answers)) after) (sym latest)
-    ∙ ap (λ (x : Sent). told_as x after) (sym is)
+    ∙ ap (λ (x : Sent). reported_as x after) (sym is)
 
 -- ---- a refusal
 
@@ -199,25 +199,25 @@ refused_by : (s : Standing) (level : Level) (reads : List ReadAnswer) (writes : 
 refused_by s level reads writes cause (Ok done) refused = inl refused
 refused_by s level reads writes cause (Err first) refused = inr (ap (λ (r : Refusal). Err r) (sym refused))
 
-tells_refused : (s : Standing) (level : Level) (reads : List ReadAnswer) (run : Run) (cause : Refusal) →
+reports_refused : (s : Standing) (level : Level) (reads : List ReadAnswer) (run : Run) (cause : Refusal) →
     IsRefusalOf (step_of s (committed (terms_of s) level reads run)) cause →
     (cause ≡ OutOfMemory) ⊎ (sent s level reads run ≡ Err cause)
-tells_refused s level reads run cause refused =
+reports_refused s level reads run cause refused =
     refused_by s level reads (latest_writes run.writes) cause (committed (terms_of s) level reads run) refused
 
 -- as the code tells it
 pub is_refused : (s after : Standing) (ready : ReadyRun) (run : Run) (txn : Txn) (cause : Refusal) → IsRunOnItsAnswers ready →
     All (λ (a : ReadAnswer). 0 < length a.key) ready.answers → run_on ready.program ready.answers ≡ Ended run →
     txn ≡ commit_of ready.level ready.answers ready.writes → IsRefusalOf (transacted s txn) cause → after ≡ s →
-    Tells (sent s ready.level ready.answers run) s (Err cause) after
+    Returns (sent s ready.level ready.answers run) s (Err cause) after
 is_refused s after ready run txn cause kept named ended is refused unchanged = (
-  tells_refused s ready.level ready.answers run cause
+  reports_refused s ready.level ready.answers run cause
       (subst (λ (o : Result (Step TxnAnswer) Refusal). IsRefusalOf o cause) (comes_to s ready run txn kept named ended is) refused),
   unchanged,
 )
 
 -- the exit of a refusal
 pub refused_with : (defined : Result (Step Sent) Refusal) (before after : Standing) (result : Result Sent Refusal) (given cause : Refusal) →
-    result ≡ Err given → given ≡ cause → Tells defined before (Err cause) after → Tells defined before result after
-refused_with defined before after result given cause is same told =
-    subst (λ (r : Result Sent Refusal). Tells defined before r after) (sym (is ∙ ap (λ (y : Refusal). Err y) same)) told
+    result ≡ Err given → given ≡ cause → Returns defined before (Err cause) after → Returns defined before result after
+refused_with defined before after result given cause is same reported =
+    subst (λ (r : Result Sent Refusal). Returns defined before r after) (sym (is ∙ ap (λ (y : Refusal). Err y) same)) reported

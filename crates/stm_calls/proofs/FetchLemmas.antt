@@ -24,7 +24,7 @@ use Rattle.stm_outcome.specs.Numbers.{ReadFits, StatesFit}
 use Rattle.stm_txn.specs.Standing.{Standing, terms_of}
 use Rattle.stm_outcome.proofs.Applying.{reads_change_nothing}
 use Rattle.stm_calls.specs.ReadRefusals.{cause_read}
-use Rattle.stm_calls.specs.Fetched.{fetched, answer_with, read_at, fetch_of, fetch_told, read_told, one_read, IsFetch, ReadTells}
+use Rattle.stm_calls.specs.Fetched.{fetched, answer_with, read_at, fetch_of, fetch_reported, read_reported, one_read, IsFetch, ReadReturns}
 
 -- ---- the transaction of a read
 
@@ -82,25 +82,25 @@ comes_by s key at false false false some is over under =
     (ltb-false (now s.history) at over, under, tt)
 
 -- the transaction that reads a key comes to what the read does, in a store that takes one operation
-pub read_comes_to : (s : Standing) (key : List ℕ) (at : ℕ) → 0 < s.limit → outcome (terms_of s) (fetch_of key at) ≡ done_of s (read_told s key at)
+pub read_comes_to : (s : Standing) (key : List ℕ) (at : ℕ) → 0 < s.limit → outcome (terms_of s) (fetch_of key at) ≡ done_of s (read_reported s key at)
 read_comes_to s key at some =
     comes_by s key at (nat_eq (length key) 0) (nat_lt (now s.history) at) (is_below_floor s.floor at) some refl refl refl
 
 -- ---- what a read is told
 
 -- by the three tests: its key is empty, its revision is above the counter, it is below the floor
-abbrev told_by : Bool → Bool → Bool → ReadAnswer → Result ReadAnswer Refusal
-told_by empty above below read = cond empty (Err EmptyKey) (cond above (Err FutureRevision) (cond below (Err Compacted) (Ok read)))
+abbrev reported_by : Bool → Bool → Bool → ReadAnswer → Result ReadAnswer Refusal
+reported_by empty above below read = cond empty (Err EmptyKey) (cond above (Err FutureRevision) (cond below (Err Compacted) (Ok read)))
 
 by_tests : (s : Standing) (key : List ℕ) (at : ℕ) (empty above below : Bool) → nat_eq (length key) 0 ≡ empty → nat_lt (now s.history) at ≡ above →
-    is_below_floor s.floor at ≡ below → read_told s key at ≡ told_by empty above below (fetched s.history key at)
+    is_below_floor s.floor at ≡ below → read_reported s key at ≡ reported_by empty above below (fetched s.history key at)
 by_tests s key at empty above below is over under =
-    ap (λ (b : Bool). told_by b (nat_lt (now s.history) at) (is_below_floor s.floor at) (fetched s.history key at)) is
-    ∙ ap (λ (b : Bool). told_by empty b (is_below_floor s.floor at) (fetched s.history key at)) over
-    ∙ ap (λ (b : Bool). told_by empty above b (fetched s.history key at)) under
+    ap (λ (b : Bool). reported_by b (nat_lt (now s.history) at) (is_below_floor s.floor at) (fetched s.history key at)) is
+    ∙ ap (λ (b : Bool). reported_by empty b (is_below_floor s.floor at) (fetched s.history key at)) over
+    ∙ ap (λ (b : Bool). reported_by empty above b (fetched s.history key at)) under
 
-pub told_empty : (s : Standing) (key : List ℕ) (at : ℕ) → length key ≡ 0 → read_told s key at ≡ Err EmptyKey
-told_empty s key at none =
+pub reported_empty : (s : Standing) (key : List ℕ) (at : ℕ) → length key ≡ 0 → read_reported s key at ≡ Err EmptyKey
+reported_empty s key at none =
     by_tests s key at true (nat_lt (now s.history) at) (is_below_floor s.floor at) (eq-eqb (length key) 0 none) refl refl
 
 is_named : (key : List ℕ) → 0 < length key → nat_eq (length key) 0 ≡ false
@@ -110,11 +110,11 @@ under_by : (floor at : ℕ) → 0 < at → at < floor → is_below_floor floor a
 under_by floor at some below = ap (λ (b : Bool). b && nat_lt at floor) (lt-ltb 0 at some) ∙ lt-ltb at floor below
 
 -- the refusal of the keys is the store's
-pub told_refused : (s : Standing) (key : List ℕ) (at : ℕ) (refusal : ReadRefusal) → 0 < length key → s.floor ≤ now s.history →
-    (refusal ≡ KeysFuture → now s.history < at) → (refusal ≡ KeysCompacted → (0 < at) × (at < s.floor)) → read_told s key at ≡ Err (cause_read refusal)
-told_refused s key at KeysFuture named reached future compacted =
+pub reported_refused : (s : Standing) (key : List ℕ) (at : ℕ) (refusal : ReadRefusal) → 0 < length key → s.floor ≤ now s.history →
+    (refusal ≡ KeysFuture → now s.history < at) → (refusal ≡ KeysCompacted → (0 < at) × (at < s.floor)) → read_reported s key at ≡ Err (cause_read refusal)
+reported_refused s key at KeysFuture named reached future compacted =
     by_tests s key at false true (is_below_floor s.floor at) (is_named key named) (lt-ltb (now s.history) at (future refl)) refl
-told_refused s key at KeysCompacted named reached future compacted =
+reported_refused s key at KeysCompacted named reached future compacted =
     let under = compacted refl in
     by_tests s key at false false true (is_named key named) (le-ltb (now s.history) at (omega (arith, under.1, reached)))
     (under_by s.floor at under.0 under.1)
@@ -133,17 +133,17 @@ shown_read : (h : History) (key : List ℕ) (at : ℕ) (zero : Bool) → nat_eq 
 shown_read h key at true is = last_revision_is_now h key (now h) (omega arith)
 shown_read h key at false is = refl
 
-pub told_read : (s : Standing) (key : List ℕ) (at : ℕ) (state : Option KeyState) → 0 < length key → at ≤ now s.history →
-    ((0 < at) × (at < s.floor) → ⊥) → state ≡ key_read s.history key at → read_told s key at ≡ Ok (answer_with s.history key at state)
-told_read s key at state named reached above found =
+pub reported_read : (s : Standing) (key : List ℕ) (at : ℕ) (state : Option KeyState) → 0 < length key → at ≤ now s.history →
+    ((0 < at) × (at < s.floor) → ⊥) → state ≡ key_read s.history key at → read_reported s key at ≡ Ok (answer_with s.history key at state)
+reported_read s key at state named reached above found =
     by_tests s key at false false false (is_named key named) (le-ltb (now s.history) at reached) (not_under s.floor at above)
     ∙ ap (λ (kv : Option KeyState). Ok (answer_with s.history key at kv))
     (shown_read s.history key at (nat_eq at 0) refl ∙ sym found)
 
 -- the answer is made of what was found
-pub told_as : (s : Standing) (h : History) (key : List ℕ) (at : ℕ) (state : Option KeyState) (answer : ReadAnswer) →
-    read_told s key at ≡ Ok (answer_with s.history key at state) → h ≡ s.history → answer ≡ answer_with h key at state → read_told s key at ≡ Ok answer
-told_as s h key at state answer found same is =
+pub reported_as : (s : Standing) (h : History) (key : List ℕ) (at : ℕ) (state : Option KeyState) (answer : ReadAnswer) →
+    read_reported s key at ≡ Ok (answer_with s.history key at state) → h ≡ s.history → answer ≡ answer_with h key at state → read_reported s key at ≡ Ok answer
+reported_as s h key at state answer found same is =
     found
     ∙ ap (λ (g : History). Ok (answer_with g key at state)) (sym same)
     ∙ ap (λ (a : ReadAnswer). Ok a) (sym is)
@@ -160,41 +160,41 @@ fetched_fits h key at bounded reached fit =
     record { of_rev = revision_fits h at (nat_eq at 0) bounded reached; revision = high; state = fit key (revision_read h at) }
 
 read_by : (s : Standing) (key : List ℕ) (at : ℕ) (read : ReadAnswer) (empty above below : Bool) → nat_lt (now s.history) at ≡ above →
-    told_by empty above below (fetched s.history key at) ≡ Ok read → (at ≤ now s.history) × (fetched s.history key at ≡ read)
-read_by s key at read true above below over told = absurd (cc)
-read_by s key at read false true below over told = absurd (cc)
-read_by s key at read false false true over told = absurd (cc)
-read_by s key at read false false false over told = (ltb-false (now s.history) at over, cc)
+    reported_by empty above below (fetched s.history key at) ≡ Ok read → (at ≤ now s.history) × (fetched s.history key at ≡ read)
+read_by s key at read true above below over reported = absurd (cc)
+read_by s key at read false true below over reported = absurd (cc)
+read_by s key at read false false true over reported = absurd (cc)
+read_by s key at read false false false over reported = (ltb-false (now s.history) at over, cc)
 
 -- the numbers of a read that is told fit
 pub read_fits : (s : Standing) (key : List ℕ) (at : ℕ) (read : ReadAnswer) → now s.history ≤ HIGHEST_REVISION → StatesFit s.history →
-    read_told s key at ≡ Ok read → ReadFits read
-read_fits s key at read bounded fit told =
+    read_reported s key at ≡ Ok read → ReadFits read
+read_fits s key at read bounded fit reported =
     let is : (at ≤ now s.history) × (fetched s.history key at ≡ read) =
-    read_by s key at read (nat_eq (length key) 0) (nat_lt (now s.history) at) (is_below_floor s.floor at) refl told in
+    read_by s key at read (nat_eq (length key) 0) (nat_lt (now s.history) at) (is_below_floor s.floor at) refl reported in
     subst (λ (a : ReadAnswer). ReadFits a) is.1 (fetched_fits s.history key at bounded is.0 fit)
 
 -- it carries the store's revision
-pub read_revision : (s : Standing) (key : List ℕ) (at : ℕ) (read : ReadAnswer) → read_told s key at ≡ Ok read → read.revision ≡ now s.history
-read_revision s key at read told =
+pub read_revision : (s : Standing) (key : List ℕ) (at : ℕ) (read : ReadAnswer) → read_reported s key at ≡ Ok read → read.revision ≡ now s.history
+read_revision s key at read reported =
     let is : (at ≤ now s.history) × (fetched s.history key at ≡ read) =
-    read_by s key at read (nat_eq (length key) 0) (nat_lt (now s.history) at) (is_below_floor s.floor at) refl told in
+    read_by s key at read (nat_eq (length key) 0) (nat_lt (now s.history) at) (is_below_floor s.floor at) refl reported in
     ap (λ (a : ReadAnswer). a.revision) (sym is.1)
 
 -- ---- the fetch of a key that can be read
 
 -- where the key is named and the revision reached, a read is told what a fetch is
-pub read_is_fetch : (s : Standing) (key : List ℕ) (at : ℕ) → 0 < length key → at ≤ now s.history → read_told s key at ≡ fetch_told s key at
+pub read_is_fetch : (s : Standing) (key : List ℕ) (at : ℕ) → 0 < length key → at ≤ now s.history → read_reported s key at ≡ fetch_reported s key at
 read_is_fetch s key at named reached =
     by_tests s key at false false (is_below_floor s.floor at) (is_named key named) (le-ltb (now s.history) at reached) refl
 
-pub fetch_of_read : (defined result : Result ReadAnswer Refusal) → ReadTells defined result → IsFetch defined result
-fetch_of_read defined (Ok answer) told = told
+pub fetch_of_read : (defined result : Result ReadAnswer Refusal) → ReadReturns defined result → IsFetch defined result
+fetch_of_read defined (Ok answer) reported = reported
 fetch_of_read defined (Err cause) (inl is) = inr is
 fetch_of_read defined (Err cause) (inr want) = inl want.0
 
 -- the exit of a refusal
 pub refused_with : (defined result : Result ReadAnswer Refusal) (given cause : Refusal) → result ≡ Err given → given ≡ cause →
-    (defined ≡ Err cause) ⊎ ((cause ≡ OutOfMemory) × IsOk defined) → ReadTells defined result
-refused_with defined result given cause is same told =
-    subst (λ (r : Result ReadAnswer Refusal). ReadTells defined r) (sym (is ∙ ap (λ (y : Refusal). Err y) same)) told
+    (defined ≡ Err cause) ⊎ ((cause ≡ OutOfMemory) × IsOk defined) → ReadReturns defined result
+refused_with defined result given cause is same reported =
+    subst (λ (r : Result ReadAnswer Refusal). ReadReturns defined r) (sym (is ∙ ap (λ (y : Refusal). Err y) same)) reported

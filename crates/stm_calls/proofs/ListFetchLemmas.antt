@@ -24,7 +24,7 @@ use Rattle.stm_outcome.proofs.Applying.{reads_change_nothing}
 use Rattle.stm_txn.specs.Standing.{Standing, Step, IsRefusalOf, step_of, transacted, terms_of}
 use Rattle.stm_compile.specs.Answers.{answer_now}
 use Rattle.stm_calls.specs.Reads.{reads_in}
-use Rattle.stm_calls.specs.Fetched.{fetch_all_of, fetch_all_told, IsRefusalOfAll, only_reads, ListIsOneTransaction}
+use Rattle.stm_calls.specs.Fetched.{fetch_all_of, fetch_all_reported, IsRefusalOfAll, only_reads, ListIsOneTransaction}
 use Rattle.stm_calls.proofs.ReadLemmas.{all_reads}
 
 -- ---- the whole transaction
@@ -140,24 +140,24 @@ too_many_come_to s keys txn is named many =
 
 -- ---- the transaction is the fetch
 
-told_by : (s : Standing) (keys : List (List ℕ)) (many : Bool) → nat_lt s.limit (length keys) ≡ many
-    → fetch_all_told s keys ≡ cond many (Err TooManyOps) (Ok (map (answer_now s.history) keys))
-told_by s keys many is = ap (λ (b : Bool). (let r : Result (List ReadAnswer) Refusal = cond b (Err TooManyOps) (Ok (map (answer_now s.history) keys)) in r)) is
+reported_by : (s : Standing) (keys : List (List ℕ)) (many : Bool) → nat_lt s.limit (length keys) ≡ many
+    → fetch_all_reported s keys ≡ cond many (Err TooManyOps) (Ok (map (answer_now s.history) keys))
+reported_by s keys many is = ap (λ (b : Bool). (let r : Result (List ReadAnswer) Refusal = cond b (Err TooManyOps) (Ok (map (answer_now s.history) keys)) in r)) is
 
 -- reads in the form of a transaction's answers
 abbrev answered : Standing → List OpAnswer → Step TxnAnswer
 answered s answers = record { answer = record { succeeded = true; revision = now s.history; answers = answers; failed = None }; next = s }
 
-read_alone : (s : Standing) (keys : List (List ℕ)) → nat_lt s.limit (length keys) ≡ false → Ok (step_alone s keys) ≡ only_reads s (fetch_all_told s keys)
+read_alone : (s : Standing) (keys : List (List ℕ)) → nat_lt s.limit (length keys) ≡ false → Ok (step_alone s keys) ≡ only_reads s (fetch_all_reported s keys)
 unfolding step_alone
 read_alone s keys few =
     ap (λ (answers : List OpAnswer). (let r : Result (Step TxnAnswer) Refusal = Ok (answered s answers) in r)) (shown_now s.history keys)
-    ∙ ap (only_reads s) (sym (told_by s keys false few))
+    ∙ ap (only_reads s) (sym (reported_by s keys false few))
 
 list_by : (s : Standing) (keys : List (List ℕ)) (many : Bool) → nat_lt s.limit (length keys) ≡ many → AreNamed keys
-    → transacted s (fetch_all_of keys) ≡ only_reads s (fetch_all_told s keys)
+    → transacted s (fetch_all_of keys) ≡ only_reads s (fetch_all_reported s keys)
 list_by s keys true many named =
-    too_many_come_to s keys (fetch_all_of keys) refl named many ∙ ap (only_reads s) (sym (told_by s keys true many))
+    too_many_come_to s keys (fetch_all_of keys) refl named many ∙ ap (only_reads s) (sym (reported_by s keys true many))
 list_by s keys false few named = all_come_to s keys (fetch_all_of keys) refl named few ∙ read_alone s keys few
 
 pub list_is_one_transaction : ListIsOneTransaction
@@ -166,7 +166,7 @@ list_is_one_transaction s keys named = list_by s keys (nat_lt s.limit (length ke
 -- ---- what was told
 
 pub record AreRead (s after : Standing) (keys : List (List ℕ)) (answers : List OpAnswer) : Type 0 where
-  pub told : fetch_all_told s keys ≡ Ok (reads_in answers)
+  pub reported : fetch_all_reported s keys ≡ Ok (reads_in answers)
   pub unchanged : after ≡ s
 
 read_by : (s after : Standing) (keys : List (List ℕ)) (txn : Txn) (answer : TxnAnswer) (many : Bool) → nat_lt s.limit (length keys) ≡ many
@@ -182,7 +182,7 @@ read_by s after keys txn answer false few is named step =
     let answers : map (λ a. GetAnswer a) (map (answer_now s.history) keys) ≡ answer.answers =
     sym (shown_now s.history keys) ∙ ap (λ (x : Step TxnAnswer). x.answer.answers) same in
     record {
-      told = ap (λ (b : Bool). cond b (Err TooManyOps) (Ok (map (answer_now s.history) keys))) few
+      reported = ap (λ (b : Bool). cond b (Err TooManyOps) (Ok (map (answer_now s.history) keys))) few
           ∙ ap (λ (reads : List ReadAnswer). (let r : Result (List ReadAnswer) Refusal = Ok reads in r))
           (sym (all_reads (map (answer_now s.history) keys)) ∙ ap reads_in answers);
       unchanged = sym (ap (λ (x : Step TxnAnswer). x.next) same);
@@ -205,12 +205,12 @@ pub all_refused : (s : Standing) (keys : List (List ℕ)) (txn : Txn) (cause : R
 all_refused s keys txn cause is named refused = refused_by s keys txn cause (nat_lt s.limit (length keys)) refl is named refused
 
 -- what is told of the reads of the answer
-pub all_told : (s after : Standing) (keys : List (List ℕ)) (answers : List OpAnswer) (reads : List ReadAnswer) → AreRead s after keys answers
-    → reads ≡ reads_in answers → fetch_all_told s keys ≡ Ok reads
-all_told s after keys answers reads x same = x.told ∙ ap (λ (l : List ReadAnswer). (let r : Result (List ReadAnswer) Refusal = Ok l in r)) (sym same)
+pub all_reported : (s after : Standing) (keys : List (List ℕ)) (answers : List OpAnswer) (reads : List ReadAnswer) → AreRead s after keys answers
+    → reads ≡ reads_in answers → fetch_all_reported s keys ≡ Ok reads
+all_reported s after keys answers reads x same = x.reported ∙ ap (λ (l : List ReadAnswer). (let r : Result (List ReadAnswer) Refusal = Ok l in r)) (sym same)
 
 -- the exit of a refusal
 pub refused_with_all : {A : Type 0} (s : Standing) (keys : List (List ℕ)) (result : Result A Refusal) (given cause : Refusal) → result ≡ Err given
     → given ≡ cause → IsRefusalOfAll s keys cause → IfErr result (IsRefusalOfAll s keys)
-refused_with_all {A = A} s keys result given cause is same told =
-    subst (λ (r : Result A Refusal). IfErr r (IsRefusalOfAll s keys)) (sym (is ∙ ap (λ (y : Refusal). Err y) same)) told
+refused_with_all {A = A} s keys result given cause is same reported =
+    subst (λ (r : Result A Refusal). IfErr r (IsRefusalOfAll s keys)) (sym (is ∙ ap (λ (y : Refusal). Err y) same)) reported

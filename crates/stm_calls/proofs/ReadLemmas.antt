@@ -18,12 +18,12 @@ first_apart (Del count) rest = refl
 -- one more answer is taken
 pub one_taken : (before after : List ReadAnswer) (answer : OpAnswer) (left rest : List OpAnswer) (all : List ReadAnswer) →
     after ≡ before ++ reads_in (answer ∷ []) → left ≡ answer ∷ rest → before ++ reads_in left ≡ all → after ++ reads_in rest ≡ all
-one_taken before after answer left rest all added first told =
+one_taken before after answer left rest all added first reported =
     ap (λ (l : List ReadAnswer). l ++ reads_in rest) added
     ∙ append_assoc before (reads_in (answer ∷ [])) (reads_in rest)
     ∙ ap (λ (l : List ReadAnswer). before ++ l) (sym (first_apart answer rest))
     ∙ ap (λ (l : List OpAnswer). before ++ reads_in l) (sym first)
-    ∙ told
+    ∙ reported
 
 -- answers that are all of reads
 pub all_reads : (reads : List ReadAnswer) → reads_in (map (λ a. Get a) reads) ≡ reads

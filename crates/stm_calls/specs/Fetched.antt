@@ -33,15 +33,15 @@ abbrev pub fetch_of : List ℕ → ℕ → Txn
 fetch_of key at = record { compares = []; success = read_op (read_at key at) ∷ []; failure = [] }
 
 -- what a fetch from a store comes to: it is refused where it names a revision below the floor
-abbrev pub fetch_told : Standing → List ℕ → ℕ → Result ReadAnswer Refusal
-fetch_told s key at = if is_below_floor s.floor at then Err Compacted else Ok (fetched s.history key at)
+abbrev pub fetch_reported : Standing → List ℕ → ℕ → Result ReadAnswer Refusal
+fetch_reported s key at = if is_below_floor s.floor at then Err Compacted else Ok (fetched s.history key at)
 
 -- what a read comes to, whatever key and revision it names
-abbrev pub read_told : Standing → List ℕ → ℕ → Result ReadAnswer Refusal
-read_told s key at =
+abbrev pub read_reported : Standing → List ℕ → ℕ → Result ReadAnswer Refusal
+read_reported s key at =
     if nat_eq (length key) 0 then Err EmptyKey
     else if nat_lt (now s.history) at then Err FutureRevision
-    else fetch_told s key at
+    else fetch_reported s key at
 
 -- the answer to a transaction that reads once
 abbrev pub one_read : ReadAnswer → TxnAnswer
@@ -53,9 +53,9 @@ IsFetch defined (Ok answer) = defined ≡ Ok answer
 IsFetch defined (Err cause) = (cause ≡ OutOfMemory) ⊎ (defined ≡ Err cause)
 
 -- A read comes to what its definition says. Want of memory is told only where the definition answers.
-abbrev pub ReadTells : Result ReadAnswer Refusal → Result ReadAnswer Refusal → Type 0
-ReadTells defined (Ok answer) = defined ≡ Ok answer
-ReadTells defined (Err cause) = (defined ≡ Err cause) ⊎ ((cause ≡ OutOfMemory) × IsOk defined)
+abbrev pub ReadReturns : Result ReadAnswer Refusal → Result ReadAnswer Refusal → Type 0
+ReadReturns defined (Ok answer) = defined ≡ Ok answer
+ReadReturns defined (Err cause) = (defined ≡ Err cause) ⊎ ((cause ≡ OutOfMemory) × IsOk defined)
 
 -- ---- a list
 
@@ -64,23 +64,23 @@ abbrev pub fetch_all_of : List (List ℕ) → Txn
 fetch_all_of keys = record { compares = []; success = map read_op (reads_now keys); failure = [] }
 
 -- What it comes to. It is refused where there are more keys than the store takes operations; it names no revision, so no compaction refuses it.
-abbrev pub fetch_all_told : Standing → List (List ℕ) → Result (List ReadAnswer) Refusal
-fetch_all_told s keys = if nat_lt s.limit (length keys) then Err TooManyOps else Ok (map (answer_now s.history) keys)
+abbrev pub fetch_all_reported : Standing → List (List ℕ) → Result (List ReadAnswer) Refusal
+fetch_all_reported s keys = if nat_lt s.limit (length keys) then Err TooManyOps else Ok (map (answer_now s.history) keys)
 
 -- The refusal of the fetch of a list is its own, or memory ran out.
 abbrev pub IsRefusalOfAll : Standing → List (List ℕ) → Refusal → Type 0
-IsRefusalOfAll s keys cause = (cause ≡ OutOfMemory) ⊎ (fetch_all_told s keys ≡ Err cause)
+IsRefusalOfAll s keys cause = (cause ≡ OutOfMemory) ⊎ (fetch_all_reported s keys ≡ Err cause)
 
 -- the answer to a transaction that reads and does nothing else
-abbrev pub reads_told : Standing → List ReadAnswer → TxnAnswer
-reads_told s reads = record { succeeded = true; revision = now s.history; answers = map (λ a. Get a) reads; failed = None }
+abbrev pub reads_reported : Standing → List ReadAnswer → TxnAnswer
+reads_reported s reads = record { succeeded = true; revision = now s.history; answers = map (λ a. Get a) reads; failed = None }
 
 -- with the store as it was
 abbrev pub only_reads : Standing → Result (List ReadAnswer) Refusal → Result (Step TxnAnswer) Refusal
-only_reads s (Ok reads) = Ok record { answer = reads_told s reads; next = s }
+only_reads s (Ok reads) = Ok record { answer = reads_reported s reads; next = s }
 only_reads s (Err cause) = Err cause
 
 -- It is what the store does with that transaction.
 abbrev pub ListIsOneTransaction : Type 0
 ListIsOneTransaction =
-    (s : Standing) (keys : List (List ℕ)) → AreNamed keys → transacted s (fetch_all_of keys) ≡ only_reads s (fetch_all_told s keys)
+    (s : Standing) (keys : List (List ℕ)) → AreNamed keys → transacted s (fetch_all_of keys) ≡ only_reads s (fetch_all_reported s keys)

@@ -48,6 +48,6 @@ abbrev pub sent : Standing → Level → List ReadAnswer → Run → Result (Ste
 sent s level reads run = sent_as s level reads (latest_writes run.writes) (committed (terms_of s) level reads run)
 
 -- A commit comes to what its definition says, unless memory ran out. A refusal leaves the store as it was.
-abbrev pub Tells : Result (Step Sent) Refusal → Standing → Result Sent Refusal → Standing → Type 0
-Tells defined before (Ok answer) after = defined ≡ Ok record { answer = answer; next = after }
-Tells defined before (Err cause) after = ((cause ≡ OutOfMemory) ⊎ (defined ≡ Err cause)) × (after ≡ before)
+abbrev pub Returns : Result (Step Sent) Refusal → Standing → Result Sent Refusal → Standing → Type 0
+Returns defined before (Ok answer) after = defined ≡ Ok record { answer = answer; next = after }
+Returns defined before (Err cause) after = ((cause ≡ OutOfMemory) ⊎ (defined ≡ Err cause)) × (after ≡ before)

@@ -4,7 +4,7 @@ ghost use Rattle.stm_history.specs.declared.revisions.TheConstants.{HIGHEST_REVI
 ghost use Rattle.stm_history.specs.History.{now};
 ghost use Rattle.stm_outcome.specs.Commits.{AreNamed, read_now, revision_read};
 ghost use Rattle.stm_outcome.specs.Numbers.{ReadFits};
-ghost use Rattle.stm_calls.specs.Fetched.{fetch_told, read_told, answer_with, IsFetch, ReadTells, fetch_all_of, fetch_all_told, IsRefusalOfAll};
+ghost use Rattle.stm_calls.specs.Fetched.{fetch_reported, read_reported, answer_with, IsFetch, ReadReturns, fetch_all_of, fetch_all_reported, IsRefusalOfAll};
 ghost use Rattle.stm_calls.specs.ReadRefusals.{cause_read};
 
 use crate::answers::take_reads;
@@ -26,8 +26,8 @@ fn cause_of(refusal: ReadRefusal) -> Refusal
 /// What a key, which is not empty, was at a revision, 0 for the current one.
 fn find_named<'a>(store: &'a Store, key: &str, at: u64) -> Result<Option<&'a KeyState>, Refusal>
     requires { 0 < length key.now }
-    ensures found { IfOk result (λ state. read_told store.now.standing key.now at ≡ Ok (answer_with store.now.standing.history key.now at (option_copied state))) }
-    ensures refused { IfErr result (λ cause. read_told store.now.standing key.now at ≡ Err cause) }
+    ensures found { IfOk result (λ state. read_reported store.now.standing key.now at ≡ Ok (answer_with store.now.standing.history key.now at (option_copied state))) }
+    ensures refused { IfErr result (λ cause. read_reported store.now.standing key.now at ≡ Err cause) }
 {
     let keys = store.keys();
     let _counter = keys.revision();
@@ -39,8 +39,8 @@ fn find_named<'a>(store: &'a Store, key: &str, at: u64) -> Result<Option<&'a Key
 
 /// What a key was at a revision, 0 for the current one.
 fn find_state<'a>(store: &'a Store, key: &str, at: u64) -> Result<Option<&'a KeyState>, Refusal>
-    ensures found { IfOk result (λ state. read_told store.now.standing key.now at ≡ Ok (answer_with store.now.standing.history key.now at (option_copied state))) }
-    ensures refused { IfErr result (λ cause. read_told store.now.standing key.now at ≡ Err cause) }
+    ensures found { IfOk result (λ state. read_reported store.now.standing key.now at ≡ Ok (answer_with store.now.standing.history key.now at (option_copied state))) }
+    ensures refused { IfErr result (λ cause. read_reported store.now.standing key.now at ≡ Err cause) }
 {
     if key.is_empty() {
         return Err(Refusal::EmptyKey);
@@ -92,7 +92,7 @@ fn answer_to(
 /// revision is above the store's. Then `Compacted`: it is not 0 and below the store's floor. `OutOfMemory` may come only where none
 /// of these does. (etcd's API reference, "Range".)
 pub fn read(alloc: Global, store: &Store, key: &str, at: u64) -> Result<ReadAnswer, Refusal>
-    ensures told { ReadTells (read_told store.now.standing key.now at) result }
+    ensures reported { ReadReturns (read_reported store.now.standing key.now at) result }
     ensures in_range { IfOk result ReadFits }
 {
     match find_state(store, key, at) {
@@ -112,7 +112,7 @@ pub fn read(alloc: Global, store: &Store, key: &str, at: u64) -> Result<ReadAnsw
 pub fn fetch(alloc: Global, store: &mut Store, key: &str, at: u64) -> Result<ReadAnswer, Refusal>
     requires named { 0 < length key.now }
     requires reached { at ≤ now store.old.standing.history }
-    ensures told { IsFetch (fetch_told store.old.standing key.now at) result }
+    ensures reported { IsFetch (fetch_reported store.old.standing key.now at) result }
     ensures in_range { IfOk result ReadFits }
     ensures store { store.new.standing ≡ store.old.standing }
 {
@@ -154,15 +154,15 @@ pub fn fetch_all(
     keys: &[Text],
 ) -> Result<Vec<ReadAnswer>, Refusal>
     requires { AreNamed keys.now }
-    ensures told { IfOk result (λ reads. fetch_all_told store.old.standing keys.now ≡ OkOf reads.items) }
+    ensures reported { IfOk result (λ reads. fetch_all_reported store.old.standing keys.now ≡ OkOf reads.items) }
     ensures refused { IfErr result (IsRefusalOfAll store.old.standing keys.now) }
     ensures in_range { IfOk result (λ reads. All ReadFits reads.items) }
     ensures store { store.new.standing ≡ store.old.standing }
 {
     let txn = read_all(alloc, keys)?;
-    let told = store.txn(&txn);
+    let reported = store.txn(&txn);
     drop(txn);
-    let answer = told?;
+    let answer = reported?;
     let reads = take_reads(alloc, answer.answers)?;
     Ok(reads)
 }

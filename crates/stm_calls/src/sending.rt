@@ -9,7 +9,7 @@ ghost use Rattle.stm_outcome.specs.Numbers.{StateFits};
 ghost use Rattle.stm_compile.specs.Conflicts.{seen_by};
 ghost use Rattle.stm_attempt.specs.Settled.{run_on};
 ghost use Rattle.stm_calls.specs.Reads.{reads_in};
-ghost use Rattle.stm_calls.specs.Sent.{seen_in, failed_at, sent, Tells};
+ghost use Rattle.stm_calls.specs.Sent.{seen_in, failed_at, sent, Returns};
 ghost use Rattle.stm_calls.specs.Prefetch.{CanGoOn};
 ghost use Rattle.stm_calls.specs.Numbers.{SentFits};
 
@@ -69,7 +69,7 @@ pub fn conflict(
 ) -> Result<Sent, AllocError>
     requires place { failed.index < length (seen_by reads.now writes.now) }
     requires in_range { failed.mod_rev ≤ HIGHEST_NUMBER }
-    ensures told { IfOk result (λ told. told ≡ failed_at (seen_in (slice_get (seen_by reads.now writes.now) failed.index)) failed.mod_rev (reads_in answers)) }
+    ensures reported { IfOk result (λ reported. reported ≡ failed_at (seen_in (slice_get (seen_by reads.now writes.now) failed.index)) failed.mod_rev (reads_in answers)) }
     ensures numbers { IfOk result SentFits }
 {
     let key = Text::copy_of(alloc, key_seen(reads, writes, failed.index))?;
@@ -95,7 +95,7 @@ pub fn conflict(
 pub fn commit(alloc: Global, store: &mut Store, ready: &Ready) -> Result<Sent, Refusal>
     requires named { All (λ (a : Answer). 0 < length a.key) ready.now.answers }
     ensures step { (run : Run) → run_on ready.now.program ready.now.answers ≡ Ended run →
-        Tells (sent store.old.standing ready.now.level ready.now.answers run) store.old.standing result store.new.standing }
+        Returns (sent store.old.standing ready.now.level ready.now.answers run) store.old.standing result store.new.standing }
     ensures answers { IfOk result CanGoOn }
     ensures numbers { IfOk result SentFits }
 {
@@ -111,8 +111,8 @@ pub fn commit(alloc: Global, store: &mut Store, ready: &Ready) -> Result<Sent, R
             Ok(Sent::Committed { revision })
         }
         Some(failed) => {
-            let told = conflict(alloc, &ready.answers, &ready.writes, failed, answer.answers)?;
-            Ok(told)
+            let reported = conflict(alloc, &ready.answers, &ready.writes, failed, answer.answers)?;
+            Ok(reported)
         }
     }
 }

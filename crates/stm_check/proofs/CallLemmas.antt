@@ -34,31 +34,31 @@ use Rattle.stm_reports.specs.declared.causes.RefusalName.{RefusalName}
 use Rattle.stm_entries.specs.declared.entry.Entry.{Entry}
 use Rattle.stm_entries.specs.Replayed.{without_moment}
 use Rattle.stm_entries.specs.declared.entry.Entry.TheVariants.{Foreign, Grant as GrantEntry, Renew, Revoke as RevokeEntry}
-use Rattle.stm_reports.specs.Told.{cause_told, txn_line}
+use Rattle.stm_reports.specs.Reported.{cause_reported, txn_line}
 use Rattle.stm_world.specs.declared.event.WorldEvent.TheVariants.{Advance as AdvanceEvent, Compact as CompactEvent}
 use Rattle.stm_world.specs.declared.reply.Reply.{Reply}
-use Rattle.stm_world.specs.Told.{reply_to, store_after_call, advance_reply}
+use Rattle.stm_world.specs.Reported.{reply_to, store_after_call, advance_reply}
 use Rattle.stm_world.specs.World.{if_taken, if_changed}
 use Rattle.stm_world.proofs.Entered.{EntriesFollow}
 use Rattle.stm_world.proofs.Calls.{txn_follows, grant_follows, keep_follows, revoke_follows, advance_follows}
 use Rattle.stm_check.specs.Point.{led_by, moment_after, with_replayed, txn_entries, advance_entries, expiries, raised_by}
-use Rattle.stm_lines.specs.Lines.{reply_told, line_told}
+use Rattle.stm_lines.specs.Lines.{reply_reported, line_reported}
 
 -- ---- lines
 
 -- the line of a call that was taken
-pub taken_line : {A : Type 0} (n : ℕ) (tell : A → Reply) (r : Result (Step A) Refusal) (answer : A) (next : Standing) →
-    r ≡ Ok record { answer = answer; next = next } → line_told n (reply_to tell r) ≡ reply_told n (tell answer)
-taken_line {A} n tell r answer next is = ap (λ (o : Result (Step A) Refusal). line_told n (reply_to tell o)) is
+pub taken_line : {A : Type 0} (n : ℕ) (report : A → Reply) (r : Result (Step A) Refusal) (answer : A) (next : Standing) →
+    r ≡ Ok record { answer = answer; next = next } → line_reported n (reply_to report r) ≡ reply_reported n (report answer)
+taken_line {A} n report r answer next is = ap (λ (o : Result (Step A) Refusal). line_reported n (reply_to report o)) is
 
 -- why a call was refused, where it was not for want of memory
 pub refused_for : {T : Type 0} (r : Result T Refusal) (cause : Refusal) → IsRefusalOf r cause → cause ≢ OutOfMemory → r ≡ Err cause
 refused_for (Ok done) cause is other = absurd (other is)
 refused_for (Err c) cause is other = ap Err (sym is)
 
-pub refused_line : {A : Type 0} (n : ℕ) (tell : A → Reply) (r : Result (Step A) Refusal) (cause : Refusal) → IsRefusalOf r cause →
-    cause ≢ OutOfMemory → line_told n (reply_to tell r) ≡ Refused n (cause_told cause) []
-refused_line {A} n tell r cause is other = ap (λ (o : Result (Step A) Refusal). line_told n (reply_to tell o)) (refused_for r cause is other)
+pub refused_line : {A : Type 0} (n : ℕ) (report : A → Reply) (r : Result (Step A) Refusal) (cause : Refusal) → IsRefusalOf r cause →
+    cause ≢ OutOfMemory → line_reported n (reply_to report r) ≡ Refused n (cause_reported cause) []
+refused_line {A} n report r cause is other = ap (λ (o : Result (Step A) Refusal). line_reported n (reply_to report o)) (refused_for r cause is other)
 
 -- a test of one line is a test of the same line
 pub tests_same : (b : Bool) (x y l : ReportLine) → x ≡ y → (IsTrue b ↔ y ≡ l) → (IsTrue b ↔ x ≡ l)
@@ -180,24 +180,24 @@ revoke_led s next id revision is =
 -- ---- a transaction
 
 -- the answer tells the counter of the history that it leaves
-abbrev TellsCounter : Result Done Refusal → Type 0
-TellsCounter (Ok done) = done.answer.revision ≡ now done.history
-TellsCounter (Err cause) = Unit {0}
+abbrev ReturnsCounter : Result Done Refusal → Type 0
+ReturnsCounter (Ok done) = done.answer.revision ≡ now done.history
+ReturnsCounter (Err cause) = Unit {0}
 
-counter_unless : (o : Option Refusal) (next : Result Done Refusal) → TellsCounter next → TellsCounter (unless o next)
-counter_unless None next tells = tells
-counter_unless (Some cause) next tells = tt
+counter_unless : (o : Option Refusal) (next : Result Done Refusal) → ReturnsCounter next → ReturnsCounter (unless o next)
+counter_unless None next reports = reports
+counter_unless (Some cause) next reports = tt
 
 counter_by : (used : Bool) (h : History) (failed : Option FailedCompare) (changes : List Change) (answers : List OpAnswer) →
-    TellsCounter (cond used (Err RevisionsUsedUp) (Ok record { answer = answer_of h failed changes answers; history = with_changes h changes }))
+    ReturnsCounter (cond used (Err RevisionsUsedUp) (Ok record { answer = answer_of h failed changes answers; history = with_changes h changes }))
 counter_by true h failed changes answers = tt
 counter_by false h failed changes answers = refl
 
-counter_told : (terms : Terms) (txn : Txn) (failed : Option FailedCompare) →
-    TellsCounter (unless (fault_of terms.limit txn) (unless (branch_refusal terms (chosen failed txn))
+counter_reported : (terms : Terms) (txn : Txn) (failed : Option FailedCompare) →
+    ReturnsCounter (unless (fault_of terms.limit txn) (unless (branch_refusal terms (chosen failed txn))
     (finished terms.history failed (changes_of_branch terms.history (chosen failed txn))
     (answers_after terms.history (begun terms.history) (chosen failed txn)))))
-counter_told terms txn failed =
+counter_reported terms txn failed =
     let h : History = terms.history in
     let ops = chosen failed txn in
     counter_unless (fault_of terms.limit txn) _ (counter_unless (branch_refusal terms ops) _
@@ -212,13 +212,13 @@ abbrev pub StepIsTransacted : Standing → Result (Step TxnAnswer) Refusal → T
 StepIsTransacted s (Ok step) = IsTransacted s step.answer step.next
 StepIsTransacted s (Err cause) = Unit {0}
 
-transacted_by : (s : Standing) (o : Result Done Refusal) → TellsCounter o → StepIsTransacted s (step_of s o)
-transacted_by s (Ok done) tells = record { rest = record { moment = refl; watchers = refl; floor = refl }; counter = tells }
-transacted_by s (Err cause) tells = tt
+transacted_by : (s : Standing) (o : Result Done Refusal) → ReturnsCounter o → StepIsTransacted s (step_of s o)
+transacted_by s (Ok done) reports = record { rest = record { moment = refl; watchers = refl; floor = refl }; counter = reports }
+transacted_by s (Err cause) reports = tt
 
 pub is_transacted : (s : Standing) (txn : Txn) → StepIsTransacted s (transacted s txn)
 is_transacted s txn =
-    transacted_by s (outcome (terms_of s) txn) (counter_told (terms_of s) txn (first_failed (key_now s.history) 0 txn.compares))
+    transacted_by s (outcome (terms_of s) txn) (counter_reported (terms_of s) txn (first_failed (key_now s.history) 0 txn.compares))
 
 -- the store that a transaction's line leads to
 pub txn_led : (n : ℕ) (s next : Standing) (txn : Txn) (answer : TxnAnswer) → s.limit ≤ most_operations →
@@ -309,22 +309,22 @@ advance_led s next moment expired cause is =
 -- the line of an advance
 pub advance_line_is : (n : ℕ) (s next : Standing) (moment : ℕ) (expired : List Expired) (cause : Option Refusal) →
     advanced s moment ≡ record { expired = expired; leaves = next; cause = cause } →
-    line_told n (advance_reply moment (advanced s moment).expired (advanced s moment).cause) ≡ line_told n (advance_reply moment expired cause)
-advance_line_is n s next moment expired cause is = ap (λ (a : Advance). line_told n (advance_reply moment a.expired a.cause)) is
+    line_reported n (advance_reply moment (advanced s moment).expired (advanced s moment).cause) ≡ line_reported n (advance_reply moment expired cause)
+advance_line_is n s next moment expired cause is = ap (λ (a : Advance). line_reported n (advance_reply moment a.expired a.cause)) is
 
 -- an advance that was cut short
 pub cut_right : (r : Result Bool AllocError) (n : ℕ) (s next : Standing) (moment : ℕ) (expired : List Expired) (cause : Refusal) (l : ReportLine) →
-    IfOk r (λ b. IsTrue b ↔ Refused n (cause_told cause) expired ≡ l) → OnOk r (cause ≢ OutOfMemory) → IsCutShort (advanced s moment) expired cause next →
-    IfOk r (λ b. IsTrue b ↔ line_told n (advance_reply moment (advanced s moment).expired (advanced s moment).cause) ≡ l)
+    IfOk r (λ b. IsTrue b ↔ Refused n (cause_reported cause) expired ≡ l) → OnOk r (cause ≢ OutOfMemory) → IsCutShort (advanced s moment) expired cause next →
+    IfOk r (λ b. IsTrue b ↔ line_reported n (advance_reply moment (advanced s moment).expired (advanced s moment).cause) ≡ l)
 cut_right r n s next moment expired cause l test other cut =
-    refused_right r cause (line_told n (advance_reply moment (advanced s moment).expired (advanced s moment).cause)) (Refused n (cause_told cause) expired) l test other
+    refused_right r cause (line_reported n (advance_reply moment (advanced s moment).expired (advanced s moment).cause)) (Refused n (cause_reported cause) expired) l test other
     (λ known. advance_line_is n s next moment expired (Some cause) (cut_line n s next moment expired cause cut known))
 
 pub cut_next : (r : Result Bool AllocError) (n : ℕ) (s next : Standing) (moment : ℕ) (expired : List Expired) (cause : Refusal) (l : ReportLine) →
-    IfOk r (λ b. IsTrue b ↔ Refused n (cause_told cause) expired ≡ l) → OnOk r (cause ≢ OutOfMemory) → IsCutShort (advanced s moment) expired cause next →
+    IfOk r (λ b. IsTrue b ↔ Refused n (cause_reported cause) expired ≡ l) → OnOk r (cause ≢ OutOfMemory) → IsCutShort (advanced s moment) expired cause next →
     IfOk r (λ b. IsTrue b → next ≡ led_by (advance_entries l) s (moment_after s (AdvanceEvent moment)))
 cut_next (Ok b) n s next moment expired cause l test other cut =
-    led_where b (Refused n (cause_told cause) expired) l advance_entries s next (moment_after s (AdvanceEvent moment)) test
+    led_where b (Refused n (cause_reported cause) expired) l advance_entries s next (moment_after s (AdvanceEvent moment)) test
     (advance_led s next moment expired (Some cause) (cut_line n s next moment expired cause cut other))
 cut_next (Err e) n s next moment expired cause l test other cut = tt
 
@@ -353,5 +353,5 @@ raised_keeps s revision (Some cause) = refl
 
 pub line_keeps : (s : Standing) (revision : ℕ) (l : ReportLine) →
     with_replayed (without_moment s) s.moment (raised_by (CompactEvent revision) l s) ≡ raised_by (CompactEvent revision) l s
-line_keeps s revision (Compacted n told) = raised_keeps s revision (compaction_refusal s revision)
+line_keeps s revision (Compacted n reported) = raised_keeps s revision (compaction_refusal s revision)
 line_keeps s revision _ = refl

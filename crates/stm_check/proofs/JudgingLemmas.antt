@@ -43,14 +43,14 @@ report_by_length false all is =
 
 -- ---- what was read of the bytes was read of the source
 
-pub scenario_told : (bytes : List ℕ) (known : Option (List ℕ)) (outcome : Outcome Scenario) → IfSome known (λ all. bytes ≡ take MOST_READ all) →
+pub scenario_reported : (bytes : List ℕ) (known : Option (List ℕ)) (outcome : Outcome Scenario) → IfSome known (λ all. bytes ≡ take MOST_READ all) →
     scenario_in bytes ≡ outcome → IfSome known (λ all. scenario_in all ≡ outcome)
-scenario_told bytes None outcome read is = tt
-scenario_told bytes (Some all) outcome read is =
+scenario_reported bytes None outcome read is = tt
+scenario_reported bytes (Some all) outcome read is =
     sym (scenario_by_length (nat_lt MOST_BYTES (length all)) all refl) ∙ sym (ap scenario_in read) ∙ is
 
-pub report_told : (bytes : List ℕ) (known : Option (List ℕ)) (outcome : Outcome Report) → IfSome known (λ all. bytes ≡ take MOST_READ all) →
+pub report_reported : (bytes : List ℕ) (known : Option (List ℕ)) (outcome : Outcome Report) → IfSome known (λ all. bytes ≡ take MOST_READ all) →
     report_in bytes ≡ outcome → IfSome known (λ all. report_in all ≡ outcome)
-report_told bytes None outcome read is = tt
-report_told bytes (Some all) outcome read is =
+report_reported bytes None outcome read is = tt
+report_reported bytes (Some all) outcome read is =
     sym (report_by_length (nat_lt MOST_BYTES (length all)) all refl) ∙ sym (ap report_in read) ∙ is

@@ -8,6 +8,6 @@ pub mod FinalLemmas
 pub mod Replaying
 pub mod Walking
 pub mod Once
-pub mod LegalTold
+pub mod LegalReported
 pub mod JudgingLemmas
 pub mod WorkedExamples

@@ -8,8 +8,8 @@ use Rattle.std.specs.Option.{option_or}
 use Rattle.stm_history.specs.declared.key_state.ReadAnswer.{ReadAnswer}
 use Rattle.stm_history.specs.History.{History}
 use Rattle.stm_compile.specs.Answers.{answer_in, look_up, said}
-use Rattle.stm_reports.specs.declared.line.ToldAnswer.{ToldAnswer}
-use Rattle.stm_check.specs.Replays.{IsTrulyTold, AreTrulyTold}
+use Rattle.stm_reports.specs.declared.line.ReportedAnswer.{ReportedAnswer}
+use Rattle.stm_check.specs.Replays.{IsTrulyReported, AreTrulyReported}
 use Rattle.stm_check.proofs.Fronts.{left_at}
 
 -- an answer is looked for in a front, and then behind it
@@ -67,32 +67,32 @@ left_out key so_far a known =
 -- ---- true answers, one after another
 
 -- what is true of the answers that are left is true of all
-pub record LeavesTruth (h : History) (answers left : List ToldAnswer) : Type 0 where
-  pub whole : AreTrulyTold h left → AreTrulyTold h answers
-  pub part : AreTrulyTold h answers → AreTrulyTold h left
+pub record LeavesTruth (h : History) (answers left : List ReportedAnswer) : Type 0 where
+  pub whole : AreTrulyReported h left → AreTrulyReported h answers
+  pub part : AreTrulyReported h answers → AreTrulyReported h left
 
-pub leaves_all : (h : History) (answers : List ToldAnswer) → LeavesTruth h answers answers
+pub leaves_all : (h : History) (answers : List ReportedAnswer) → LeavesTruth h answers answers
 leaves_all h answers = record { whole = λ t. t; part = λ t. t }
 
-pub leaves_less : (h : History) (answers : List ToldAnswer) (i : ℕ) (a : ToldAnswer) → i < length answers → a ≡ get_or answers i a →
-    LeavesTruth h answers (drop i answers) → IsTrulyTold h a → LeavesTruth h answers (drop (i + 1) answers)
+pub leaves_less : (h : History) (answers : List ReportedAnswer) (i : ℕ) (a : ReportedAnswer) → i < length answers → a ≡ get_or answers i a →
+    LeavesTruth h answers (drop i answers) → IsTrulyReported h a → LeavesTruth h answers (drop (i + 1) answers)
 leaves_less h answers i a within is so_far truth =
     let left : drop i answers ≡ a ∷ drop (i + 1) answers = left_at answers i a within is in
     record {
-      whole = λ rest. so_far.whole (subst (AreTrulyTold h) (sym left) (truth, rest));
-      part = λ all. (subst (AreTrulyTold h) left (so_far.part all)).1;
+      whole = λ rest. so_far.whole (subst (AreTrulyReported h) (sym left) (truth, rest));
+      part = λ all. (subst (AreTrulyReported h) left (so_far.part all)).1;
     }
 
 -- the answer at a place is true where all are
-pub true_at : (h : History) (answers : List ToldAnswer) (i : ℕ) (a : ToldAnswer) → i < length answers → a ≡ get_or answers i a →
-    LeavesTruth h answers (drop i answers) → AreTrulyTold h answers → IsTrulyTold h a
-true_at h answers i a within is so_far all = (subst (AreTrulyTold h) (left_at answers i a within is) (so_far.part all)).0
+pub true_at : (h : History) (answers : List ReportedAnswer) (i : ℕ) (a : ReportedAnswer) → i < length answers → a ≡ get_or answers i a →
+    LeavesTruth h answers (drop i answers) → AreTrulyReported h answers → IsTrulyReported h a
+true_at h answers i a within is so_far all = (subst (AreTrulyReported h) (left_at answers i a within is) (so_far.part all)).0
 
-pub leaves_none : (h : History) (answers : List ToldAnswer) (i : ℕ) → length answers ≤ i → LeavesTruth h answers (drop i answers) → AreTrulyTold h answers
-leaves_none h answers i end so_far = so_far.whole (subst (AreTrulyTold h) (sym (drop_all i answers end)) tt)
+pub leaves_none : (h : History) (answers : List ReportedAnswer) (i : ℕ) → length answers ≤ i → LeavesTruth h answers (drop i answers) → AreTrulyReported h answers
+leaves_none h answers i end so_far = so_far.whole (subst (AreTrulyReported h) (sym (drop_all i answers end)) tt)
 
-pub truth_at : (h : History) (answers : List ToldAnswer) (i : ℕ) (a : ToldAnswer) → i < length answers → a ≡ get_or answers i a →
-    AreTrulyTold h answers → IsTrulyTold h a
+pub truth_at : (h : History) (answers : List ReportedAnswer) (i : ℕ) (a : ReportedAnswer) → i < length answers → a ≡ get_or answers i a →
+    AreTrulyReported h answers → IsTrulyReported h a
 truth_at h [] i a within is truth = absurd (omega (arith, within))
-truth_at h (x ∷ answers) zero a within is truth = subst (IsTrulyTold h) (sym is) truth.0
+truth_at h (x ∷ answers) zero a within is truth = subst (IsTrulyReported h) (sym is) truth.0
 truth_at h (x ∷ answers) (suc i) a within is truth = truth_at h answers i a (omega (arith, within)) is truth.1

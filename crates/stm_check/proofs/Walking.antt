@@ -135,8 +135,8 @@ joined_result (Ok checked) n p events lines left q m right point rest next judge
 joined_result (Err e) n p events lines left q m right point rest next judged = tt
 
 -- what is judged from a point is judged from the same point
-pub judged_from : (p q : Point) (events all : List WorldEvent) (lines told : List ReportLine) (checked : Checked) → p ≡ q → events ≡ all → lines ≡ told →
-    IsJudgedFrom 1 p events lines checked → IsJudgedFrom 1 q all told checked
-judged_from p q events all lines told checked here same are judged =
+pub judged_from : (p q : Point) (events all : List WorldEvent) (lines reported : List ReportLine) (checked : Checked) → p ≡ q → events ≡ all → lines ≡ reported →
+    IsJudgedFrom 1 p events lines checked → IsJudgedFrom 1 q all reported checked
+judged_from p q events all lines reported checked here same are judged =
     subst (λ (ls : List ReportLine). IsJudgedFrom 1 q all ls checked) are
     (subst (λ (es : List WorldEvent). IsJudgedFrom 1 q es lines checked) same (subst (λ (r : Point). IsJudgedFrom 1 r events lines checked) here judged))

@@ -14,14 +14,14 @@ use Rattle.stm_world.specs.declared.event.WorldEvent.TheVariants.{Start, Step, T
 use Rattle.stm_reports.specs.declared.causes.RefusalName.TheVariants.{NoWatcher, LeaseIdOutOfRange, FutureRevision, Compacted as BelowTheFloor}
 use Rattle.stm_reports.specs.declared.line.ReportLine.{ReportLine}
 use Rattle.stm_reports.specs.declared.line.ReportLine.TheVariants as line
-use Rattle.stm_reports.specs.declared.line.ToldOp.TheVariants as told
+use Rattle.stm_reports.specs.declared.line.ReportedOp.TheVariants as reported
 use Rattle.stm_check.specs.declared.cause.WrongCause.TheVariants.{Count, Final}
 use Rattle.stm_check.specs.Point.{Point, beginning, after}
 use Rattle.stm_check.specs.Fits.{fits}
 use Rattle.stm_txn.specs.Standing.{Standing, at_revision, transacted, granted, raised}
 use Rattle.stm_world.specs.declared.reply.Reply.TheVariants.{Txn as TxnDone, Granted, Compacted}
-use Rattle.stm_world.specs.Told.{reply_to}
-use Rattle.stm_lines.specs.Lines.{line_told}
+use Rattle.stm_world.specs.Reported.{reply_to}
+use Rattle.stm_lines.specs.Lines.{line_reported}
 use Rattle.stm_check.specs.Wrong.{IsOff, IsFirstWrong, point_after}
 
 -- ---- the scenario
@@ -50,11 +50,11 @@ both x y = seen.Get (codes "x") x ∷ seen.Get (codes "y") y ∷ []
 
 abbrev first_lines : List ReportLine
 first_lines =
-    line.Txn 1 true 2 (told.Put ∷ []) ∷ line.Txn 2 true 3 (told.Put ∷ []) ∷ line.Started 3 1 ∷ line.Started 4 2 ∷ []
+    line.Txn 1 true 2 (reported.Put ∷ []) ∷ line.Txn 2 true 3 (reported.Put ∷ []) ∷ line.Started 3 1 ∷ line.Started 4 2 ∷ []
 
 abbrev skew_lines : List ReportLine
 skew_lines =
-    line.Txn 1 true 2 (told.Put ∷ []) ∷ line.Txn 2 true 3 (told.Put ∷ []) ∷ line.Started 3 1 ∷ line.Started 4 2
+    line.Txn 1 true 2 (reported.Put ∷ []) ∷ line.Txn 2 true 3 (reported.Put ∷ []) ∷ line.Started 3 1 ∷ line.Started 4 2
     ∷ line.Fetched 5 1 (codes "x") 2 3 3 ∷ line.Fetched 6 2 (codes "x") 2 3 3
     ∷ line.Fetched 7 1 (codes "y") 3 3 3 ∷ line.Fetched 8 2 (codes "y") 3 3 3
     ∷ line.Committed 9 1 4 1 [] (both (codes "1") (codes "1")) [] ∷ line.Conflict 10 2 (codes "x") 2 4
@@ -126,8 +126,8 @@ lost_watcher = refl
 other_is_lost : fits 1 [] (Poll 7 0) (line.Lost 1 8 3) ≡ false
 other_is_lost = refl
 
-only_a_poll_tells_of_loss : fits 1 [] (Cancel 7) (line.Lost 1 7 3) ≡ false
-only_a_poll_tells_of_loss = refl
+only_a_poll_reports_of_loss : fits 1 [] (Cancel 7) (line.Lost 1 7 3) ≡ false
+only_a_poll_reports_of_loss = refl
 
 any_watcher : fits 1 [] (WatchKey (codes "a") 0) (line.Watching 1 9) ≡ true
 any_watcher = refl
@@ -137,12 +137,12 @@ key_line_is_of_no_event = refl
 
 -- ---- the replay
 
-first_txn : line_told 1 (reply_to TxnDone
+first_txn : line_reported 1 (reply_to TxnDone
     (transacted (beginning (at_revision 1)).standing (record { compares = []; success = Put (codes "x") (codes "1") 0 ∷ []; failure = [] })))
-    ≡ line.Txn 1 true 2 (told.Put ∷ [])
+    ≡ line.Txn 1 true 2 (reported.Put ∷ [])
 first_txn = refl
 
-bad_grant : line_told 1 (reply_to (λ _. Granted 0) (granted (beginning (at_revision 1)).standing 0 5)) ≡ line.Refused 1 LeaseIdOutOfRange []
+bad_grant : line_reported 1 (reply_to (λ _. Granted 0) (granted (beginning (at_revision 1)).standing 0 5)) ≡ line.Refused 1 LeaseIdOutOfRange []
 bad_grant = refl
 
 -- ---- a compaction behind the four first lines, where the counter is 3
@@ -156,20 +156,20 @@ raises_the_floor = refl
 keeps_the_history : compacted.history ≡ started.standing.history
 keeps_the_history = refl
 
-compact_line : line_told 5 (reply_to (λ _. Compacted 3) (raised started.standing 3)) ≡ line.Compacted 5 3
+compact_line : line_reported 5 (reply_to (λ _. Compacted 3) (raised started.standing 3)) ≡ line.Compacted 5 3
 compact_line = refl
 
-above_the_counter : line_told 5 (reply_to (λ _. Compacted 4) (raised started.standing 4)) ≡ line.Refused 5 FutureRevision []
+above_the_counter : line_reported 5 (reply_to (λ _. Compacted 4) (raised started.standing 4)) ≡ line.Refused 5 FutureRevision []
 above_the_counter = refl
 
-at_the_floor : line_told 6 (reply_to (λ _. Compacted 3) (raised compacted 3)) ≡ line.Refused 6 BelowTheFloor []
+at_the_floor : line_reported 6 (reply_to (λ _. Compacted 3) (raised compacted 3)) ≡ line.Refused 6 BelowTheFloor []
 at_the_floor = refl
 
 -- a read of a revision below it
 abbrev read_at_two : Op
 read_at_two = GetOperation (codes "x") 2
 
-below_the_floor : line_told 6 (reply_to TxnDone (transacted compacted (record { compares = []; success = read_at_two ∷ []; failure = [] })))
+below_the_floor : line_reported 6 (reply_to TxnDone (transacted compacted (record { compares = []; success = read_at_two ∷ []; failure = [] })))
     ≡ line.Refused 6 BelowTheFloor []
 below_the_floor = refl
 

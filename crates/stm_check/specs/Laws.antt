@@ -30,10 +30,10 @@ StoreIsTheReplay =
 
 -- What a report of a scenario tells: entries, each legal at its point, of which a committed line is one by its program run
 -- alone, over an empty store; the store that they lead to is the one that its last lines show, and they are counted there.
-pub record TellsTheReplay (s : Scenario) (r : Report) : Type 0 where
+pub record ReturnsTheReplay (s : Scenario) (r : Report) : Type 0 where
   pub last : Point
   pub entries : List Entry
-  pub are_told : entries ≡ entries_along (opens_at s) s.events r.lines
+  pub are_reported : entries ≡ entries_along (opens_at s) s.events r.lines
   pub are_legal : AreLegal entries (opening (setup_of s.opening).revision)
   pub store : without_moment last.standing ≡ replay entries (opening (setup_of s.opening).revision)
   pub count : last.entries ≡ length entries
@@ -41,4 +41,4 @@ pub record TellsTheReplay (s : Scenario) (r : Report) : Type 0 where
   pub ends : drop (length s.events) r.lines ≡ final_lines last
 
 abbrev pub YesIsTheReplay : Type 0
-YesIsTheReplay = (s : Scenario) (r : Report) → IsReportOf s r → TellsTheReplay s r
+YesIsTheReplay = (s : Scenario) (r : Report) → IsReportOf s r → ReturnsTheReplay s r

@@ -16,10 +16,10 @@ use Rattle.stm_entries.specs.Replayed.{Replayed, without_moment}
 use Rattle.stm_entries.specs.Replay.{replay}
 use Rattle.stm_world.specs.declared.event.WorldEvent.{WorldEvent}
 use Rattle.stm_world.specs.declared.event.WorldEvent.TheVariants.{Step, Txn, Grant, Keep, Revoke, Advance, Compact}
-use Rattle.stm_world.specs.Told.{store_after_call}
+use Rattle.stm_world.specs.Reported.{store_after_call}
 use Rattle.stm_reports.specs.declared.line.ReportLine.{ReportLine}
 use Rattle.stm_reports.specs.declared.line.ReportLine.TheVariants as line
-use Rattle.stm_reports.specs.declared.line.ToldAnswer.{ToldAnswer}
+use Rattle.stm_reports.specs.declared.line.ReportedAnswer.{ReportedAnswer}
 use Rattle.stm_check.specs.declared.runner.Runner.{Runner}
 use Rattle.stm_check.specs.Runners.{running, runners_after}
 
@@ -36,10 +36,10 @@ beginning start = record { standing = opening start; entries = 0; runners = [] }
 -- ---- what a right line adds
 
 -- an answer that a line tells, as a read of the history gives it
-abbrev pub read_in : History → ToldAnswer → ReadAnswer
+abbrev pub read_in : History → ReportedAnswer → ReadAnswer
 read_in h a = record { key = a.key; kv = key_at h a.key a.of_rev; of_rev = a.of_rev; revision = a.of_rev }
 
-abbrev pub reads_in : History → List ToldAnswer → List ReadAnswer
+abbrev pub reads_in : History → List ReportedAnswer → List ReadAnswer
 reads_in h answers = map (read_in h) answers
 
 abbrev pub expiries : List Expired → List Entry
@@ -60,32 +60,32 @@ txn_entries before txn (line.Txn n succeeded revision answers) = if nat_lt befor
 txn_entries before txn other = []
 
 abbrev pub grant_entries : ℕ → ℕ → ℕ → ReportLine → List Entry
-grant_entries id ttl moment (line.Granted n told) = GrantEntry id ttl moment ∷ []
+grant_entries id ttl moment (line.Granted n reported) = GrantEntry id ttl moment ∷ []
 grant_entries id ttl moment other = []
 
 abbrev pub keep_entries : ℕ → ℕ → ReportLine → List Entry
-keep_entries id moment (line.Kept n told) = Renew id moment ∷ []
+keep_entries id moment (line.Kept n reported) = Renew id moment ∷ []
 keep_entries id moment other = []
 
 abbrev pub revoke_entries : ℕ → ReportLine → List Entry
-revoke_entries id (line.Revoked n told revision) = RevokeEntry id ∷ []
+revoke_entries id (line.Revoked n reported revision) = RevokeEntry id ∷ []
 revoke_entries id other = []
 
 -- each expiry is entered, also of an advance that was refused then
 abbrev pub advance_entries : ReportLine → List Entry
-advance_entries (line.Advanced n told expired) = expiries expired
+advance_entries (line.Advanced n reported expired) = expiries expired
 advance_entries (line.Refused n cause expired) = expiries expired
 advance_entries other = []
 
 -- what the line of an event tells as entries: a start, a compaction and what is about watchers are none
-abbrev pub entries_told : Standing → List Runner → WorldEvent → ReportLine → List Entry
-entries_told s runners (Step id) l = commit_entries s.history l (running id runners)
-entries_told s runners (Txn txn) l = txn_entries (now s.history) txn l
-entries_told s runners (Grant id ttl) l = grant_entries id ttl s.moment l
-entries_told s runners (Keep id) l = keep_entries id s.moment l
-entries_told s runners (Revoke id) l = revoke_entries id l
-entries_told s runners (Advance moment) l = advance_entries l
-entries_told s runners other l = []
+abbrev pub entries_reported : Standing → List Runner → WorldEvent → ReportLine → List Entry
+entries_reported s runners (Step id) l = commit_entries s.history l (running id runners)
+entries_reported s runners (Txn txn) l = txn_entries (now s.history) txn l
+entries_reported s runners (Grant id ttl) l = grant_entries id ttl s.moment l
+entries_reported s runners (Keep id) l = keep_entries id s.moment l
+entries_reported s runners (Revoke id) l = revoke_entries id l
+entries_reported s runners (Advance moment) l = advance_entries l
+entries_reported s runners other l = []
 
 -- only an advance moves the moment, unless it would go back
 abbrev pub moment_after : Standing → WorldEvent → ℕ
@@ -102,18 +102,18 @@ led_by entries s moment = with_replayed (replay entries (without_moment s)) mome
 
 -- a compaction that was told raises the floor, and no other line does
 abbrev pub raised_by : WorldEvent → ReportLine → Standing → Standing
-raised_by (Compact revision) (line.Compacted n told) s = store_after_call s (raised s revision)
+raised_by (Compact revision) (line.Compacted n reported) s = store_after_call s (raised s revision)
 raised_by other l s = s
 
 -- the store behind the line of an event
 abbrev pub standing_after : Standing → List Runner → WorldEvent → ReportLine → Standing
 standing_after s runners event l =
-    with_replayed (replay (entries_told s runners event l) (without_moment s)) (moment_after s event) (raised_by event l s)
+    with_replayed (replay (entries_reported s runners event l) (without_moment s)) (moment_after s event) (raised_by event l s)
 
 -- the point behind the line of an event
 abbrev pub after : Point → WorldEvent → ReportLine → Point
 after p event l = record {
   standing = standing_after p.standing p.runners event l;
-  entries = p.entries + length (entries_told p.standing p.runners event l);
+  entries = p.entries + length (entries_reported p.standing p.runners event l);
   runners = runners_after event l p.runners;
 }

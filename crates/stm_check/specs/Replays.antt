@@ -14,13 +14,13 @@ use Rattle.stm_entries.specs.Legal.{IsCommit}
 use Rattle.stm_world.specs.declared.event.WorldEvent.{WorldEvent}
 use Rattle.stm_world.specs.declared.event.WorldEvent.TheVariants.{Start, Step, Txn, Grant, Keep, Revoke, Advance, Compact}
 use Rattle.stm_world.specs.declared.reply.Reply.TheVariants.{Txn as TxnDone, Granted, Kept, Revoked, Compacted}
-use Rattle.stm_world.specs.Told.{reply_to, advance_reply}
+use Rattle.stm_world.specs.Reported.{reply_to, advance_reply}
 use Rattle.stm_world.specs.Asked.{keys_first_read}
-use Rattle.stm_lines.specs.Lines.{line_told}
+use Rattle.stm_lines.specs.Lines.{line_reported}
 use Rattle.stm_reports.specs.declared.causes.RefusalName.TheVariants.{BadLimit, NoRunner}
 use Rattle.stm_reports.specs.declared.line.ReportLine.{ReportLine}
 use Rattle.stm_reports.specs.declared.line.ReportLine.TheVariants.{Committed, Refused}
-use Rattle.stm_reports.specs.declared.line.ToldAnswer.{ToldAnswer}
+use Rattle.stm_reports.specs.declared.line.ReportedAnswer.{ReportedAnswer}
 use Rattle.stm_check.specs.Point.{reads_in}
 use Rattle.stm_check.specs.declared.runner.Runner.{Runner}
 use Rattle.stm_check.specs.Runners.{running}
@@ -28,34 +28,34 @@ use Rattle.stm_check.specs.Runners.{running}
 -- ---- commits
 
 -- An answer is true where it tells what the key was at a revision that the history has reached.
-pub record IsTrulyTold (h : History) (a : ToldAnswer) : Type 0 where
+pub record IsTrulyReported (h : History) (a : ReportedAnswer) : Type 0 where
   pub reached : a.of_rev ≤ now h
   pub value : a.value ≡ option_map (λ (s : KeyState). s.value) (key_at h a.key a.of_rev)
   pub modified : a.mod_rev ≡ mod_of (key_at h a.key a.of_rev)
 
-abbrev pub AreTrulyTold : History → List ToldAnswer → Type 0
-AreTrulyTold h [] = Unit {0}
-AreTrulyTold h (a ∷ answers) = IsTrulyTold h a × AreTrulyTold h answers
+abbrev pub AreTrulyReported : History → List ReportedAnswer → Type 0
+AreTrulyReported h [] = Unit {0}
+AreTrulyReported h (a ∷ answers) = IsTrulyReported h a × AreTrulyReported h answers
 
-abbrev pub keys_told : List ToldAnswer → List (List ℕ)
-keys_told answers = map (λ (a : ToldAnswer). a.key) answers
+abbrev pub keys_reported : List ReportedAnswer → List (List ℕ)
+keys_reported answers = map (λ (a : ReportedAnswer). a.key) answers
 
 -- At ReadCommitted the answers are of the keys of the program's list and of the others that the run looked up, in the order of the first reads, and
 -- each is true; at the other levels there are none.
-abbrev pub AnswersFit : Level → History → List (List ℕ) → List ToldAnswer → Type 0
+abbrev pub AnswersFit : Level → History → List (List ℕ) → List ReportedAnswer → Type 0
 AnswersFit level h reads answers =
-    MatchBool (is_comparing level) (answers ≡ []) ((keys_told answers ≡ reads) × AreTrulyTold h answers)
+    MatchBool (is_comparing level) (answers ≡ []) ((keys_reported answers ≡ reads) × AreTrulyReported h answers)
 
 -- A commit is right where its program, run alone on the store at this point, or on the answers at ReadCommitted, has this output and
 -- trace and leads to this revision, and it is one attempt more than the runner's conflicts and one that the run may send.
 pub record IsRightCommit (s : Standing) (r : Runner) (revision attempts : ℕ) (output : List Value) (trace : List TraceItem)
-    (answers : List ToldAnswer) : Type 0 where
+    (answers : List ReportedAnswer) : Type 0 where
   pub commit : IsCommit r.program r.level (reads_in s.history answers) output trace revision (without_moment s)
   pub answers_fit : AnswersFit r.level s.history (keys_first_read r.program.prefetch commit.run.reads) answers
   pub attempt : attempts ≡ r.conflicts + 1
   pub may_be_sent : attempts ≤ r.limit
 
-abbrev pub IsCommitOf : Standing → Option Runner → ℕ → ℕ → List Value → List TraceItem → List ToldAnswer → Type 0
+abbrev pub IsCommitOf : Standing → Option Runner → ℕ → ℕ → List Value → List TraceItem → List ReportedAnswer → Type 0
 IsCommitOf s None revision attempts output trace answers = ⊥
 IsCommitOf s (Some r) revision attempts output trace answers = IsRightCommit s r revision attempts output trace answers
 
@@ -78,11 +78,11 @@ StepReplays s runner other = Unit {0}
 abbrev pub Replays : ℕ → Standing → List Runner → WorldEvent → ReportLine → Type 0
 Replays n s runners (Start program level limit) l = StartReplays limit l
 Replays n s runners (Step id) l = StepReplays s (running id runners) l
-Replays n s runners (Txn txn) l = line_told n (reply_to TxnDone (transacted s txn)) ≡ l
-Replays n s runners (Grant id ttl) l = line_told n (reply_to (λ _. Granted id) (granted s id ttl)) ≡ l
-Replays n s runners (Keep id) l = line_told n (reply_to (λ _. Kept id) (kept_alive s id)) ≡ l
-Replays n s runners (Revoke id) l = line_told n (reply_to (Revoked id) (revoked s id)) ≡ l
+Replays n s runners (Txn txn) l = line_reported n (reply_to TxnDone (transacted s txn)) ≡ l
+Replays n s runners (Grant id ttl) l = line_reported n (reply_to (λ _. Granted id) (granted s id ttl)) ≡ l
+Replays n s runners (Keep id) l = line_reported n (reply_to (λ _. Kept id) (kept_alive s id)) ≡ l
+Replays n s runners (Revoke id) l = line_reported n (reply_to (Revoked id) (revoked s id)) ≡ l
 Replays n s runners (Advance moment) l =
-    line_told n (advance_reply moment (advanced s moment).expired (advanced s moment).cause) ≡ l
-Replays n s runners (Compact revision) l = line_told n (reply_to (λ _. Compacted revision) (raised s revision)) ≡ l
+    line_reported n (advance_reply moment (advanced s moment).expired (advanced s moment).cause) ≡ l
+Replays n s runners (Compact revision) l = line_reported n (reply_to (λ _. Compacted revision) (raised s revision)) ≡ l
 Replays n s runners other l = Unit {0}

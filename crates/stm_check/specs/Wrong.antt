@@ -8,7 +8,7 @@ use Rattle.stm_reports.specs.declared.line.ReportLine.{ReportLine}
 use Rattle.stm_reports.specs.declared.report.Report.{Report}
 use Rattle.stm_check.specs.declared.cause.WrongCause.{WrongCause}
 use Rattle.stm_check.specs.declared.cause.WrongCause.TheVariants.{Count, Event, Replay, Final}
-use Rattle.stm_check.specs.Point.{Point, beginning, entries_told, after}
+use Rattle.stm_check.specs.Point.{Point, beginning, entries_reported, after}
 use Rattle.stm_check.specs.StoreLines.{final_lines}
 use Rattle.stm_check.specs.Fits.{fits}
 use Rattle.stm_check.specs.Replays.{Replays}
@@ -76,4 +76,4 @@ abbrev pub entries_along : Point → List WorldEvent → List ReportLine → Lis
 entries_along p [] lines = []
 entries_along p (event ∷ events) [] = []
 entries_along p (event ∷ events) (l ∷ lines) =
-    entries_told p.standing p.runners event l ++ entries_along (after p event l) events lines
+    entries_reported p.standing p.runners event l ++ entries_along (after p event l) events lines

@@ -11,10 +11,10 @@ ghost use Rattle.stm_entries.specs.Replayed.{without_moment};
 ghost use Rattle.stm_entries.specs.declared.entry.Entry.TheVariants.{Program as ProgramEntry};
 ghost use Rattle.stm_world.specs.Asked.{is_other, keys_first_read};
 ghost use Rattle.stm_check.specs.Point.{reads_in, led_by};
-ghost use Rattle.stm_check.specs.Replays.{keys_told, IsRightCommit};
+ghost use Rattle.stm_check.specs.Replays.{keys_reported, IsRightCommit};
 ghost use Rattle.stm_check.specs.Runs.{run_in, IsRunOn, IsFound, revision_reached, with_writes};
 
-use crate::lookups::{KeysNow, are_truly_told, reads_told};
+use crate::lookups::{KeysNow, are_truly_reported, reads_reported};
 use crate::runner::Runner;
 use std::alloc::{AllocError, Global};
 use stm_compile::{ReadSet, WriteBuffer};
@@ -22,17 +22,17 @@ use stm_history::{Sequence, Text};
 use stm_keys::Keys;
 use stm_meaning::{Answered, End, Run, TraceItem, Value, run_answered};
 use stm_program::{Level, Program, Write, is_listed};
-use stm_reports::{ToldAnswer, are_same_traces, are_same_values};
+use stm_reports::{ReportedAnswer, are_same_traces, are_same_values};
 use stm_txn::{Change, Refusal, Store};
 
 /// What the line of a commit tells.
 #[derive(Clone, Copy)]
-pub(crate) struct Told<'a> {
+pub(crate) struct CommitLine<'a> {
     pub(crate) revision: u64,
     pub(crate) attempts: u64,
     pub(crate) output: &'a [Value],
     pub(crate) trace: &'a [TraceItem],
-    pub(crate) answers: &'a [ToldAnswer],
+    pub(crate) answers: &'a [ReportedAnswer],
 }
 
 /// Whether commits of a level compare what was read.
@@ -55,15 +55,15 @@ fn is_next_attempt(runner: &Runner, attempts: u64) -> bool
 }
 
 /// Whether an answer is of a key.
-fn is_of_key(answer: &ToldAnswer, key: &Text) -> bool
+fn is_of_key(answer: &ReportedAnswer, key: &Text) -> bool
     ensures { IsTrue result ↔ answer.now.key ≡ key.now }
 {
     answer.key == *key
 }
 
 /// Whether answers are of these keys, in this order.
-fn are_of_keys(answers: &[ToldAnswer], keys: &[Text]) -> bool
-    ensures { IsTrue result ↔ keys_told answers.now ≡ keys.now }
+fn are_of_keys(answers: &[ReportedAnswer], keys: &[Text]) -> bool
+    ensures { IsTrue result ↔ keys_reported answers.now ≡ keys.now }
 {
     if answers.len() != keys.len() {
         return false;
@@ -91,7 +91,7 @@ fn run_now(
     alloc: Global,
     keys: &Keys,
     runner: &Runner,
-    answers: &[ToldAnswer],
+    answers: &[ReportedAnswer],
 ) -> Result<Option<Run>, AllocError>
     requires { is_comparing runner.now.level ≡ true }
     ensures { IfOk result (IsFound runner.now.level keys.now.history runner.now.program answers.now) }
@@ -154,10 +154,10 @@ fn run_of_keys(
     alloc: Global,
     program: &Program,
     run: Run,
-    answers: &[ToldAnswer],
+    answers: &[ReportedAnswer],
 ) -> Result<Option<Run>, AllocError>
-    ensures { IfOk result (λ found. MatchOption found (keys_told answers.now ≡ keys_first_read program.now.prefetch run.reads → ⊥)
-        (λ same. (same ≡ run) × (keys_told answers.now ≡ keys_first_read program.now.prefetch run.reads))) }
+    ensures { IfOk result (λ found. MatchOption found (keys_reported answers.now ≡ keys_first_read program.now.prefetch run.reads → ⊥)
+        (λ same. (same ≡ run) × (keys_reported answers.now ≡ keys_first_read program.now.prefetch run.reads))) }
 {
     let Ok(keys) = first_reads(alloc, program, &run) else {
         drop(run);
@@ -178,7 +178,7 @@ fn run_on_reads(
     alloc: Global,
     program: &Program,
     reads: &ReadSet,
-    answers: &[ToldAnswer],
+    answers: &[ReportedAnswer],
 ) -> Result<Option<Run>, AllocError>
     ensures { IfOk result (IsRunOn (look_up reads.now) program.now answers.now) }
 {
@@ -189,31 +189,31 @@ fn run_on_reads(
 }
 
 /// The run on the answers that are told, where they are true and are those that the run looked up.
-fn run_on_told(
+fn run_on_reported(
     alloc: Global,
     keys: &Keys,
     runner: &Runner,
-    answers: &[ToldAnswer],
+    answers: &[ReportedAnswer],
 ) -> Result<Option<Run>, AllocError>
     requires numbers { StatesFit keys.now.history }
     requires level { is_comparing runner.now.level ≡ false }
     ensures { IfOk result (IsFound runner.now.level keys.now.history runner.now.program answers.now) }
 {
-    if !are_truly_told(keys, answers) {
+    if !are_truly_reported(keys, answers) {
         return Ok(None);
     }
-    let reads = reads_told(alloc, keys, answers)?;
+    let reads = reads_reported(alloc, keys, answers)?;
     let run = run_on_reads(alloc, &runner.program, &reads, answers);
     drop(reads);
     run
 }
 
 /// The run of a runner's program at this point, where the answers that are told are those of its level.
-fn run_told(
+fn run_reported(
     alloc: Global,
     keys: &Keys,
     runner: &Runner,
-    answers: &[ToldAnswer],
+    answers: &[ReportedAnswer],
 ) -> Result<Option<Run>, AllocError>
     requires { StatesFit keys.now.history }
     ensures { IfOk result (IsFound runner.now.level keys.now.history runner.now.program answers.now) }
@@ -221,17 +221,17 @@ fn run_told(
     if compares(runner.level) {
         run_now(alloc, keys, runner, answers)
     } else {
-        run_on_told(alloc, keys, runner, answers)
+        run_on_reported(alloc, keys, runner, answers)
     }
 }
 
 /// Whether a run is done, with this output and trace.
-fn is_told_run(run: &Run, told: Told<'_>) -> bool
-    ensures { IsTrue result ↔ (run.now.end ≡ DoneEnd) × (run.now.output ≡ told.entry.output.now) × (run.now.trace ≡ told.entry.trace.now) }
+fn is_reported_run(run: &Run, reported: CommitLine<'_>) -> bool
+    ensures { IsTrue result ↔ (run.now.end ≡ DoneEnd) × (run.now.output ≡ reported.entry.output.now) × (run.now.trace ≡ reported.entry.trace.now) }
 {
     run.end == End::Done
-        && are_same_values(run.output.as_slice(), told.output)
-        && are_same_traces(run.trace.as_slice(), told.trace)
+        && are_same_values(run.output.as_slice(), reported.output)
+        && are_same_traces(run.trace.as_slice(), reported.trace)
 }
 
 /// A write, as a change.
@@ -308,17 +308,17 @@ fn replay_run(
     alloc: Global,
     store: &mut Store,
     run: &Run,
-    told: Told<'_>,
+    reported: CommitLine<'_>,
 ) -> Result<bool, AllocError>
-    ensures right { IfOk result (λ b. IsTrue b ↔ ((run.now.end ≡ DoneEnd) × (run.now.output ≡ told.entry.output.now) × (run.now.trace ≡ told.entry.trace.now))
-        × (revision_reached (applied_run (without_moment store.old.standing) run.now) ≡ Some told.entry.revision)) }
+    ensures right { IfOk result (λ b. IsTrue b ↔ ((run.now.end ≡ DoneEnd) × (run.now.output ≡ reported.entry.output.now) × (run.now.trace ≡ reported.entry.trace.now))
+        × (revision_reached (applied_run (without_moment store.old.standing) run.now) ≡ Some reported.entry.revision)) }
     ensures next { IfOk result (λ b. IsTrue b → store.new.standing ≡ with_writes store.old.standing run.now) }
 {
-    if !is_told_run(run, told) {
+    if !is_reported_run(run, reported) {
         return Ok(false);
     }
     let reached = apply_writes(alloc, store, run)?;
-    Ok(is_reached(reached, told.revision))
+    Ok(is_reached(reached, reported.revision))
 }
 
 /// Applies the commit of a runner, and tells whether a line tells it.
@@ -326,21 +326,21 @@ pub(crate) fn replay_commit(
     alloc: Global,
     store: &mut Store,
     runner: &Runner,
-    told: Told<'_>,
+    reported: CommitLine<'_>,
 ) -> Result<bool, AllocError>
-    ensures right { IfOk result (λ b. IsTrue b ↔ IsRightCommit store.old.standing runner.now told.entry.revision told.entry.attempts
-        told.entry.output.now told.entry.trace.now told.entry.answers.now) }
+    ensures right { IfOk result (λ b. IsTrue b ↔ IsRightCommit store.old.standing runner.now reported.entry.revision reported.entry.attempts
+        reported.entry.output.now reported.entry.trace.now reported.entry.answers.now) }
     ensures next { IfOk result (λ b. IsTrue b → store.new.standing
-        ≡ led_by (ProgramEntry runner.now.program runner.now.level (reads_in store.old.standing.history told.entry.answers.now)
-        told.entry.output.now told.entry.trace.now told.entry.revision ∷ []) store.old.standing store.old.standing.moment) }
+        ≡ led_by (ProgramEntry runner.now.program runner.now.level (reads_in store.old.standing.history reported.entry.answers.now)
+        reported.entry.output.now reported.entry.trace.now reported.entry.revision ∷ []) store.old.standing store.old.standing.moment) }
 {
-    if !is_next_attempt(runner, told.attempts) {
+    if !is_next_attempt(runner, reported.attempts) {
         return Ok(false);
     }
-    let Some(run) = run_told(alloc, store.keys(), runner, told.answers)? else {
+    let Some(run) = run_reported(alloc, store.keys(), runner, reported.answers)? else {
         return Ok(false);
     };
-    let right = replay_run(alloc, store, &run, told);
+    let right = replay_run(alloc, store, &run, reported);
     drop(run);
     right
 }

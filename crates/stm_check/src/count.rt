@@ -2,7 +2,7 @@
 ghost use Rattle.std.specs.Prelude.{◌≡◌, ◌+◌, length, IfOk};
 ghost use Rattle.stm_history.specs.History.{History};
 ghost use Rattle.stm_outcome.specs.declared.txn.Txn.{Txn as StoreTxn};
-ghost use Rattle.stm_check.specs.Point.{commit_entries, txn_entries, advance_entries, entries_told};
+ghost use Rattle.stm_check.specs.Point.{commit_entries, txn_entries, advance_entries, entries_reported};
 ghost use Rattle.stm_check.specs.Runners.{running};
 
 use crate::runner::{Runner, is_running};
@@ -43,13 +43,13 @@ fn count_step(runners: &[Runner], id: u64, line: &ReportLine) -> u64
 }
 
 /// How many entries the line of an event tells, before the store has made the event's call.
-pub(crate) fn count_told(
+pub(crate) fn count_reported(
     store: &Store,
     runners: &[Runner],
     event: &WorldEvent,
     line: &ReportLine,
 ) -> u64
-    ensures { result ≡ length (entries_told store.now.standing runners.now event.now line.now) }
+    ensures { result ≡ length (entries_reported store.now.standing runners.now event.now line.now) }
 {
     match event {
         WorldEvent::Step { runner } => count_step(runners, *runner, line),

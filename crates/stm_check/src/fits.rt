@@ -56,10 +56,10 @@ fn runner_of(line: &ReportLine) -> Option<u64>
 }
 
 /// Whether a number that a line may tell is this one.
-fn is_number(number: u64, told: Option<u64>) -> bool
-    ensures { result ≡ is_number number told }
+fn is_number(number: u64, reported: Option<u64>) -> bool
+    ensures { result ≡ is_number number reported }
 {
-    match told {
+    match reported {
         None => false,
         Some(other) => other == number,
     }

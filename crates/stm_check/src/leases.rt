@@ -5,7 +5,7 @@ ghost use Rattle.stm_entries.specs.Replayed.{Replayed, without_moment};
 ghost use Rattle.stm_entries.specs.LiveLeases.{HasLeases};
 ghost use Rattle.stm_entries.specs.Replay.{replay};
 ghost use Rattle.stm_check.specs.declared.runner.Runner.{Runner as Run};
-ghost use Rattle.stm_check.specs.Point.{expiries, advance_entries, entries_told};
+ghost use Rattle.stm_check.specs.Point.{expiries, advance_entries, entries_reported};
 
 use std::alloc::AllocError;
 use std::collections::BTreeMap;
@@ -42,7 +42,7 @@ pub(crate) fn note_leases(
     line: &ReportLine,
 ) -> Result<(), AllocError>
     ensures { OnOk result ((s : Standing) (runners : List Run) → s.moment ≡ moment → HasLeases leases.old s.live
-        → HasLeases leases.new (replay (entries_told s runners event.now line.now) (without_moment s)).live) }
+        → HasLeases leases.new (replay (entries_reported s runners event.now line.now) (without_moment s)).live) }
 {
     match event {
         WorldEvent::Grant { id, ttl } => match line {

@@ -6,14 +6,14 @@ ghost use Rattle.stm_history.specs.History.{now, mod_of};
 ghost use Rattle.stm_outcome.specs.Numbers.{StatesFit, ReadFits};
 ghost use Rattle.stm_compile.specs.Answers.{answer_in};
 ghost use Rattle.stm_check.specs.Point.{read_in, reads_in};
-ghost use Rattle.stm_check.specs.Replays.{IsTrulyTold, AreTrulyTold};
+ghost use Rattle.stm_check.specs.Replays.{IsTrulyReported, AreTrulyReported};
 
 use std::alloc::{AllocError, Global};
 use stm_compile::ReadSet;
 use stm_history::{KeyState, ReadAnswer, Text};
 use stm_keys::Keys;
 use stm_meaning::Lookup;
-use stm_reports::ToldAnswer;
+use stm_reports::ReportedAnswer;
 
 /// The keys of a store as they are now.
 #[derive(Clone, Copy)]
@@ -42,12 +42,12 @@ impl Lookup for KeysNow<'_> {
 }
 
 /// Whether a value is told as a key had it, and as none where the key was absent.
-fn has_value(told: &Option<Text>, state: Option<&KeyState>) -> bool
-    ensures { IsTrue result ↔ told.now ≡ option_map (λ (s : State). s.value) (option_copied state.entry) }
+fn has_value(reported: &Option<Text>, state: Option<&KeyState>) -> bool
+    ensures { IsTrue result ↔ reported.now ≡ option_map (λ (s : State). s.value) (option_copied state.entry) }
 {
     match state {
-        None => told.is_none(),
-        Some(state) => match told {
+        None => reported.is_none(),
+        Some(state) => match reported {
             None => false,
             Some(value) => *value == state.value,
         },
@@ -65,8 +65,8 @@ fn mod_rev_of(state: Option<&KeyState>) -> u64
 }
 
 /// Whether an answer tells what a key was at a revision that the store has reached.
-fn is_truly_told(keys: &Keys, answer: &ToldAnswer) -> bool
-    ensures { IsTrue result ↔ IsTrulyTold keys.now.history answer.now }
+fn is_truly_reported(keys: &Keys, answer: &ReportedAnswer) -> bool
+    ensures { IsTrue result ↔ IsTrulyReported keys.now.history answer.now }
 {
     if answer.of_rev > keys.revision() {
         return false;
@@ -76,11 +76,11 @@ fn is_truly_told(keys: &Keys, answer: &ToldAnswer) -> bool
 }
 
 /// Whether answers tell what their keys were.
-pub(crate) fn are_truly_told(keys: &Keys, answers: &[ToldAnswer]) -> bool
-    ensures { IsTrue result ↔ AreTrulyTold keys.now.history answers.now }
+pub(crate) fn are_truly_reported(keys: &Keys, answers: &[ReportedAnswer]) -> bool
+    ensures { IsTrue result ↔ AreTrulyReported keys.now.history answers.now }
 {
     for answer in answers {
-        if !is_truly_told(keys, answer) {
+        if !is_truly_reported(keys, answer) {
             return false;
         }
     }
@@ -101,7 +101,7 @@ fn copy_of(state: Option<&KeyState>) -> Result<Option<KeyState>, AllocError>
 }
 
 /// An answer, as a read of the store's history gives it.
-fn read_told(keys: &Keys, answer: &ToldAnswer) -> Result<ReadAnswer, AllocError>
+fn read_reported(keys: &Keys, answer: &ReportedAnswer) -> Result<ReadAnswer, AllocError>
     requires numbers { StatesFit keys.now.history }
     requires reached { answer.now.of_rev ≤ now keys.now.history }
     ensures read { IfOk result (λ read. read ≡ read_in keys.now.history answer.now) }
@@ -126,7 +126,7 @@ fn is_known(reads: &ReadSet, key: &Text) -> bool
 }
 
 /// Adds an answer as it was read, if there is none of its key.
-fn add_told(reads: &mut ReadSet, keys: &Keys, answer: &ToldAnswer) -> Result<(), AllocError>
+fn add_reported(reads: &mut ReadSet, keys: &Keys, answer: &ReportedAnswer) -> Result<(), AllocError>
     requires numbers { StatesFit keys.now.history }
     requires reached { answer.now.of_rev ≤ now keys.now.history }
     ensures { OnOk result ((so_far : List Read) → ((key : List ℕ) → answer_in key reads.old ≡ answer_in key so_far)
@@ -135,24 +135,24 @@ fn add_told(reads: &mut ReadSet, keys: &Keys, answer: &ToldAnswer) -> Result<(),
     if is_known(reads, &answer.key) {
         return Ok(());
     }
-    let read = read_told(keys, answer)?;
+    let read = read_reported(keys, answer)?;
     reads.add(read)?;
     Ok(())
 }
 
 /// The answers as an attempt has read them: the first of each key.
-pub(crate) fn reads_told(
+pub(crate) fn reads_reported(
     alloc: Global,
     keys: &Keys,
-    answers: &[ToldAnswer],
+    answers: &[ReportedAnswer],
 ) -> Result<ReadSet, AllocError>
     requires numbers { StatesFit keys.now.history }
-    requires truth { AreTrulyTold keys.now.history answers.now }
+    requires truth { AreTrulyReported keys.now.history answers.now }
     ensures { IfOk result (λ reads. (key : List ℕ) → answer_in key reads ≡ answer_in key (reads_in keys.now.history answers.now)) }
 {
     let mut reads = ReadSet::new(alloc);
     for answer in answers {
-        add_told(&mut reads, keys, answer)?;
+        add_reported(&mut reads, keys, answer)?;
     }
     Ok(reads)
 }

@@ -11,8 +11,8 @@ use crate::calls::{
     replay_advance, replay_compact, replay_grant, replay_keep, replay_revoke, replay_txn,
 };
 use crate::cause::WrongCause;
-use crate::commits::{Told, replay_commit};
-use crate::count::{add_count, count_told};
+use crate::commits::{CommitLine, replay_commit};
+use crate::count::{add_count, count_reported};
 use crate::fits::fits;
 use crate::leases::note_leases;
 use crate::runner::{Runner, find_running, note};
@@ -71,14 +71,14 @@ fn step_replays(
         } => match runner {
             None => Ok(false),
             Some(runner) => {
-                let told = Told {
+                let reported = CommitLine {
                     revision: *revision,
                     attempts: *attempts,
                     output: output.as_slice(),
                     trace: trace.as_slice(),
                     answers: answers.as_slice(),
                 };
-                replay_commit(alloc, store, runner, told)
+                replay_commit(alloc, store, runner, reported)
             }
         },
         _ => Ok(true),
@@ -145,7 +145,7 @@ impl Walk {
         if !fits(number, self.runners.as_slice(), event, line) {
             return Ok(Some(WrongCause::Event));
         }
-        let more = count_told(&self.store, self.runners.as_slice(), event, line);
+        let more = count_reported(&self.store, self.runners.as_slice(), event, line);
         let moment = self.store.moment();
         if !replays(
             self.alloc,

@@ -93,7 +93,7 @@ fn write_check_with<E: Sink>(err: &mut E, fault: &CheckFault, more: &str) -> Res
 }
 
 /// Says what went wrong with a script and its explanation, and gives the status.
-fn tell_script<E: Sink>(err: &mut E, fault: &ScriptFault, more: &str) -> u8
+fn report_script<E: Sink>(err: &mut E, fault: &ScriptFault, more: &str) -> u8
     requires works { E.failed err.old ≡ false }
     requires explains { IsExplained more.now }
     ensures { ScriptSays (E.held err.old) (E.held err.new) (E.failed err.new) fault.now result }
@@ -103,7 +103,7 @@ fn tell_script<E: Sink>(err: &mut E, fault: &ScriptFault, more: &str) -> u8
 }
 
 /// Says what went wrong with a check and its explanation, and gives the status.
-fn tell_check<E: Sink>(err: &mut E, fault: &CheckFault, more: &str) -> u8
+fn report_check<E: Sink>(err: &mut E, fault: &CheckFault, more: &str) -> u8
     requires works { E.failed err.old ≡ false }
     requires explains { IsExplained more.now }
     ensures { CheckSays (E.held err.old) (E.held err.new) (E.failed err.new) fault.now result }
@@ -113,7 +113,7 @@ fn tell_check<E: Sink>(err: &mut E, fault: &CheckFault, more: &str) -> u8
 }
 
 /// Explains the runs of a scenario that came to a fault, and gives the status of a good end.
-fn tell_runs<S, E: Sink>(alloc: Global, input: &Kept<'_, S>, err: &mut E) -> u8
+fn report_runs<S, E: Sink>(alloc: Global, input: &Kept<'_, S>, err: &mut E) -> u8
     requires { E.failed err.old ≡ false }
     ensures status { result ≡ 0 }
     ensures says { SaysRuns input.now.name.now input.now.bytes.items (E.held err.old) (E.held err.new) (E.failed err.new) }
@@ -148,10 +148,10 @@ pub fn script_explained_to<S: Source, W: Sink, E: Sink>(
     ensures bounded { S.reads input.new.source ≤ S.reads input.old.source + MOST_READ }
 {
     match script_as(alloc, format, input, out) {
-        Ok(()) => tell_runs(alloc, input, err),
+        Ok(()) => report_runs(alloc, input, err),
         Err(fault) => {
             let more = script_explanation(alloc, input, &fault);
-            tell_script(err, &fault, more.as_str())
+            report_script(err, &fault, more.as_str())
         }
     }
 }
@@ -187,7 +187,7 @@ pub fn check_explained_to<S: Source, R: Source, W: Sink, E: Sink>(
         Ok(checked) => status_of(checked),
         Err(fault) => {
             let more = check_explanation(alloc, scenario, report, &fault);
-            tell_check(err, &fault, more.as_str())
+            report_check(err, &fault, more.as_str())
         }
     }
 }
@@ -223,7 +223,7 @@ pub fn check_whole_explained_to<S: Source, R: Source, W: Sink, E: Sink>(
         Ok(checked) => say(err, &checked),
         Err(fault) => {
             let more = check_explanation(alloc, scenario, report, &fault);
-            tell_check(err, &fault, more.as_str())
+            report_check(err, &fault, more.as_str())
         }
     }
 }

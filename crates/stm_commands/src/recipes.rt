@@ -50,7 +50,7 @@ fn write_message<E: Sink>(err: &mut E, fault: &RecipeFault) -> Result<(), Device
 }
 
 /// Says what went wrong, and gives the status. Takes no memory.
-fn tell<E: Sink>(err: &mut E, fault: &RecipeFault) -> u8
+fn report<E: Sink>(err: &mut E, fault: &RecipeFault) -> u8
     requires { E.failed err.old ≡ false }
     ensures { SaysOf (E.held err.old) (E.held err.new) (E.failed err.new) fault.now result }
 {
@@ -80,6 +80,6 @@ pub fn recipe_to<W: Sink, E: Sink>(
 {
     match print_recipe(alloc, words, out) {
         Ok(()) => 0,
-        Err(fault) => tell(err, &fault),
+        Err(fault) => report(err, &fault),
     }
 }

@@ -31,7 +31,7 @@ pub(crate) fn write_message<E: Sink>(err: &mut E, fault: &ScriptFault) -> Result
 }
 
 /// Says what went wrong, and gives the status. Takes no memory.
-pub(crate) fn tell<E: Sink>(err: &mut E, fault: &ScriptFault) -> u8
+pub(crate) fn report<E: Sink>(err: &mut E, fault: &ScriptFault) -> u8
     requires { E.failed err.old ≡ false }
     ensures { SaysOf (E.held err.old) (E.held err.new) (E.failed err.new) fault.now result }
 {
@@ -65,6 +65,6 @@ pub fn script_to<S: Source, W: Sink, E: Sink>(
 {
     match script(alloc, input, out) {
         Ok(()) => 0,
-        Err(fault) => tell(err, &fault),
+        Err(fault) => report(err, &fault),
     }
 }

@@ -4,7 +4,7 @@ ghost use Rattle.stm_devices.specs.declared.transfer.TheConstants.{MOST_READ};
 ghost use Rattle.stm_devices.specs.Transfers.{HasWritten};
 ghost use Rattle.stm_commands.specs.WholeChecking.{no_text, answer_text, expected_text, Prints, SaysExpected, SaysOfAnswer, Does, Ends};
 
-use crate::checking::tell;
+use crate::checking::report;
 use std::alloc::{AllocError, Global};
 use stm_check::CheckFault;
 use stm_messages::write_text;
@@ -146,6 +146,6 @@ pub fn check_whole_to<S: Source, R: Source, W: Sink, E: Sink>(
 {
     match answer(alloc, scenario, report, out) {
         Ok(checked) => say(err, &checked),
-        Err(fault) => tell(err, &fault),
+        Err(fault) => report(err, &fault),
     }
 }

@@ -17,7 +17,7 @@ use Rattle.stm_outcome.specs.declared.txn.Txn.{Txn}
 use Rattle.stm_outcome.specs.declared.refusal.Refusal.{Refusal}
 use Rattle.stm_outcome.specs.declared.refusal.Refusal.TheVariants.{LeaseNotFound, RevisionsUsedUp}
 use Rattle.stm_txn.specs.Grants.{grant_refusal_of}
-use Rattle.stm_txn.specs.Leasing.{hanging, lease_now}
+use Rattle.stm_txn.specs.Leasing.{attaching, lease_now}
 use Rattle.stm_txn.specs.LeaseKeys.{keys_of_lease, deletions_of}
 use Rattle.stm_outcome.specs.Effect.{op_of}
 use Rattle.stm_outcome.specs.Commits.{applied}
@@ -44,13 +44,13 @@ pub transacted_kept : (s : Standing) → HasReached s → (txn : Txn) → transa
 transacted_kept s reached txn = ap (step_of (kept s)) (outcome_kept (terms_of s) reached txn) ∙ stepped s (outcome (terms_of s) txn)
 
 -- writes answer the revision after them
-abbrev revision_told : ℕ → Standing → Result (Step ℕ) Refusal
-revision_told revision next = Ok record { answer = revision; next = next }
+abbrev revision_reported : ℕ → Standing → Result (Step ℕ) Refusal
+revision_reported revision next = Ok record { answer = revision; next = next }
 
 write_stepped : (s : Standing) (o : Result Done Refusal) → HasReached s → Grows s.history o →
     write_step (kept s) (kept_done s.floor o) ≡ kept_step (write_step s o)
 write_stepped s (Ok done) reached grows =
-    ap (λ (n : ℕ). revision_told n (with_history (kept s) (cut (s.floor - 1) done.history)))
+    ap (λ (n : ℕ). revision_reported n (with_history (kept s) (cut (s.floor - 1) done.history)))
     (cut_keeps_now done.history (s.floor - 1) (omega (arith, reached, grows)))
 write_stepped s (Err cause) reached grows = refl
 
@@ -103,7 +103,7 @@ pub lease_kept : (floor : ℕ) (h : History) → floor ≤ now h → (id : ℕ) 
 lease_kept floor h reached id =
     let g : History = cut (floor - 1) h in
     let alike : IsAlike floor g h = cut_is_alike floor h reached in
-    let same : lease_now g ≡ lease_now h = ap (λ (state : List ℕ → Option KeyState). λ (key : List ℕ). hanging (state key)) alike.keys_now in
+    let same : lease_now g ≡ lease_now h = ap (λ (state : List ℕ → Option KeyState). λ (key : List ℕ). attaching (state key)) alike.keys_now in
     one_list_of_keys (lease_now h) id (keys_of_lease g id) (keys_of_lease h id)
     (subst (λ (f : List ℕ → Option ℕ). AreKeysOf f id (keys_of_lease g id)) same (are_keys g id)) (are_keys h id)
 
@@ -141,7 +141,7 @@ counted s reached = cut_keeps_now s.history (s.floor - 1) (omega (arith, reached
 
 revoked_by : (s : Standing) → HasReached s → (id : ℕ) (o : Result Standing Refusal) → ended s id ≡ o → with_revision (kept_end o) ≡ kept_step (with_revision o)
 revoked_by s reached id (Ok next) is =
-    ap (λ (n : ℕ). revision_told n (kept next)) (counted next (ended_reaches s next id reached is))
+    ap (λ (n : ℕ). revision_reported n (kept next)) (counted next (ended_reaches s next id reached is))
 revoked_by s reached id (Err cause) is = refl
 
 pub revoked_kept : (s : Standing) → HasReached s → (id : ℕ) → revoked (kept s) id ≡ kept_step (revoked s id)

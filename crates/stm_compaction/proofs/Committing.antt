@@ -28,7 +28,7 @@ use Rattle.stm_compile.specs.Conflicts.{seen_by}
 use Rattle.stm_calls.specs.declared.sent.Sent.{Sent}
 use Rattle.stm_calls.specs.declared.sent.Sent.TheVariants.{Committed}
 use Rattle.stm_calls.specs.Sent.{seen_in, failed_at, decided, sent_as, sent}
-use Rattle.stm_calls.specs.Fetched.{fetched, fetch_told, fetch_all_told}
+use Rattle.stm_calls.specs.Fetched.{fetched, fetch_reported, fetch_all_reported}
 use Rattle.stm_compaction.specs.Kept.{kept_step, kept_done, kept_terms}
 use Rattle.stm_compaction.proofs.Alike.{IsAlike, cut_is_alike}
 use Rattle.stm_compaction.proofs.Transactions.{Grows, applied_kept, applied_grows, not_below}
@@ -100,22 +100,22 @@ committed_grows terms level reads run =
 
 -- ---- as it is told
 
-abbrev told_as : Sent → Standing → Result (Step Sent) Refusal
-told_as answer next = Ok record { answer = answer; next = next }
+abbrev reported_as : Sent → Standing → Result (Step Sent) Refusal
+reported_as answer next = Ok record { answer = answer; next = next }
 
-abbrev told_step : Step Sent → Result (Step Sent) Refusal
-told_step step = Ok step
+abbrev reported_step : Step Sent → Result (Step Sent) Refusal
+reported_step step = Ok step
 
 decided_kept : (s : Standing) → HasReached s → (level : Level) (reads : List ReadAnswer) (writes : List Write) (done : Done) (o : Option FailedCompare) →
     now s.history ≤ now done.history →
-    told_step (decided (kept s) level reads writes (record { answer = done.answer; history = cut (s.floor - 1) done.history }) o)
-    ≡ kept_step (told_step (decided s level reads writes done o))
+    reported_step (decided (kept s) level reads writes (record { answer = done.answer; history = cut (s.floor - 1) done.history }) o)
+    ≡ kept_step (reported_step (decided s level reads writes done o))
 decided_kept s reached level reads writes done None grown =
-    ap (λ (n : ℕ). told_as (Committed n) (with_history (kept s) (cut (s.floor - 1) done.history)))
+    ap (λ (n : ℕ). reported_as (Committed n) (with_history (kept s) (cut (s.floor - 1) done.history)))
     (cut_keeps_now done.history (s.floor - 1) (omega (arith, reached, grown)))
 decided_kept s reached level reads writes done (Some failed) grown =
     let g : History = cut (s.floor - 1) s.history in
-    ap (λ (answers : List ReadAnswer). told_as (failed_at (seen_in (slice_get (seen_by reads writes) failed.index)) failed.mod_rev answers) (kept s))
+    ap (λ (answers : List ReadAnswer). reported_as (failed_at (seen_in (slice_get (seen_by reads writes) failed.index)) failed.mod_rev answers) (kept s))
     (answers_alike s.floor g s.history (cut_is_alike s.floor s.history reached) reached (reread_keys level reads))
 
 sent_by : (s : Standing) → HasReached s → (level : Level) (reads : List ReadAnswer) (writes : List Write) (o : Result Done Refusal) → Grows s.history o →
@@ -131,7 +131,7 @@ sent_kept s reached level reads run =
 
 -- ---- a list
 
-pub listed_kept : (s : Standing) → HasReached s → (keys : List (List ℕ)) → fetch_all_told (kept s) keys ≡ fetch_all_told s keys
+pub listed_kept : (s : Standing) → HasReached s → (keys : List (List ℕ)) → fetch_all_reported (kept s) keys ≡ fetch_all_reported s keys
 listed_kept s reached keys =
     ap (λ (answers : List ReadAnswer). (let o : Result (List ReadAnswer) Refusal = cond (nat_lt s.limit (length keys)) (Err TooManyOps) (Ok answers) in o))
     (answers_alike s.floor (cut (s.floor - 1) s.history) s.history (cut_is_alike s.floor s.history reached) reached keys)
@@ -160,5 +160,5 @@ fetched_by s reached key at false is =
     (read_by s.floor (cut (s.floor - 1) s.history) s.history (cut_is_alike s.floor s.history reached) reached key at (nat_eq at 0)
     (λ some. not_below s.floor at (nat_lt 0 at) (nat_lt at s.floor) refl refl is some))
 
-pub fetched_kept : (s : Standing) → HasReached s → (key : List ℕ) (at : ℕ) → fetch_told (kept s) key at ≡ fetch_told s key at
+pub fetched_kept : (s : Standing) → HasReached s → (key : List ℕ) (at : ℕ) → fetch_reported (kept s) key at ≡ fetch_reported s key at
 fetched_kept s reached key at = fetched_by s reached key at (is_below_floor s.floor at) refl

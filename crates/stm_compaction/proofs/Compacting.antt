@@ -6,10 +6,10 @@ use Rattle.std.proofs.lemmas.Bool.{leb-false, ltb-false}
 use Rattle.stm_history.specs.History.{History, now}
 use Rattle.stm_history.specs.Cut.{cut}
 use Rattle.stm_history.proofs.CutLaws.{cut_twice}
-use Rattle.stm_watch.specs.declared.told.Told.{Told}
+use Rattle.stm_watch.specs.declared.pending_revision.PendingRevision.{PendingRevision}
 use Rattle.stm_watch.specs.Watching.{Watching}
 use Rattle.stm_watch.specs.Places.{is_lost}
-use Rattle.stm_watch.specs.Pending.{first_told, first_pending}
+use Rattle.stm_watch.specs.Pending.{number_of_first, first_pending}
 use Rattle.stm_watch.specs.Calls.{compacted_one, compacted as compacted_watchers}
 use Rattle.stm_outcome.specs.declared.refusal.Refusal.{Refusal}
 use Rattle.stm_outcome.specs.declared.refusal.Refusal.TheVariants.{FutureRevision, Compacted}
@@ -29,7 +29,7 @@ one_by : (floor revision : ℕ) (h : History) (w : Watching) → floor ≤ now h
     (lost ≡ false → IfSome (first_pending h w) (λ n. floor ≤ n)) →
     lost_by revision w lost (first_pending (cut (floor - 1) h) w) ≡ lost_by revision w lost (first_pending h w)
 one_by floor revision h w reached true waits = refl
-one_by floor revision h w reached false waits = ap (λ (ts : List Told). lost_by revision w false (first_told ts)) (pending_kept floor h w reached (waits refl))
+one_by floor revision h w reached false waits = ap (λ (ts : List PendingRevision). lost_by revision w false (number_of_first ts)) (pending_kept floor h w reached (waits refl))
 
 each_kept : (floor revision : ℕ) (h : History) (o : Option Watching) → floor ≤ now h → IsKeptFor h floor o →
     option_map (compacted_one (cut (floor - 1) h) revision) o ≡ option_map (compacted_one h revision) o

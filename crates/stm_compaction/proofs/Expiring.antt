@@ -149,12 +149,12 @@ module _ (s : Standing) (reached : HasReached s) (moment : ℕ) (expired : List 
   whole_leaves c cause same =
       let a : Advance = expire_all (at_moment s moment) in
       let expiries : a.expired ≡ expired = ap (λ (x : Advance). x.expired) same in
-      let told : a.cause ≡ cause = ap (λ (x : Advance). x.cause) same in
+      let reported : a.cause ≡ cause = ap (λ (x : Advance). x.cause) same in
       let leaves : a.leaves ≡ c.whole =
       sym (front_leaves (finmap.len s.live) (at_moment s moment))
       ∙ ap (λ (es : List Expired). (expire_up_to (length es) (at_moment s moment)).leaves) expiries
       ∙ ap (λ (x : Advance). x.leaves) c.come in
-      λ i. record { expired = expiries i; leaves = leaves i; cause = told i }
+      λ i. record { expired = expiries i; leaves = leaves i; cause = reported i }
 
   whole_stopped : (c : CameTo (at_moment s moment) expired left) (whole : Advance) → IsStopped whole expired left →
       IsStopped (expire_all (at_moment s moment)) expired c.whole
@@ -202,12 +202,12 @@ module _ (s : Standing) (reached : HasReached s) (moment : ℕ) (expired : List 
     | inl back ↦
         let same : come_to [] (kept s) (Some TimeGoesBack) ≡ come_to expired left (Some cause) = went_back cause back cut in
         let expiries : [] ≡ expired = ap (λ (a : Advance). a.expired) same in
-        let told : Some TimeGoesBack ≡ Some cause = ap (λ (a : Advance). a.cause) same in
+        let reported : Some TimeGoesBack ≡ Some cause = ap (λ (a : Advance). a.cause) same in
         record {
           whole = s;
           leaves = ap (λ (a : Advance). a.leaves) same;
           come = λ on. absurd (omega (arith, back, on));
-          cut_short = inl (backward s moment back ∙ λ i. record { expired = expiries i; leaves = s; cause = told i });
+          cut_short = inl (backward s moment back ∙ λ i. record { expired = expiries i; leaves = s; cause = reported i });
         }
     | inr on ↦
         let c : CameTo (at_moment s moment) expired left = came_to (at_moment s moment) reached expired left (come on) in

@@ -6,7 +6,7 @@ use Rattle.std.specs.Prelude.{nat_eq, nat_le, nat_lt, ◌&&◌, max, IfSome, Res
 use Rattle.stm_history.specs.History.{History, now}
 use Rattle.stm_history.specs.Cut.{cut}
 use Rattle.stm_watch.specs.declared.watched.Watched.{Watched}
-use Rattle.stm_watch.specs.declared.told.Told.{Told}
+use Rattle.stm_watch.specs.declared.pending_revision.PendingRevision.{PendingRevision}
 use Rattle.stm_watch.specs.declared.watchers.Batch.{Batch}
 use Rattle.stm_watch.specs.declared.refusal.WatchRefusal.{WatchRefusal}
 use Rattle.stm_watch.specs.declared.refusal.WatchRefusal.TheVariants.{EmptyKey}
@@ -14,10 +14,10 @@ use Rattle.stm_watch.specs.declared.refusal.PollRefusal.{PollRefusal}
 use Rattle.stm_watch.specs.declared.refusal.PollRefusal.TheVariants.{Compacted}
 use Rattle.stm_watch.specs.Keys.{first_key}
 use Rattle.stm_watch.specs.Watching.{Watching}
-use Rattle.stm_watch.specs.Pending.{pending, first_pending, events_told, last_told, batch_of}
+use Rattle.stm_watch.specs.Pending.{pending, first_pending, pending_events, last_number, batch_of}
 use Rattle.stm_watch.specs.Places.{is_lost}
 use Rattle.stm_watch.specs.Calls.{watcher_at, Step as WatchStep, watch, poll_found, poll}
-use Rattle.stm_watch.proofs.CutTelling.{followed_cut}
+use Rattle.stm_watch.proofs.CutNotifying.{followed_cut}
 use Rattle.stm_txn.specs.Standing.{Standing, kept, watch_step, watched, poll_step, polled, cancel_step, cancelled}
 use Rattle.stm_txn.specs.Standing.{IsKeptFor, AreKeptFor, HasKept}
 use Rattle.stm_compaction.specs.Kept.{kept_step}
@@ -57,9 +57,9 @@ watched_kept s reached keys from =
 
 -- ---- a poll
 
-abbrev given : ℕ → Watching → ℕ → List Told → Batch
+abbrev given : ℕ → Watching → ℕ → List PendingRevision → Batch
 given most w counter ts =
-    record { events = events_told (take most ts); upto = cond (nat_le (length ts) most) (max w.seen counter) (last_told w.seen (take most ts)) }
+    record { events = pending_events (take most ts); upto = cond (nat_le (length ts) most) (max w.seen counter) (last_number w.seen (take most ts)) }
 
 batch_kept : (most floor : ℕ) (h : History) (w : Watching) → floor ≤ now h → IfSome (first_pending h w) (λ n. floor ≤ n) →
     batch_of most (cut (floor - 1) h) w ≡ batch_of most h w
@@ -71,18 +71,18 @@ poll_stepped : (s : Standing) (o : Result (WatchStep Batch) PollRefusal) → pol
 poll_stepped s (Ok step) = refl
 poll_stepped s (Err cause) = refl
 
-abbrev told_so : ℕ → Watching → List (Option Watching) → Batch → WatchStep Batch
-told_so id w ws batch = record { answer = batch; next = slice_set ws (id - 1) (Some (record w { seen = batch.upto })) }
+abbrev reported_so : ℕ → Watching → List (Option Watching) → Batch → WatchStep Batch
+reported_so id w ws batch = record { answer = batch; next = slice_set ws (id - 1) (Some (record w { seen = batch.upto })) }
 
 lost_or_not : (s : Standing) → HasReached s → (id most : ℕ) (w : Watching) (lost : Bool) → w.lost ≡ lost →
     (lost ≡ false → IfSome (first_pending s.history w) (λ n. s.floor ≤ n)) →
     poll_found (cut (s.floor - 1) s.history) id most s.watchers (Some w) ≡ poll_found s.history id most s.watchers (Some w)
 lost_or_not s reached id most w true is waits =
     let refused : (h : History) → poll_found h id most s.watchers (Some w) ≡ Err Compacted =
-    λ h. ap (λ b. cond b (Err Compacted) (Ok (told_so id w s.watchers (batch_of most h w)))) is in
+    λ h. ap (λ b. cond b (Err Compacted) (Ok (reported_so id w s.watchers (batch_of most h w)))) is in
     refused (cut (s.floor - 1) s.history) ∙ sym (refused s.history)
 lost_or_not s reached id most w false is waits =
-    ap (λ (batch : Batch). cond w.lost (Err Compacted) (Ok (told_so id w s.watchers batch))) (batch_kept most s.floor s.history w reached (waits refl))
+    ap (λ (batch : Batch). cond w.lost (Err Compacted) (Ok (reported_so id w s.watchers batch))) (batch_kept most s.floor s.history w reached (waits refl))
 
 found_kept : (s : Standing) → HasReached s → (id most : ℕ) (o : Option Watching) → IsKeptFor s.history s.floor o →
     poll_found (cut (s.floor - 1) s.history) id most s.watchers o ≡ poll_found s.history id most s.watchers o

@@ -13,7 +13,7 @@ use Rattle.stm_outcome.specs.declared.refusal.Refusal.{Refusal}
 use Rattle.stm_txn.specs.Standing.{Standing, HasKept, kept, transacted, written, granted, kept_alive, revoked, at_moment, expire_up_to, advanced, HasCome}
 use Rattle.stm_txn.specs.Standing.{IsCutShort, watched, polled, poll_refused, cancelled, raised, compacted}
 use Rattle.stm_calls.specs.Sent.{sent}
-use Rattle.stm_calls.specs.Fetched.{fetch_told, fetch_all_told}
+use Rattle.stm_calls.specs.Fetched.{fetch_reported, fetch_all_reported}
 use Rattle.stm_compaction.specs.Kept.{kept_step, kept_advance}
 use Rattle.stm_compaction.specs.Shows.{ShowsTheSame}
 use Rattle.stm_compaction.specs.Advanced.{ComesToo, IsCutShortToo}
@@ -30,10 +30,10 @@ abbrev pub KeptWrites : Type 0
 KeptWrites = (s : Standing) (writes : List Change) → s.floor ≤ now s.history → written (kept s) writes ≡ kept_step (written s writes)
 
 abbrev pub KeptFetches : Type 0
-KeptFetches = (s : Standing) (key : List ℕ) (at : ℕ) → s.floor ≤ now s.history → fetch_told (kept s) key at ≡ fetch_told s key at
+KeptFetches = (s : Standing) (key : List ℕ) (at : ℕ) → s.floor ≤ now s.history → fetch_reported (kept s) key at ≡ fetch_reported s key at
 
 abbrev pub KeptListFetches : Type 0
-KeptListFetches = (s : Standing) (keys : List (List ℕ)) → s.floor ≤ now s.history → fetch_all_told (kept s) keys ≡ fetch_all_told s keys
+KeptListFetches = (s : Standing) (keys : List (List ℕ)) → s.floor ≤ now s.history → fetch_all_reported (kept s) keys ≡ fetch_all_reported s keys
 
 abbrev pub KeptCommits : Type 0
 KeptCommits =

@@ -117,10 +117,10 @@ answer_after false answers a place within = earlier_answer answers a place withi
 pub place_added : (answers : List ReadAnswer) (a : ReadAnswer) (places after : List ℕ → Option ℕ) → AreAnswerPlaces answers places →
     answer_in a.key answers ≡ None → ((key : List ℕ) → after key ≡ update bytes_eq places a.key (Some (length answers)) key) →
     AreAnswerPlaces (answers ++ a ∷ []) after
-place_added answers a places after kept new told = record {
-  within = λ key i at. within_after (bytes_eq a.key key) answers a (places key) (kept.within key) i (sym (told key) ∙ at);
+place_added answers a places after kept new reported = record {
+  within = λ key i at. within_after (bytes_eq a.key key) answers a (places key) (kept.within key) i (sym (reported key) ∙ at);
   answer = λ key.
-      ap (λ place. answer_at (answers ++ a ∷ []) place) (told key)
+      ap (λ place. answer_at (answers ++ a ∷ []) place) (reported key)
       ∙ answer_after (bytes_eq a.key key) answers a (places key) (kept.within key)
       ∙ ap (λ found. cond (bytes_eq a.key key) (Some a) found) (kept.answer key)
       ∙ sym (answer_in-more answers a key new);
@@ -178,9 +178,9 @@ read_searched n answers a places read few new =
 pub read_indexed : (n : ℕ) (answers : List ReadAnswer) (a : ReadAnswer) (places after : List ℕ → Option ℕ) → AreRead n answers places →
     n ≤ length answers → answer_in a.key answers ≡ None →
     ((key : List ℕ) → after key ≡ update bytes_eq places a.key (Some (length (drop n answers))) key) → AreRead n (answers ++ a ∷ []) after
-read_indexed n answers a places after read many new told = record {
+read_indexed n answers a places after read many new reported = record {
   placed = subst (λ l. AreAnswerPlaces l after) (sym (drop-append-le n answers (a ∷ []) many))
-      (place_added (drop n answers) a places after read.placed (new_behind a.key n answers new) told);
+      (place_added (drop n answers) a places after read.placed (new_behind a.key n answers new) reported);
   distinct = distinct_added answers a read.distinct new;
 }
 

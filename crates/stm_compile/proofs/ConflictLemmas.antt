@@ -155,20 +155,20 @@ write_modified h first w fails = modified_above h.opening first (key_of w) h.rev
 read_conflicts : (h : History) (reads : List ReadAnswer) (ws : List Write) (failed : FailedCompare) (c : Compare) →
     holds c (key_now h c.key) ≡ false → failed.mod_rev ≡ mod_of (key_now h c.key) → IsOfRead h c (slice_get (seen_by reads ws) failed.index) →
     IsConflict h reads ws failed
-read_conflicts h reads ws failed c fails told of = record {
+read_conflicts h reads ws failed c fails reported of = record {
   seen = seen_of_read of.answer;
   about = of.stands;
-  told = subst (λ (d : Compare). failed.mod_rev ≡ mod_of (key_now h d.key)) of.compares told;
+  reported = subst (λ (d : Compare). failed.mod_rev ≡ mod_of (key_now h d.key)) of.compares reported;
   changed = read_changed h of.answer of.is_true (subst (λ (d : Compare). holds d (key_now h d.key) ≡ false) of.compares fails);
 }
 
 write_conflicts : (h : History) (reads : List ReadAnswer) (ws : List Write) (failed : FailedCompare) (c : Compare) →
     holds c (key_now h c.key) ≡ false → failed.mod_rev ≡ mod_of (key_now h c.key) →
     IsOfWrite (first_carried reads) c (slice_get (seen_by reads ws) failed.index) → IsConflict h reads ws failed
-write_conflicts h reads ws failed c fails told of = record {
+write_conflicts h reads ws failed c fails reported of = record {
   seen = seen_of_write (first_carried reads) of.write;
   about = of.stands;
-  told = subst (λ (d : Compare). failed.mod_rev ≡ mod_of (key_now h d.key)) of.compares told;
+  reported = subst (λ (d : Compare). failed.mod_rev ≡ mod_of (key_now h d.key)) of.compares reported;
   changed = write_modified h (first_carried reads) of.write (subst (λ (d : Compare). holds d (key_now h d.key) ≡ false) of.compares fails);
 }
 
@@ -176,19 +176,19 @@ either_conflicts : (h : History) (reads : List ReadAnswer) (ws : List Write) (fa
     holds c (key_now h c.key) ≡ false → failed.mod_rev ≡ mod_of (key_now h c.key) →
     IsOfRead h c (slice_get (seen_by reads ws) failed.index) ⊎ IsOfWrite (first_carried reads) c (slice_get (seen_by reads ws) failed.index) →
     IsConflict h reads ws failed
-either_conflicts h reads ws failed c fails told (inl of) = read_conflicts h reads ws failed c fails told of
-either_conflicts h reads ws failed c fails told (inr of) = write_conflicts h reads ws failed c fails told of
+either_conflicts h reads ws failed c fails reported (inl of) = read_conflicts h reads ws failed c fails reported of
+either_conflicts h reads ws failed c fails reported (inr of) = write_conflicts h reads ws failed c fails reported of
 
 reads_conflict : (h : History) (reads : List ReadAnswer) (ws : List Write) (failed : FailedCompare) → AreTrue h reads →
     FailsAt (key_now h) (map is_as_read reads) failed → IsConflict h reads ws failed
 reads_conflict h reads ws failed t f =
-    read_conflicts h reads ws failed f.compare f.fails f.told
+    read_conflicts h reads ws failed f.compare f.fails f.reported
     (of_read h reads (map (seen_of_write (first_carried reads)) ws) failed.index f.compare t f.stands)
 
 pub failed_compares_conflict : FailedComparesConflict
 failed_compares_conflict h SerializableSnapshot reads writes failed t found =
     let f = failed_has_its_place (key_now h) (compares_of SerializableSnapshot reads writes) failed found in
-    either_conflicts h reads writes failed f.compare f.fails f.told
+    either_conflicts h reads writes failed f.compare f.fails f.reported
     (of_either h (first_carried reads) reads writes failed.index f.compare t f.stands)
 failed_compares_conflict h Serializable reads writes failed t found =
     reads_conflict h reads writes failed t (failed_has_its_place (key_now h) (map is_as_read reads) failed found)

@@ -269,7 +269,7 @@ shown_now h (key ∷ keys) =
 
 pub failed_commit_rereads : FailedCommitRereads
 failed_commit_rereads h level reads failed = record {
-  told = shown_now h (reread_keys level reads);
+  reported = shown_now h (reread_keys level reads);
   true_now = now_are_true h (reread_keys level reads);
   unchanged = refl;
 }

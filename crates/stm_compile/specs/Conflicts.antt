@@ -46,5 +46,5 @@ seen_by reads writes = map seen_of_read reads ++ map (seen_of_write (first_carri
 pub record IsConflict (h : History) (reads : List ReadAnswer) (writes : List Write) (failed : FailedCompare) : Type 0 where
   pub seen : Seen
   pub about : slice_get (seen_by reads writes) failed.index ≡ Some seen
-  pub told : failed.mod_rev ≡ mod_of (key_now h seen.key)
+  pub reported : failed.mod_rev ≡ mod_of (key_now h seen.key)
   pub changed : IsChangedAbove h seen.at seen.key

@@ -83,7 +83,7 @@ AppliedIsEffect = (h : History) (writes : List Write) → effective h (map as_ch
 
 -- A commit that is turned down tells the keys that it reads again as they are now, and changes nothing.
 pub record Rereads (h : History) (level : Level) (reads : List ReadAnswer) (failed : FailedCompare) : Type 0 where
-  pub told : (turned_down h failed (reread_keys level reads)).answer.answers ≡ map (λ a. GetAnswer a) (map (answer_now h) (reread_keys level reads))
+  pub reported : (turned_down h failed (reread_keys level reads)).answer.answers ≡ map (λ a. GetAnswer a) (map (answer_now h) (reread_keys level reads))
   pub true_now : AreTrue h (map (answer_now h) (reread_keys level reads))
   pub unchanged : (turned_down h failed (reread_keys level reads)).history ≡ h
 

@@ -25,7 +25,7 @@ pub struct JobTable {
 pub struct JobSeat {
     pub(crate) seat: Seat<(), View>,
     pub(crate) left: usize,
-    ghost told: { left ≡ seat.me.0.left },
+    ghost reported: { left ≡ seat.me.0.left },
     ghost holds_nothing: { seat.me.1 ≡ [] },
     ghost known: { Knows seat.me.0 },
 }

@@ -6,7 +6,7 @@ use crate::allowed::{described, noun, parts_behind, words_allowed};
 use crate::forms::{Input, Part, Parts};
 use crate::offsets::{line_length, line_start, offset_of};
 use crate::position::position_of;
-use crate::syntax::told_of_text;
+use crate::syntax::reported_of_text;
 use crate::values::shown;
 use crate::walking::{Found, steps_of, walk};
 use serde_json::Value;
@@ -15,20 +15,20 @@ use stm_json::{BadInput, Cause, worded_array};
 
 /// What is told of a fault.
 #[derive(Drop)]
-pub(crate) struct Told {
+pub(crate) struct Explained {
     /// Where in the text it stands.
     pub(crate) offset: usize,
     /// What was found and what is allowed.
     pub(crate) words: String,
 }
 
-impl Told {
+impl Explained {
     /// These words, of a fault at an offset.
-    pub(crate) fn new(alloc: Global, offset: usize, words: &str) -> Result<Told, AllocError>
-        ensures { IfOk result (λ told. told.offset ≡ offset) }
+    pub(crate) fn new(alloc: Global, offset: usize, words: &str) -> Result<Explained, AllocError>
+        ensures { IfOk result (λ reported. reported.offset ≡ offset) }
     {
         let words = String::from_str(alloc, words)?;
-        Ok(Told { offset, words })
+        Ok(Explained { offset, words })
     }
 }
 
@@ -185,95 +185,100 @@ fn words_of(
 }
 
 /// What is told of a fault of a text that is JSON.
-fn told_of_value(
+fn reported_of_value(
     alloc: Global,
     input: Input,
     text: &str,
     value: &Value,
     steps: &[usize],
     cause: Cause,
-) -> Result<Told, AllocError>
-    ensures { IfOk result (λ told. told.offset ≤ length text.now) }
+) -> Result<Explained, AllocError>
+    ensures { IfOk result (λ reported. reported.offset ≤ length text.now) }
 {
     let offset = offset_of(alloc, text, steps)?;
     match walk(whole_of(input), value, steps) {
         Some(Found { part, value }) => {
             let part = wanted(input, part);
             let words = words_of(alloc, input, Found { part, value }, cause)?;
-            Ok(Told { offset, words })
+            Ok(Explained { offset, words })
         }
-        None => Told::new(alloc, offset, "what stands here is not wanted"),
+        None => Explained::new(alloc, offset, "what stands here is not wanted"),
     }
 }
 
 /// What is told of a fault of a text; of one that is no JSON, that.
-fn told_in(
+fn reported_in(
     alloc: Global,
     input: Input,
     text: &[u8],
     steps: &[usize],
     cause: Cause,
-) -> Result<Told, AllocError>
-    ensures { IfOk result (λ told. told.offset ≤ length text.now) }
+) -> Result<Explained, AllocError>
+    ensures { IfOk result (λ reported. reported.offset ≤ length text.now) }
 {
     let Ok(readable) = std::str::from_utf8(text) else {
-        return told_of_text(alloc, text);
+        return reported_of_text(alloc, text);
     };
     match Value::from_str(alloc, readable) {
-        Ok(value) => told_of_value(alloc, input, readable, &value, steps, cause),
-        Err(_) => told_of_text(alloc, text),
+        Ok(value) => reported_of_value(alloc, input, readable, &value, steps, cause),
+        Err(_) => reported_of_text(alloc, text),
     }
 }
 
 /// The same of a fault in a line of a text, at so many bytes from the text's front.
-fn told_in_line(
+fn reported_in_line(
     alloc: Global,
     text: &[u8],
     line: usize,
     steps: &[usize],
     cause: Cause,
-) -> Result<Told, AllocError>
-    ensures { IfOk result (λ told. told.offset ≤ length text.now) }
+) -> Result<Explained, AllocError>
+    ensures { IfOk result (λ reported. reported.offset ≤ length text.now) }
 {
     let start = line_start(text, line);
     let (_, rest) = text.split_at(start);
     let end = line_length(rest);
     if end == rest.len() {
-        return Told::new(alloc, start, "the last line is not ended by a line feed");
+        return Explained::new(alloc, start, "the last line is not ended by a line feed");
     }
-    let told = told_in(alloc, Input::Report, &rest[..end], steps, cause)?;
-    Ok(Told {
-        offset: start + told.offset,
-        words: told.words,
+    let reported = reported_in(alloc, Input::Report, &rest[..end], steps, cause)?;
+    Ok(Explained {
+        offset: start + reported.offset,
+        words: reported.words,
     })
 }
 
 /// What is told of a fault of an input.
-fn told_of(
+fn reported_of(
     alloc: Global,
     input: Input,
     text: &[u8],
     steps: &[usize],
     cause: Cause,
-) -> Result<Told, AllocError>
-    ensures { IfOk result (λ told. told.offset ≤ length text.now) }
+) -> Result<Explained, AllocError>
+    ensures { IfOk result (λ reported. reported.offset ≤ length text.now) }
 {
     let Some((first, rest)) = steps.split_first() else {
-        return told_of_whole(alloc, input, text, cause);
+        return reported_of_whole(alloc, input, text, cause);
     };
     match input {
-        Input::Report => told_in_line(alloc, text, *first, rest, cause),
-        _ => told_in(alloc, input, text, steps, cause),
+        Input::Report => reported_in_line(alloc, text, *first, rest, cause),
+        _ => reported_in(alloc, input, text, steps, cause),
     }
 }
 
 /// What is told of a fault of the whole input.
-fn told_of_whole(alloc: Global, input: Input, text: &[u8], cause: Cause) -> Result<Told, AllocError>
-    ensures { IfOk result (λ told. told.offset ≤ length text.now) }
+fn reported_of_whole(
+    alloc: Global,
+    input: Input,
+    text: &[u8],
+    cause: Cause,
+) -> Result<Explained, AllocError>
+    ensures { IfOk result (λ reported. reported.offset ≤ length text.now) }
 {
     match cause {
-        Cause::TooLong => Told::new(alloc, text.len(), "an input has at most 16777216 bytes"),
-        _ => told_in(alloc, input, text, &[], cause),
+        Cause::TooLong => Explained::new(alloc, text.len(), "an input has at most 16777216 bytes"),
+        _ => reported_in(alloc, input, text, &[], cause),
     }
 }
 
@@ -291,9 +296,9 @@ pub fn explain(
     ensures { IfOk result (λ line. IsExplanation name.now text.now (string_bytes line)) }
 {
     let steps = steps_of(alloc, bad.place.as_str())?;
-    let told = told_of(alloc, input, text, steps.as_slice(), bad.cause)?;
-    let at = position_of(text, told.offset);
-    line_of(alloc, name, at.line, at.column, told.words.as_str())
+    let reported = reported_of(alloc, input, text, steps.as_slice(), bad.cause)?;
+    let at = position_of(text, reported.offset);
+    line_of(alloc, name, at.line, at.column, reported.words.as_str())
 }
 
 /// The explanation of what stands in a text of JSON at the place that these indices lead to, as one line: `NAME:LINE:COLUMN: WORDS` and a line

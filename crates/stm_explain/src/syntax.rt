@@ -1,7 +1,7 @@
 //! What is wrong with a text that is no JSON.
 ghost use Rattle.std.specs.Prelude.{◌≤◌, length, IfOk};
 
-use crate::explaining::Told;
+use crate::explaining::Explained;
 use crate::offsets::line_start;
 use serde_json::{Error, Value};
 use std::alloc::{AllocError, Global};
@@ -122,18 +122,18 @@ fn stop_of(text: &[u8], error: &Error) -> usize
 }
 
 /// What is wrong with a text that is no JSON, and where.
-pub(crate) fn told_of_text(alloc: Global, text: &[u8]) -> Result<Told, AllocError>
-    ensures { IfOk result (λ told. told.offset ≤ length text.now) }
+pub(crate) fn reported_of_text(alloc: Global, text: &[u8]) -> Result<Explained, AllocError>
+    ensures { IfOk result (λ reported. reported.offset ≤ length text.now) }
 {
     match Value::from_slice(alloc, text) {
-        Ok(_) => Told::new(alloc, 0, "no JSON"),
+        Ok(_) => Explained::new(alloc, 0, "no JSON"),
         Err(error) => {
             if error.is_memory() {
                 return Err(AllocError);
             }
             let offset = stop_of(text, &error);
             let words = reason(alloc, text, offset, &error)?;
-            Ok(Told { offset, words })
+            Ok(Explained { offset, words })
         }
     }
 }

@@ -144,12 +144,12 @@ collected_none n last p ends ms start deep is = record {
 pub collected_more : (n : ℕ) (last : Option ℕ) (p : Place) (ends : Ends) (ms : List Move) (i : ℕ) (m : Move) (so_far more : Bool) (found next start : List Outcome) →
     i < length ms → m ≡ get_or ms i m → more ≡ goes_on_behind (n - 1) last p m → Gathers (outcomes_behind (n - 1) last p ends m) found next →
     CollectedSoFar n last p ends so_far (drop i ms) found start → CollectedSoFar n last p ends (so_far || more) (drop (i + 1) ms) next start
-collected_more n last p ends ms i m so_far more found next start within is told gathers old =
+collected_more n last p ends ms i m so_far more found next start within is reported gathers old =
     let f : Move → List Outcome = outcomes_behind (n - 1) last p ends in
     record {
       leading = leads_more (f m) (flat_map f (drop (i + 1) ms)) (flat_map f (drop i ms)) (fewer_outcomes_at n last p ends) found next start
           (flat_more f ms i m within is) gathers old.leading;
-      going = passes_here so_far more (goes_on_behind (n - 1) last p) ms i m within is told ∙ old.going;
+      going = passes_here so_far more (goes_on_behind (n - 1) last p) ms i m within is reported ∙ old.going;
     }
 
 -- the same by what one turn of the loop has
@@ -157,9 +157,9 @@ pub collected_next : (n : ℕ) (last : Option ℕ) (p : Place) (ends : Ends) (ms
     (found next start : List Outcome) → Gathers (outcomes_behind (n - 1) last p ends (get_or ms i d)) found next →
     more ≡ goes_on_behind (n - 1) last p (get_or ms i d) → i < length ms → next_more ≡ (so_far || more) →
     CollectedSoFar n last p ends so_far (drop i ms) found start → CollectedSoFar n last p ends next_more (drop (i + 1) ms) next start
-collected_next n last p ends ms i d so_far more next_more found next start gathers told within is old =
+collected_next n last p ends ms i d so_far more next_more found next start gathers reported within is old =
     subst (λ (b : Bool). CollectedSoFar n last p ends b (drop (i + 1) ms) next start) (sym is)
-    (collected_more n last p ends ms i (get_or ms i d) so_far more found next start within (get_or_default ms i d (get_or ms i d) within) told gathers old)
+    (collected_more n last p ends ms i (get_or ms i d) so_far more found next start within (get_or_default ms i d (get_or ms i d) within) reported gathers old)
 
 -- the same where the world and the ends came to be what they were at first
 pub collected_next_here : (n : ℕ) (last : Option ℕ) (p : Place) (w : World) (ends known : Ends) (ms : List Move) (i : ℕ) (d : Move) (so_far more next_more : Bool)
@@ -167,11 +167,11 @@ pub collected_next_here : (n : ℕ) (last : Option ℕ) (p : Place) (w : World) 
     Gathers (outcomes_behind (n - 1) last (record { world = w; others = p.others }) known (get_or ms i d)) found next →
     more ≡ goes_on_behind (n - 1) last (record { world = w; others = p.others }) (get_or ms i d) → i < length ms → next_more ≡ (so_far || more) →
     CollectedSoFar n last p ends so_far (drop i ms) found start → CollectedSoFar n last p ends next_more (drop (i + 1) ms) next start
-collected_next_here n last p w ends known ms i d so_far more next_more found next start same alike gathers told =
+collected_next_here n last p w ends known ms i d so_far more next_more found next start same alike gathers reported =
     collected_next n last p ends ms i d so_far more next_more found next start
     (subst (λ (v : World). Gathers (outcomes_behind (n - 1) last (record { world = v; others = p.others }) ends (get_or ms i d)) found next) same
     (subst (λ (e : Ends). Gathers (outcomes_behind (n - 1) last (record { world = w; others = p.others }) e (get_or ms i d)) found next) alike gathers))
-    (told ∙ ap (λ (v : World). goes_on_behind (n - 1) last (record { world = v; others = p.others }) (get_or ms i d)) same)
+    (reported ∙ ap (λ (v : World). goes_on_behind (n - 1) last (record { world = v; others = p.others }) (get_or ms i d)) same)
 
 pub collected_all : (n : ℕ) (last : Option ℕ) (p : Place) (ends : Ends) (ms : List Move) (i : ℕ) (so_far : Bool) (found start : List Outcome) → length ms ≤ i →
     CollectedSoFar n last p ends so_far (drop i ms) found start → (so_far ≡ seen_go_on n last p) × Gathers (fewer_outcomes_at n last p ends) start found

@@ -35,7 +35,7 @@ not_committed false is = refl
 quiet_standing : (id : ℕ) (w : World) → is_quiet id w ≡ true → (step (Step id) w).next.standing ≡ w.standing
 quiet_standing id w is = elim (runner_does id (runner_at id w.runners) w.standing) [
   | inl t ↦ ap (λ (x : Stepped). x.next.standing) (t.is w.runners w.entries)
-  | inr e ↦ let one : is_committed (step (Step id) w).reply ≡ true = ap is_committed (e.tells w.runners w.entries) ∙ e.told in
+  | inr e ↦ let one : is_committed (step (Step id) w).reply ≡ true = ap is_committed (e.reports w.runners w.entries) ∙ e.reported in
       let none : is_committed (step (Step id) w).reply ≡ false = not_committed (is_committed (step (Step id) w).reply) is in absurd (cc)
 ]
 

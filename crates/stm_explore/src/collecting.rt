@@ -16,8 +16,8 @@ use crate::found::add;
 use crate::halt::Halt;
 use crate::looked::is_either;
 use crate::moving::{can_move, is_looked_at, left_after, moves_at};
+use crate::reporting::describe_move;
 use crate::shown::outcome_of;
-use crate::telling::tell_move;
 use std::alloc::{AllocError, Global};
 use stm_retry::World;
 use stm_schedules::{Move, Outcome, RunnerEnd};
@@ -177,7 +177,7 @@ fn collect_moved<O: Observer>(
     ensures within { budget.new.left ≤ budget.old.left }
     ensures spent { IsErrOf result Spent → budget.new.left ≡ 0 }
 {
-    let quiet = tell_move(world, others, chosen, ends)?;
+    let quiet = describe_move(world, others, chosen, ends)?;
     if is_looked_at(last, quiet) {
         let more = collect(
             alloc,

@@ -1,6 +1,6 @@
 //! What is known of the ends of runners.
 ghost use Rattle.std.specs.Prelude.{◌≡◌, ◌++◌, [], ◌∷◌, map, Option, Some, None, slice_set, IfOk, OnOk};
-ghost use Rattle.stm_schedules.specs.Outcomes.{with_end, after_reply, after_told, after_replies, known_ends};
+ghost use Rattle.stm_schedules.specs.Outcomes.{with_end, after_reply, after_reported, after_replies, known_ends};
 
 use std::alloc::{AllocError, Global};
 use stm_history::Sequence;
@@ -126,11 +126,11 @@ fn note_reply(ends: &mut Vec<Option<RunnerEnd>>, reply: &Reply) -> Result<(), Al
 /// Puts down what is told of the ends: nothing by a refusal.
 pub(crate) fn note_end(
     ends: &mut Vec<Option<RunnerEnd>>,
-    told: &Result<Reply, Denied>,
+    reported: &Result<Reply, Denied>,
 ) -> Result<(), AllocError>
-    ensures { OnOk result (ends.new.items ≡ after_told told.now ends.old.items) }
+    ensures { OnOk result (ends.new.items ≡ after_reported reported.now ends.old.items) }
 {
-    match told {
+    match reported {
         Ok(reply) => note_reply(ends, reply),
         Err(_) => Ok(()),
     }
@@ -139,7 +139,7 @@ pub(crate) fn note_end(
 /// What these replies tell of the ends of runners, by the runners' numbers: nothing of one whose run goes on.
 ///
 /// Want of memory is the only refusal.
-pub fn ends_told(
+pub fn ends_reported(
     alloc: Global,
     replies: &[Result<Reply, Denied>],
 ) -> Result<Vec<Option<RunnerEnd>>, AllocError>

@@ -82,7 +82,7 @@ fn collect_all<O: Observer>(
 
 /// What whole schedules come to: those of the moves of this world's runners, and of others that have these events yet to bring.
 ///
-/// In `ends` stands what is known of the runners' ends before, by the runners' numbers, as `ends_told` tells it. Schedules are gone
+/// In `ends` stands what is known of the runners' ends before, by the runners' numbers, as `ends_reported` tells it. Schedules are gone
 /// through by length, and at most as many events are taken as `budget` has left: it keeps those that are not, and the answer is `Open`
 /// only where none is left. Its observer is told how far the search is.
 ///

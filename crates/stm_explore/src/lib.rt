@@ -20,12 +20,12 @@ mod keeping;
 mod looked;
 mod looking;
 mod moving;
+mod reporting;
 mod same;
 mod shown;
-mod telling;
 
 pub use budget::{Budget, Nobody, Observer};
-pub use ends::ends_told;
+pub use ends::ends_reported;
 pub use exploring::{Explored, explore};
 pub use finding::{Outcomes, find_outcomes};
 pub use stm_history::Sequence;

@@ -3,7 +3,7 @@ ghost use Rattle.std.specs.Prelude.{◌≡◌, true, not, if◌then◌else◌, S
 ghost use Rattle.std.specs.List.{list_any};
 ghost use Rattle.stm_world.specs.declared.event.WorldEvent.TheVariants.{Step};
 ghost use Rattle.stm_world.specs.World.{step, world_after};
-ghost use Rattle.stm_retry.specs.Tells.{ran_out};
+ghost use Rattle.stm_retry.specs.Returns.{ran_out};
 ghost use Rattle.stm_schedules.specs.declared.moves.Move.TheVariants.{Step as StepOf, Other};
 ghost use Rattle.stm_schedules.specs.Exchange.{is_committed};
 ghost use Rattle.stm_schedules.specs.Fewer.{quiet_runner, is_looked_at};

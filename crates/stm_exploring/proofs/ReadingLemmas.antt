@@ -34,15 +34,15 @@ program_in-front = of_front program_in program_in-long
 
 -- ---- what was read of the bytes was read of the source
 
-pub scenario_told : (level : Option Level) (bytes : List ℕ) (known : Option (List ℕ)) (outcome : Outcome Scenario)
+pub scenario_reported : (level : Option Level) (bytes : List ℕ) (known : Option (List ℕ)) (outcome : Outcome Scenario)
     → IfSome known (λ all. bytes ≡ take MOST_READ all) → asked_in level bytes ≡ outcome → IfSome known (λ all. asked_in level all ≡ outcome)
-scenario_told level bytes None outcome taken is = tt
-scenario_told level bytes (Some all) outcome taken is = sym (asked_in-front level all) ∙ sym (ap (asked_in level) taken) ∙ is
+scenario_reported level bytes None outcome taken is = tt
+scenario_reported level bytes (Some all) outcome taken is = sym (asked_in-front level all) ∙ sym (ap (asked_in level) taken) ∙ is
 
-pub program_told : (bytes : List ℕ) (known : Option (List ℕ)) (outcome : Outcome ProgramTree) → IfSome known (λ all. bytes ≡ take MOST_READ all)
+pub program_reported : (bytes : List ℕ) (known : Option (List ℕ)) (outcome : Outcome ProgramTree) → IfSome known (λ all. bytes ≡ take MOST_READ all)
     → program_in bytes ≡ outcome → IfSome known (λ all. program_in all ≡ outcome)
-program_told bytes None outcome taken is = tt
-program_told bytes (Some all) outcome taken is =
+program_reported bytes None outcome taken is = tt
+program_reported bytes (Some all) outcome taken is =
     sym (program_in-front all) ∙ sym (ap program_in taken) ∙ is
 
 -- ---- bytes that are the JSON of a program, and bytes that are not JSON

@@ -1,7 +1,7 @@
 //! What a search is asked.
 ghost use Rattle.std.specs.Prelude.{◌≡◌, ◌≤◌, ◌<◌, ◌+◌, ◌^◌, map, IfOk, IfSome};
 ghost use Rattle.stm_json.specs.Outcome.{bad, within as within_list};
-ghost use Rattle.stm_json.specs.Tells.{Tells};
+ghost use Rattle.stm_json.specs.Returns.{Returns};
 ghost use Rattle.stm_json.specs.declared.cause.Cause.TheVariants.{Shape};
 ghost use Rattle.stm_schedules.specs.Scenarios.{at_level};
 ghost use Rattle.stm_exploring.specs.Asking.{is_step, first_step, events_at, scenario_at, first_index, asked};
@@ -86,7 +86,7 @@ fn first_index(opening: Option<Opening>) -> usize
 /// The fault of a step that so many events stand before, where the first event stands at this index.
 fn step_fault(alloc: Global, first: usize, before: usize) -> Result<Scenario, ReadError>
     requires { first + before < 2 ^ 64 }
-    ensures { Tells (λ s. s) result (within_list (first + before) (bad Shape)) }
+    ensures { Returns (λ s. s) result (within_list (first + before) (bad Shape)) }
 {
     within(alloc, first + before, Err(fault(alloc, Cause::Shape)))
 }
@@ -99,7 +99,7 @@ pub(crate) fn ask(
     level: Option<Level>,
     scenario: Scenario,
 ) -> Result<Scenario, ReadError>
-    ensures value { Tells (λ s. s) result (asked level scenario) }
+    ensures value { Returns (λ s. s) result (asked level scenario) }
     ensures opening { IfOk result (λ s. s.opening ≡ scenario.opening) }
 {
     match first_step(scenario.events.as_slice()) {

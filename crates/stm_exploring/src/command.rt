@@ -67,7 +67,7 @@ pub(crate) fn status(fault: &ExploreFault) -> u8
 }
 
 /// Says what went wrong, and gives the status. Takes no memory.
-fn tell<E: Sink>(err: &mut E, fault: &ExploreFault) -> u8
+fn report<E: Sink>(err: &mut E, fault: &ExploreFault) -> u8
     requires { E.failed err.old ≡ false }
     ensures { SaysOf (E.held err.old) (E.held err.new) (E.failed err.new) fault.now result }
 {
@@ -84,7 +84,7 @@ fn finish<W: Sink, E: Sink>(searched: Result<Printed, ExploreFault>, out: &mut W
 {
     match write(out, searched) {
         Ok(verdict) => status_of(verdict),
-        Err(fault) => tell(err, &fault),
+        Err(fault) => report(err, &fault),
     }
 }
 

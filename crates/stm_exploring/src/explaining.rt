@@ -117,7 +117,7 @@ fn write_with<E: Sink>(err: &mut E, fault: &ExploreFault, more: &str) -> Result<
 }
 
 /// Says what went wrong and its explanation, and gives the status.
-fn tell_with<E: Sink>(err: &mut E, fault: &ExploreFault, more: &str) -> u8
+fn report_with<E: Sink>(err: &mut E, fault: &ExploreFault, more: &str) -> u8
     requires works { E.failed err.old ≡ false }
     requires explains { IsExplained more.now }
     ensures { SaysMoreOf (E.held err.old) (E.held err.new) (E.failed err.new) fault.now result }
@@ -135,7 +135,7 @@ fn say_rule<E: Sink>(err: &mut E, more: &str)
 }
 
 /// Says of what a search came to what explains it, and gives the status.
-fn tell_verdict<E: Sink>(err: &mut E, verdict: Verdict, more: &str) -> u8
+fn report_verdict<E: Sink>(err: &mut E, verdict: Verdict, more: &str) -> u8
     requires { E.failed err.old ≡ false }
     ensures status { result ≡ verdict_status verdict }
     ensures says { SaysOfVerdict verdict more.now (E.held err.old) (E.held err.new) (E.failed err.new) }
@@ -176,10 +176,10 @@ pub fn explore_explained_to<S: Source, R: Source, W: Sink, E: Sink, O: Observer>
     let searched = explore_sources(alloc, scenario, keeps, level, budget);
     let more = searched_explanation(alloc, keeps, &searched);
     match write(out, searched) {
-        Ok(verdict) => tell_verdict(err, verdict, more.as_str()),
+        Ok(verdict) => report_verdict(err, verdict, more.as_str()),
         Err(fault) => {
             let more = rule_explanation(alloc, scenario, keeps, &fault);
-            tell_with(err, &fault, more.as_str())
+            report_with(err, &fault, more.as_str())
         }
     }
 }
@@ -207,7 +207,7 @@ pub fn outcomes_explained_to<S: Source, W: Sink, E: Sink, O: Observer>(
         Ok(verdict) => status_of(verdict),
         Err(fault) => {
             let more = search_explanation(alloc, scenario, &fault);
-            tell_with(err, &fault, more.as_str())
+            report_with(err, &fault, more.as_str())
         }
     }
 }

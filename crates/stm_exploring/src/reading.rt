@@ -1,7 +1,7 @@
 //! Reading what a search is asked.
 ghost use Rattle.std.specs.Prelude.{◌≡◌, ◌≤◌, ◌+◌, false, IfOk};
 ghost use Rattle.stm_devices.specs.declared.transfer.TheConstants.{MOST_READ};
-ghost use Rattle.stm_json.specs.Tells.{Tells};
+ghost use Rattle.stm_json.specs.Returns.{Returns};
 ghost use Rattle.stm_texts.specs.Opens.{IsOpening};
 ghost use Rattle.stm_exploring.specs.Exploring.{asked_in, program_in, HasRead, ReadsScenario, ReadsProgram};
 
@@ -51,7 +51,7 @@ fn scenario_in_bytes(
     bytes: &[u8],
     level: Option<Level>,
 ) -> Result<Scenario, ReadError>
-    ensures scenario { Tells (λ s. s) result (asked_in level bytes.now) }
+    ensures scenario { Returns (λ s. s) result (asked_in level bytes.now) }
     ensures opening { IfOk result (λ s. IsOpening s.opening) }
 {
     let scenario = read_scenario(alloc, bytes)?;
@@ -82,7 +82,7 @@ pub(crate) fn scenario_of<S: Source>(
 /// The program that bytes spell, as JSON in UTF-8, or their first fault.
 #[tactic(auto, unfolding(crate::specs::Exploring::program_in))]
 fn program_in_bytes(alloc: Global, bytes: &[u8]) -> Result<Program, ReadError>
-    ensures { Tells (λ p. p) result (program_in bytes.now) }
+    ensures { Returns (λ p. p) result (program_in bytes.now) }
 {
     if bytes.len() > MOST_BYTES {
         return Err(fault(alloc, Cause::TooLong));

@@ -5,7 +5,7 @@ ghost use Rattle.stm_schedules.specs.Scenarios.{is_start, up_to_last_start, behi
 ghost use Rattle.stm_world.specs.World.{world_after, replies_to};
 
 use std::alloc::{AllocError, Global};
-use stm_explore::ends_told;
+use stm_explore::ends_reported;
 use stm_retry::World;
 use stm_schedules::RunnerEnd;
 use stm_texts::WorldEvent;
@@ -51,7 +51,7 @@ pub(crate) fn run_setup(
     ensures world { OnOk result (world.new ≡ world_after events.now world.old) }
 {
     match world.run(events) {
-        Ok(replies) => ends_told(alloc, replies.as_slice()),
+        Ok(replies) => ends_reported(alloc, replies.as_slice()),
         Err(_) => Err(AllocError),
     }
 }

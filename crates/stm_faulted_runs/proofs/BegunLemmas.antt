@@ -25,7 +25,7 @@ none_named : (o : Option ℕ) → ((id : ℕ) → is_id id o ≡ false) → o �
 none_named None none = refl
 none_named (Some n) none = absurd (true≢false (sym (eq-eqb n n refl) ∙ none n))
 
-step_silent : (at : Situation) (told : Result Reply Denied) → StepIsRight at told → runner_started told ≡ None
+step_silent : (at : Situation) (reported : Result Reply Denied) → StepIsRight at reported → runner_started reported ≡ None
 step_silent at (Err refusal) right = refl
 step_silent at (Ok (variant.Started id)) right = absurd right
 step_silent at (Ok (variant.Prefetched id revision reads)) right = refl
@@ -51,11 +51,11 @@ abbrev starts : WorldEvent → Bool
 starts (Start program level limit) = true
 starts other = false
 
-silent : (start : Setup) (log : List Line) (event : WorldEvent) (told : Result Reply Denied) → IsRight start log event told → starts event ≡ false → runner_started told ≡ None
-silent start log event told right other =
+silent : (start : Setup) (log : List Line) (event : WorldEvent) (reported : Result Reply Denied) → IsRight start log event reported → starts event ≡ false → runner_started reported ≡ None
+silent start log event reported right other =
     by_event start log (λ (e : WorldEvent) (r : Result Reply Denied). starts e ≡ false → runner_started r ≡ None)
     (λ e r nothing not. none_named (runner_started r) (λ id. (nothing.untouched id).not_started)) (λ task not. absurd (true≢false not))
-    (λ id task r runs right not. step_silent _ r right) event told right other
+    (λ id task r runs right not. step_silent _ r right) event reported right other
 
 -- ---- line by line
 
@@ -64,10 +64,10 @@ record Counts (log : List Line) (runs : List Started) : Type 0 where
   count : started log ≡ length runs
   are : (number : ℕ) (run : Started) → slice_get runs number ≡ Some run → IsBegun (number + 1) log run
 
-quiet : (event : WorldEvent) (told : Result Reply Denied) (older : List Line) (runs : List Started) → runner_started told ≡ None → Counts older runs →
-    Counts (record { event = event; reply = told } ∷ older) (runs ++ [])
-quiet event told older runs none c =
-    let log : List Line = record { event = event; reply = told } ∷ older in
+quiet : (event : WorldEvent) (reported : Result Reply Denied) (older : List Line) (runs : List Started) → runner_started reported ≡ None → Counts older runs →
+    Counts (record { event = event; reply = reported } ∷ older) (runs ++ [])
+quiet event reported older runs none c =
+    let log : List Line = record { event = event; reply = reported } ∷ older in
     subst (λ (rs : List Started). Counts log rs) (sym (append-nil runs)) (record {
       count = ap (λ (o : Option ℕ). cond (is_start o) (started older + 1) (started older)) none ∙ c.count;
       are = λ number run at.
@@ -129,8 +129,8 @@ begins task older runs element c =
       are = λ number it at. by_number task older runs element c number it at (nat_eq (started older + 1) (number + 1)) refl;
     }
 
-by_line : (start : Setup) (element : ℕ) (older : List Line) (runs : List Started) (event : WorldEvent) (told : Result Reply Denied) → IsRight start older event told →
-    Counts older runs → Counts (record { event = event; reply = told } ∷ older) (runs ++ started_by element event)
+by_line : (start : Setup) (element : ℕ) (older : List Line) (runs : List Started) (event : WorldEvent) (reported : Result Reply Denied) → IsRight start older event reported →
+    Counts older runs → Counts (record { event = event; reply = reported } ∷ older) (runs ++ started_by element event)
 by_line start element older runs (Start program level limit) (Ok named) right c =
     let task : Task = record { program = program; level = level; limit = limit } in
     let run : Started = record { element = element; program = program } in
@@ -145,23 +145,23 @@ by_line start element older runs (Start program level limit) (Err refusal) right
     let none : started_by element event ≡ [] = ap (λ (n : ℕ). cond (nat_eq n 0) [] (run ∷ [])) right.1 in
     subst (λ (rs : List Started). Counts (record { event = event; reply = Err refusal } ∷ older) (runs ++ rs)) (sym none)
     (quiet event (Err refusal) older runs refl c)
-by_line start element older runs (Step id) told right c = quiet (Step id) told older runs (silent start older (Step id) told right refl) c
-by_line start element older runs (Txn txn) told right c = quiet (Txn txn) told older runs (silent start older (Txn txn) told right refl) c
-by_line start element older runs (Grant id ttl) told right c = quiet (Grant id ttl) told older runs (silent start older (Grant id ttl) told right refl) c
-by_line start element older runs (Keep id) told right c = quiet (Keep id) told older runs (silent start older (Keep id) told right refl) c
-by_line start element older runs (Revoke id) told right c = quiet (Revoke id) told older runs (silent start older (Revoke id) told right refl) c
-by_line start element older runs (Advance moment) told right c =
-    quiet (Advance moment) told older runs (silent start older (Advance moment) told right refl) c
-by_line start element older runs (WatchKey key from) told right c =
-    quiet (WatchKey key from) told older runs (silent start older (WatchKey key from) told right refl) c
-by_line start element older runs (WatchRange first end from) told right c =
-    quiet (WatchRange first end from) told older runs (silent start older (WatchRange first end from) told right refl) c
-by_line start element older runs (Poll watcher most) told right c =
-    quiet (Poll watcher most) told older runs (silent start older (Poll watcher most) told right refl) c
-by_line start element older runs (Cancel watcher) told right c =
-    quiet (Cancel watcher) told older runs (silent start older (Cancel watcher) told right refl) c
-by_line start element older runs (Compact revision) told right c =
-    quiet (Compact revision) told older runs (silent start older (Compact revision) told right refl) c
+by_line start element older runs (Step id) reported right c = quiet (Step id) reported older runs (silent start older (Step id) reported right refl) c
+by_line start element older runs (Txn txn) reported right c = quiet (Txn txn) reported older runs (silent start older (Txn txn) reported right refl) c
+by_line start element older runs (Grant id ttl) reported right c = quiet (Grant id ttl) reported older runs (silent start older (Grant id ttl) reported right refl) c
+by_line start element older runs (Keep id) reported right c = quiet (Keep id) reported older runs (silent start older (Keep id) reported right refl) c
+by_line start element older runs (Revoke id) reported right c = quiet (Revoke id) reported older runs (silent start older (Revoke id) reported right refl) c
+by_line start element older runs (Advance moment) reported right c =
+    quiet (Advance moment) reported older runs (silent start older (Advance moment) reported right refl) c
+by_line start element older runs (WatchKey key from) reported right c =
+    quiet (WatchKey key from) reported older runs (silent start older (WatchKey key from) reported right refl) c
+by_line start element older runs (WatchRange first end from) reported right c =
+    quiet (WatchRange first end from) reported older runs (silent start older (WatchRange first end from) reported right refl) c
+by_line start element older runs (Poll watcher most) reported right c =
+    quiet (Poll watcher most) reported older runs (silent start older (Poll watcher most) reported right refl) c
+by_line start element older runs (Cancel watcher) reported right c =
+    quiet (Cancel watcher) reported older runs (silent start older (Cancel watcher) reported right refl) c
+by_line start element older runs (Compact revision) reported right c =
+    quiet (Compact revision) reported older runs (silent start older (Compact revision) reported right refl) c
 
 -- ---- all lines
 

@@ -11,4 +11,4 @@ pub mod Lines
 pub mod Rules
 pub mod Origins
 pub mod Jobs
-pub mod ToldFaults
+pub mod ReportedFaults

@@ -15,7 +15,7 @@ use Rattle.stm_json.specs.Outcome.{Outcome}
 use Rattle.stm_texts.specs.declared.scenario.Scenario.{Scenario}
 use Rattle.stm_texts.specs.Opens.{setup_of}
 use Rattle.stm_explain.specs.Explaining.{IsExplanationOf}
-use Rattle.stm_faulted_runs.specs.Reads.{told_in}
+use Rattle.stm_faulted_runs.specs.Reads.{reported_in}
 use Rattle.stm_faulted_runs.specs.Places.{Started, started_in, json_of, IsMoreOf}
 
 -- a text under a name, its JSON, and the runs that begin in it
@@ -26,7 +26,7 @@ pub record Origin : Type 0 where
   pub runs : List Started
 
 -- a run that came to a fault: how its line begins, its number, counted from 0, and what it had read, where that is known
-pub record Told : Type 0 where
+pub record FaultReport : Type 0 where
   pub head : List ℕ
   pub fault : Fault
   pub number : ℕ
@@ -35,25 +35,25 @@ pub record Told : Type 0 where
 -- over the answers that were read, where they are known, and else over some look-up
 abbrev pub OverReads : Option (List ReadAnswer) → (Lookup → Type 0) → Type 0
 OverReads None says = (look : Lookup) × says look
-OverReads (Some reads) says = says (told_in reads)
+OverReads (Some reads) says = says (reported_in reads)
 
 -- what is told of the place of its fault
-abbrev pub IsMoreOfTold : Origin → Told → List ℕ → Type 0
-IsMoreOfTold origin told more = OverReads told.reads (λ look. IsMoreOf origin.json (slice_get origin.runs told.number) look told.fault more)
+abbrev pub IsMoreOfReported : Origin → FaultReport → List ℕ → Type 0
+IsMoreOfReported origin reported more = OverReads reported.reads (λ look. IsMoreOf origin.json (slice_get origin.runs reported.number) look reported.fault more)
 
 -- a line of explanation that begins so, and tells the place
-abbrev pub IsLineOf : Origin → Told → List ℕ → Type 0
-IsLineOf origin told line = (more : List ℕ) × IsMoreOfTold origin told more × IsExplanationOf origin.name origin.text (told.head ++ more) line
+abbrev pub IsLineOf : Origin → FaultReport → List ℕ → Type 0
+IsLineOf origin reported line = (more : List ℕ) × IsMoreOfReported origin reported more × IsExplanationOf origin.name origin.text (reported.head ++ more) line
 
 -- a line for each, in order
-abbrev pub ExplainsEach : Origin → List Told → List ℕ → Type 0
+abbrev pub ExplainsEach : Origin → List FaultReport → List ℕ → Type 0
 ExplainsEach origin [] said = said ≡ []
-ExplainsEach origin (told ∷ others) said =
-    (line : List ℕ) × (rest : List ℕ) × (said ≡ line ++ rest) × IsLineOf origin told line × ExplainsEach origin others rest
+ExplainsEach origin (reported ∷ others) said =
+    (line : List ℕ) × (rest : List ℕ) × (said ≡ line ++ rest) × IsLineOf origin reported line × ExplainsEach origin others rest
 
 -- lines for these were added
-abbrev pub Adds : Origin → List Told → List ℕ → List ℕ → Type 0
-Adds origin tolds old new = (said : List ℕ) × (new ≡ old ++ said) × ExplainsEach origin tolds said
+abbrev pub Adds : Origin → List FaultReport → List ℕ → List ℕ → Type 0
+Adds origin all_reported old new = (said : List ℕ) × (new ≡ old ++ said) × ExplainsEach origin all_reported said
 
 -- said in this form, or nothing, where a growth was refused
 abbrev pub OrNothing : (List ℕ → Type 0) → List ℕ → Type 0
@@ -66,22 +66,22 @@ abbrev pub run_head : ℕ → Fault → ℕ → List ℕ
 run_head event fault runner = codes "event " ++ decimal event ++ codes ": " ++ fault_name fault ++ codes " of runner " ++ decimal runner
 
 -- the fault of a runner that the event with this number told; runners are numbered from 1
-abbrev pub told_of_run : ℕ → ℕ → Fault → Told
-told_of_run event runner fault = record { head = run_head event fault runner; fault = fault; number = runner - 1; reads = None }
+abbrev pub reported_of_run : ℕ → ℕ → Fault → FaultReport
+reported_of_run event runner fault = record { head = run_head event fault runner; fault = fault; number = runner - 1; reads = None }
 
 -- the reply to the event with this number, where it tells a fault
-abbrev pub told_by : ℕ → Result Reply Denied → List Told
-told_by event (Ok (Faulted runner fault)) = told_of_run event runner fault ∷ []
-told_by event other = []
+abbrev pub reported_by : ℕ → Result Reply Denied → List FaultReport
+reported_by event (Ok (Faulted runner fault)) = reported_of_run event runner fault ∷ []
+reported_by event other = []
 
 -- those of the replies that do, of which the first is to the event with this number
-abbrev pub faults_told : ℕ → List (Result Reply Denied) → List Told
-faults_told event [] = []
-faults_told event (reply ∷ replies) = told_by event reply ++ faults_told (suc event) replies
+abbrev pub faults_reported : ℕ → List (Result Reply Denied) → List FaultReport
+faults_reported event [] = []
+faults_reported event (reply ∷ replies) = reported_by event reply ++ faults_reported (suc event) replies
 
 -- those of the replies to these events, from a world
-abbrev pub faults_from : World → List WorldEvent → List Told
-faults_from w events = faults_told 1 (replies_to events w)
+abbrev pub faults_from : World → List WorldEvent → List FaultReport
+faults_from w events = faults_reported 1 (replies_to events w)
 
 -- how many elements stand before the events of a scenario: that with its opening, where it has one
 abbrev pub first_of : Bool → ℕ

@@ -42,15 +42,15 @@ BeginsBelow most [] = ⊤
 BeginsBelow most (index ∷ inner) = index < most
 
 -- a place and a reason are told
-abbrev pub TellsPlace : List ℕ → List ℕ → Type 0
-TellsPlace place more = (reason : List ℕ) × (more ≡ codes " at " ++ pointer place ++ codes ": " ++ reason)
+abbrev pub ReturnsPlace : List ℕ → List ℕ → Type 0
+ReturnsPlace place more = (reason : List ℕ) × (more ≡ codes " at " ++ pointer place ++ codes ": " ++ reason)
 
 -- what is told of a fault that was found in the program of the start that is an element of a scenario's JSON: its place, where it is the fault that is to
 -- be told, and else nothing
 abbrev pub IsMore : Data → ℕ → Fault → Option FoundFault → List ℕ → Type 0
 IsMore scenario element fault None more = more ≡ []
 IsMore scenario element fault (Some found) more =
-    ((found.fault ≡ fault) × TellsPlace (element ∷ 3 ∷ behind (first_in scenario element) found.site.place) more) ⊎ ((found.fault ≢ fault) × (more ≡ []))
+    ((found.fault ≡ fault) × ReturnsPlace (element ∷ 3 ∷ behind (first_in scenario element) found.site.place) more) ⊎ ((found.fault ≢ fault) × (more ≡ []))
 
 -- ---- the runs that events begin
 

@@ -7,9 +7,9 @@ use Rattle.stm_steps.specs.Answer.{Answer, Lookup}
 use Rattle.stm_compile.specs.Answers.{answer_in}
 
 -- the value of its key and its modification revision, which is at most `HIGHEST_NUMBER` in each answer of a store
-abbrev pub told_of : ReadAnswer → Answer
-told_of a = record { value = value_of a.kv; mod_rev = min (mod_of a.kv) HIGHEST_NUMBER }
+abbrev pub reported_of : ReadAnswer → Answer
+reported_of a = record { value = value_of a.kv; mod_rev = min (mod_of a.kv) HIGHEST_NUMBER }
 
 -- the look-up of a run over these answers, and nothing of other keys
-abbrev pub told_in : List ReadAnswer → Lookup
-told_in answers key = option_map told_of (answer_in key answers)
+abbrev pub reported_in : List ReadAnswer → Lookup
+reported_in answers key = option_map reported_of (answer_in key answers)

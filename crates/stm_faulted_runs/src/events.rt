@@ -1,13 +1,13 @@
 //! The lines of the events of a scenario.
 ghost use Rattle.std.specs.Prelude.{◌≡◌, false, IfOk, OnOk, string_bytes};
-ghost use Rattle.stm_retry.specs.Tells.{ran_out};
+ghost use Rattle.stm_retry.specs.Returns.{ran_out};
 ghost use Rattle.stm_world.specs.World.{step};
-ghost use Rattle.stm_faulted_runs.specs.Lines.{told_by, faults_from, Adds};
-ghost use Rattle.stm_faulted_runs.specs.ToldFaults.{told_as};
+ghost use Rattle.stm_faulted_runs.specs.Lines.{reported_by, faults_from, Adds};
+ghost use Rattle.stm_faulted_runs.specs.ReportedFaults.{reported_as};
 ghost use Rattle.stm_faulted_runs.specs.Origins.{origin_in};
 
 use crate::following::{begin, forget, note};
-use crate::lines::{ToldFault, fault_in, push_told};
+use crate::lines::{ReportedFault, fault_in, push_reported};
 use crate::runs::Explained;
 use std::alloc::{AllocError, Global};
 use stm_retry::{Denied, Refusal, Reply, State, Store, StoreRefusal, World, WorldEvent};
@@ -48,24 +48,24 @@ fn take(
     world: &mut World,
     event: &WorldEvent,
     number: u64,
-) -> Result<Option<ToldFault>, AllocError>
-    ensures told { IfOk result (λ told. told_by number (step event.now world.old).reply ≡ told_as told) }
+) -> Result<Option<ReportedFault>, AllocError>
+    ensures reported { IfOk result (λ reported. reported_by number (step event.now world.old).reply ≡ reported_as reported) }
     ensures next { OnOk result ((step event.now world.old).next ≡ world.new) }
 {
     let reply = world.step(event);
-    let told = fault_in(number, &reply);
+    let reported = fault_in(number, &reply);
     let followed = follow(alloc, runners, world.store(), &reply);
     drop(reply);
     match followed {
-        Ok(()) => Ok(told),
+        Ok(()) => Ok(reported),
         Err(_) => Err(AllocError),
     }
 }
 
 /// Lets go of what a runner was told whose fault has its line.
-fn forget_told(alloc: Global, runners: &mut [State], told: Option<ToldFault>) {
-    if let Some(told) = told {
-        forget(alloc, runners, told.runner);
+fn forget_reported(alloc: Global, runners: &mut [State], reported: Option<ReportedFault>) {
+    if let Some(reported) = reported {
+        forget(alloc, runners, reported.runner);
     }
 }
 
@@ -81,9 +81,9 @@ pub(crate) fn explain_events(
     ensures { OnOk result (Adds (origin_in explained.now) (faults_from world.old events.now) (string_bytes out.old) (string_bytes out.new)) }
 {
     for (index, event) in events.iter().enumerate() {
-        let told = take(alloc, runners, world, event, index as u64 + 1)?;
-        push_told(alloc, out, explained, runners.as_slice(), told)?;
-        forget_told(alloc, runners.as_mut_slice(), told);
+        let reported = take(alloc, runners, world, event, index as u64 + 1)?;
+        push_reported(alloc, out, explained, runners.as_slice(), reported)?;
+        forget_reported(alloc, runners.as_mut_slice(), reported);
     }
     Ok(())
 }

@@ -1,9 +1,9 @@
 //! The explanations of jobs.
 ghost use Rattle.std.specs.Prelude.{◌≡◌, [], ◌∷◌, map, Ok as OkOf, IfOk, OnOk, string_bytes};
 ghost use Rattle.stm_texts.specs.Reading.{scenario_in};
-ghost use Rattle.stm_faulted_runs.specs.Lines.{IsMoreOfTold, IsLineOf, ExplainsEach, Adds};
+ghost use Rattle.stm_faulted_runs.specs.Lines.{IsMoreOfReported, IsLineOf, ExplainsEach, Adds};
 ghost use Rattle.stm_faulted_runs.specs.Origins.{origin_in};
-ghost use Rattle.stm_faulted_runs.specs.Jobs.{told_job, told_of_job, ExplainsJobs};
+ghost use Rattle.stm_faulted_runs.specs.Jobs.{reported_job, reported_of_job, ExplainsJobs};
 
 use crate::lines::line_of;
 use crate::places::{Place, place_of_run};
@@ -33,7 +33,7 @@ fn place_of_job(
     explained: &Explained<'_>,
     job: &FaultedJob<'_>,
 ) -> Result<Place, AllocError>
-    ensures { IfOk result (λ place. IsMoreOfTold (origin_in explained.now) (told_of_job (told_job job.now)) (string_bytes place.more)) }
+    ensures { IfOk result (λ place. IsMoreOfReported (origin_in explained.now) (reported_of_job (reported_job job.now)) (string_bytes place.more)) }
 {
     let reads = Reads { answers: job.reads };
     place_of_run(alloc, explained, job.job, &reads, job.fault)
@@ -41,7 +41,7 @@ fn place_of_job(
 
 /// The head of a job's line.
 fn head_of_job(alloc: Global, job: &FaultedJob<'_>) -> Result<String, AllocError>
-    ensures { IfOk result (λ head. string_bytes head ≡ (told_of_job (told_job job.now)).head) }
+    ensures { IfOk result (λ head. string_bytes head ≡ (reported_of_job (reported_job job.now)).head) }
 {
     let (job, fault) = (job.job, job.fault);
     format!(in alloc; "job {job}: {fault}")
@@ -53,7 +53,7 @@ fn job_line(
     explained: &Explained<'_>,
     job: &FaultedJob<'_>,
 ) -> Result<String, AllocError>
-    ensures { IfOk result (λ line. IsLineOf (origin_in explained.now) (told_of_job (told_job job.now)) (string_bytes line)) }
+    ensures { IfOk result (λ line. IsLineOf (origin_in explained.now) (reported_of_job (reported_job job.now)) (string_bytes line)) }
 {
     let place = place_of_job(alloc, explained, job)?;
     let head = head_of_job(alloc, job)?;
@@ -67,7 +67,7 @@ fn push_job(
     explained: &Explained<'_>,
     job: &FaultedJob<'_>,
 ) -> Result<(), AllocError>
-    ensures { OnOk result (Adds (origin_in explained.now) (told_of_job (told_job job.now) ∷ []) (string_bytes out.old) (string_bytes out.new)) }
+    ensures { OnOk result (Adds (origin_in explained.now) (reported_of_job (reported_job job.now) ∷ []) (string_bytes out.old) (string_bytes out.new)) }
 {
     let line = job_line(alloc, explained, job)?;
     out.push_str(line.as_str())?;
@@ -80,7 +80,7 @@ fn lines_in(
     explained: &Explained<'_>,
     jobs: &[FaultedJob<'_>],
 ) -> Result<String, AllocError>
-    ensures { IfOk result (λ said. ExplainsEach (origin_in explained.now) (map told_of_job (map told_job jobs.now)) (string_bytes said)) }
+    ensures { IfOk result (λ said. ExplainsEach (origin_in explained.now) (map reported_of_job (map reported_job jobs.now)) (string_bytes said)) }
 {
     let mut out = String::new(alloc);
     for job in jobs {
@@ -96,7 +96,7 @@ fn lines_of(
     scenario: &Scenario,
     jobs: &[FaultedJob<'_>],
 ) -> Result<String, AllocError>
-    ensures { IfOk result (λ said. ExplainsJobs source.now.name.now source.now.text.now (OkOf scenario.now) (map told_job jobs.now) (string_bytes said)) }
+    ensures { IfOk result (λ said. ExplainsJobs source.now.name.now source.now.text.now (OkOf scenario.now) (map reported_job jobs.now) (string_bytes said)) }
 {
     let explained = to_explain(alloc, source.name, source.text, scenario)?;
     lines_in(alloc, &explained, jobs)
@@ -109,7 +109,7 @@ fn lines_of_scenario(
     scenario: Scenario,
     jobs: &[FaultedJob<'_>],
 ) -> Result<String, AllocError>
-    ensures { IfOk result (λ said. ExplainsJobs source.now.name.now source.now.text.now (OkOf scenario) (map told_job jobs.now) (string_bytes said)) }
+    ensures { IfOk result (λ said. ExplainsJobs source.now.name.now source.now.text.now (OkOf scenario) (map reported_job jobs.now) (string_bytes said)) }
 {
     let said = lines_of(alloc, source, &scenario, jobs);
     drop(scenario);
@@ -124,7 +124,7 @@ pub fn jobs_explained(
     source: &Named<'_>,
     jobs: &[FaultedJob<'_>],
 ) -> Result<String, AllocError>
-    ensures { IfOk result (λ said. ExplainsJobs source.now.name.now source.now.text.now (scenario_in source.now.text.now) (map told_job jobs.now) (string_bytes said)) }
+    ensures { IfOk result (λ said. ExplainsJobs source.now.name.now source.now.text.now (scenario_in source.now.text.now) (map reported_job jobs.now) (string_bytes said)) }
 {
     match read_scenario(alloc, source.text.as_bytes()) {
         Ok(scenario) => lines_of_scenario(alloc, source, scenario, jobs),

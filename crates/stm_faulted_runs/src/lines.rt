@@ -1,8 +1,8 @@
 //! Lines that explain runs.
 ghost use Rattle.std.specs.Prelude.{◌≡◌, ◌++◌, [], ◌∷◌, Ok as OkOf, IfOk, OnOk, string_bytes};
 ghost use Rattle.stm_explain.specs.Explaining.{IsExplanationOf};
-ghost use Rattle.stm_faulted_runs.specs.Lines.{run_head, told_by, IsMoreOfTold, IsLineOf, Adds};
-ghost use Rattle.stm_faulted_runs.specs.ToldFaults.{told_run, told_as};
+ghost use Rattle.stm_faulted_runs.specs.Lines.{run_head, reported_by, IsMoreOfReported, IsLineOf, Adds};
+ghost use Rattle.stm_faulted_runs.specs.ReportedFaults.{reported_run, reported_as};
 ghost use Rattle.stm_faulted_runs.specs.Origins.{origin_in};
 
 use crate::following::index_of;
@@ -15,7 +15,7 @@ use stm_steps::{Fault, Lookup, State};
 
 /// A fault that a reply tells.
 #[derive(Clone, Copy)]
-pub(crate) struct ToldFault {
+pub(crate) struct ReportedFault {
     /// The number of the event.
     pub(crate) event: u64,
     /// The number of the runner.
@@ -50,27 +50,27 @@ pub(crate) fn line_of(
 fn place_over<L: Lookup>(
     alloc: Global,
     explained: &Explained<'_>,
-    told: ToldFault,
+    reported: ReportedFault,
     lookup: &L,
 ) -> Result<Place, AllocError>
-    ensures { IfOk result (λ place. IsMoreOfTold (origin_in explained.now) (told_run told) (string_bytes place.more)) }
+    ensures { IfOk result (λ place. IsMoreOfReported (origin_in explained.now) (reported_run reported) (string_bytes place.more)) }
 {
-    let number = told.runner.saturating_sub(1);
-    place_of_run(alloc, explained, number, lookup, told.fault)
+    let number = reported.runner.saturating_sub(1);
+    place_of_run(alloc, explained, number, lookup, reported.fault)
 }
 
 /// Where the run came to the fault that was told, by what runners were told.
-fn place_told(
+fn place_reported(
     alloc: Global,
     explained: &Explained<'_>,
     runners: &[State],
-    told: ToldFault,
+    reported: ReportedFault,
 ) -> Result<Place, AllocError>
-    ensures { IfOk result (λ place. IsMoreOfTold (origin_in explained.now) (told_run told) (string_bytes place.more)) }
+    ensures { IfOk result (λ place. IsMoreOfReported (origin_in explained.now) (reported_run reported) (string_bytes place.more)) }
 {
-    match index_of(runners, told.runner) {
-        Some(index) => place_over(alloc, explained, told, &runners[index]),
-        None => place_over(alloc, explained, told, &State::new(alloc)),
+    match index_of(runners, reported.runner) {
+        Some(index) => place_over(alloc, explained, reported, &runners[index]),
+        None => place_over(alloc, explained, reported, &State::new(alloc)),
     }
 }
 
@@ -86,12 +86,12 @@ fn run_line(
     alloc: Global,
     explained: &Explained<'_>,
     runners: &[State],
-    told: ToldFault,
+    reported: ReportedFault,
 ) -> Result<String, AllocError>
-    ensures { IfOk result (λ line. IsLineOf (origin_in explained.now) (told_run told) (string_bytes line)) }
+    ensures { IfOk result (λ line. IsLineOf (origin_in explained.now) (reported_run reported) (string_bytes line)) }
 {
-    let place = place_told(alloc, explained, runners, told)?;
-    let head = run_head(alloc, told.event, told.fault, told.runner)?;
+    let place = place_reported(alloc, explained, runners, reported)?;
+    let head = run_head(alloc, reported.event, reported.fault, reported.runner)?;
     line_of(alloc, &explained.marked, head.as_str(), &place)
 }
 
@@ -101,21 +101,21 @@ fn push_run(
     out: &mut String,
     explained: &Explained<'_>,
     runners: &[State],
-    told: ToldFault,
+    reported: ReportedFault,
 ) -> Result<(), AllocError>
-    ensures { OnOk result (Adds (origin_in explained.now) (told_run told ∷ []) (string_bytes out.old) (string_bytes out.new)) }
+    ensures { OnOk result (Adds (origin_in explained.now) (reported_run reported ∷ []) (string_bytes out.old) (string_bytes out.new)) }
 {
-    let line = run_line(alloc, explained, runners, told)?;
+    let line = run_line(alloc, explained, runners, reported)?;
     out.push_str(line.as_str())?;
     Ok(())
 }
 
 /// The fault that a reply to the event with this number tells, if it tells one.
-fn fault_told(event: u64, reply: &Reply) -> Option<ToldFault>
-    ensures { told_by event (OkOf reply.now) ≡ told_as result }
+fn fault_reported(event: u64, reply: &Reply) -> Option<ReportedFault>
+    ensures { reported_by event (OkOf reply.now) ≡ reported_as result }
 {
     match reply {
-        Reply::Faulted { runner, fault } => Some(ToldFault {
+        Reply::Faulted { runner, fault } => Some(ReportedFault {
             event,
             runner: *runner,
             fault: *fault,
@@ -125,27 +125,27 @@ fn fault_told(event: u64, reply: &Reply) -> Option<ToldFault>
 }
 
 /// The fault that is told where the event with this number has its reply, or is denied.
-pub(crate) fn fault_in(event: u64, reply: &Result<Reply, Denied>) -> Option<ToldFault>
-    ensures { told_by event reply.now ≡ told_as result }
+pub(crate) fn fault_in(event: u64, reply: &Result<Reply, Denied>) -> Option<ReportedFault>
+    ensures { reported_by event reply.now ≡ reported_as result }
 {
     match reply {
-        Ok(reply) => fault_told(event, reply),
+        Ok(reply) => fault_reported(event, reply),
         Err(_) => None,
     }
 }
 
 /// Adds the line of a fault that was told.
-pub(crate) fn push_told(
+pub(crate) fn push_reported(
     alloc: Global,
     out: &mut String,
     explained: &Explained<'_>,
     runners: &[State],
-    told: Option<ToldFault>,
+    reported: Option<ReportedFault>,
 ) -> Result<(), AllocError>
-    ensures { OnOk result (Adds (origin_in explained.now) (told_as told) (string_bytes out.old) (string_bytes out.new)) }
+    ensures { OnOk result (Adds (origin_in explained.now) (reported_as reported) (string_bytes out.old) (string_bytes out.new)) }
 {
-    match told {
-        Some(told) => push_run(alloc, out, explained, runners, told),
+    match reported {
+        Some(reported) => push_run(alloc, out, explained, runners, reported),
         None => Ok(()),
     }
 }

@@ -4,7 +4,7 @@ ghost use Rattle.serde_json.specs.View.{view};
 ghost use Rattle.stm_json.specs.Outcome.{step};
 ghost use Rattle.stm_program.specs.declared.limits.TheConstants.{MAX_NODES};
 ghost use Rattle.stm_sites.specs.Found.{fault_of};
-ghost use Rattle.stm_faulted_runs.specs.Places.{pointer, behind, first_in, BeginsBelow, TellsPlace, IsMore, IsMoreOf};
+ghost use Rattle.stm_faulted_runs.specs.Places.{pointer, behind, first_in, BeginsBelow, ReturnsPlace, IsMore, IsMoreOf};
 ghost use Rattle.stm_faulted_runs.specs.Origins.{origin_in};
 
 use crate::reasons::reason;
@@ -54,7 +54,7 @@ fn words_at(alloc: Global, pointer: &str, reason: &str) -> Result<String, AllocE
 
 /// What is said of a fault at a place.
 fn words_of(alloc: Global, steps: &[usize], reason: &str) -> Result<String, AllocError>
-    ensures { IfOk result (λ more. TellsPlace steps.now (string_bytes more)) }
+    ensures { IfOk result (λ more. ReturnsPlace steps.now (string_bytes more)) }
 {
     let pointer = pointer_of(alloc, steps)?;
     words_at(alloc, pointer.as_str(), reason)
@@ -62,7 +62,7 @@ fn words_of(alloc: Global, steps: &[usize], reason: &str) -> Result<String, Allo
 
 /// What is said of a fault that was found, at its place in the text.
 fn more_of(alloc: Global, steps: &[usize], found: &FoundFault) -> Result<String, AllocError>
-    ensures { IfOk result (λ more. TellsPlace steps.now (string_bytes more)) }
+    ensures { IfOk result (λ more. ReturnsPlace steps.now (string_bytes more)) }
 {
     let site = &found.site;
     let reason = reason(alloc, found.fault, site.node, site.values.as_slice())?;
@@ -111,7 +111,7 @@ pub(crate) fn place_of_fault(
 ) -> Result<Place, AllocError>
     requires first { first ≤ 1 }
     requires few { BeginsBelow MAX_NODES found.now.site.place }
-    ensures { IfOk result (λ place. TellsPlace (steps.items ++ behind first found.now.site.place) (string_bytes place.more)) }
+    ensures { IfOk result (λ place. ReturnsPlace (steps.items ++ behind first found.now.site.place) (string_bytes place.more)) }
 {
     let mut steps = steps;
     push_place(&mut steps, first, found.site.place.as_slice())?;
@@ -158,7 +158,7 @@ fn place_in_element(
     found: &FoundFault,
 ) -> Result<Place, AllocError>
     requires { BeginsBelow MAX_NODES found.now.site.place }
-    ensures { IfOk result (λ place. TellsPlace (element ∷ 3 ∷ behind (first_in (view scenario.now) element) found.now.site.place) (string_bytes place.more)) }
+    ensures { IfOk result (λ place. ReturnsPlace (element ∷ 3 ∷ behind (first_in (view scenario.now) element) found.now.site.place) (string_bytes place.more)) }
 {
     let first = first_in(scenario, element);
     let mut steps = Vec::new(alloc);

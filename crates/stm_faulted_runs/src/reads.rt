@@ -46,9 +46,9 @@ fn mod_rev_in(kv: &Option<KeyState>) -> u64
 }
 
 impl Lookup for Reads<'_> {
-    ghost use Rattle.stm_faulted_runs.specs.Reads.{told_in};
+    ghost use Rattle.stm_faulted_runs.specs.Reads.{reported_in};
 
-    ghost answers = { λ reads. told_in reads.answers.now };
+    ghost answers = { λ reads. reported_in reads.answers.now };
 
     fn value(&self, key: &str) -> Option<&str> {
         match answer_for(self.answers, key) {

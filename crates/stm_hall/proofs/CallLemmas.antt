@@ -30,7 +30,7 @@ use Rattle.stm_entries.specs.Alone.{history_left}
 use Rattle.stm_entries.specs.Replay.{replay}
 use Rattle.stm_hall.specs.HallState.{HallState, HallStep, hall_of, gone_on}
 use Rattle.stm_hall.specs.Locked.{AreEntriesThere}
-use Rattle.stm_hall.specs.Entering.{if_changed, entered, made, TxnTells, or_want, expiries, after_expiries, HasStopped}
+use Rattle.stm_hall.specs.Entering.{if_changed, entered, made, TxnReturns, or_out_of_memory, expiries, after_expiries, HasStopped}
 use Rattle.stm_hall.proofs.Opening.{Follows, nothing_follows}
 
 -- ---- a transaction is followed by its entry
@@ -74,11 +74,11 @@ made_as : TxnAnswer → HallState → Result (HallStep TxnAnswer) Refusal
 made_as answer next = Ok record { answer = answer; next = next }
 
 -- the store took it
-pub tells_made : (hall after : HallState) (txn : Txn) (answer : TxnAnswer) (next : Standing) →
+pub reports_made : (hall after : HallState) (txn : Txn) (answer : TxnAnswer) (next : Standing) →
     transacted hall.standing txn ≡ Ok record { answer = answer; next = next } → after ≡ gone_on hall next (if_changed hall.standing next txn) →
     made hall txn ≡ Ok record { answer = answer; next = after }
 unfolding made_as
-tells_made hall after txn answer next is left = ap (entered hall txn) is ∙ ap (made_as answer) (sym left)
+reports_made hall after txn answer next is left = ap (entered hall txn) is ∙ ap (made_as answer) (sym left)
 
 refused_by : (hall : HallState) (txn : Txn) (o : Result (Step TxnAnswer) Refusal) (cause : Refusal) → IsRefusalOf o cause →
     (entered hall txn o ≡ Err cause) ⊎ ((cause ≡ OutOfMemory) × IsOk (entered hall txn o))
@@ -86,24 +86,24 @@ refused_by hall txn (Ok step) cause is = inr (is, refl)
 refused_by hall txn (Err first) cause is = inl (ap (λ (c : Refusal). Err c) (sym is))
 
 -- it was refused, by the store or for want of room
-pub tells_refused : (hall after : HallState) (txn : Txn) (cause : Refusal) → IsRefusalOf (transacted hall.standing txn) cause → after ≡ hall →
-    TxnTells (made hall txn) hall (Err cause) after
-tells_refused hall after txn cause is same = (refused_by hall txn (transacted hall.standing txn) cause is, same)
+pub reports_refused : (hall after : HallState) (txn : Txn) (cause : Refusal) → IsRefusalOf (transacted hall.standing txn) cause → after ≡ hall →
+    TxnReturns (made hall txn) hall (Err cause) after
+reports_refused hall after txn cause is same = (refused_by hall txn (transacted hall.standing txn) cause is, same)
 
-by_result : {A : Type 0} (r : Result A Refusal) → IsRefusalOf r (or_want (refusal_of r))
+by_result : {A : Type 0} (r : Result A Refusal) → IsRefusalOf r (or_out_of_memory (refusal_of r))
 by_result (Ok done) = refl
 by_result (Err cause) = refl
 
 -- the refusal of a call for which room could not be made
-pub wanted : {A : Type 0} (o : Result A Refusal) (found : Option Refusal) → found ≡ refusal_of o → IsRefusalOf o (or_want found)
-wanted o found is = subst (λ (f : Option Refusal). IsRefusalOf o (or_want f)) (sym is) (by_result o)
+pub wanted : {A : Type 0} (o : Result A Refusal) (found : Option Refusal) → found ≡ refusal_of o → IsRefusalOf o (or_out_of_memory found)
+wanted o found is = subst (λ (f : Option Refusal). IsRefusalOf o (or_out_of_memory f)) (sym is) (by_result o)
 
 -- as the code tells it
-pub tells_wanted : (hall after : HallState) (txn : Txn) (found : Option Refusal) (told : Refusal) → found ≡ refusal_of (transacted hall.standing txn) →
-    told ≡ or_want found → after ≡ hall → TxnTells (made hall txn) hall (Err told) after
-tells_wanted hall after txn found told is same kept =
-    subst (λ (c : Refusal). TxnTells (made hall txn) hall (Err c) after) (sym same)
-    (tells_refused hall after txn (or_want found) (wanted (transacted hall.standing txn) found is) kept)
+pub reports_wanted : (hall after : HallState) (txn : Txn) (found : Option Refusal) (reported : Refusal) → found ≡ refusal_of (transacted hall.standing txn) →
+    reported ≡ or_out_of_memory found → after ≡ hall → TxnReturns (made hall txn) hall (Err reported) after
+reports_wanted hall after txn found reported is same kept =
+    subst (λ (c : Refusal). TxnReturns (made hall txn) hall (Err c) after) (sym same)
+    (reports_refused hall after txn (or_out_of_memory found) (wanted (transacted hall.standing txn) found is) kept)
 
 -- ---- an advance is followed by its entries
 
@@ -184,12 +184,12 @@ advance_follows s left moment expired cause is =
 -- ---- what is told of an advance
 
 -- it stopped on its way, for its definition's cause or for want of memory
-pub tells_stopped : (before after : HallState) (moment : ℕ) (expired : List Expired) (cause : Refusal) → before.standing.moment ≤ moment →
+pub reports_stopped : (before after : HallState) (moment : ℕ) (expired : List Expired) (cause : Refusal) → before.standing.moment ≤ moment →
     StoreCutShort (advanced before.standing moment) expired cause after.standing →
     (before.standing.moment ≤ moment → HasCome (at_moment before.standing moment) expired after.standing) →
     after ≡ after_expiries before after.standing expired → HasStopped before moment expired cause after
-tells_stopped before after moment expired cause forward (inl is) come left = inl (record { advance = is; hall = left })
-tells_stopped before after moment expired cause forward (inr (want, stopped)) come left =
+reports_stopped before after moment expired cause forward (inl is) come left = inl (record { advance = is; hall = left })
+reports_stopped before after moment expired cause forward (inr (want, stopped)) come left =
     inr (record {
       is_want = want;
       forward = forward;
@@ -205,35 +205,35 @@ nothing_more : (hall : HallState) → hall ≡ after_expiries hall hall.standing
 nothing_more hall = ap (λ (es : List Entry). hall_of hall.standing es hall.start) (sym (append-nil hall.entries))
 
 -- it went back
-pub tells_back : (before : HallState) (moment : ℕ) → moment < before.standing.moment → HasStopped before moment [] TimeGoesBack before
-tells_back before moment below = inl (record {
+pub reports_back : (before : HallState) (moment : ℕ) → moment < before.standing.moment → HasStopped before moment [] TimeGoesBack before
+reports_back before moment below = inl (record {
   advance = back_by before.standing moment (nat_lt moment before.standing.moment) refl below;
   hall = nothing_more before;
 })
 
 -- room for its entries could not be made
-pub tells_no_room : (before after : HallState) (moment : ℕ) → before.standing.moment ≤ moment → after ≡ before → HasStopped before moment [] OutOfMemory after
-tells_no_room before after moment forward same = inr (record { is_want = refl; forward = forward; left = inl (refl, same) })
+pub reports_no_room : (before after : HallState) (moment : ℕ) → before.standing.moment ≤ moment → after ≡ before → HasStopped before moment [] OutOfMemory after
+reports_no_room before after moment forward same = inr (record { is_want = refl; forward = forward; left = inl (refl, same) })
 
 -- ---- no more leases expire than are live
 
-abbrev told_in : Advance → ℕ
-told_in a = length a.expired
+abbrev reported_in : Advance → ℕ
+reported_in a = length a.expired
 
-expiry_within : (n : ℕ) (s : Standing) (id : ℕ) (o : Result Standing Refusal) → ((next : Standing) → told_in (expire_up_to n next) ≤ n) →
-    told_in (advance_ended n s id o) ≤ suc n
+expiry_within : (n : ℕ) (s : Standing) (id : ℕ) (o : Result Standing Refusal) → ((next : Standing) → reported_in (expire_up_to n next) ≤ n) →
+    reported_in (advance_ended n s id o) ≤ suc n
 expiry_within n s id (Err cause) rest = omega arith
-expiry_within n s id (Ok next) rest = let more : told_in (expire_up_to n next) ≤ n = rest next in omega arith
+expiry_within n s id (Ok next) rest = let more : reported_in (expire_up_to n next) ≤ n = rest next in omega arith
 
-due_within : (n : ℕ) (s : Standing) (o : Option ℕ) → ((next : Standing) → told_in (expire_up_to n next) ≤ n) → told_in (advance_due n s o) ≤ suc n
+due_within : (n : ℕ) (s : Standing) (o : Option ℕ) → ((next : Standing) → reported_in (expire_up_to n next) ≤ n) → reported_in (advance_due n s o) ≤ suc n
 due_within n s None rest = omega arith
 due_within n s (Some id) rest = expiry_within n s id (ended s id) rest
 
-expiries_within : (n : ℕ) (s : Standing) → told_in (expire_up_to n s) ≤ n
+expiries_within : (n : ℕ) (s : Standing) → reported_in (expire_up_to n s) ≤ n
 expiries_within zero s = omega arith
 expiries_within (suc n) s = due_within n s (first_due s.live s.moment) (λ next. expiries_within n next)
 
-within_by : (s : Standing) (moment : ℕ) (back : Bool) → told_in (advance_back s moment back) ≤ finmap.len s.live
+within_by : (s : Standing) (moment : ℕ) (back : Bool) → reported_in (advance_back s moment back) ≤ finmap.len s.live
 within_by s moment true = omega arith
 within_by s moment false = expiries_within (finmap.len s.live) (at_moment s moment)
 

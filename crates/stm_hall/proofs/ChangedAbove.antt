@@ -201,15 +201,15 @@ above_the_opening opening since key (c ∷ revisions) =
     (changes_above opening (max since opening.number) key revisions)
 
 -- the state at the opening tells a change
-pub told_opened : (h : History) (since : ℕ) (key : List ℕ) → nat_lt since (mod_of (opened_state h.opening key)) ≡ true →
+pub reported_opened : (h : History) (since : ℕ) (key : List ℕ) → nat_lt since (mod_of (opened_state h.opening key)) ≡ true →
     changes_above h.opening since key h.revisions ≡ true
-told_opened h since key is =
+reported_opened h since key is =
     above_the_opening h.opening since key h.revisions
     ∙ ap (λ b. b || changes_above h.opening (max since h.opening.number) key h.revisions) is
 
 -- or none
-pub told_since : (h : History) (since : ℕ) (key : List ℕ) → nat_lt since (mod_of (opened_state h.opening key)) ≡ false →
+pub reported_since : (h : History) (since : ℕ) (key : List ℕ) → nat_lt since (mod_of (opened_state h.opening key)) ≡ false →
     changes_above h.opening since key h.revisions ≡ changes_above h.opening (max since h.opening.number) key h.revisions
-told_since h since key is =
+reported_since h since key is =
     above_the_opening h.opening since key h.revisions
     ∙ ap (λ b. b || changes_above h.opening (max since h.opening.number) key h.revisions) is

@@ -16,11 +16,11 @@ use Rattle.stm_outcome.specs.Compares.{first_failed}
 use Rattle.stm_outcome.specs.Outcome.{Done, outcome, with_changes, chosen}
 use Rattle.stm_txn.specs.Standing.{Standing, IsRefusalOf, with_history, step_of, transacted, terms_of}
 use Rattle.stm_outcome.proofs.Applying.{branch_run, is_done}
-use Rattle.stm_calls.specs.Fetched.{fetch_of, read_told, one_read, ReadTells}
+use Rattle.stm_calls.specs.Fetched.{fetch_of, read_reported, one_read, ReadReturns}
 use Rattle.stm_calls.proofs.FetchLemmas.{done_of, read_comes_to}
 use Rattle.stm_hall.specs.declared.refusal.FetchRefusal.{FetchRefusal}
 use Rattle.stm_hall.specs.declared.refusal.FetchRefusal.TheVariants.{Behind, Store}
-use Rattle.stm_hall.specs.Fetching.{is_read, OnlyReads, answered, fetched, FetchTells}
+use Rattle.stm_hall.specs.Fetching.{is_read, OnlyReads, answered, fetched, FetchReturns}
 use Rattle.stm_hall.proofs.Sending.{IsAnswered, is_answered, answer_revision}
 
 -- ---- reads change nothing
@@ -63,52 +63,52 @@ fetched_by : Standing → ℕ → Txn → Bool → Result TxnAnswer FetchRefusal
 fetched_by s seen txn behind =
     cond behind (Err (Behind seen (now s.history))) (answered (outcome (terms_of s) txn))
 
-pub tells_behind : (s : Standing) (seen : ℕ) (txn : Txn) → now s.history < seen →
-    FetchTells (fetched s seen txn) (Err (Behind seen (now s.history)))
+pub reports_behind : (s : Standing) (seen : ℕ) (txn : Txn) → now s.history < seen →
+    FetchReturns (fetched s seen txn) (Err (Behind seen (now s.history)))
 unfolding fetched_by
-tells_behind s seen txn below = inl (ap (fetched_by s seen txn) (lt-ltb (now s.history) seen below))
+reports_behind s seen txn below = inl (ap (fetched_by s seen txn) (lt-ltb (now s.history) seen below))
 
 not_behind : (s : Standing) (seen : ℕ) (txn : Txn) → seen ≤ now s.history →
     fetched s seen txn ≡ answered (outcome (terms_of s) txn)
 unfolding fetched_by
 not_behind s seen txn reached = ap (fetched_by s seen txn) (le-ltb (now s.history) seen reached)
 
-pub tells_answer : (s : Standing) (next : Standing) (seen : ℕ) (txn : Txn) (answer : TxnAnswer) → seen ≤ now s.history →
+pub reports_answer : (s : Standing) (next : Standing) (seen : ℕ) (txn : Txn) (answer : TxnAnswer) → seen ≤ now s.history →
     transacted s txn ≡ Ok record { answer = answer; next = next } → fetched s seen txn ≡ Ok answer
-tells_answer s next seen txn answer reached step =
+reports_answer s next seen txn answer reached step =
     let a : IsAnswered s next txn answer = is_answered s next txn answer step in
     not_behind s seen txn reached ∙ ap answered a.came ∙ ap (λ (x : TxnAnswer). Ok x) a.answered
 
-refused_by : (s : Standing) (o : Result Done Refusal) (cause : Refusal) → IsRefusalOf (step_of s o) cause → FetchTells (answered o) (Err (Store cause))
+refused_by : (s : Standing) (o : Result Done Refusal) (cause : Refusal) → IsRefusalOf (step_of s o) cause → FetchReturns (answered o) (Err (Store cause))
 refused_by s (Ok done) cause is = inr (ap (λ (c : Refusal). Store c) is, refl)
 refused_by s (Err first) cause is = inl (ap (λ (c : Refusal). Err (Store c)) (sym is))
 
-pub tells_refused : (s : Standing) (seen : ℕ) (txn : Txn) (cause : Refusal) → seen ≤ now s.history →
-    IsRefusalOf (transacted s txn) cause → FetchTells (fetched s seen txn) (Err (Store cause))
-tells_refused s seen txn cause reached refused =
-    subst (λ (o : Result TxnAnswer FetchRefusal). FetchTells o (Err (Store cause))) (sym (not_behind s seen txn reached))
+pub reports_refused : (s : Standing) (seen : ℕ) (txn : Txn) (cause : Refusal) → seen ≤ now s.history →
+    IsRefusalOf (transacted s txn) cause → FetchReturns (fetched s seen txn) (Err (Store cause))
+reports_refused s seen txn cause reached refused =
+    subst (λ (o : Result TxnAnswer FetchRefusal). FetchReturns o (Err (Store cause))) (sym (not_behind s seen txn reached))
     (refused_by s (outcome (terms_of s) txn) cause refused)
 
 -- ---- the fetch of one key
 
 alone : (s : Standing) (seen : ℕ) (key : List ℕ) (at : ℕ) → 0 < s.limit → seen ≤ now s.history →
-    fetched s seen (fetch_of key at) ≡ answered (done_of s (read_told s key at))
+    fetched s seen (fetch_of key at) ≡ answered (done_of s (read_reported s key at))
 alone s seen key at some reached = not_behind s seen (fetch_of key at) reached ∙ ap answered (read_comes_to s key at some)
 
-pub tells_read : (s : Standing) (seen : ℕ) (key : List ℕ) (at : ℕ) (read : ReadAnswer) → 0 < s.limit → seen ≤ now s.history →
-    read_told s key at ≡ Ok read → fetched s seen (fetch_of key at) ≡ Ok (one_read read)
-tells_read s seen key at read some reached told =
-    alone s seen key at some reached ∙ ap (λ (r : Result ReadAnswer Refusal). answered (done_of s r)) told
+pub reports_read : (s : Standing) (seen : ℕ) (key : List ℕ) (at : ℕ) (read : ReadAnswer) → 0 < s.limit → seen ≤ now s.history →
+    read_reported s key at ≡ Ok read → fetched s seen (fetch_of key at) ≡ Ok (one_read read)
+reports_read s seen key at read some reached reported =
+    alone s seen key at some reached ∙ ap (λ (r : Result ReadAnswer Refusal). answered (done_of s r)) reported
 
-read_refused : (s : Standing) (told : Result ReadAnswer Refusal) (cause : Refusal) → ReadTells told (Err cause) →
-    FetchTells (answered (done_of s told)) (Err (Store cause))
+read_refused : (s : Standing) (reported : Result ReadAnswer Refusal) (cause : Refusal) → ReadReturns reported (Err cause) →
+    FetchReturns (answered (done_of s reported)) (Err (Store cause))
 read_refused s (Ok read) cause (inl is) = absurd (cc)
 read_refused s (Ok read) cause (inr want) = inr (ap (λ (c : Refusal). Store c) want.0, refl)
 read_refused s (Err first) cause (inl is) = inl (ap (λ (r : Result ReadAnswer Refusal). answered (done_of s r)) is)
 read_refused s (Err first) cause (inr want) = absurd (false≢true want.1)
 
-pub tells_read_refused : (s : Standing) (seen : ℕ) (key : List ℕ) (at : ℕ) (cause : Refusal) → 0 < s.limit → seen ≤ now s.history →
-    ReadTells (read_told s key at) (Err cause) → FetchTells (fetched s seen (fetch_of key at)) (Err (Store cause))
-tells_read_refused s seen key at cause some reached refused =
-    subst (λ (o : Result TxnAnswer FetchRefusal). FetchTells o (Err (Store cause))) (sym (alone s seen key at some reached))
-    (read_refused s (read_told s key at) cause refused)
+pub reports_read_refused : (s : Standing) (seen : ℕ) (key : List ℕ) (at : ℕ) (cause : Refusal) → 0 < s.limit → seen ≤ now s.history →
+    ReadReturns (read_reported s key at) (Err cause) → FetchReturns (fetched s seen (fetch_of key at)) (Err (Store cause))
+reports_read_refused s seen key at cause some reached refused =
+    subst (λ (o : Result TxnAnswer FetchRefusal). FetchReturns o (Err (Store cause))) (sym (alone s seen key at some reached))
+    (read_refused s (read_reported s key at) cause refused)

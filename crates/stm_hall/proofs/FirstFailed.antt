@@ -63,9 +63,9 @@ pub failed_here : {X : Type 0} (state : List ℕ → Option KeyState) (f : X →
     (found : Option FailedCompare) → slice_get xs i ≡ Some x → holds (f x) (state (f x).key) ≡ false → index ≡ before + i →
     modified ≡ mod_of (state (f x).key) → first_failed state (before + i) (map f (drop i xs)) ≡ found →
     found_at index modified ≡ found
-failed_here state f xs before i x index modified found at fails place told so_far =
+failed_here state f xs before i x index modified found at fails place reported so_far =
     ap (λ (n : ℕ). found_at n modified) place
-    ∙ ap (λ (n : ℕ). found_at (before + i) n) told
+    ∙ ap (λ (n : ℕ). found_at (before + i) n) reported
     ∙ sym (here state f xs before i x false at fails) ∙ so_far
 
 -- all hold
@@ -107,32 +107,32 @@ fails_behind state from behind (c ∷ cs) ds none is =
 -- ---- the compares of a commit
 
 not_so : {P : Type 0} (b : Bool) → (b ≡ true) ↔ P → b ≡ false → P → ⊥
-not_so b told isnt p = false≢true (sym isnt ∙ told.1 p)
+not_so b reported isnt p = false≢true (sym isnt ∙ reported.1 p)
 
 does_not : (b : Bool) → (b ≡ true → ⊥) → b ≡ false
 does_not true isnt = absurd (isnt refl)
 does_not false isnt = refl
 
 -- by what is told of a key that was read
-pub read_holds : (key : List ℕ) (number : ℕ) (s : Option KeyState) (told : Bool) → (told ≡ true) ↔ (mod_of s ≡ number) → told ≡ true →
+pub read_holds : (key : List ℕ) (number : ℕ) (s : Option KeyState) (reported : Bool) → (reported ≡ true) ↔ (mod_of s ≡ number) → reported ≡ true →
     holds (mod_is key number) s ≡ true
-read_holds key number s told means so = (mod_compares.equal key number s).1 (means.0 so)
+read_holds key number s reported means so = (mod_compares.equal key number s).1 (means.0 so)
 
-pub read_fails : (key : List ℕ) (number : ℕ) (s : Option KeyState) (told : Bool) → (told ≡ true) ↔ (mod_of s ≡ number) → told ≡ false →
+pub read_fails : (key : List ℕ) (number : ℕ) (s : Option KeyState) (reported : Bool) → (reported ≡ true) ↔ (mod_of s ≡ number) → reported ≡ false →
     holds (mod_is key number) s ≡ false
-read_fails key number s told means isnt =
-    does_not (holds (mod_is key number) s) (λ so. not_so told means isnt ((mod_compares.equal key number s).0 so))
+read_fails key number s reported means isnt =
+    does_not (holds (mod_is key number) s) (λ so. not_so reported means isnt ((mod_compares.equal key number s).0 so))
 
 -- and of one that is written
-pub write_holds : (key : List ℕ) (first : ℕ) (s : Option KeyState) (told : Bool) → (told ≡ true) ↔ (mod_of s ≤ first) → told ≡ true →
+pub write_holds : (key : List ℕ) (first : ℕ) (s : Option KeyState) (reported : Bool) → (reported ≡ true) ↔ (mod_of s ≤ first) → reported ≡ true →
     holds (mod_is_below key (first + 1)) s ≡ true
-write_holds key first s told means so =
+write_holds key first s reported means so =
     let most : mod_of s ≤ first = means.0 so in
     (mod_compares.below key (first + 1) s).1 (omega (arith, most))
 
-pub write_fails : (key : List ℕ) (first : ℕ) (s : Option KeyState) (told : Bool) → (told ≡ true) ↔ (mod_of s ≤ first) → told ≡ false →
+pub write_fails : (key : List ℕ) (first : ℕ) (s : Option KeyState) (reported : Bool) → (reported ≡ true) ↔ (mod_of s ≤ first) → reported ≡ false →
     holds (mod_is_below key (first + 1)) s ≡ false
-write_fails key first s told means isnt =
+write_fails key first s reported means isnt =
     does_not (holds (mod_is_below key (first + 1)) s) (λ so.
     let less : mod_of s < first + 1 = (mod_compares.below key (first + 1) s).0 so in
-    not_so told means isnt (omega (arith, less)))
+    not_so reported means isnt (omega (arith, less)))

@@ -36,7 +36,7 @@ use Rattle.stm_hall.specs.declared.refusal.CommitRefusal.{CommitRefusal}
 use Rattle.stm_hall.specs.declared.refusal.CommitRefusal.TheVariants.{Store, Unvouched as UnvouchedRefusal}
 use Rattle.stm_hall.specs.HallState.{HallState, HallStep, hall_of, gone_on}
 use Rattle.stm_hall.specs.Judging.{cause_unvouched, cause_failed, cause_wrong, cause_of, TurnsDown, read_of_now}
-use Rattle.stm_hall.specs.Verdicts.{txn_of, entry_of, first_unvouched, failed_with, taken, unless_unvouched, verdict_of, CommitTells, CommitsAs}
+use Rattle.stm_hall.specs.Verdicts.{txn_of, entry_of, first_unvouched, failed_with, taken, unless_unvouched, verdict_of, CommitReturns, CommitsAs}
 use Rattle.stm_hall.proofs.CommitEntries.{ops_of_writes}
 use Rattle.stm_hall.proofs.Sending.{IsCompared, verdict_compared, verdict_at_fault, verdict_taken}
 
@@ -138,12 +138,12 @@ committed_to : ℕ → ℕ → HallState → Result (HallStep Verdict) CommitRef
 committed_to place revision next = Ok record { answer = Committed place revision; next = next }
 
 -- the commit is made: its changes are in the store, and its entry behind the others
-pub tells_made : (hall after : HallState) (ready : ReadyRun) (changes : List Change) (next : Standing) (index revision : ℕ) →
+pub reports_made : (hall after : HallState) (ready : ReadyRun) (changes : List Change) (next : Standing) (index revision : ℕ) →
     cause_of hall.standing ready ≡ None → IsRunOnItsAnswers ready → changes ≡ map as_change ready.writes →
     written hall.standing changes ≡ Ok record { answer = revision; next = next } → index ≡ length hall.entries →
     after ≡ gone_on hall next (entry_of ready revision ∷ []) → verdict_of hall ready ≡ Ok record { answer = Committed index revision; next = after }
 unfolding committed_to write_to
-tells_made hall after ready changes next index revision clear kept is step place left =
+reports_made hall after ready changes next index revision clear kept is step place left =
     let s : Standing = hall.standing in
     let c : IsClearOf s ready = without_cause s ready clear in
     let w = written_by s next revision (branch_outcome (terms_of s) None (map op_of changes)) step in
@@ -159,22 +159,22 @@ refusal_by s (Ok done) cause is = inl is
 refusal_by s (Err first) cause is = inr (ap (λ (c : Refusal). Err c) (sym is))
 
 same_refusal : (cause : Refusal) (o p : Result Done Refusal) → o ≡ p → (cause ≡ OutOfMemory) ⊎ (o ≡ Err cause) → (cause ≡ OutOfMemory) ⊎ (p ≡ Err cause)
-same_refusal cause o p same told = subst (λ (x : Result Done Refusal). (cause ≡ OutOfMemory) ⊎ (x ≡ Err cause)) same told
+same_refusal cause o p same reported = subst (λ (x : Result Done Refusal). (cause ≡ OutOfMemory) ⊎ (x ≡ Err cause)) same reported
 
-as_told : (hall : HallState) (ready : ReadyRun) (cause : Refusal) → IsClearOf hall.standing ready →
+as_reported : (hall : HallState) (ready : ReadyRun) (cause : Refusal) → IsClearOf hall.standing ready →
     (cause ≡ OutOfMemory) ⊎ (outcome (terms_of hall.standing) (txn_of ready) ≡ Err cause) →
     (Store cause ≡ Store OutOfMemory) ⊎ (verdict_of hall ready ≡ Err (Store cause))
-as_told hall ready cause c (inl want) = inl (ap (λ (x : Refusal). Store x) want)
-as_told hall ready cause c (inr is) = inr (verdict_taken hall ready (Err cause) (record { right = c.right; compared = c.compared }) c.vouched is)
+as_reported hall ready cause c (inl want) = inl (ap (λ (x : Refusal). Store x) want)
+as_reported hall ready cause c (inr is) = inr (verdict_taken hall ready (Err cause) (record { right = c.right; compared = c.compared }) c.vouched is)
 
 -- the store refuses its changes
-pub tells_not_made : (hall after : HallState) (ready : ReadyRun) (changes : List Change) (cause : Refusal) → cause_of hall.standing ready ≡ None →
+pub reports_not_made : (hall after : HallState) (ready : ReadyRun) (changes : List Change) (cause : Refusal) → cause_of hall.standing ready ≡ None →
     IsRunOnItsAnswers ready → changes ≡ map as_change ready.writes → IsRefusalOf (written hall.standing changes) cause → after ≡ hall →
-    CommitTells (verdict_of hall ready) hall (Err (Store cause)) after
-tells_not_made hall after ready changes cause clear kept is refused same =
+    CommitReturns (verdict_of hall ready) hall (Err (Store cause)) after
+reports_not_made hall after ready changes cause clear kept is refused same =
     let s : Standing = hall.standing in
     let c : IsClearOf s ready = without_cause s ready clear in (
-      as_told hall ready cause c
+      as_reported hall ready cause c
           (same_refusal cause (branch_outcome (terms_of s) None (map op_of changes)) (outcome (terms_of s) (txn_of ready))
           (sym (clear_is_written s ready changes c kept is))
           (refusal_by s (branch_outcome (terms_of s) None (map op_of changes)) cause refused)),
@@ -193,7 +193,7 @@ failed_to verdict next = Ok record { answer = verdict; next = next }
 pub turned_failed : (s : Standing) (ready : ReadyRun) (f : FailedCompare) (verdict : Verdict) → cause_of s ready ≡ Some (Fails f) →
     verdict ≡ failed_with ready f (map (answer_now s.history) (reread_keys ready.level ready.answers)) → TurnsDown s ready (Ok verdict)
 unfolding failed_to
-turned_failed s ready f verdict is told = λ hall same.
+turned_failed s ready f verdict is reported = λ hall same.
     let by = caused_by_compare s ready f is in
     let c : IsCompared hall ready (Some f) = record {
       right = ap (λ (x : Standing). fault_of x.limit (txn_of ready)) same ∙ by.0;
@@ -201,15 +201,15 @@ turned_failed s ready f verdict is told = λ hall same.
     } in
     verdict_compared hall ready (Some f) c
     ∙ ap (λ (x : Standing). failed_to (failed_with ready f (map (answer_now x.history) (reread_keys ready.level ready.answers))) hall) same
-    ∙ ap (λ (v : Verdict). failed_to v hall) (sym told)
+    ∙ ap (λ (v : Verdict). failed_to v hall) (sym reported)
 
 pub turned_out : (s : Standing) (ready : ReadyRun) (result : Result Verdict CommitRefusal) → result ≡ Err (Store OutOfMemory) → TurnsDown s ready result
 turned_out s ready result is = λ hall same.
-    subst (λ (r : Result Verdict CommitRefusal). CommitTells (verdict_of hall ready) hall r hall) (sym is) (inl refl, refl)
+    subst (λ (r : Result Verdict CommitRefusal). CommitReturns (verdict_of hall ready) hall r hall) (sym is) (inl refl, refl)
 
 pub turned_unvouched : (s : Standing) (ready : ReadyRun) (a : ReadAnswer) (key : List ℕ) → cause_of s ready ≡ Some Unvouched →
     first_unvouched s.history ready.level ready.answers ≡ Some a → key ≡ a.key → TurnsDown s ready (Err (UnvouchedRefusal key))
-turned_unvouched s ready a key is first told = λ hall same.
+turned_unvouched s ready a key is first reported = λ hall same.
     let by : IsUnvouchedOf s ready = caused_by_value s ready is in
     let c : IsCompared hall ready None = record {
       right = ap (λ (x : Standing). fault_of x.limit (txn_of ready)) same ∙ by.right;
@@ -218,7 +218,7 @@ turned_unvouched s ready a key is first told = λ hall same.
       inr (verdict_compared hall ready None c
           ∙ ap (λ (o : Option ReadAnswer). unless_unvouched o (taken hall ready (outcome (terms_of hall.standing) (txn_of ready))))
           (ap (λ (x : Standing). first_unvouched x.history ready.level ready.answers) same ∙ first)
-          ∙ ap (λ (k : List ℕ). Err (UnvouchedRefusal k)) (sym told)),
+          ∙ ap (λ (k : List ℕ). Err (UnvouchedRefusal k)) (sym reported)),
       refl,
     )
 
@@ -234,7 +234,7 @@ not_vouched s ready o is first none =
 pub turned_there : (s : Standing) (es : List Entry) (ready attempt : ReadyRun) (result : Result Verdict CommitRefusal) → TurnsDown s attempt result →
     attempt ≡ ready → CommitsAs ready result s es s es
 turned_there s es ready attempt result down same = λ start.
-    subst (λ (r : ReadyRun). CommitTells (verdict_of (hall_of s es start) r) (hall_of s es start) result (hall_of s es start)) same
+    subst (λ (r : ReadyRun). CommitReturns (verdict_of (hall_of s es start) r) (hall_of s es start) result (hall_of s es start)) same
     (down (hall_of s es start) refl)
 
 -- ---- what is read again
@@ -250,9 +250,9 @@ pub reads_now_fit : (h : History) (keys : List (List ℕ)) → now h ≤ HIGHEST
 reads_now_fit h [] bounded fit = tt
 reads_now_fit h (key ∷ keys) bounded fit = (now_fits h key bounded fit, reads_now_fit h keys bounded fit)
 
-pub reads_now_told : (h : History) (keys : List (List ℕ)) → reads_in (map (read_of_now h) keys) ≡ map (answer_now h) keys
-reads_now_told h [] = refl
-reads_now_told h (key ∷ keys) = ap (λ l. answer_now h key ∷ l) (reads_now_told h keys)
+pub reads_now_reported : (h : History) (keys : List (List ℕ)) → reads_in (map (read_of_now h) keys) ≡ map (answer_now h) keys
+reads_now_reported h [] = refl
+reads_now_reported h (key ∷ keys) = ap (λ l. answer_now h key ∷ l) (reads_now_reported h keys)
 
 -- what was read again by a store's keys
 pub read_so : (h own : History) (inside ready : ReadyRun) (again : List OpAnswer) → again ≡ map (read_of_now own) (reread_keys inside.level inside.answers) →
@@ -273,7 +273,7 @@ failed_fits h compares f fit is =
     let at = failed_has_its_place (key_now h) compares f is in
     let state : IfSome (key_now h at.compare.key) StateFits =
     subst (λ (kv : Option KeyState). IfSome kv StateFits) (last_revision_is_now h at.compare.key (now h) (omega arith)) (fit at.compare.key (now h)) in
-    subst (λ (n : ℕ). n ≤ HIGHEST_NUMBER) (sym at.told) (mod_of_fits (key_now h at.compare.key) state)
+    subst (λ (n : ℕ). n ≤ HIGHEST_NUMBER) (sym at.reported) (mod_of_fits (key_now h at.compare.key) state)
 
 pub failed_within : (h : History) (compares : List Compare) (f : FailedCompare) → first_failed (key_now h) 0 compares ≡ Some f → f.index < length compares
 failed_within h compares f is = (failed_has_its_place (key_now h) compares f is).within

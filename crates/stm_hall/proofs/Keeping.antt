@@ -20,8 +20,8 @@ use Rattle.stm_hall.specs.declared.refusal.CommitRefusal.{CommitRefusal}
 use Rattle.stm_hall.specs.HallState.{HallState, HallStep, gone_on}
 use Rattle.stm_hall.specs.Locked.{IsLocked}
 use Rattle.stm_hall.specs.Laws.{GoesOn, ChangesAsAlone}
-use Rattle.stm_hall.specs.Verdicts.{txn_of, entry_of, first_unvouched, taken, unless_unvouched, by_compares, unless_at_fault, verdict_of, CommitTells}
-use Rattle.stm_hall.specs.Entering.{if_changed, entered, made, TxnTells, expiries, IsAdvanced, IsCutShort, HasStopped}
+use Rattle.stm_hall.specs.Verdicts.{txn_of, entry_of, first_unvouched, taken, unless_unvouched, by_compares, unless_at_fault, verdict_of, CommitReturns}
+use Rattle.stm_hall.specs.Entering.{if_changed, entered, made, TxnReturns, expiries, IsAdvanced, IsCutShort, HasStopped}
 use Rattle.stm_hall.proofs.Opening.{Follows, stays_locked, goes_on, goes_nowhere}
 use Rattle.stm_hall.proofs.CommitEntries.{commit_follows}
 use Rattle.stm_hall.proofs.CallLemmas.{txn_follows, come_follows, advance_follows}
@@ -83,20 +83,20 @@ by_fault hall ready (Some cause) locked kept is = tt
 -- whatever the verdict
 by_verdict : (before after : HallState) (ready : ReadyRun) (verdict : Verdict) → IsLocked before → IsRunOnItsAnswers ready →
     verdict_of before ready ≡ Ok record { answer = verdict; next = after } → CommitBy before ready (Ok record { answer = verdict; next = after })
-by_verdict before after ready verdict locked kept told =
-    subst (λ (o : Result (HallStep Verdict) CommitRefusal). CommitBy before ready o) told
+by_verdict before after ready verdict locked kept reported =
+    subst (λ (o : Result (HallStep Verdict) CommitRefusal). CommitBy before ready o) reported
     (by_fault before ready (fault_of (terms_of before.standing).limit (txn_of ready)) locked kept refl)
 
 pub commit_keeps : (before after : HallState) (ready : ReadyRun) (result : Result Verdict CommitRefusal) → IsLocked before → IsRunOnItsAnswers ready →
-    CommitTells (verdict_of before ready) before result after → Keeps before after
-commit_keeps before after ready (Ok verdict) locked kept told = (by_verdict before after ready verdict locked kept told).0
-commit_keeps before after ready (Err cause) locked kept told = keeps_same before after locked told.1
+    CommitReturns (verdict_of before ready) before result after → Keeps before after
+commit_keeps before after ready (Ok verdict) locked kept reported = (by_verdict before after ready verdict locked kept reported).0
+commit_keeps before after ready (Err cause) locked kept reported = keeps_same before after locked reported.1
 
 -- a commit changes the store as its program alone does
 pub commit_alone : (before after : HallState) (ready : ReadyRun) (result : Result Verdict CommitRefusal) → IsLocked before → IsRunOnItsAnswers ready →
-    CommitTells (verdict_of before ready) before result after → IfOk result (λ (verdict : Verdict). ChangesAsAlone ready verdict before after)
-commit_alone before after ready (Ok verdict) locked kept told = (by_verdict before after ready verdict locked kept told).1
-commit_alone before after ready (Err cause) locked kept told = tt
+    CommitReturns (verdict_of before ready) before result after → IfOk result (λ (verdict : Verdict). ChangesAsAlone ready verdict before after)
+commit_alone before after ready (Ok verdict) locked kept reported = (by_verdict before after ready verdict locked kept reported).1
+commit_alone before after ready (Err cause) locked kept reported = tt
 
 -- ---- a foreign transaction
 
@@ -108,11 +108,11 @@ by_done hall txn (Ok done) locked few is =
 by_done hall txn (Err cause) locked few is = tt
 
 pub made_keeps : (before after : HallState) (txn : Txn) (result : Result TxnAnswer Refusal) → IsLocked before →
-    before.standing.limit ≤ most_operations → TxnTells (made before txn) before result after → Keeps before after
-made_keeps before after txn (Ok answer) locked few told =
-    subst (λ (o : Result (HallStep TxnAnswer) Refusal). KeptBy before o) told
+    before.standing.limit ≤ most_operations → TxnReturns (made before txn) before result after → Keeps before after
+made_keeps before after txn (Ok answer) locked few reported =
+    subst (λ (o : Result (HallStep TxnAnswer) Refusal). KeptBy before o) reported
     (by_done before txn (outcome (terms_of before.standing) txn) locked few refl)
-made_keeps before after txn (Err cause) locked few told = keeps_same before after locked told.1
+made_keeps before after txn (Err cause) locked few reported = keeps_same before after locked reported.1
 
 -- ---- an advance
 

@@ -99,12 +99,12 @@ place_seen ready txn i is within =
     omega (arith, count, within, compares_are_seen ready.level ready.answers ready.writes)
 
 -- what is told of a commit elsewhere, as a verdict
-verdict_told : Sent → Verdict
-verdict_told (SentCommitted revision) = Committed 0 revision
-verdict_told (SentFailed key seen now_modified answers) = Failed key seen now_modified answers
+verdict_reported : Sent → Verdict
+verdict_reported (SentCommitted revision) = Committed 0 revision
+verdict_reported (SentFailed key seen now_modified answers) = Failed key seen now_modified answers
 
-pub told_failed : (ready : ReadyRun) (failed : FailedCompare) (answers told_answers : List ReadAnswer) (told : Sent) (key : List ℕ) (seen now_modified : ℕ) →
-    told ≡ failed_at (seen_in (slice_get (seen_by ready.answers ready.writes) failed.index)) failed.mod_rev answers →
-    told ≡ SentFailed key seen now_modified told_answers → Failed key seen now_modified told_answers ≡ failed_with ready failed answers
-unfolding verdict_told
-told_failed ready failed answers told_answers told key seen now_modified is as_told = ap verdict_told (sym as_told ∙ is)
+pub reported_failed : (ready : ReadyRun) (failed : FailedCompare) (answers reported_answers : List ReadAnswer) (reported : Sent) (key : List ℕ) (seen now_modified : ℕ) →
+    reported ≡ failed_at (seen_in (slice_get (seen_by ready.answers ready.writes) failed.index)) failed.mod_rev answers →
+    reported ≡ SentFailed key seen now_modified reported_answers → Failed key seen now_modified reported_answers ≡ failed_with ready failed answers
+unfolding verdict_reported
+reported_failed ready failed answers reported_answers reported key seen now_modified is as_reported = ap verdict_reported (sym as_reported ∙ is)

@@ -29,19 +29,19 @@ abbrev pub made : HallState → Txn → Result (HallStep TxnAnswer) Refusal
 made hall txn = entered hall txn (transacted hall.standing txn)
 
 -- It comes to what its definition says. Want of memory is told only where the definition answers. A refusal leaves the hall as it was.
-abbrev pub TxnTells : Result (HallStep TxnAnswer) Refusal → HallState → Result TxnAnswer Refusal → HallState → Type 0
-TxnTells defined before (Ok answer) after = defined ≡ Ok record { answer = answer; next = after }
-TxnTells defined before (Err cause) after = ((defined ≡ Err cause) ⊎ ((cause ≡ OutOfMemory) × IsOk defined)) × (after ≡ before)
+abbrev pub TxnReturns : Result (HallStep TxnAnswer) Refusal → HallState → Result TxnAnswer Refusal → HallState → Type 0
+TxnReturns defined before (Ok answer) after = defined ≡ Ok record { answer = answer; next = after }
+TxnReturns defined before (Err cause) after = ((defined ≡ Err cause) ⊎ ((cause ≡ OutOfMemory) × IsOk defined)) × (after ≡ before)
 
 -- the same, of the store and the entries of a hall, whenever that was made
 abbrev pub MakesOf : Txn → Result TxnAnswer Refusal → Standing → List Entry → Standing → List Entry → Type 0
 MakesOf txn result s entries next more = (start : ℕ) →
-    TxnTells (made (hall_of s entries start) txn) (hall_of s entries start) result (hall_of next more start)
+    TxnReturns (made (hall_of s entries start) txn) (hall_of s entries start) result (hall_of next more start)
 
 -- why a call is refused for which room could not be made: the store's cause, or else want of memory
-abbrev pub or_want : Option Refusal → Refusal
-or_want None = OutOfMemory
-or_want (Some cause) = cause
+abbrev pub or_out_of_memory : Option Refusal → Refusal
+or_out_of_memory None = OutOfMemory
+or_out_of_memory (Some cause) = cause
 
 -- ---- an advance
 

@@ -38,11 +38,11 @@ fetched s seen txn =
     if nat_lt (now s.history) seen then Err (Behind seen (now s.history)) else answered (outcome (terms_of s) txn)
 
 -- A fetch answers what its definition says. Want of memory is told only where the definition answers.
-abbrev pub FetchTells : Result TxnAnswer FetchRefusal → Result TxnAnswer FetchRefusal → Type 0
-FetchTells defined (Ok answer) = defined ≡ Ok answer
-FetchTells defined (Err cause) = (defined ≡ Err cause) ⊎ ((cause ≡ Store OutOfMemory) × IsOk defined)
+abbrev pub FetchReturns : Result TxnAnswer FetchRefusal → Result TxnAnswer FetchRefusal → Type 0
+FetchReturns defined (Ok answer) = defined ≡ Ok answer
+FetchReturns defined (Err cause) = (defined ≡ Err cause) ⊎ ((cause ≡ Store OutOfMemory) × IsOk defined)
 
 -- the fetch of one key, told as the transaction of its read is
-abbrev pub told_alone : Result ReadAnswer FetchRefusal → Result TxnAnswer FetchRefusal
-told_alone (Ok read) = Ok (one_read read)
-told_alone (Err cause) = Err cause
+abbrev pub reported_alone : Result ReadAnswer FetchRefusal → Result TxnAnswer FetchRefusal
+reported_alone (Ok read) = Ok (one_read read)
+reported_alone (Err cause) = Err cause

@@ -19,7 +19,7 @@ use Rattle.stm_hall.specs.declared.causes.Cause.TheVariants.{Wrong, Fails, Unvou
 use Rattle.stm_hall.specs.declared.verdict.Verdict.{Verdict}
 use Rattle.stm_hall.specs.declared.refusal.CommitRefusal.{CommitRefusal}
 use Rattle.stm_hall.specs.HallState.{HallState}
-use Rattle.stm_hall.specs.Verdicts.{txn_of, first_unvouched, verdict_of, CommitTells}
+use Rattle.stm_hall.specs.Verdicts.{txn_of, first_unvouched, verdict_of, CommitReturns}
 
 abbrev pub cause_unvouched : Option ReadAnswer → Option Cause
 cause_unvouched None = None
@@ -49,7 +49,7 @@ cause_of s ready = cause_wrong (fault_of s.limit (txn_of ready)) (cause_compared
 
 -- It is turned down so in every hall that has this store, and that hall stays as it was.
 abbrev pub TurnsDown : Standing → ReadyRun → Result Verdict CommitRefusal → Type 0
-TurnsDown s ready result = (hall : HallState) → hall.standing ≡ s → CommitTells (verdict_of hall ready) hall result hall
+TurnsDown s ready result = (hall : HallState) → hall.standing ≡ s → CommitReturns (verdict_of hall ready) hall result hall
 
 -- a key as it is now, as a transaction answers the read of it
 abbrev pub read_of_now : History → List ℕ → OpAnswer

@@ -88,14 +88,14 @@ verdict_of hall ready =
     (by_compares hall ready (first_failed (key_now hall.standing.history) 0 (txn_of ready).compares))
 
 -- A commit comes to its verdict, unless memory ran out. A refusal leaves the hall as it was.
-abbrev pub CommitTells : Result (HallStep Verdict) CommitRefusal → HallState → Result Verdict CommitRefusal → HallState → Type 0
-CommitTells defined before (Ok verdict) after = defined ≡ Ok record { answer = verdict; next = after }
-CommitTells defined before (Err cause) after = ((cause ≡ Store OutOfMemory) ⊎ (defined ≡ Err cause)) × (after ≡ before)
+abbrev pub CommitReturns : Result (HallStep Verdict) CommitRefusal → HallState → Result Verdict CommitRefusal → HallState → Type 0
+CommitReturns defined before (Ok verdict) after = defined ≡ Ok record { answer = verdict; next = after }
+CommitReturns defined before (Err cause) after = ((cause ≡ Store OutOfMemory) ⊎ (defined ≡ Err cause)) × (after ≡ before)
 
 -- the same, of the store and the entries of a hall, whenever that was made
 abbrev pub CommitsAs : ReadyRun → Result Verdict CommitRefusal → Standing → List Entry → Standing → List Entry → Type 0
 CommitsAs ready result s entries next more = (start : ℕ) →
-    CommitTells (verdict_of (hall_of s entries start) ready) (hall_of s entries start) result (hall_of next more start)
+    CommitReturns (verdict_of (hall_of s entries start) ready) (hall_of s entries start) result (hall_of next more start)
 
 -- the answers that a failed commit tells may be prefetched for the next attempt
 abbrev pub CanGoOn : Verdict → Type 0

@@ -7,8 +7,8 @@ ghost use Rattle.stm_entries.specs.declared.entry.Entry.TheVariants.{Foreign};
 ghost use Rattle.stm_outcome.specs.Numbers.{AnswerFits, ReadFits};
 ghost use Rattle.stm_calls.specs.Fetched.{fetch_of};
 ghost use Rattle.stm_outcome.specs.Outcome.{would_change};
-ghost use Rattle.stm_hall.specs.Fetching.{OnlyReads, fetched, told_alone, FetchTells};
-ghost use Rattle.stm_hall.specs.Entering.{MakesOf, or_want, expiries, AdvancesTo, StopsAt};
+ghost use Rattle.stm_hall.specs.Fetching.{OnlyReads, fetched, reported_alone, FetchReturns};
+ghost use Rattle.stm_hall.specs.Entering.{MakesOf, or_out_of_memory, expiries, AdvancesTo, StopsAt};
 
 use crate::refusal::FetchRefusal;
 use std::alloc::{AllocError, Global};
@@ -20,7 +20,7 @@ use stm_txn::{AdvanceRefused, Expired, Refusal, Store, Txn, TxnAnswer};
 /// Answers reads, for a caller that has seen this revision. It changes nothing.
 pub(crate) fn fetch(store: &mut Store, seen: u64, txn: &Txn) -> Result<TxnAnswer, FetchRefusal>
     requires { OnlyReads txn.now }
-    ensures answer { FetchTells (fetched store.old.standing seen txn.now) result }
+    ensures answer { FetchReturns (fetched store.old.standing seen txn.now) result }
     ensures seen { IfOk result (λ answer. seen ≤ answer.revision) }
     ensures numbers { IfOk result AnswerFits }
     ensures same { store.new.standing ≡ store.old.standing }
@@ -43,7 +43,7 @@ pub(crate) fn fetch_one(
     key: &str,
     at: u64,
 ) -> Result<ReadAnswer, FetchRefusal>
-    ensures answer { FetchTells (fetched store.now.standing seen (fetch_of key.now at)) (told_alone result) }
+    ensures answer { FetchReturns (fetched store.now.standing seen (fetch_of key.now at)) (reported_alone result) }
     ensures seen { IfOk result (λ answer. seen ≤ answer.revision) }
     ensures numbers { IfOk result ReadFits }
 {
@@ -79,8 +79,8 @@ fn prepare_txn(
 }
 
 /// The cause of a call for which room could not be made: the store's, or else want of memory.
-fn cause_or_want(cause: Option<Refusal>) -> Refusal
-    ensures { result ≡ or_want cause }
+fn cause_or_out_of_memory(cause: Option<Refusal>) -> Refusal
+    ensures { result ≡ or_out_of_memory cause }
 {
     match cause {
         Some(cause) => cause,
@@ -107,7 +107,7 @@ pub(crate) fn make_txn(
     ensures { MakesOf txn.now result store.old.standing entries.old.items store.new.standing entries.new.items }
 {
     let Ok(copy) = prepare_txn(store, entries, txn) else {
-        return Err(cause_or_want(store.txn_refusal(txn)));
+        return Err(cause_or_out_of_memory(store.txn_refusal(txn)));
     };
     match store.txn(txn) {
         Ok(answer) => {

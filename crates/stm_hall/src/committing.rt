@@ -30,7 +30,7 @@ use stm_history::{Change, Text};
 use stm_txn::{FailedCompare, OpAnswer, Refusal, ShortList, Store};
 
 /// The verdict on an attempt of which a compare failed, and whose keys were read again with these answers.
-fn tell_failure(
+fn report_failure(
     alloc: Global,
     ready: &Ready,
     compare: FailedCompare,
@@ -42,8 +42,8 @@ fn tell_failure(
     ensures verdict { IfOk result (λ verdict. verdict ≡ failed_with ready.now compare (reads_in answers)) }
     ensures answers { IfOk result CanGoOn }
 {
-    let told = conflict(alloc, &ready.answers, &ready.writes, compare, answers)?;
-    match told {
+    let reported = conflict(alloc, &ready.answers, &ready.writes, compare, answers)?;
+    match reported {
         Sent::Committed { .. } => unreachable!(),
         Sent::Failed {
             key,
@@ -74,7 +74,7 @@ fn fail(
     let keys = store.keys();
     let _counter = keys.revision();
     let again = read_again(alloc, keys, ready.level, &ready.answers)?;
-    tell_failure(alloc, ready, failed, ShortList::of(again))
+    report_failure(alloc, ready, failed, ShortList::of(again))
 }
 
 /// The key of the first value that an attempt says it read, and that is not the store's.
@@ -166,9 +166,9 @@ pub(crate) fn commit(
             make(alloc, store, entries, ready, changes)
         }
         Some(cause) => {
-            let told = turn_down(alloc, store, prepared.attempt(), cause);
+            let reported = turn_down(alloc, store, prepared.attempt(), cause);
             drop(prepared);
-            told
+            reported
         }
     }
 }

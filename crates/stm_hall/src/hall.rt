@@ -8,10 +8,10 @@ ghost use Rattle.stm_compile.specs.Conflicts.{changes_above};
 ghost use Rattle.stm_hall.specs.HallState.{made_over};
 ghost use Rattle.stm_hall.specs.Locked.{IsLocked};
 ghost use Rattle.stm_hall.specs.Laws.{GoesOn, ChangesAsAlone};
-ghost use Rattle.stm_hall.specs.Fetching.{OnlyReads, fetched, told_alone, FetchTells};
-ghost use Rattle.stm_hall.specs.Verdicts.{verdict_of, CommitTells, CanGoOn};
+ghost use Rattle.stm_hall.specs.Fetching.{OnlyReads, fetched, reported_alone, FetchReturns};
+ghost use Rattle.stm_hall.specs.Verdicts.{verdict_of, CommitReturns, CanGoOn};
 ghost use Rattle.stm_hall.specs.Showing.{IsShown};
-ghost use Rattle.stm_hall.specs.Entering.{made, TxnTells, IsAdvanced, HasStopped};
+ghost use Rattle.stm_hall.specs.Entering.{made, TxnReturns, IsAdvanced, HasStopped};
 
 use crate::calls::fetch_one;
 use crate::changed::is_changed_above;
@@ -83,7 +83,7 @@ impl Hall {
     /// store's `txn` refuses it. It changes nothing, refused or not. (etcd's API reference, "Range".)
     pub fn fetch(&mut self, seen: u64, txn: &Txn) -> Result<TxnAnswer, FetchRefusal>
         requires { OnlyReads txn.now }
-        ensures answer { FetchTells (fetched self.old.standing seen txn.now) result }
+        ensures answer { FetchReturns (fetched self.old.standing seen txn.now) result }
         ensures seen { IfOk result (λ answer. seen ≤ answer.revision) }
         ensures numbers { IfOk result AnswerFits }
         ensures same { self.new ≡ self.old }
@@ -98,7 +98,7 @@ impl Hall {
     /// above the store's; then `Compacted`: it is not 0 and below the store's floor. `OutOfMemory` may come only where none of these
     /// does. (etcd's API reference, "Range".)
     pub fn fetch_one(&self, seen: u64, key: &str, at: u64) -> Result<ReadAnswer, FetchRefusal>
-        ensures answer { FetchTells (fetched self.now.standing seen (fetch_of key.now at)) (told_alone result) }
+        ensures answer { FetchReturns (fetched self.now.standing seen (fetch_of key.now at)) (reported_alone result) }
         ensures seen { IfOk result (λ answer. seen ≤ answer.revision) }
         ensures numbers { IfOk result ReadFits }
     {
@@ -118,7 +118,7 @@ impl Hall {
     /// change at the highest revision. `OutOfMemory` may come before each of these. (The Go package
     /// `clientv3/concurrency`, "STM"; `Unvouched` and the order of the refusals are this hall's own.)
     pub fn commit(&mut self, ready: &Ready) -> Result<Verdict, CommitRefusal>
-        ensures verdict { CommitTells (verdict_of self.old ready.now) self.old result self.new }
+        ensures verdict { CommitReturns (verdict_of self.old ready.now) self.old result self.new }
         ensures answers { IfOk result CanGoOn }
         ensures alone { IfOk result (λ verdict. ChangesAsAlone ready.now verdict self.old self.new) }
         ensures goes_on { GoesOn self.old self.new }
@@ -129,7 +129,7 @@ impl Hall {
     /// Commits an attempt as `commit` does, that was prepared for it, so that less is done while the hall is locked: its changes are moved into the store,
     /// and the attempt into its entry.
     pub fn commit_prepared(&mut self, prepared: Prepared) -> Result<Verdict, CommitRefusal>
-        ensures verdict { CommitTells (verdict_of self.old prepared) self.old result self.new }
+        ensures verdict { CommitReturns (verdict_of self.old prepared) self.old result self.new }
         ensures answers { IfOk result CanGoOn }
         ensures alone { IfOk result (λ verdict. ChangesAsAlone prepared verdict self.old self.new) }
         ensures goes_on { GoesOn self.old self.new }
@@ -142,7 +142,7 @@ impl Hall {
     /// It is refused as the store's `txn` refuses it, and then the hall is as it was. Want of memory is told only of a
     /// transaction that the store takes.
     pub fn foreign(&mut self, txn: &Txn) -> Result<TxnAnswer, Refusal>
-        ensures made { TxnTells (made self.old txn.now) self.old result self.new }
+        ensures made { TxnReturns (made self.old txn.now) self.old result self.new }
         ensures goes_on { GoesOn self.old self.new }
     {
         self.log.make_txn(txn)

@@ -3,9 +3,9 @@ ghost use Rattle.std.specs.Prelude.{◌≡◌, ◌≤◌, None, IfOk, IfErr};
 ghost use Rattle.stm_outcome.specs.Numbers.{AnswerFits};
 ghost use Rattle.stm_outcome.specs.Terms.{most_operations};
 ghost use Rattle.stm_attempt.specs.ReadyRun.{IsRunOnItsAnswers};
-ghost use Rattle.stm_hall.specs.Fetching.{OnlyReads, fetched, FetchTells};
-ghost use Rattle.stm_hall.specs.Verdicts.{verdict_of, CommitTells, CanGoOn};
-ghost use Rattle.stm_hall.specs.Entering.{made, TxnTells, IsAdvanced, HasStopped};
+ghost use Rattle.stm_hall.specs.Fetching.{OnlyReads, fetched, FetchReturns};
+ghost use Rattle.stm_hall.specs.Verdicts.{verdict_of, CommitReturns, CanGoOn};
+ghost use Rattle.stm_hall.specs.Entering.{made, TxnReturns, IsAdvanced, HasStopped};
 
 use crate::calls::{advance, fetch, make_txn};
 use crate::committing::commit;
@@ -43,7 +43,7 @@ impl Log {
     /// Answers reads, for a caller that has seen this revision. It changes nothing.
     pub(crate) fn fetch(&mut self, seen: u64, txn: &Txn) -> Result<TxnAnswer, FetchRefusal>
         requires { OnlyReads txn.now }
-        ensures answer { FetchTells (fetched self.old.standing seen txn.now) result }
+        ensures answer { FetchReturns (fetched self.old.standing seen txn.now) result }
         ensures seen { IfOk result (λ answer. seen ≤ answer.revision) }
         ensures numbers { IfOk result AnswerFits }
         ensures same { self.new ≡ self.old }
@@ -57,7 +57,7 @@ impl Log {
         alloc: Global,
         prepared: Prepared,
     ) -> Result<Verdict, CommitRefusal>
-        ensures verdict { CommitTells (verdict_of self.old prepared) self.old result self.new }
+        ensures verdict { CommitReturns (verdict_of self.old prepared) self.old result self.new }
         ensures answers { IfOk result CanGoOn }
         ensures run { IsRunOnItsAnswers prepared }
     {
@@ -66,7 +66,7 @@ impl Log {
 
     /// Commits an attempt that is ready, by a copy of it.
     pub(crate) fn commit(&mut self, alloc: Global, ready: &Ready) -> Result<Verdict, CommitRefusal>
-        ensures verdict { CommitTells (verdict_of self.old ready.now) self.old result self.new }
+        ensures verdict { CommitReturns (verdict_of self.old ready.now) self.old result self.new }
         ensures answers { IfOk result CanGoOn }
         ensures run { IsRunOnItsAnswers ready.now }
     {
@@ -76,7 +76,7 @@ impl Log {
 
     /// Makes another client's transaction.
     pub(crate) fn make_txn(&mut self, txn: &Txn) -> Result<TxnAnswer, Refusal>
-        ensures made { TxnTells (made self.old txn.now) self.old result self.new }
+        ensures made { TxnReturns (made self.old txn.now) self.old result self.new }
         ensures few { self.old.standing.limit ≤ most_operations }
     {
         let _few = self.store.limit();

@@ -9,7 +9,7 @@ use stm_txn::Refusal;
 pub struct StoreRefusal {
     /// Why the call was refused.
     pub cause: Refusal,
-    pub ghost is_no_want: { cause ≢ OutOfMemory },
+    pub ghost is_not_out_of_memory: { cause ≢ OutOfMemory },
 }
 
 impl StoreRefusal {

@@ -4,7 +4,7 @@ use Rattle.stm_json.specs.declared.read_error.BadInput.{BadInput}
 use Rattle.stm_json.specs.declared.read_error.ReadError.{ReadError}
 use Rattle.stm_json.specs.declared.read_error.ReadError.TheVariants.{OutOfMemory, Bad}
 use Rattle.stm_json.specs.Outcome.{Outcome, ◌>>=◌, inside, within}
-use Rattle.stm_json.specs.Tells.{Tells, TellsFault, Wraps}
+use Rattle.stm_json.specs.Returns.{Returns, ReturnsFault, Wraps}
 use Rattle.stm_world.specs.declared.event.WorldEvent.{WorldEvent}
 use Rattle.stm_jobs.specs.Accepting.{Sorted, add_event, add_events}
 
@@ -13,22 +13,22 @@ use Rattle.stm_jobs.specs.Accepting.{Sorted, add_event, add_events}
 module _ {X A : Type 0} where
   -- a value there is a value here
   pub within_ok : (view : X → A) (index : ℕ) (outcome result : Result X ReadError) (reading : Outcome A) (x : X)
-      → Wraps index outcome result → Tells view outcome reading → result ≡ Ok x → reading ≡ Ok (view x)
-  within_ok view index (Ok y) result reading x wraps told is = cc
-  within_ok view index (Err OutOfMemory) result reading x wraps told is = absurd (cc)
-  within_ok view index (Err (Bad fault)) result reading x (inl out) told is = absurd (cc)
-  within_ok view index (Err (Bad fault)) result reading x (inr bad) told is = absurd (cc)
+      → Wraps index outcome result → Returns view outcome reading → result ≡ Ok x → reading ≡ Ok (view x)
+  within_ok view index (Ok y) result reading x wraps reported is = cc
+  within_ok view index (Err OutOfMemory) result reading x wraps reported is = absurd (cc)
+  within_ok view index (Err (Bad fault)) result reading x (inl out) reported is = absurd (cc)
+  within_ok view index (Err (Bad fault)) result reading x (inr bad) reported is = absurd (cc)
 
   -- an error there is the fault here, at its place in the array
   pub within_err : (view : X → A) (index : ℕ) (outcome result : Result X ReadError) (reading : Outcome A) (e : ReadError)
-      → Wraps index outcome result → Tells view outcome reading → result ≡ Err e → TellsFault e (within index reading)
-  within_err view index (Ok y) result reading e wraps told is = absurd (cc)
-  within_err view index (Err outcome) result reading OutOfMemory wraps told is = tt
-  within_err view index (Err OutOfMemory) result reading (Bad placed) wraps told is = absurd (cc)
-  within_err view index (Err (Bad fault)) result reading (Bad placed) (inl out) told is = absurd (cc)
-  within_err view index (Err (Bad fault)) result reading (Bad placed) (inr bad) told is =
+      → Wraps index outcome result → Returns view outcome reading → result ≡ Err e → ReturnsFault e (within index reading)
+  within_err view index (Ok y) result reading e wraps reported is = absurd (cc)
+  within_err view index (Err outcome) result reading OutOfMemory wraps reported is = tt
+  within_err view index (Err OutOfMemory) result reading (Bad placed) wraps reported is = absurd (cc)
+  within_err view index (Err (Bad fault)) result reading (Bad placed) (inl out) reported is = absurd (cc)
+  within_err view index (Err (Bad fault)) result reading (Bad placed) (inr bad) reported is =
       let same : inside index fault ≡ placed = cc in
-      ap (λ (o : Outcome A). within index o) told ∙ ap (λ (b : BadInput). Err b) same
+      ap (λ (o : Outcome A). within index o) reported ∙ ap (λ (b : BadInput). Err b) same
 
 -- ---- one event
 
@@ -49,12 +49,12 @@ next_event first before events rest event old new total is added so_far =
 
 -- it was not, so nothing is accepted
 pub stops_at : (first before : ℕ) (events rest : List WorldEvent) (event : WorldEvent) (old : Sorted) (total : Outcome Sorted) (e : ReadError)
-    → events ≡ event ∷ rest → TellsFault e (within (first + before) (add_event old event)) → add_events first before events old ≡ total
-    → TellsFault e total
-stops_at first before events rest event old total OutOfMemory is told so_far = tt
-stops_at first before events rest event old total (Bad fault) is told so_far =
+    → events ≡ event ∷ rest → ReturnsFault e (within (first + before) (add_event old event)) → add_events first before events old ≡ total
+    → ReturnsFault e total
+stops_at first before events rest event old total OutOfMemory is reported so_far = tt
+stops_at first before events rest event old total (Bad fault) is reported so_far =
     sym (step_of first before events rest event old total is so_far)
-    ∙ ap (λ (o : Outcome Sorted). o >>= (λ (next : Sorted). add_events first (suc before) rest next)) told
+    ∙ ap (λ (o : Outcome Sorted). o >>= (λ (next : Sorted). add_events first (suc before) rest next)) reported
 
 -- ---- the end
 

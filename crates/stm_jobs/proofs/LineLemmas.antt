@@ -35,16 +35,16 @@ all_values before text es i end so_far =
 -- the same of the pairs of an outcome
 pub next_pair : (so_far total : List Data) (es : List StateEntry) (i : ℕ) (e : StateEntry) → slice_get es i ≡ Some e →
     so_far ++ pairs (drop i es) ≡ total → (so_far ++ pair_data e.key e.value ∷ []) ++ pairs (drop (i + 1) es) ≡ total
-next_pair so_far total es i e at told =
+next_pair so_far total es i e at reported =
     let k : i + 1 ≡ suc i = omega arith in
     let one : so_far ++ pairs (drop i es) ≡ (so_far ++ pair_data e.key e.value ∷ []) ++ pairs (drop (i + 1) es) =
     ap (λ (fs : List StateEntry). so_far ++ pairs fs) (next_entry es i e at)
     ∙ sym (append_assoc so_far (pair_data e.key e.value ∷ []) (pairs (drop (suc i) es))) ∙ rw k refl in
-    sym one ∙ told
+    sym one ∙ reported
 
 pub all_pairs : (so_far : List Data) (es : List StateEntry) (i : ℕ) → length es ≤ i → so_far ++ pairs (drop i es) ≡ pairs es → so_far ≡ pairs es
-all_pairs so_far es i end told =
-    sym (append-nil so_far) ∙ ap (λ (fs : List StateEntry). so_far ++ pairs fs) (sym (drop_all i es end)) ∙ told
+all_pairs so_far es i end reported =
+    sym (append-nil so_far) ∙ ap (λ (fs : List StateEntry). so_far ++ pairs fs) (sym (drop_all i es end)) ∙ reported
 
 -- a state of which an entry was looked at ascends, and so does one without entries
 pub ascends : (es : List StateEntry) (i : ℕ) → length es ≤ i → (0 < i → states.IsAscending es) → states.IsAscending es

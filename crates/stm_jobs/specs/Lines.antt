@@ -35,7 +35,7 @@ job_refusal_name (Unvouched key) = codes "Unvouched"
 
 -- the line of a job: its number, how it ended, what tells more of that, and how many attempts of it were made
 abbrev pub job_line : ℕ → List ℕ → Data → ℕ → Data
-job_line job word told attempts = list (string (codes "job") ∷ whole job ∷ string word ∷ told ∷ whole attempts ∷ [])
+job_line job word reported attempts = list (string (codes "job") ∷ whole job ∷ string word ∷ reported ∷ whole attempts ∷ [])
 
 -- a commit tells the revision after it, an abort its text, a fault and a refusal their names, and a job that gave up the key of its last conflict
 abbrev pub end_of_job : ℕ → JobEnd → ℕ → Data
@@ -60,10 +60,10 @@ ends_shown true ends attempts = lines_of_ends attempts 0 ends
 -- how many jobs there are and how many committed, these lines of their ends, the value of each key that is present, ascending by bytes, and the
 -- revision
 abbrev pub text_of : ℕ → ℕ → List Data → List StateEntry → ℕ → List ℕ
-text_of jobs committed told entries revision =
+text_of jobs committed reported entries revision =
     line_text (count_line (codes "jobs") jobs)
     ++ line_text (count_line (codes "committed") committed)
-    ++ lines_text told
+    ++ lines_text reported
     ++ lines_text (value_lines entries)
     ++ line_text (count_line (codes "end") revision)
 

@@ -1,6 +1,6 @@
 //! Which scenario is one of jobs.
 ghost use Rattle.std.specs.Prelude.{◌≡◌, ◌≤◌};
-ghost use Rattle.stm_json.specs.Tells.{Tells};
+ghost use Rattle.stm_json.specs.Returns.{Returns};
 ghost use Rattle.stm_jobs.specs.Accepting.{sorted_of, shift_of, add_call, add_task, add_event, accepted};
 
 use std::alloc::Global;
@@ -22,7 +22,7 @@ pub struct JobScenario {
 
 /// Adds a call of the store.
 fn add_call(sorted: &mut JobScenario, call: WorldEvent) -> Result<(), ReadError>
-    ensures { Tells (λ _. sorted_of sorted.new) result (add_call (sorted_of sorted.old) call) }
+    ensures { Returns (λ _. sorted_of sorted.new) result (add_call (sorted_of sorted.old) call) }
 {
     sorted.calls.push(call)?;
     Ok(())
@@ -36,7 +36,7 @@ fn add_job(
     level: Level,
     limit: u32,
 ) -> Result<(), ReadError>
-    ensures { Tells (λ _. sorted_of sorted.new) result (add_task (sorted_of sorted.old) (record { program = program; level = level; limit = limit })) }
+    ensures { Returns (λ _. sorted_of sorted.new) result (add_task (sorted_of sorted.old) (record { program = program; level = level; limit = limit })) }
 {
     if limit == 0 {
         return within(alloc, 2, Err(fault(alloc, Cause::Shape)));
@@ -51,7 +51,7 @@ fn add_job(
 
 /// Adds an event: a job, or a call of the store. Another event is of no shape.
 fn add(alloc: Global, sorted: &mut JobScenario, event: WorldEvent) -> Result<(), ReadError>
-    ensures { Tells (λ _. sorted_of sorted.new) result (add_event (sorted_of sorted.old) event) }
+    ensures { Returns (λ _. sorted_of sorted.new) result (add_event (sorted_of sorted.old) event) }
 {
     match event {
         WorldEvent::Start {
@@ -87,7 +87,7 @@ fn first_place(opening: Option<Opening>) -> usize
 /// The jobs and the calls of a scenario, or the first event that is neither, in their order: of no shape, at the event, or at the limit of a
 /// job that may send no commit.
 pub fn accept(alloc: Global, scenario: Scenario) -> Result<JobScenario, ReadError>
-    ensures { Tells sorted_of result (accepted scenario) }
+    ensures { Returns sorted_of result (accepted scenario) }
 {
     let first = first_place(scenario.opening);
     let mut sorted = JobScenario {

@@ -167,8 +167,8 @@ fn state_text(alloc: Global, state: &State) -> Result<String, AllocError>
 fn ends_text(alloc: Global, entries: &[Entry], ends: &[JobEnd]) -> Result<String, AllocError>
     ensures { IfOk result (λ text. string_bytes text ≡ compact_text (list (map (end_data entries.now) ends.now))) }
 {
-    let told = ends_json(alloc, entries, ends)?;
-    let text = compact(alloc, &told)?;
+    let reported = ends_json(alloc, entries, ends)?;
+    let text = compact(alloc, &reported)?;
     Ok(text)
 }
 
@@ -183,11 +183,11 @@ fn front_text(
     ensures ascending { OnOk result (IsAscending state.now) }
 {
     let keys = state_text(alloc, state)?;
-    let told = ends_text(alloc, entries, ends)?;
+    let reported = ends_text(alloc, entries, ends)?;
     let mut text = String::from_str(alloc, "[\"outcome\",")?;
     text.push_str(keys.as_str())?;
     text.push_str(",")?;
-    text.push_str(told.as_str())?;
+    text.push_str(reported.as_str())?;
     Ok(text)
 }
 

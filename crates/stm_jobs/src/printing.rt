@@ -53,12 +53,12 @@ fn number_json(
     alloc: Global,
     job: u64,
     word: &str,
-    told: u64,
+    reported: u64,
     attempts: u32,
 ) -> Result<Json, AllocError>
-    ensures { IfOk result (λ v. view v ≡ job_line job word.now (whole told) attempts) }
+    ensures { IfOk result (λ v. view v ≡ job_line job word.now (whole reported) attempts) }
 {
-    json!(in alloc; ["job", job, word, told, attempts])
+    json!(in alloc; ["job", job, word, reported, attempts])
 }
 
 /// The line of a job whose end tells a text.
@@ -66,12 +66,12 @@ fn text_json(
     alloc: Global,
     job: u64,
     word: &str,
-    told: &str,
+    reported: &str,
     attempts: u32,
 ) -> Result<Json, AllocError>
-    ensures { IfOk result (λ v. view v ≡ job_line job word.now (string told.now) attempts) }
+    ensures { IfOk result (λ v. view v ≡ job_line job word.now (string reported.now) attempts) }
 {
-    json!(in alloc; ["job", job, word, told, attempts])
+    json!(in alloc; ["job", job, word, reported, attempts])
 }
 
 /// Adds the line of a job whose end tells a number.
@@ -80,12 +80,12 @@ fn push_number(
     text: &mut String,
     job: u64,
     word: &str,
-    told: u64,
+    reported: u64,
     attempts: u32,
 ) -> Result<(), AllocError>
-    ensures { OnOk result (string_bytes text.new ≡ string_bytes text.old ++ line_text (job_line job word.now (whole told) attempts)) }
+    ensures { OnOk result (string_bytes text.new ≡ string_bytes text.old ++ line_text (job_line job word.now (whole reported) attempts)) }
 {
-    let line = number_json(alloc, job, word, told, attempts)?;
+    let line = number_json(alloc, job, word, reported, attempts)?;
     push_line(alloc, text, &line)
 }
 
@@ -95,12 +95,12 @@ fn push_text(
     text: &mut String,
     job: u64,
     word: &str,
-    told: &str,
+    reported: &str,
     attempts: u32,
 ) -> Result<(), AllocError>
-    ensures { OnOk result (string_bytes text.new ≡ string_bytes text.old ++ line_text (job_line job word.now (string told.now) attempts)) }
+    ensures { OnOk result (string_bytes text.new ≡ string_bytes text.old ++ line_text (job_line job word.now (string reported.now) attempts)) }
 {
-    let line = text_json(alloc, job, word, told, attempts)?;
+    let line = text_json(alloc, job, word, reported, attempts)?;
     push_line(alloc, text, &line)
 }
 
@@ -129,8 +129,8 @@ fn push_end(
         JobEnd::Committed { revision, .. } => {
             push_number(alloc, text, job, "committed", *revision, attempts)
         }
-        JobEnd::Aborted { text: told, .. } => {
-            push_text(alloc, text, job, "aborted", told.as_str(), attempts)
+        JobEnd::Aborted { text: reported, .. } => {
+            push_text(alloc, text, job, "aborted", reported.as_str(), attempts)
         }
         JobEnd::Faulted { fault, .. } => {
             push_text(alloc, text, job, "faulted", fault.name(), attempts)

@@ -12,7 +12,7 @@ use Rattle.stm_json.specs.declared.read_error.ReadError.{ReadError}
 use Rattle.stm_json.specs.declared.read_error.ReadError.TheVariants as error
 use Rattle.stm_json.specs.Outcome.{Outcome, bad, ◌>>=◌, within, step}
 use Rattle.stm_json.specs.Elements.{whole_number, in_64_bits, in_range, from_least, number_up_to, number_in}
-use Rattle.stm_json.specs.Tells.{Tells}
+use Rattle.stm_json.specs.Returns.{Returns}
 use Rattle.stm_json.specs.Faults.{Faults, first_of, IsFirstFault, wrong, at, Table, AnyText, any_number, text_faults, number_faults, faults_by, worded_faults}
 use Rattle.stm_json.specs.Faults.{each_faults, list_faults}
 use Rattle.stm_json.specs.Parts.{on_text, text_of, each_from, list_of}
@@ -29,11 +29,11 @@ pub wrong_is : {A : Type 0} (p : List ℕ) (cause : Cause) (reading : Outcome A)
 wrong_is p cause reading e = rw e (ap (λ (q : List ℕ). fault_at q cause) (sym (append-nil p)))
 
 -- a function tells the first fault, where that is the one which reading answers
-pub told_faults : {X A : Type 0} (see : X → A) (first : Option BadInput) (r : Result X ReadError) (reading : Outcome A) → first ≡ fault_of [] reading
-    → Tells see r reading → MatchResult r (λ x. first ≡ None) (IsFirstFault first)
-told_faults see first (Ok x) reading is h = is ∙ ap (fault_of []) h
-told_faults see first (Err error.OutOfMemory) reading is h = tt
-told_faults see first (Err (error.Bad f)) reading is h = is ∙ ap (fault_of []) h
+pub reported_faults : {X A : Type 0} (see : X → A) (first : Option BadInput) (r : Result X ReadError) (reading : Outcome A) → first ≡ fault_of [] reading
+    → Returns see r reading → MatchResult r (λ x. first ≡ None) (IsFirstFault first)
+reported_faults see first (Ok x) reading is h = is ∙ ap (fault_of []) h
+reported_faults see first (Err error.OutOfMemory) reading is h = tt
+reported_faults see first (Err (error.Bad f)) reading is h = is ∙ ap (fault_of []) h
 
 -- ---- one part after the other
 
@@ -61,13 +61,13 @@ made p (Err e) make faults h = h
 
 -- ---- texts
 
-text_told : (p : List ℕ) (o : Option (List ℕ)) → first_of (text_faults p o) ≡ fault_of p (on_text (λ s. Ok s) o)
-text_told p (Some s) = refl
-text_told p None = wrong_is {A = List ℕ} p Shape (bad Shape) refl
+text_reported : (p : List ℕ) (o : Option (List ℕ)) → first_of (text_faults p o) ≡ fault_of p (on_text (λ s. Ok s) o)
+text_reported p (Some s) = refl
+text_reported p None = wrong_is {A = List ℕ} p Shape (bad Shape) refl
 
 pub text_faulted : (p : List ℕ) (d : Data) → first_of (faults_by AnyText p d) ≡ fault_of p (text_of d)
 unfolding text_of
-text_faulted p d = text_told p (as_str d)
+text_faulted p d = text_reported p (as_str d)
 
 -- ---- numbers
 
@@ -120,8 +120,8 @@ pub number_up_faulted : (p : List ℕ) (most : ℕ) (d : Data) → most < 2 ^ 63
 unfolding number_in
 number_up_faulted p most d small = number_faulted p 0 most d small ∙ ap (λ (reading : Outcome ℕ). fault_of p reading) (from_zero (number_up_to most d))
 
-pub number_told : (p : List ℕ) (d : Data) → first_of (faults_by any_number p d) ≡ fault_of p (number_up_to HIGHEST_NUMBER d)
-number_told p d = number_up_faulted p HIGHEST_NUMBER d (omega arith)
+pub number_reported : (p : List ℕ) (d : Data) → first_of (faults_by any_number p d) ≡ fault_of p (number_up_to HIGHEST_NUMBER d)
+number_reported p d = number_up_faulted p HIGHEST_NUMBER d (omega arith)
 
 -- ---- lists
 
@@ -129,15 +129,15 @@ pub each_faulted : {A : Type 0} (table : Table) (read : Data → Outcome A)
     → ((p : List ℕ) (d : Data) → first_of (worded_faults table p d) ≡ fault_of p (read d))
     → (p : List ℕ) (index : ℕ) (ds : Items) → first_of (each_faults table p index ds) ≡ fault_of p (each_from read index ds)
 unfolding each_from
-each_faulted table read told p index no_items = refl
-each_faulted {A} table read told p index (item d ds) =
-    part_then p index (read d) _ (worded_faults table (at p index) d) (each_faults table p (suc index) ds) (told (at p index) d)
+each_faulted table read reported p index no_items = refl
+each_faulted {A} table read reported p index (item d ds) =
+    part_then p index (read d) _ (worded_faults table (at p index) d) (each_faults table p (suc index) ds) (reported (at p index) d)
     (λ (x : A). made p (each_from read (suc index) ds) (λ (xs : List A). x ∷ xs) (each_faults table p (suc index) ds)
-    (each_faulted table read told p (suc index) ds))
+    (each_faulted table read reported p (suc index) ds))
 
 pub list_faulted : {A : Type 0} (table : Table) (read : Data → Outcome A)
     → ((p : List ℕ) (d : Data) → first_of (worded_faults table p d) ≡ fault_of p (read d))
     → (p : List ℕ) (d : Data) → first_of (list_faults table p d) ≡ fault_of p (list_of read (as_array d))
-list_faulted table read told p (array ds) = each_faulted table read told p 0 ds
-list_faulted {A} table read told p null = wrong_is {A = List A} p Shape (bad Shape) refl
-list_faulted {A} table read told p _ = wrong_is {A = List A} p Shape (bad Shape) refl
+list_faulted table read reported p (array ds) = each_faulted table read reported p 0 ds
+list_faulted {A} table read reported p null = wrong_is {A = List A} p Shape (bad Shape) refl
+list_faulted {A} table read reported p _ = wrong_is {A = List A} p Shape (bad Shape) refl

@@ -10,7 +10,7 @@ use Rattle.serde_json.specs.declared.value.Value.{Value}
 use Rattle.stm_json.specs.declared.read_error.ReadError.{ReadError}
 use Rattle.stm_json.specs.declared.read_error.ReadError.TheVariants as error
 use Rattle.stm_json.specs.Outcome.{Outcome, ◌>>=◌, within}
-use Rattle.stm_json.specs.Tells.{TellsFault}
+use Rattle.stm_json.specs.Returns.{ReturnsFault}
 use Rattle.stm_json.proofs.OutcomeLemmas.{bind_ok, within_ok}
 use Rattle.stm_json.specs.Parts.{SpellsEach, each_from, list_of}
 use Rattle.stm_json.proofs.PartLemmas.{list_is}
@@ -43,8 +43,8 @@ goes_on read front vs i v x total lt at is so_far =
     sym one ∙ so_far
 
 pub ends : {A : Type 0} (read : Data → Outcome A) (e : ReadError) (front : List A) (vs : List Value) (i : ℕ) (v : Value) (total : Outcome (List A))
-    → i < length vs → v ≡ get_or vs i v → TellsFault e (within i (read (view v)))
-    → with_front front (each_from read i (items_view (drop i vs))) ≡ total → TellsFault e total
+    → i < length vs → v ≡ get_or vs i v → ReturnsFault e (within i (read (view v)))
+    → with_front front (each_from read i (items_view (drop i vs))) ≡ total → ReturnsFault e total
 unfolding each_from
 ends read error.OutOfMemory front vs i v total lt at is so_far = tt
 ends read (error.Bad f) front vs i v total lt at is so_far =

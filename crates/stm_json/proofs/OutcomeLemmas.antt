@@ -4,7 +4,7 @@ use Rattle.stm_json.specs.declared.cause.Cause.{Cause}
 use Rattle.stm_json.specs.declared.read_error.ReadError.{ReadError}
 use Rattle.stm_json.specs.declared.read_error.ReadError.TheVariants.{OutOfMemory, Bad}
 use Rattle.stm_json.specs.Outcome.{Outcome, bad, ◌>>=◌, within}
-use Rattle.stm_json.specs.Tells.{Tells, Wraps}
+use Rattle.stm_json.specs.Returns.{Returns, Wraps}
 
 pub bind_ok : {A B : Type 0} (r : Outcome A) (f : A → Outcome B) (y : B) → (r >>= f) ≡ Ok y → (x : A) × (r ≡ Ok x) × (f x ≡ Ok y)
 bind_ok (Ok x) f y h = (x, refl, h)
@@ -19,22 +19,22 @@ guard_ok true x y cause h = (refl, cc)
 guard_ok false x y cause h = cc
 
 -- an outcome at an element, as the array's
-pub Tells-within : {X A : Type 0} (see : X → A) (index : ℕ) (outcome result : Result X ReadError) (reading : Outcome A)
-    → Tells see outcome reading → Wraps index outcome result → Tells see result (within index reading)
-Tells-within see index (Ok x) result reading told wrapped = rw (wrapped, told) refl
-Tells-within see index (Err OutOfMemory) result reading told wrapped = rw wrapped tt
-Tells-within see index (Err (Bad f)) result reading told (inl e) = rw e tt
-Tells-within see index (Err (Bad f)) result reading told (inr e) = rw (e, told) refl
+pub Returns-within : {X A : Type 0} (see : X → A) (index : ℕ) (outcome result : Result X ReadError) (reading : Outcome A)
+    → Returns see outcome reading → Wraps index outcome result → Returns see result (within index reading)
+Returns-within see index (Ok x) result reading reported wrapped = rw (wrapped, reported) refl
+Returns-within see index (Err OutOfMemory) result reading reported wrapped = rw wrapped tt
+Returns-within see index (Err (Bad f)) result reading reported (inl e) = rw e tt
+Returns-within see index (Err (Bad f)) result reading reported (inr e) = rw (e, reported) refl
 
 -- ---- what a function tells, in other words than those of reading
 
 -- what was read is so
-pub told_means : {X A : Type 0} (see : X → A) (P : A → Type 0) (r : Result X ReadError) (reading : Outcome A) → ((x : A) → reading ≡ Ok x → P x)
-    → Tells see r reading → IfOk r (λ x. P (see x))
-told_means see P (Ok x) reading means h = means (see x) h
-told_means see P (Err e) reading means h = tt
+pub reported_means : {X A : Type 0} (see : X → A) (P : A → Type 0) (r : Result X ReadError) (reading : Outcome A) → ((x : A) → reading ≡ Ok x → P x)
+    → Returns see r reading → IfOk r (λ x. P (see x))
+reported_means see P (Ok x) reading means h = means (see x) h
+reported_means see P (Err e) reading means h = tt
 
 -- what is so was read
-pub told_reads : {X A : Type 0} (see : X → A) (r : Result X ReadError) (reading other : Outcome A) → reading ≡ other → Tells see r reading
-    → Tells see r other
-told_reads {X} {A} see r reading other is h = subst (λ (o : Outcome A). Tells see r o) is h
+pub reported_reads : {X A : Type 0} (see : X → A) (r : Result X ReadError) (reading other : Outcome A) → reading ≡ other → Returns see r reading
+    → Returns see r other
+reported_reads {X} {A} see r reading other is h = subst (λ (o : Outcome A). Returns see r o) is h

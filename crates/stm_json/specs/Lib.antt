@@ -4,4 +4,4 @@ pub mod Elements
 pub mod Faults
 pub mod Parts
 pub mod Outcome
-pub mod Tells
+pub mod Returns

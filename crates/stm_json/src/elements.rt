@@ -2,7 +2,7 @@
 ghost use Rattle.std.specs.Prelude.{◌≡◌, ◌≤◌, option_map, IfOk};
 ghost use Rattle.serde_json.specs.View.{view, items_view};
 ghost use Rattle.stm_json.specs.Elements.{worded, one_of, two_of, three_of, four_of, number_up_to, number_in, whole_number};
-ghost use Rattle.stm_json.specs.Tells.{Tells};
+ghost use Rattle.stm_json.specs.Returns.{Returns};
 
 use crate::cause::Cause;
 use crate::place::fault;
@@ -62,7 +62,7 @@ pub fn four(elements: &[Value]) -> Option<(&Value, &Value, &Value, &Value)>
 /// else the value is.
 #[tactic(auto, unfolding(crate::specs::Elements::whole_number))]
 pub fn whole(alloc: Global, value: &Value) -> Result<i64, ReadError>
-    ensures { Tells (λ z. z) result (whole_number (view value.now)) }
+    ensures { Returns (λ z. z) result (whole_number (view value.now)) }
 {
     match value.as_i64() {
         Some(number) => Ok(number),
@@ -80,7 +80,7 @@ pub fn whole(alloc: Global, value: &Value) -> Result<i64, ReadError>
 /// number of 64 bits, `Shape` whatever else the value is.
 #[tactic(auto, unfolding(crate::specs::Elements::number_up_to))]
 pub fn number_within(alloc: Global, limit: u64, value: &Value) -> Result<u64, ReadError>
-    ensures exact { Tells (λ n. n) result (number_up_to limit (view value.now)) }
+    ensures exact { Returns (λ n. n) result (number_up_to limit (view value.now)) }
     ensures bounded { IfOk result (λ n. n ≤ limit) }
 {
     let number = whole(alloc, value)?;
@@ -98,7 +98,7 @@ pub fn number_within(alloc: Global, limit: u64, value: &Value) -> Result<u64, Re
 /// whole number of 64 bits, `Shape` whatever else the value is.
 #[tactic(auto, unfolding(crate::specs::Elements::number_in))]
 pub fn number_between(alloc: Global, least: u64, most: u64, value: &Value) -> Result<u64, ReadError>
-    ensures exact { Tells (λ n. n) result (number_in least most (view value.now)) }
+    ensures exact { Returns (λ n. n) result (number_in least most (view value.now)) }
     ensures bounded { IfOk result (λ n. (least ≤ n) × (n ≤ most)) }
 {
     let number = number_within(alloc, most, value)?;

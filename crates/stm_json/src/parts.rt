@@ -2,7 +2,7 @@
 ghost use Rattle.serde_json.specs.View.{view};
 ghost use Rattle.stm_json.specs.Elements.{number_up_to};
 ghost use Rattle.stm_json.specs.Outcome.{within as within_list};
-ghost use Rattle.stm_json.specs.Tells.{Tells};
+ghost use Rattle.stm_json.specs.Returns.{Returns};
 ghost use Rattle.stm_json.specs.Parts.{text_of};
 
 use crate::cause::Cause;
@@ -16,7 +16,7 @@ use stm_history::{HIGHEST_NUMBER, Text};
 /// A text, of any length. Anything else is `Shape`. `OutOfMemory` comes where a growth was refused.
 #[tactic(auto, unfolding(crate::specs::Parts::text_of))]
 pub fn text(alloc: Global, value: &Value) -> Result<Text, ReadError>
-    ensures { Tells (λ t. t) result (text_of (view value.now)) }
+    ensures { Returns (λ t. t) result (text_of (view value.now)) }
 {
     match value.as_str() {
         Some(text) => {
@@ -31,7 +31,7 @@ pub fn text(alloc: Global, value: &Value) -> Result<Text, ReadError>
 ///
 /// A fault's place is that in the array. `OutOfMemory` comes where a growth was refused.
 pub fn text_part(alloc: Global, index: usize, value: &Value) -> Result<Text, ReadError>
-    ensures { Tells (λ t. t) result (within_list index (text_of (view value.now))) }
+    ensures { Returns (λ t. t) result (within_list index (text_of (view value.now))) }
 {
     within(alloc, index, text(alloc, value))
 }
@@ -41,7 +41,7 @@ pub fn text_part(alloc: Global, index: usize, value: &Value) -> Result<Text, Rea
 ///
 /// A fault's place is that in the array. `OutOfMemory` comes where a growth was refused.
 pub fn number_part(alloc: Global, index: usize, value: &Value) -> Result<u64, ReadError>
-    ensures { Tells (λ n. n) result (within_list index (number_up_to HIGHEST_NUMBER (view value.now))) }
+    ensures { Returns (λ n. n) result (within_list index (number_up_to HIGHEST_NUMBER (view value.now))) }
 {
     within(alloc, index, number_within(alloc, HIGHEST_NUMBER, value))
 }

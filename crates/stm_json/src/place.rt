@@ -1,7 +1,7 @@
 //! Places of faults.
 ghost use Rattle.std.specs.Prelude.{◌≡◌, [], ◌++◌, IfOk};
 ghost use Rattle.stm_json.specs.Outcome.{step};
-ghost use Rattle.stm_json.specs.Tells.{Wraps};
+ghost use Rattle.stm_json.specs.Returns.{Wraps};
 ghost use Rattle.stm_json.specs.declared.read_error.ReadError.TheVariants.{Bad};
 
 use crate::cause::Cause;

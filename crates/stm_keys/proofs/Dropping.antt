@@ -54,7 +54,7 @@ have_versions m below xs rest oldest is kept k some =
 
 module _ {Y S R : Type 0} (m : HashMap (String Y) Chain S) (n : HashMap (String Y) Chain R) (below opened floor present : ℕ) (xs rest : List (List Event))
     (oldest : List Event) (is : xs ≡ oldest ∷ rest) (kept : IsKept (opening_of below m) (reverse xs) (get_by_text m))
-    (told : (k : List ℕ) → versions_in (get_by_text n k) ≡ forgotten (event_about k oldest) (versions_in (get_by_text m k)))
+    (reported : (k : List ℕ) → versions_in (get_by_text n k) ≡ forgotten (event_about k oldest) (versions_in (get_by_text m k)))
     (first : StandFirst (λ key. is_some (key_after (opening_of below m) key (changes_of (reverse xs)))) present (names_of m))
     (drops : DropsAbsent (λ k. versions_in (get_by_text n k)) (names_of m) (names_of n)) (low : floor ≤ below + length xs) where
   kept_whole : IsKept (opening_of below m) (reverse rest ++ oldest ∷ []) (get_by_text m)
@@ -63,14 +63,14 @@ module _ {Y S R : Type 0} (m : HashMap (String Y) Chain S) (n : HashMap (String 
   kept_next : IsKept (opening_of (below + 1) n) (reverse rest) (get_by_text n)
   kept_next =
       forgotten_kept (opening_of below m) (opening_of (below + 1) n) oldest refl
-      (next_opened (opening_of below m) n (reverse rest) oldest (get_by_text m) kept_whole told)
-      (reverse rest) (get_by_text m) (get_by_text n) kept_whole told
+      (next_opened (opening_of below m) n (reverse rest) oldest (get_by_text m) kept_whole reported)
+      (reverse rest) (get_by_text m) (get_by_text n) kept_whole reported
 
   same_now : (key : List ℕ) → key_after (opening_of (below + 1) n) key (changes_of (reverse rest))
       ≡ key_after (opening_of below m) key (changes_of (reverse xs))
   same_now key =
       key_same (opening_of below m) (opening_of (below + 1) n) oldest refl
-      (next_opened (opening_of below m) n (reverse rest) oldest (get_by_text m) kept_whole told) key (reverse rest)
+      (next_opened (opening_of below m) n (reverse rest) oldest (get_by_text m) kept_whole reported) key (reverse rest)
       ∙ ap (λ (l : List (List Event)). key_after (opening_of below m) key (changes_of l)) (sym (reversed_front xs rest oldest is))
 
   dropped : StandFirst (λ key. is_some (key_after (opening_of below m) key (changes_of (reverse xs)))) present (names_of n)
@@ -99,7 +99,7 @@ module _ {Y S R : Type 0} (m : HashMap (String Y) Chain S) (n : HashMap (String 
   unfolding contents
   forgotten_view =
       ap (λ (h : History). contents h (present_among (λ key. key_after (opening_of (below + 1) n) key (changes_of (reverse rest))) (names_of n)))
-      (next_history (opening_of below m) n (reverse rest) oldest (get_by_text m) kept_whole told
+      (next_history (opening_of below m) n (reverse rest) oldest (get_by_text m) kept_whole reported
       ∙ ap (λ (l : List (List Event)). cut (below + 1) (let h : History = record { opening = opening_of below m; revisions = changes_of l } in h))
       (sym (reversed_front xs rest oldest is)))
       ∙ ap (contents (cut (below + 1) (record { opening = opening_of below m; revisions = changes_of (reverse xs) })))

@@ -180,13 +180,13 @@ module _ (old new : Opening) (oldest : List Event) (numbered : new.number ≡ ol
 
   pub forgotten_kept : (newer : List (List Event)) (chains next : List ℕ → Option Chain) → IsKept old (newer ++ oldest ∷ []) chains →
       ((key : List ℕ) → versions_in (next key) ≡ forgotten (event_about key oldest) (versions_in (chains key))) → IsKept new newer next
-  forgotten_kept newer chains next kept told = record {
+  forgotten_kept newer chains next kept reported = record {
     positive = omega (arith, numbered);
     bounded = omega (arith, numbered, kept.bounded, length_push newer oldest);
     shaped = still_shaped newer kept.shaped;
     events = still_events newer kept.events;
     versions = λ key.
-        told key
+        reported key
         ∙ ap (forgotten (event_about key oldest)) (kept.versions key)
         ∙ versions_same key newer (older_recorded old newer (oldest ∷ []) kept.events);
   }
@@ -195,10 +195,10 @@ module _ (old new : Opening) (oldest : List Event) (numbered : new.number ≡ ol
 
 module _ {Y S : Type 0} (old : Opening) (next : HashMap (String Y) Chain S) (newer : List (List Event)) (oldest : List Event)
     (chains : List ℕ → Option Chain) (kept : IsKept old (newer ++ oldest ∷ []) chains)
-    (told : (key : List ℕ) → versions_in (get_by_text next key) ≡ forgotten (event_about key oldest) (versions_in (chains key))) where
-  before_told : (key : List ℕ) → (versions_in (get_by_text next key)).before ≡ key_after old key (changes_of (oldest ∷ []))
-  before_told key =
-      ap (λ (v : Versions). v.before) (told key)
+    (reported : (key : List ℕ) → versions_in (get_by_text next key) ≡ forgotten (event_about key oldest) (versions_in (chains key))) where
+  before_reported : (key : List ℕ) → (versions_in (get_by_text next key)).before ≡ key_after old key (changes_of (oldest ∷ []))
+  before_reported key =
+      ap (λ (v : Versions). v.before) (reported key)
       ∙ before_forgotten (event_about key oldest) (versions_in (chains key))
       ∙ ap (after_event (event_about key oldest))
       (ap (λ (v : Versions). v.before) (kept.versions key) ∙ before_opened old key (newer ++ oldest ∷ []))
@@ -207,7 +207,7 @@ module _ {Y S : Type 0} (old : Opening) (next : HashMap (String Y) Chain S) (new
 
   pub next_opened : (key : List ℕ) → opened_state (opening_of (old.number + 1) next) key ≡ key_after old key (changes_of (oldest ∷ []))
   next_opened key =
-      ap (if_reached (old.number + 1)) (before_found next (old.number + 1) key ∙ before_told key)
+      ap (if_reached (old.number + 1)) (before_found next (old.number + 1) key ∙ before_reported key)
       ∙ small_opened (old.number + 1) (key_after old key (changes_of (oldest ∷ [])))
       (stays_small (number_of_last old (changes_of (oldest ∷ []))) (old.number + 1) (key_after old key (changes_of (oldest ∷ []))) (omega arith)
       (are_small old key (changes_of (oldest ∷ []))))
@@ -240,7 +240,7 @@ module _ {Y S : Type 0} (old : Opening) (next : HashMap (String Y) Chain S) (new
       ap (λ (s : States). let h : History = record { opening = record { number = number; states = s }; revisions = changes_of newer } in h)
       (same_states (λ key. (versions_in (get_by_text next key)).before) (λ key. key_at whole key number) (names_of next) (keys_named whole)
       (λ key. before_found next number key
-      ∙ before_told key
+      ∙ before_reported key
       ∙ sym (ap (key_after old key) (up_to_oldest newer))
       ∙ sym (found_at whole number key)))
       ∙ ap (λ (l : List (List Change)). let h : History = record { opening = opening_of_cut number whole; revisions = l } in h) (sym (above_oldest newer))
@@ -451,14 +451,14 @@ front_apart (x ∷ es) e apart =
 
 -- one event is forgotten, of several that are apart
 module _ (es : List Event) (e : Event) (between new at_last : List ℕ → Versions) (alone : event_about (key_of_event e) es ≡ None)
-    (told : (k : List ℕ) → forgotten (event_about k (es ++ e ∷ [])) (between k) ≡ at_last k)
+    (reported : (k : List ℕ) → forgotten (event_about k (es ++ e ∷ [])) (between k) ≡ at_last k)
     (made : (k : List ℕ) → new k ≡ forgotten (cond (bytes_eq (key_of_event e) k) (Some e) None) (between k))
     (oldest : (k : List ℕ) → is_some (event_about k (es ++ e ∷ [])) ≡ true → 0 < length (between k).numbers) where
   absent_rest : (k : List ℕ) → bytes_eq (key_of_event e) k ≡ true → event_about k es ≡ None
   absent_rest k same = ap (λ (l : List ℕ). event_about l es) (sym ((bytes_eq-Decides (key_of_event e) k).0 same)) ∙ alone
 
-  pub told_on : (k : List ℕ) → forgotten (event_about k es) (new k) ≡ at_last k
-  told_on k = by_test (bytes_eq (key_of_event e) k) refl
+  pub reported_on : (k : List ℕ) → forgotten (event_about k es) (new k) ≡ at_last k
+  reported_on k = by_test (bytes_eq (key_of_event e) k) refl
     where
       by_test : (b : Bool) → bytes_eq (key_of_event e) k ≡ b → forgotten (event_about k es) (new k) ≡ at_last k
       by_test true same =
@@ -468,13 +468,13 @@ module _ (es : List Event) (e : Event) (between new at_last : List ℕ → Versi
           ∙ sym (ap (λ (o : Option Event). forgotten (either o (Some e)) (between k)) (absent_rest k same))
           ∙ sym (ap (λ b. forgotten (either (event_about k es) (cond b (Some e) None)) (between k)) same)
           ∙ sym (ap (λ (o : Option Event). forgotten o (between k)) (about_last k es e))
-          ∙ told k
+          ∙ reported k
       by_test false differs =
           ap (forgotten (event_about k es)) (made k ∙ ap (λ b. forgotten (cond b (Some e) None) (between k)) differs)
           ∙ sym (ap (λ (o : Option Event). forgotten o (between k)) (either_right (event_about k es)))
           ∙ sym (ap (λ b. forgotten (either (event_about k es) (cond b (Some e) None)) (between k)) differs)
           ∙ sym (ap (λ (o : Option Event). forgotten o (between k)) (about_last k es e))
-          ∙ told k
+          ∙ reported k
 
   pub oldest_on : (k : List ℕ) → is_some (event_about k es) ≡ true → 0 < length (new k).numbers
   oldest_on k some = by_test (bytes_eq (key_of_event e) k) refl
@@ -491,7 +491,7 @@ module _ (es : List Event) (e : Event) (between new at_last : List ℕ → Versi
   gone_on k none = by_about (event_about k es) refl
     where
       by_about : (o : Option Event) → event_about k es ≡ o → at_last k ≡ no_versions
-      by_about None is = sym (told_on k) ∙ ap (λ (o : Option Event). forgotten o (new k)) is ∙ none
+      by_about None is = sym (reported_on k) ∙ ap (λ (o : Option Event). forgotten o (new k)) is ∙ none
       by_about (Some x) is =
           let some : 0 < length (new k).numbers = oldest_on k (ap (λ (o : Option Event). is_some o) is) in
           let never : length (new k).numbers ≡ 0 = ap (λ (v : Versions). length v.numbers) none in

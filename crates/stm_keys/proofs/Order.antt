@@ -215,7 +215,7 @@ keeps_more versions_at again a b c same one two = record {
 pub left_after : (e : Event) (es : List Event) (p q : List ℕ → Bool) → event_about (key_of_event e) es ≡ None →
     ((k : List ℕ) → is_left (event_about k (e ∷ es)) (p k) ≡ q k) →
     (k : List ℕ) → is_left (event_about k es) (cond (bytes_eq (key_of_event e) k) (is_put e) (p k)) ≡ q k
-left_after e es p q alone told k = by_test (bytes_eq (key_of_event e) k) refl
+left_after e es p q alone reported k = by_test (bytes_eq (key_of_event e) k) refl
   where
     by_test : (b : Bool) → bytes_eq (key_of_event e) k ≡ b → is_left (event_about k es) (cond (bytes_eq (key_of_event e) k) (is_put e) (p k)) ≡ q k
     by_test true same =
@@ -223,11 +223,11 @@ left_after e es p q alone told k = by_test (bytes_eq (key_of_event e) k) refl
         ap (λ o. is_left o (cond (bytes_eq (key_of_event e) k) (is_put e) (p k))) gone
         ∙ ap (λ b. cond b (is_put e) (p k)) same
         ∙ sym (ap (λ b. is_left (cond b (Some e) (event_about k es)) (p k)) same)
-        ∙ told k
+        ∙ reported k
     by_test false differs =
         ap (λ b. is_left (event_about k es) (cond b (is_put e) (p k))) differs
         ∙ sym (ap (λ b. is_left (cond b (Some e) (event_about k es)) (p k)) differs)
-        ∙ told k
+        ∙ reported k
 
 -- the present keys, counted and by their places
 one_less : (place n : ℕ) → nat_lt (suc place) (suc n) ≡ nat_lt place n

@@ -50,7 +50,7 @@ pub versions_left : (c : Event) (cs : List Event) (number : ℕ) (old new all : 
     ((k : List ℕ) → with_version (is_some (event_about k (c ∷ cs))) number (old k) ≡ all k) →
     ((k : List ℕ) → new k ≡ with_version (bytes_eq (key_of_event c) k) number (old k)) →
     (k : List ℕ) → with_version (is_some (event_about k cs)) number (new k) ≡ all k
-versions_left c cs number old new all apart told added k = by_test (bytes_eq (key_of_event c) k) refl
+versions_left c cs number old new all apart reported added k = by_test (bytes_eq (key_of_event c) k) refl
   where
     by_test : (b : Bool) → bytes_eq (key_of_event c) k ≡ b → with_version (is_some (event_about k cs)) number (new k) ≡ all k
     by_test true same =
@@ -59,11 +59,11 @@ versions_left c cs number old new all apart told added k = by_test (bytes_eq (ke
         ∙ added k
         ∙ ap (λ b. with_version b number (old k)) same
         ∙ sym (ap (λ b. with_version (is_some (cond b (Some c) (event_about k cs))) number (old k)) same)
-        ∙ told k
+        ∙ reported k
     by_test false differs =
         ap (with_version (is_some (event_about k cs)) number) (added k ∙ ap (λ b. with_version b number (old k)) differs)
         ∙ sym (ap (λ b. with_version (is_some (cond b (Some c) (event_about k cs))) number (old k)) differs)
-        ∙ told k
+        ∙ reported k
 
 -- a chain that was written under its key, and every other as it was
 module _ (get new : List ℕ → Option Chain) (key : List ℕ) (w : Chain) (written : (k : List ℕ) → new k ≡ cond (bytes_eq key k) (Some w) (get k)) where

@@ -144,19 +144,19 @@ walked_step : (before : Option KeyState) (key : List ℕ) (below bound : ℕ) (e
     after_event (event_there below (events ∷ older) key
     (newest_below bound (with_version (is_some (event_about key events)) (below + suc (length older)) versions).numbers)) before
     ≡ state_recorded before key (cond (nat_lt (below + suc (length older)) bound) (events ∷ older) (recorded_below below bound older))
-walked_step before key below bound events older versions told None about true less =
+walked_step before key below bound events older versions reported None about true less =
     ap (λ (o : Option Event). after_event (event_there below (events ∷ older) key
     (newest_below bound (with_version (is_some o) (below + suc (length older)) versions).numbers)) before) about
-    ∙ told
+    ∙ reported
     ∙ ap (state_recorded before key) (all_below below bound older (omega (arith, ltb-true (below + suc (length older)) bound less)))
     ∙ sym (ap (λ (o : Option Event). after_event o (state_recorded before key older)) about)
     ∙ sym (ap (λ b. state_recorded before key (cond b (events ∷ older) (recorded_below below bound older))) less)
-walked_step before key below bound events older versions told None about false more =
+walked_step before key below bound events older versions reported None about false more =
     ap (λ (o : Option Event). after_event (event_there below (events ∷ older) key
     (newest_below bound (with_version (is_some o) (below + suc (length older)) versions).numbers)) before) about
-    ∙ told
+    ∙ reported
     ∙ sym (ap (λ b. state_recorded before key (cond b (events ∷ older) (recorded_below below bound older))) more)
-walked_step before key below bound events older versions told (Some e) about true less =
+walked_step before key below bound events older versions reported (Some e) about true less =
     ap (λ (o : Option Event). after_event (event_there below (events ∷ older) key
     (newest_below bound (with_version (is_some o) (below + suc (length older)) versions).numbers)) before) about
     ∙ ap (λ b. after_event (event_there below (events ∷ older) key (cond b (Some (below + suc (length older))) (newest_below bound versions.numbers))) before) less
@@ -165,11 +165,11 @@ walked_step before key below bound events older versions told (Some e) about tru
     ∙ ap (λ (o : Option Event). after_event o before) about
     ∙ sym (ap (λ (o : Option Event). after_event o (state_recorded before key older)) about)
     ∙ sym (ap (λ b. state_recorded before key (cond b (events ∷ older) (recorded_below below bound older))) less)
-walked_step before key below bound events older versions told (Some e) about false more =
+walked_step before key below bound events older versions reported (Some e) about false more =
     ap (λ (o : Option Event). after_event (event_there below (events ∷ older) key
     (newest_below bound (with_version (is_some o) (below + suc (length older)) versions).numbers)) before) about
     ∙ ap (λ b. after_event (event_there below (events ∷ older) key (cond b (Some (below + suc (length older))) (newest_below bound versions.numbers))) before) more
-    ∙ told
+    ∙ reported
     ∙ sym (ap (λ b. state_recorded before key (cond b (events ∷ older) (recorded_below below bound older))) more)
 
 -- the newest number below a bound tells what the key was after the revisions below it
@@ -194,10 +194,10 @@ there below number (x ∷ newer) events older is =
     (ne_eqb number (below + suc (length (newer ++ events ∷ older))) (λ e. absurd (omega (arith, e, is, length-append newer (events ∷ older)))))
     ∙ there below number newer events older is
 
-told_there : (below : ℕ) (xs : List (List Event)) (key : List ℕ) (o : Option ℕ) → IfSome o (IsKeptNumber below (length xs)) →
+reported_there : (below : ℕ) (xs : List (List Event)) (key : List ℕ) (o : Option ℕ) → IfSome o (IsKeptNumber below (length xs)) →
     event_from below xs key o ≡ event_there below (reverse xs) key o
-told_there below xs key None kept = refl
-told_there below xs key (Some q) kept =
+reported_there below xs key None kept = refl
+reported_there below xs key (Some q) kept =
     let place : ℕ = q - below - 1 in
     let within : place < length xs = omega (arith, kept.0, kept.1) in
     let x : List Event = get_or xs place [] in
@@ -216,7 +216,7 @@ found_recorded opening xs key bound versions is =
     subst (λ n. AreKept opening.number n chain.numbers) (length-reverse xs) (are_kept opening key (reverse xs)) in
     ap (found_below opening.number xs key bound) is
     ∙ ap (λ (o : Option Event). after_event o chain.before)
-    (told_there opening.number xs key (newest_below bound chain.numbers) (newest_is_kept bound opening.number (length xs) chain.numbers kept))
+    (reported_there opening.number xs key (newest_below bound chain.numbers) (newest_is_kept bound opening.number (length xs) chain.numbers kept))
     ∙ ap (after_event (event_there opening.number (reverse xs) key (newest_below bound chain.numbers))) (before_opened opening key (reverse xs))
     ∙ walked opening (opened_state opening key) key bound (reverse xs)
 
@@ -320,9 +320,9 @@ one_found xs bound m number within is cut =
     ∙ ap (λ b. cond b (Some (get_or xs m 0)) (newest_below bound (reverse (take m xs)))) (cut.0 m 0 (omega arith) (omega arith))
     ∙ ap Some (sym is))
 
-told_state : (opening : Opening) (recorded : List (List Event)) (chains : List ℕ → Option Chain) (key : List ℕ) → IsKept opening recorded chains →
+reported_state : (opening : Opening) (recorded : List (List Event)) (chains : List ℕ → Option Chain) (key : List ℕ) → IsKept opening recorded chains →
     key_after opening key (changes_of recorded) ≡ state_recorded (opened_state opening key) key recorded
-told_state opening recorded chains key kept =
+reported_state opening recorded chains key kept =
     sym (ap (state_recorded (opened_state opening key) key) kept.events ∙ recorded_state opening key (changes_of recorded))
 
 -- a key without a version was absent at the opening, and never changed
@@ -332,7 +332,7 @@ unchanged_key opening recorded chains key kept none =
     let bound : ℕ = opening.number + length recorded + 1 in
     let is : versions_of opening key recorded ≡ no_versions = sym (kept.versions key) ∙ none in
     let before : Option KeyState = opened_state opening key in
-    told_state opening recorded chains key kept
+    reported_state opening recorded chains key kept
     ∙ sym (ap (state_recorded before key) (all_below opening.number bound recorded (omega arith)))
     ∙ sym (walked opening before key bound recorded)
     ∙ ap (λ (v : Versions). after_event (event_there opening.number recorded key (newest_below bound v.numbers)) before) is
@@ -351,9 +351,9 @@ kept_with_room opening recorded chains next kept same = record {
 }
 
 -- and so do the chains over revisions that are the same
-pub told_now : (opening : Opening) (xs : List (List Event)) (chains : List ℕ → Option Chain) (key : List ℕ) → IsKept opening (reverse xs) chains →
+pub reported_now : (opening : Opening) (xs : List (List Event)) (chains : List ℕ → Option Chain) (key : List ℕ) → IsKept opening (reverse xs) chains →
     found_now opening.number xs key (versions_in (chains key)) ≡ key_after opening key (changes_of (reverse xs))
-told_now opening xs chains key kept = found_all opening xs chains key kept
+reported_now opening xs chains key kept = found_all opening xs chains key kept
 
 -- one more recorded revision leaves present what its events leave
 left_case : (o : Option Event) (s : Option KeyState) → is_left o (is_some s) ≡ is_some (after_event o s)
@@ -369,10 +369,10 @@ first_after opening xs ys chains next events n names kept more is first =
     same_presence (λ key. is_left (event_about key events) (is_some (key_after opening key (changes_of (reverse xs)))))
     (λ key. is_some (key_after opening key (changes_of (reverse ys)))) n names
     (λ key.
-    ap is_some (told_state opening (reverse ys) next key more
+    ap is_some (reported_state opening (reverse ys) next key more
     ∙ ap (state_recorded (opened_state opening key) key) (ap reverse is ∙ reverse-append xs (events ∷ [])))
     ∙ sym (left_case (event_about key events) (state_recorded (opened_state opening key) key (reverse xs)))
-    ∙ ap (λ (s : Option KeyState). is_left (event_about key events) (is_some s)) (sym (told_state opening (reverse xs) chains key kept)))
+    ∙ ap (λ (s : Option KeyState). is_left (event_about key events) (is_some s)) (sym (reported_state opening (reverse xs) chains key kept)))
     first
 
 -- a key without a version is absent

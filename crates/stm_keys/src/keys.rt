@@ -153,7 +153,7 @@ fn add_recorded(
     requires apart { AreApart events }
     requires bound { present.old ≤ length chains.old.entries }
     ensures recorded { OnOk result (revisions.new.items ≡ revisions.old.items ++ events ∷ []) }
-    ensures told { OnOk result ((k : _) → versions_in (get_by_text chains.new k) ≡
+    ensures reported { OnOk result ((k : _) → versions_in (get_by_text chains.new k) ≡
         with_version (is_some (event_about k events)) number (versions_in (get_by_text chains.old k))) }
     ensures first { OnOk result ((is_present : List ℕ → Bool) → ((k : _) → versions_in (get_by_text chains.old k) ≡ no_versions → is_present k ≡ false) →
         StandFirst is_present present.old (names_of chains.old) →

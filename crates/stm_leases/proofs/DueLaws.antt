@@ -55,9 +55,9 @@ module _ (live : Live) (now : ℕ) where
     pub is_due : due term ≤ now
 
   -- what is told of these ids: a due one that comes no later than any, or that none is due
-  abbrev IsTold : List ℕ → Option DueLease → Type 0
-  IsTold ids None = (id : ℕ) (term : Term) → IsAmong id ids → finmap.get live id ≡ Some term → now < due term
-  IsTold ids (Some d) = StandsDue d
+  abbrev IsReported : List ℕ → Option DueLease → Type 0
+  IsReported ids None = (id : ℕ) (term : Term) → IsAmong id ids → finmap.get live id ≡ Some term → now < due term
+  IsReported ids (Some d) = StandsDue d
       × ((id : ℕ) (term : Term) → IsAmong id ids → finmap.get live id ≡ Some term → due term ≤ now → ComesNoLater d.since d.id (due term) id)
 
   -- a lease by itself
@@ -82,7 +82,7 @@ module _ (live : Live) (now : ℕ) where
       let since = stands.since in
       (omega arith, λ equal. omega arith)
 
-  later : (id : ℕ) (ids : List ℕ) (o r : Option DueLease) → IsOne id o → IsTold ids r → IsTold (id ∷ ids) (earlier o r)
+  later : (id : ℕ) (ids : List ℕ) (o r : Option DueLease) → IsOne id o → IsReported ids r → IsReported (id ∷ ids) (earlier o r)
   later id ids None None first rest = λ other term among is. elim among [
     | inl here ↦ first term (ap (finmap.get live) here ∙ is)
     | inr there ↦ rest other term there is
@@ -114,9 +114,9 @@ module _ (live : Live) (now : ℕ) where
         ],
       )
 
-  told : (ids : List ℕ) → IsTold ids (first_among live now ids)
-  told [] = λ id term among is. absurd among
-  told (id ∷ ids) = later id ids (due_lease now id (finmap.get live id)) (first_among live now ids) (one id (finmap.get live id) refl) (told ids)
+  reported : (ids : List ℕ) → IsReported ids (first_among live now ids)
+  reported [] = λ id term among is. absurd among
+  reported (id ∷ ids) = later id ids (due_lease now id (finmap.get live id)) (first_among live now ids) (one id (finmap.get live id) refl) (reported ids)
 
   -- each live id is among the keys
   among-any : (id : ℕ) (ids : List ℕ) → list_any (eq_by_cmp nat_cmp id) ids ≡ true → IsAmong id ids
@@ -131,7 +131,7 @@ module _ (live : Live) (now : ℕ) where
   among : (id : ℕ) (term : Term) → finmap.get live id ≡ Some term → IsAmong id (finmap.keys live)
   among id term is = among-any id (finmap.keys live) (sym (finmap.contains_key-keys live id) ∙ ap is_some is)
 
-  next-of : (r : Option DueLease) → IsTold (finmap.keys live) r → (id : ℕ) → option_map (λ (d : DueLease). d.id) r ≡ Some id → IsNextDue live now id
+  next-of : (r : Option DueLease) → IsReported (finmap.keys live) r → (id : ℕ) → option_map (λ (d : DueLease). d.id) r ≡ Some id → IsNextDue live now id
   next-of None is id same = absurd (cc)
   next-of (Some d) is id same =
       let ids : d.id ≡ id = same_Some d.id id same in
@@ -146,7 +146,7 @@ module _ (live : Live) (now : ℕ) where
             (omega arith, λ equal. let lower = lead.1 (sym since ∙ equal) in omega arith);
       }
 
-  of-next : (r : Option DueLease) → IsTold (finmap.keys live) r → (id : ℕ) → IsNextDue live now id → option_map (λ (d : DueLease). d.id) r ≡ Some id
+  of-next : (r : Option DueLease) → IsReported (finmap.keys live) r → (id : ℕ) → IsNextDue live now id → option_map (λ (d : DueLease). d.id) r ≡ Some id
   of-next None is id next = let above = is id next.term (among id next.term next.live_now) next.live_now in let within = next.is_due in absurd (omega arith)
   of-next (Some d) is id next =
       let lead = is.1 id next.term (among id next.term next.live_now) next.live_now next.is_due in
@@ -158,22 +158,22 @@ module _ (live : Live) (now : ℕ) where
       let ids : d.id ≡ id = omega arith in
       ap Some ids
 
-  none-of : (r : Option DueLease) → IsTold (finmap.keys live) r → option_map (λ (d : DueLease). d.id) r ≡ None → NoneIsDue live now
+  none-of : (r : Option DueLease) → IsReported (finmap.keys live) r → option_map (λ (d : DueLease). d.id) r ≡ None → NoneIsDue live now
   none-of None is same = λ id term live_now. is id term (among id term live_now) live_now
   none-of (Some d) is same = absurd (cc)
 
-  of-none : (r : Option DueLease) → IsTold (finmap.keys live) r → NoneIsDue live now → option_map (λ (d : DueLease). d.id) r ≡ None
+  of-none : (r : Option DueLease) → IsReported (finmap.keys live) r → NoneIsDue live now → option_map (λ (d : DueLease). d.id) r ≡ None
   of-none None is none = refl
   of-none (Some d) is none = let above = none d.id is.0.term is.0.stands in let within = is.0.is_due in absurd (omega arith)
 
 pub first_due_is_next : FirstDueIsNext
 first_due_is_next = record {
   next = λ live now id. (
-    next-of live now (first_among live now (finmap.keys live)) (told live now (finmap.keys live)) id,
-    of-next live now (first_among live now (finmap.keys live)) (told live now (finmap.keys live)) id,
+    next-of live now (first_among live now (finmap.keys live)) (reported live now (finmap.keys live)) id,
+    of-next live now (first_among live now (finmap.keys live)) (reported live now (finmap.keys live)) id,
   );
   none = λ live now. (
-    none-of live now (first_among live now (finmap.keys live)) (told live now (finmap.keys live)),
-    of-none live now (first_among live now (finmap.keys live)) (told live now (finmap.keys live)),
+    none-of live now (first_among live now (finmap.keys live)) (reported live now (finmap.keys live)),
+    of-none live now (first_among live now (finmap.keys live)) (reported live now (finmap.keys live)),
   );
 }

@@ -49,16 +49,16 @@ module _ (attached : Attached) (id : ℕ) where
   kept key = finmap.get-retain_keys attached (λ k. is_on id (finmap.get attached k)) key
       (λ x tie. ap (λ (k : List ℕ). is_on id (finmap.get attached k)) (sym (finmap.slice_cmp-IsAntisymmetric finmap.nat_cmp-IsAntisymmetric key x tie)))
 
-  hangs : (o : Option ℕ) → is_some (cond (is_on id o) o None) ≡ true → o ≡ Some id
-  hangs None is = absurd (cc)
-  hangs (Some lease) is = by_test (nat_eq lease id) refl is
+  attaches : (o : Option ℕ) → is_some (cond (is_on id o) o None) ≡ true → o ≡ Some id
+  attaches None is = absurd (cc)
+  attaches (Some lease) is = by_test (nat_eq lease id) refl is
     where
       by_test : (b : Bool) → nat_eq lease id ≡ b → is_some (cond b (Some lease) None) ≡ true → Some lease ≡ Some id
       by_test true same is = ap Some (eqb-true lease id same)
       by_test false same is = absurd (cc)
 
-  hung : (o : Option ℕ) → o ≡ Some id → is_some (cond (is_on id o) o None) ≡ true
-  hung o is = subst (λ (p : Option ℕ). is_some (cond (is_on id p) p None) ≡ true) (sym is) (ap (λ b. is_some (cond b (Some id) None)) (nat_eq_equiv.refl id))
+  attached : (o : Option ℕ) → o ≡ Some id → is_some (cond (is_on id o) o None) ≡ true
+  attached o is = subst (λ (p : Option ℕ). is_some (cond (is_on id p) p None) ≡ true) (sym is) (ap (λ b. is_some (cond b (Some id) None)) (nat_eq_equiv.refl id))
 
   is_member : (key : List ℕ)
       → is_some (cond (is_on id (finmap.get attached key)) (finmap.get attached key) None) ≡ list_any (eq_by_cmp (slice_cmp nat_cmp) key) (keys_on attached id)
@@ -69,8 +69,8 @@ module _ (attached : Attached) (id : ℕ) where
     ascending = sorted-ascends (finmap.entries (finmap.retain_keys attached (λ k. is_on id (finmap.get attached k))))
         (finmap.entries_sorted (finmap.retain_keys attached (λ k. is_on id (finmap.get attached k))));
     each = λ key. (
-      λ among. hangs (finmap.get attached key) (is_member key ∙ list_any-from_Contains (eq_by_cmp_equiv nat_list_cmp_total) key (keys_on attached id) among),
-      λ is. Contains-from_any same_text key (keys_on attached id) (sym (is_member key) ∙ hung (finmap.get attached key) is),
+      λ among. attaches (finmap.get attached key) (is_member key ∙ list_any-from_Contains (eq_by_cmp_equiv nat_list_cmp_total) key (keys_on attached id) among),
+      λ is. Contains-from_any same_text key (keys_on attached id) (sym (is_member key) ∙ attached (finmap.get attached key) is),
     );
   }
 

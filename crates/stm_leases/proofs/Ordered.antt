@@ -160,10 +160,10 @@ module _ {A : Type 0} where
       among (e ∷ xs) c = refl
 
   -- no key hangs on a lease that has no list
-  pub none-hang : (s : Leases) (list_of : ℕ → Option ℕ) (place_of : List ℕ → Option Attachment) (keys : Lists (String A)) (id : ℕ)
+  pub none-attach : (s : Leases) (list_of : ℕ → Option ℕ) (place_of : List ℕ → Option Attachment) (keys : Lists (String A)) (id : ℕ)
       → AreInStep list_of place_of keys → ((key : List ℕ) → lease_of s key ≡ option_map (λ (p : Attachment). p.lease) (place_of key)) → list_of id ≡ None
       → ¬ HasKeys (lease_of s) id
-  none-hang s list_of place_of keys id in_step seen none has =
+  none-attach s list_of place_of keys id in_step seen none has =
       let place = placed_at place_of id has.0 (place_of has.0) refl (sym (seen has.0) ∙ has.1) in
       let had = in_step.placed has.0 place.0 place.1 in
       let never : Some had.0 ≡ None = sym had.1 ∙ ap list_of place.2 ∙ none in
@@ -185,8 +185,8 @@ module _ {A : Type 0} where
               let unsorted = Contains-permutation (map string_bytes sorted) (map string_bytes texts) key (IsPermutation-sym _ _ permuted) among in
               let node = contains-holds key (entries_at keys list) (subst (λ (ks : List (List ℕ)). Contains ks key) are unsorted) in
               seen key ∙ ap (option_map (λ (p : Attachment). p.lease)) (in_step.held id list node.0 key live node.1),
-          λ hangs.
-              let place = placed_at place_of id key (place_of key) refl (sym (seen key) ∙ hangs) in
+          λ attaches.
+              let place = placed_at place_of id key (place_of key) refl (sym (seen key) ∙ attaches) in
               let had = in_step.placed key place.0 place.1 in
               let same : had.0 ≡ list = same_Some had.0 list (sym had.1 ∙ ap list_of place.2 ∙ live) in
               let holds = subst (λ (l : ℕ). Holds (entries_at keys l) place.0.node key) same had.2 in

@@ -12,7 +12,7 @@ use Rattle.std.specs.FinMap as finmap
 use Rattle.indexmap.specs.IndexMap.{IndexMap, get, get_by_text, ContainsKey}
 use Rattle.stm_lists.specs.Lists.{Lists, entries_at}
 use Rattle.stm_leases.specs.LeaseLog.{LogItem, Term, term_of}
-use Rattle.stm_leases.specs.Leases.{Leases, StandsFor, IsLive, HangOnLive, lease_of}
+use Rattle.stm_leases.specs.Leases.{Leases, StandsFor, IsLive, AttachedToLive, lease_of}
 use Rattle.stm_leases.specs.declared.bounds.TheConstants.{HIGHEST_ID, HIGHEST_TTL}
 use Rattle.stm_leases.specs.declared.lease.Lease.{Lease}
 use Rattle.stm_leases.specs.declared.lease.Attachment.{Attachment}
@@ -119,8 +119,8 @@ module _ {A S R : Type 0} (leases : IndexMap ℕ Lease S) (attached : IndexMap (
   term-found id l term found is = same_Some (term_in l) term (sym (live-now id ∙ ap (option_map term_in) found) ∙ is)
 
   -- a key hangs on a live lease
-  pub hang-on-live : {B : Type 0} (keys : Lists (String B)) → AreInStep (list_in leases) (get_by_text attached) keys → HangOnLive now
-  hang-on-live keys in_step key id is = by_lease (get nat_eq leases place.0.lease) refl had.1
+  pub attach-on-live : {B : Type 0} (keys : Lists (String B)) → AreInStep (list_in leases) (get_by_text attached) keys → AttachedToLive now
+  attach-on-live keys in_step key id is = by_lease (get nat_eq leases place.0.lease) refl had.1
     where
       place : (p : Attachment) × (get_by_text attached key ≡ Some p) × (p.lease ≡ id)
       place = placed_at (get_by_text attached) id key (get_by_text attached key) refl (sym (lease_of-now key) ∙ is)

@@ -38,8 +38,8 @@ abbrev pub lease_of : Leases → List ℕ → Option ℕ
 lease_of s key = map.get s.attached key
 
 -- each attached key hangs on a live lease
-abbrev pub HangOnLive : Leases → Type 0
-HangOnLive s = (key : List ℕ) (id : ℕ) → lease_of s key ≡ Some id → IsLive s id
+abbrev pub AttachedToLive : Leases → Type 0
+AttachedToLive s = (key : List ℕ) (id : ℕ) → lease_of s key ≡ Some id → IsLive s id
 
 -- the live ids, their times to live and their renewals are those after the log
 abbrev pub StandsFor : Live → List LogItem → Type 0

@@ -74,7 +74,7 @@ impl Leases {
     ghost use Rattle.stm_leases.specs.Live.{AreInRange, is_live_in, grant_refusal};
     ghost use Rattle.stm_leases.specs.DueFirst.{first_due};
     ghost use Rattle.stm_leases.specs.AttachedKeys.{HasKeys, keys_on};
-    ghost use Rattle.stm_leases.specs.Leases.{HangOnLive, IsLive, StandsFor, lease_of};
+    ghost use Rattle.stm_leases.specs.Leases.{AttachedToLive, IsLive, StandsFor, lease_of};
 
     /// No leases. It takes no memory.
     pub fn new(alloc: Global) -> Leases
@@ -161,7 +161,7 @@ impl Leases {
     pub fn is_live(&self, id: u64) -> bool
         ensures live { result ≡ is_live_in self.now.live id }
         ensures in_range { AreInRange self.now.live }
-        ensures hang_on_live { HangOnLive self.now }
+        ensures attach_on_live { AttachedToLive self.now }
     {
         self.leases.contains_key(&id)
     }

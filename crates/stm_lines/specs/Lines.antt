@@ -15,12 +15,12 @@ use Rattle.stm_reports.specs.declared.causes.RefusalName.{RefusalName}
 use Rattle.stm_reports.specs.declared.causes.RefusalName.TheVariants as cause
 use Rattle.stm_reports.specs.declared.line.ReportLine.{ReportLine}
 use Rattle.stm_reports.specs.declared.line.ReportLine.TheVariants as line
-use Rattle.stm_reports.specs.declared.line.ToldAnswer.{ToldAnswer}
-use Rattle.stm_reports.specs.declared.line.ToldEvent.{ToldEvent}
-use Rattle.stm_reports.specs.declared.line.ToldEvent.TheVariants as told
-use Rattle.stm_reports.specs.declared.line.ToldRead.{ToldRead}
-use Rattle.stm_reports.specs.LineData.{text_or_null, answer_data, op_data, read_data as told_read_data, event_data, line_data}
-use Rattle.stm_reports.specs.Told.{cause_told, op_told, txn_line}
+use Rattle.stm_reports.specs.declared.line.ReportedAnswer.{ReportedAnswer}
+use Rattle.stm_reports.specs.declared.line.ReportedEvent.{ReportedEvent}
+use Rattle.stm_reports.specs.declared.line.ReportedEvent.TheVariants as reported
+use Rattle.stm_reports.specs.declared.line.ReportedRead.{ReportedRead}
+use Rattle.stm_reports.specs.LineData.{text_or_null, answer_data, op_data, read_data as reported_read_data, event_data, line_data}
+use Rattle.stm_reports.specs.Reported.{cause_reported, op_reported, txn_line}
 use Rattle.stm_outcome.specs.declared.answer.OpAnswer.{OpAnswer}
 use Rattle.stm_world.specs.declared.reply.KeyRead.{KeyRead}
 use Rattle.stm_world.specs.declared.reply.Reply.{Reply}
@@ -33,49 +33,49 @@ use Rattle.stm_world.specs.declared.refusal.Refusal.TheVariants as refusal
 -- ---- the line of an event
 
 -- the answer that a commit was made on: the value and the modification revision of its key, and the revision that it shows
-abbrev pub answer_told : ReadAnswer → ToldAnswer
-answer_told a =
+abbrev pub answer_reported : ReadAnswer → ReportedAnswer
+answer_reported a =
     record { key = a.key; value = option_map (λ (s : KeyState). s.value) a.kv; mod_rev = mod_of a.kv; of_rev = a.of_rev }
 
 -- a key of a list that was read
-abbrev pub key_read_told : KeyRead → ToldRead
-key_read_told r = record { key = r.key; mod_rev = r.mod_rev }
+abbrev pub key_read_reported : KeyRead → ReportedRead
+key_read_reported r = record { key = r.key; mod_rev = r.mod_rev }
 
-abbrev pub event_told : Event → ToldEvent
-event_told (shown.Put key state) = told.Put key state
-event_told (shown.Delete key revision) = told.Delete key revision
+abbrev pub event_reported : Event → ReportedEvent
+event_reported (shown.Put key state) = reported.Put key state
+event_reported (shown.Delete key revision) = reported.Delete key revision
 
-abbrev pub refusal_told : Refusal → RefusalName
-refusal_told (refusal.Store c) = cause_told c
-refusal_told refusal.BadLimit = cause.BadLimit
-refusal_told refusal.NoRunner = cause.NoRunner
+abbrev pub refusal_reported : Refusal → RefusalName
+refusal_reported (refusal.Store c) = cause_reported c
+refusal_reported refusal.BadLimit = cause.BadLimit
+refusal_reported refusal.NoRunner = cause.NoRunner
 
-abbrev pub reply_told : ℕ → Reply → ReportLine
-reply_told n (Started runner) = line.Started n runner
-reply_told n (Prefetched runner revision reads) = line.Prefetched n runner revision (map key_read_told reads)
-reply_told n (Fetched runner key mod_rev of_rev revision) = line.Fetched n runner key mod_rev of_rev revision
-reply_told n (Committed runner revision attempts output trace answers) =
-    line.Committed n runner revision attempts output trace (map answer_told answers)
-reply_told n (Conflict runner key seen now) = line.Conflict n runner key seen now
-reply_told n (GaveUp runner attempts key seen now) = line.GaveUp n runner attempts key seen now
-reply_told n (Aborted runner text) = line.Aborted n runner text
-reply_told n (Faulted runner fault) = line.Faulted n runner fault
-reply_told n (Ended runner c) = line.Ended n runner (cause_told c)
-reply_told n (Txn answer) = txn_line n answer
-reply_told n (Granted id) = line.Granted n id
-reply_told n (Kept id) = line.Kept n id
-reply_told n (Revoked id revision) = line.Revoked n id revision
-reply_told n (Advanced now expired) = line.Advanced n now expired
-reply_told n (Compacted revision) = line.Compacted n revision
-reply_told n (Watching watcher) = line.Watching n watcher
-reply_told n (Batch watcher upto events) = line.Batch n watcher upto (map event_told events)
-reply_told n (Lost watcher floor) = line.Lost n watcher floor
-reply_told n (Cancelled watcher) = line.Cancelled n watcher
+abbrev pub reply_reported : ℕ → Reply → ReportLine
+reply_reported n (Started runner) = line.Started n runner
+reply_reported n (Prefetched runner revision reads) = line.Prefetched n runner revision (map key_read_reported reads)
+reply_reported n (Fetched runner key mod_rev of_rev revision) = line.Fetched n runner key mod_rev of_rev revision
+reply_reported n (Committed runner revision attempts output trace answers) =
+    line.Committed n runner revision attempts output trace (map answer_reported answers)
+reply_reported n (Conflict runner key seen now) = line.Conflict n runner key seen now
+reply_reported n (GaveUp runner attempts key seen now) = line.GaveUp n runner attempts key seen now
+reply_reported n (Aborted runner text) = line.Aborted n runner text
+reply_reported n (Faulted runner fault) = line.Faulted n runner fault
+reply_reported n (Ended runner c) = line.Ended n runner (cause_reported c)
+reply_reported n (Txn answer) = txn_line n answer
+reply_reported n (Granted id) = line.Granted n id
+reply_reported n (Kept id) = line.Kept n id
+reply_reported n (Revoked id revision) = line.Revoked n id revision
+reply_reported n (Advanced now expired) = line.Advanced n now expired
+reply_reported n (Compacted revision) = line.Compacted n revision
+reply_reported n (Watching watcher) = line.Watching n watcher
+reply_reported n (Batch watcher upto events) = line.Batch n watcher upto (map event_reported events)
+reply_reported n (Lost watcher floor) = line.Lost n watcher floor
+reply_reported n (Cancelled watcher) = line.Cancelled n watcher
 
 -- the line of the event with this number, by the reply to it
-abbrev pub line_told : ℕ → Result Reply Denied → ReportLine
-line_told n (Ok reply) = reply_told n reply
-line_told n (Err denied) = line.Refused n (refusal_told denied.cause) denied.expired
+abbrev pub line_reported : ℕ → Result Reply Denied → ReportLine
+line_reported n (Ok reply) = reply_reported n reply
+line_reported n (Err denied) = line.Refused n (refusal_reported denied.cause) denied.expired
 
 -- ---- their data
 
@@ -84,22 +84,22 @@ abbrev pub value_or_null : Option KeyState → Data
 value_or_null kv = text_or_null (option_map (λ (s : KeyState). s.value) kv)
 
 abbrev pub read_data : ReadAnswer → Data
-read_data a = answer_data (answer_told a)
+read_data a = answer_data (answer_reported a)
 
 abbrev pub key_read_data : KeyRead → Data
-key_read_data r = told_read_data (key_read_told r)
+key_read_data r = reported_read_data (key_read_reported r)
 
 abbrev pub op_answer_data : OpAnswer → Data
-op_answer_data a = op_data (op_told a)
+op_answer_data a = op_data (op_reported a)
 
 abbrev pub shown_data : Event → Data
-shown_data e = event_data (event_told e)
+shown_data e = event_data (event_reported e)
 
 abbrev pub reply_line : ℕ → Reply → Data
-reply_line n reply = line_data (reply_told n reply)
+reply_line n reply = line_data (reply_reported n reply)
 
 abbrev pub event_line : ℕ → Result Reply Denied → Data
-event_line n reply = line_data (line_told n reply)
+event_line n reply = line_data (line_reported n reply)
 
 -- ---- what stands at the end
 

@@ -5,7 +5,7 @@ ghost use Rattle.serde_json.specs.Data.{string};
 ghost use Rattle.serde_json.specs.Written.{has_float};
 ghost use Rattle.stm_world.specs.declared.reply.Reply.TheVariants.{Txn, Revoked, Advanced, Batch, Lost};
 ghost use Rattle.stm_reports.specs.LineData.{list, whole};
-ghost use Rattle.stm_lines.specs.Lines.{refusal_told, reply_line, event_line, IsOfRunner, IsOfCommit};
+ghost use Rattle.stm_lines.specs.Lines.{refusal_reported, reply_line, event_line, IsOfRunner, IsOfCommit};
 
 use crate::operations::with_ops;
 use crate::parts::Parts;
@@ -17,7 +17,7 @@ use serde_json::Value as Json;
 use std::alloc::{AllocError, Global};
 use stm_keys::Event;
 use stm_outcome::{Expired, TxnAnswer};
-use stm_reports::{RefusalName, told_cause};
+use stm_reports::{RefusalName, reported_cause};
 use stm_world::{Denied, Refusal, Reply};
 
 /// The line of a runner, a lease, a revision or a watcher that is named and no more.
@@ -28,7 +28,7 @@ fn named_json(alloc: Global, number: u64, word: &str, id: u64) -> Result<Json, A
 }
 
 /// The line of a runner's end, with what tells why.
-fn told_json(
+fn reported_json(
     alloc: Global,
     number: u64,
     word: &str,
@@ -158,13 +158,19 @@ fn runner_json(alloc: Global, number: u64, reply: &Reply) -> Result<Json, AllocE
             fetched_json(alloc, number, *runner, key, *mod_rev, *of_rev, *revision)
         }
         Reply::Aborted { runner, text } => {
-            told_json(alloc, number, "aborted", *runner, text.as_str())
+            reported_json(alloc, number, "aborted", *runner, text.as_str())
         }
         Reply::Faulted { runner, fault } => {
-            told_json(alloc, number, "faulted", *runner, fault.name())
+            reported_json(alloc, number, "faulted", *runner, fault.name())
         }
         Reply::Ended { runner, cause } => {
-            told_json(alloc, number, "ended", *runner, told_cause(*cause).name())
+            reported_json(
+                alloc,
+                number,
+                "ended",
+                *runner,
+                reported_cause(*cause).name(),
+            )
         }
         _ => commit_json(alloc, number, reply),
     }
@@ -196,11 +202,11 @@ fn reply_json(alloc: Global, number: u64, reply: &Reply) -> Result<Json, AllocEr
 }
 
 /// The name under which a line tells why an event was refused.
-fn told_refusal(cause: Refusal) -> RefusalName
-    ensures { result ≡ refusal_told cause }
+fn reported_refusal(cause: Refusal) -> RefusalName
+    ensures { result ≡ refusal_reported cause }
 {
     match cause {
-        Refusal::Store(cause) => told_cause(cause),
+        Refusal::Store(cause) => reported_cause(cause),
         Refusal::BadLimit => RefusalName::BadLimit,
         Refusal::NoRunner => RefusalName::NoRunner,
     }
@@ -211,7 +217,7 @@ fn refused_json(alloc: Global, number: u64, denied: &Denied) -> Result<Json, All
     ensures { IfOk result (λ v. view v ≡ event_line number (Err denied.now)) }
 {
     let parts = Parts::numbered(alloc, number, "refused")?;
-    let parts = parts.word(told_refusal(denied.cause).name())?;
+    let parts = parts.word(reported_refusal(denied.cause).name())?;
     Ok(with_list(alloc, parts, denied.expired.as_slice())?.array())
 }
 

@@ -3,7 +3,7 @@ ghost use Rattle.std.specs.Prelude.{◌≡◌, ◌++◌, [], ◌∷◌, map, IfO
 ghost use Rattle.serde_json.specs.View.{view};
 ghost use Rattle.stm_outcome.specs.declared.answer.OpAnswer.TheVariants.{Get, Del};
 ghost use Rattle.stm_reports.specs.LineData.{list, op_data};
-ghost use Rattle.stm_reports.specs.Told.{op_told};
+ghost use Rattle.stm_reports.specs.Reported.{op_reported};
 ghost use Rattle.stm_lines.specs.Lines.{op_answer_data};
 
 use crate::parts::Parts;
@@ -47,7 +47,7 @@ pub(crate) fn with_ops(
     answers: &[OpAnswer],
 ) -> Result<Parts, AllocError>
     ensures { IfOk result (λ longer. map view longer.values.items
-        ≡ map view parts.values.items ++ list (map op_data (map op_told answers.now)) ∷ []) }
+        ≡ map view parts.values.items ++ list (map op_data (map op_reported answers.now)) ∷ []) }
 {
     with_list(alloc, parts, answers)
 }

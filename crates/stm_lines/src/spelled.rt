@@ -5,8 +5,8 @@ ghost use Rattle.serde_json.specs.View.{view};
 ghost use Rattle.stm_history.specs.History.{mod_of};
 ghost use Rattle.stm_meaning.specs.declared.trace_item.TraceItem.TheVariants.{Get, Rev};
 ghost use Rattle.stm_keys.specs.declared.event.Event.TheVariants.{Put as PutEvent, Delete as DeleteEvent};
-ghost use Rattle.stm_reports.specs.LineData.{list, value_data, trace_data, answer_data, read_data as told_read_data, expired_data, event_data};
-ghost use Rattle.stm_lines.specs.Lines.{answer_told, key_read_told, event_told, read_data, key_read_data, shown_data};
+ghost use Rattle.stm_reports.specs.LineData.{list, value_data, trace_data, answer_data, read_data as reported_read_data, expired_data, event_data};
+ghost use Rattle.stm_lines.specs.Lines.{answer_reported, key_read_reported, event_reported, read_data, key_read_data, shown_data};
 
 use crate::parts::Parts;
 use serde_json::Value as Json;
@@ -125,7 +125,7 @@ pub(crate) fn with_answers(
     answers: &[ReadAnswer],
 ) -> Result<Parts, AllocError>
     ensures { IfOk result (λ longer. map view longer.values.items
-        ≡ map view parts.values.items ++ list (map answer_data (map answer_told answers.now)) ∷ []) }
+        ≡ map view parts.values.items ++ list (map answer_data (map answer_reported answers.now)) ∷ []) }
 {
     with_list(alloc, parts, answers)
 }
@@ -149,7 +149,7 @@ pub(crate) fn with_reads(
     reads: &[KeyRead],
 ) -> Result<Parts, AllocError>
     ensures { IfOk result (λ longer. map view longer.values.items
-        ≡ map view parts.values.items ++ list (map told_read_data (map key_read_told reads.now)) ∷ []) }
+        ≡ map view parts.values.items ++ list (map reported_read_data (map key_read_reported reads.now)) ∷ []) }
 {
     with_list(alloc, parts, reads)
 }
@@ -201,7 +201,7 @@ pub(crate) fn with_events(
     events: &[Event],
 ) -> Result<Parts, AllocError>
     ensures { IfOk result (λ longer. map view longer.values.items
-        ≡ map view parts.values.items ++ list (map event_data (map event_told events.now)) ∷ []) }
+        ≡ map view parts.values.items ++ list (map event_data (map event_reported events.now)) ∷ []) }
 {
     with_list(alloc, parts, events)
 }

@@ -51,8 +51,8 @@ step_goes_by look true old m n same is stays = inr (ap (step_of look) (sym same)
 step_goes_by look false old m n same is stays = (ap (step_of look) (sym same) ∙ is, stays refl ∙ same)
 
 -- a step in its place
-pub step_goes : (look : Lookup) (told : Result Bool AllocError) (old m n : MachineState) → m ≡ old →
-    IfOk told (λ made. step_of look m ≡ (if made then Some n else None)) → IfOk told (λ made. IsFalse made → n ≡ m) →
-    IfOk told (λ made. GoesOrStands look made old n)
+pub step_goes : (look : Lookup) (reported : Result Bool AllocError) (old m n : MachineState) → m ≡ old →
+    IfOk reported (λ made. step_of look m ≡ (if made then Some n else None)) → IfOk reported (λ made. IsFalse made → n ≡ m) →
+    IfOk reported (λ made. GoesOrStands look made old n)
 step_goes look (Ok made) old m n same is stays = step_goes_by look made old m n same is stays
 step_goes look (Err error) old m n same is stays = tt

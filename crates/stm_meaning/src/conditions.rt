@@ -1,6 +1,6 @@
 //! Whether conditions hold.
 ghost use Rattle.stm_steps.specs.Meaning.{holds};
-ghost use Rattle.stm_meaning.specs.Tells.{Tells};
+ghost use Rattle.stm_meaning.specs.Returns.{Returns};
 ghost use Rattle.stm_program.specs.Syntax.{Equal, Less};
 
 use crate::expressions::value_of;
@@ -17,7 +17,7 @@ fn is_equal<L: Lookup>(
     left: &Expr,
     right: &Expr,
 ) -> Result<bool, Halt>
-    ensures { Tells result session.new (holds (L.answers lookup.now) (Equal left.now right.now) session.old) }
+    ensures { Returns result session.new (holds (L.answers lookup.now) (Equal left.now right.now) session.old) }
 {
     let left = value_of(alloc, lookup, session, left)?;
     let right = value_of(alloc, lookup, session, right)?;
@@ -33,7 +33,7 @@ fn is_less<L: Lookup>(
     left: &Expr,
     right: &Expr,
 ) -> Result<bool, Halt>
-    ensures { Tells result session.new (holds (L.answers lookup.now) (Less left.now right.now) session.old) }
+    ensures { Returns result session.new (holds (L.answers lookup.now) (Less left.now right.now) session.old) }
 {
     let left = value_of(alloc, lookup, session, left)?;
     let right = value_of(alloc, lookup, session, right)?;
@@ -48,7 +48,7 @@ pub(crate) fn is_met<L: Lookup>(
     session: &mut Session,
     condition: &Cond,
 ) -> Result<bool, Halt>
-    ensures { Tells result session.new (holds (L.answers lookup.now) condition.now session.old) }
+    ensures { Returns result session.new (holds (L.answers lookup.now) condition.now session.old) }
 {
     match &condition.node {
         CondNode::Equal(left, right) => is_equal(alloc, lookup, session, left, right),

@@ -5,7 +5,7 @@ ghost use Rattle.stm_steps.specs.Outcome.{and_then, found_or_wanted, given};
 ghost use Rattle.stm_steps.specs.Steps.{get_key, rev_key};
 ghost use Rattle.stm_steps.specs.Values.{key_in};
 ghost use Rattle.stm_steps.specs.Session.{Session as Progress};
-ghost use Rattle.stm_meaning.specs.Tells.{Tells};
+ghost use Rattle.stm_meaning.specs.Returns.{Returns};
 
 use std::alloc::Global;
 use stm_history::Text;
@@ -14,7 +14,7 @@ use stm_steps::{Halt, Lookup, Session, Stop, Value, combine, join, number_of, sp
 
 /// What was found under a key, or the stop that wants it.
 fn found_or_halt(found: Option<Value>, key: &Text) -> Result<Value, Halt>
-    ensures { (s : Progress) → Tells result s (found_or_wanted key.now found s) }
+    ensures { (s : Progress) → Returns result s (found_or_wanted key.now found s) }
 {
     match found {
         Some(value) => Ok(value),
@@ -29,7 +29,7 @@ fn got<L: Lookup>(
     session: &mut Session,
     key: &Value,
 ) -> Result<Value, Halt>
-    ensures { Tells result session.new (and_then (given (key_in key.now) session.old) (get_key (L.answers lookup.now))) }
+    ensures { Returns result session.new (and_then (given (key_in key.now) session.old) (get_key (L.answers lookup.now))) }
 {
     let key = wanted_key(key)?;
     let found = session.get(alloc, lookup, key)?;
@@ -38,7 +38,7 @@ fn got<L: Lookup>(
 
 /// What a `rev` of a value gives, which has to be a key.
 fn revision_of<L: Lookup>(lookup: &L, session: &mut Session, key: &Value) -> Result<Value, Halt>
-    ensures { Tells result session.new (and_then (given (key_in key.now) session.old) (rev_key (L.answers lookup.now))) }
+    ensures { Returns result session.new (and_then (given (key_in key.now) session.old) (rev_key (L.answers lookup.now))) }
 {
     let key = wanted_key(key)?;
     let found = session.rev(lookup, key)?;
@@ -56,7 +56,7 @@ fn combined<L: Lookup>(
     left: &Expr,
     right: &Expr,
 ) -> Result<Value, Halt>
-    ensures { Tells result session.new (evaluate (L.answers lookup.now) (Arithmetic operator left.now right.now) session.old) }
+    ensures { Returns result session.new (evaluate (L.answers lookup.now) (Arithmetic operator left.now right.now) session.old) }
 {
     let left = value_of(alloc, lookup, session, left)?;
     let right = value_of(alloc, lookup, session, right)?;
@@ -73,7 +73,7 @@ fn joined<L: Lookup>(
     left: &Expr,
     right: &Expr,
 ) -> Result<Value, Halt>
-    ensures { Tells result session.new (evaluate (L.answers lookup.now) (Cat left.now right.now) session.old) }
+    ensures { Returns result session.new (evaluate (L.answers lookup.now) (Cat left.now right.now) session.old) }
 {
     let left = value_of(alloc, lookup, session, left)?;
     let right = value_of(alloc, lookup, session, right)?;
@@ -90,7 +90,7 @@ pub(crate) fn value_of<L: Lookup>(
     session: &mut Session,
     expression: &Expr,
 ) -> Result<Value, Halt>
-    ensures { Tells result session.new (evaluate (L.answers lookup.now) expression.now session.old) }
+    ensures { Returns result session.new (evaluate (L.answers lookup.now) expression.now session.old) }
 {
     match &expression.node {
         ExprNode::Text(text) => Ok(Value::Text(text.clone()?)),

@@ -4,7 +4,7 @@ ghost use Rattle.stm_history.specs.declared.revisions.TheConstants.{HIGHEST_NUMB
 ghost use Rattle.stm_program.specs.BlockView.{block_of};
 ghost use Rattle.stm_program.specs.Syntax as tree;
 ghost use Rattle.stm_steps.specs.Meaning.{run_statement, run_block, repeat};
-ghost use Rattle.stm_meaning.specs.Tells.{Tells};
+ghost use Rattle.stm_meaning.specs.Returns.{Returns};
 
 use crate::conditions::is_met;
 use crate::expressions::value_of;
@@ -21,7 +21,7 @@ fn set_variable<L: Lookup>(
     variable: Variable,
     value: &Expr,
 ) -> Result<(), Halt>
-    ensures { Tells result session.new (run_statement (L.answers lookup.now) (tree.Set variable value.now) session.old) }
+    ensures { Returns result session.new (run_statement (L.answers lookup.now) (tree.Set variable value.now) session.old) }
 {
     let value = value_of(alloc, lookup, session, value)?;
     session.set(variable, value);
@@ -38,7 +38,7 @@ fn put_key<L: Lookup>(
     value: &Expr,
     lease: u64,
 ) -> Result<(), Halt>
-    ensures { Tells result session.new (run_statement (L.answers lookup.now) (tree.Put key.now value.now lease) session.old) }
+    ensures { Returns result session.new (run_statement (L.answers lookup.now) (tree.Put key.now value.now lease) session.old) }
 {
     let key = value_of(alloc, lookup, session, key)?;
     let value = value_of(alloc, lookup, session, value)?;
@@ -53,7 +53,7 @@ fn delete_key<L: Lookup>(
     session: &mut Session,
     key: &Expr,
 ) -> Result<(), Halt>
-    ensures { Tells result session.new (run_statement (L.answers lookup.now) (tree.Del key.now) session.old) }
+    ensures { Returns result session.new (run_statement (L.answers lookup.now) (tree.Del key.now) session.old) }
 {
     let key = value_of(alloc, lookup, session, key)?;
     Ok(session.write(deletion(&key)??)?)
@@ -67,7 +67,7 @@ fn emit_value<L: Lookup>(
     session: &mut Session,
     value: &Expr,
 ) -> Result<(), Halt>
-    ensures { Tells result session.new (run_statement (L.answers lookup.now) (tree.Emit value.now) session.old) }
+    ensures { Returns result session.new (run_statement (L.answers lookup.now) (tree.Emit value.now) session.old) }
 {
     let value = value_of(alloc, lookup, session, value)?;
     Ok(session.emit(value)?)
@@ -81,7 +81,7 @@ fn abort_with<L: Lookup>(
     session: &mut Session,
     text: &Expr,
 ) -> Result<(), Halt>
-    ensures { Tells result session.new (run_statement (L.answers lookup.now) (tree.Abort text.now) session.old) }
+    ensures { Returns result session.new (run_statement (L.answers lookup.now) (tree.Abort text.now) session.old) }
 {
     let text = value_of(alloc, lookup, session, text)?;
     let text = wanted_text(&text)?.clone()?;
@@ -97,7 +97,7 @@ fn run_one<L: Lookup>(
     session: &mut Session,
     statement: &Stmt,
 ) -> Result<(), Halt>
-    ensures { Tells result session.new (run_statement (L.answers lookup.now) statement.now session.old) }
+    ensures { Returns result session.new (run_statement (L.answers lookup.now) statement.now session.old) }
 {
     match &statement.node {
         StmtNode::Set(variable, value) => set_variable(alloc, lookup, session, *variable, value),
@@ -131,7 +131,7 @@ fn run_turns<L: Lookup>(
     body: &Block,
 ) -> Result<(), Halt>
     requires { count ≤ HIGHEST_NUMBER }
-    ensures { Tells result session.new (repeat variable (run_block (L.answers lookup.now) body.now) count 0 session.old) }
+    ensures { Returns result session.new (repeat variable (run_block (L.answers lookup.now) body.now) count 0 session.old) }
 {
     for turn in 0..count {
         session.begin_turn(variable, turn)?;
@@ -149,7 +149,7 @@ fn run_inner<L: Lookup>(
     session: &mut Session,
     block: &Block,
 ) -> Result<(), Halt>
-    ensures { Tells result session.new (run_block (L.answers lookup.now) block.now session.old) }
+    ensures { Returns result session.new (run_block (L.answers lookup.now) block.now session.old) }
 {
     for statement in block.statements.iter() {
         run_one(alloc, lookup, session, statement)?;
@@ -165,7 +165,7 @@ pub(crate) fn run_all<L: Lookup>(
     session: &mut Session,
     statements: &[Stmt],
 ) -> Result<(), Halt>
-    ensures { Tells result session.new (run_block (L.answers lookup.now) (block_of statements.now) session.old) }
+    ensures { Returns result session.new (run_block (L.answers lookup.now) (block_of statements.now) session.old) }
 {
     for statement in statements {
         run_one(alloc, lookup, session, statement)?;

@@ -292,7 +292,7 @@ record FoundFrom (state : List ℕ → Option KeyState) (index : ℕ) (cs : List
   compare : Compare
   stands : slice_get cs place ≡ Some compare
   fails : holds compare (state compare.key) ≡ false
-  told : f.mod_rev ≡ mod_of (state compare.key)
+  reported : f.mod_rev ≡ mod_of (state compare.key)
 
 found_later : (state : List ℕ → Option KeyState) (index : ℕ) (c : Compare) (cs : List Compare) (f : FailedCompare) → FoundFrom state (index + 1) cs f →
     FoundFrom state index (c ∷ cs) f
@@ -306,7 +306,7 @@ found_later state index c cs f found =
       compare = found.compare;
       stands = found.stands;
       fails = found.fails;
-      told = found.told;
+      reported = found.reported;
     }
 
 found_case : (b : Bool) (state : List ℕ → Option KeyState) (index : ℕ) (c : Compare) (cs : List Compare) (f : FailedCompare) → holds c (state c.key) ≡ b →
@@ -323,7 +323,7 @@ found_case false state index c cs f test later is =
       compare = c;
       stands = refl;
       fails = test;
-      told = sym (ap (λ (x : FailedCompare). x.mod_rev) here);
+      reported = sym (ap (λ (x : FailedCompare). x.mod_rev) here);
     }
 
 found_from : (state : List ℕ → Option KeyState) (index : ℕ) (cs : List Compare) (f : FailedCompare) → first_failed state index cs ≡ Some f →
@@ -340,7 +340,7 @@ failed_has_its_place state cs f is =
       compare = found.compare;
       stands = ap (slice_get cs) (sym place) ∙ found.stands;
       fails = found.fails;
-      told = found.told;
+      reported = found.reported;
     }
 
 -- What an outcome's history is.

@@ -64,7 +64,7 @@ pub record FailsAt (state : List ℕ → Option KeyState) (compares : List Compa
   pub compare : Compare
   pub stands : slice_get compares failed.index ≡ Some compare
   pub fails : holds compare (state compare.key) ≡ false
-  pub told : failed.mod_rev ≡ mod_of (state compare.key)
+  pub reported : failed.mod_rev ≡ mod_of (state compare.key)
 
 abbrev pub FailedHasItsPlace : Type 0
 FailedHasItsPlace =

@@ -9,7 +9,7 @@ use Rattle.stm_json.specs.declared.read_error.ReadError.TheVariants as error
 use Rattle.stm_program.specs.Syntax.{Statement, Block, End, Then}
 use Rattle.stm_program.specs.BlockView.{block_of}
 use Rattle.stm_json.specs.Outcome.{◌>>=◌, within}
-use Rattle.stm_json.specs.Tells.{TellsFault}
+use Rattle.stm_json.specs.Returns.{ReturnsFault}
 use Rattle.stm_program_json.specs.Reading.{Read, statements_from}
 
 -- a block behind statements
@@ -51,8 +51,8 @@ goes_on read front vs start i room rest v s total lt at is so_far =
     sym one ∙ so_far
 
 pub ends : (e : ReadError) (read : ℕ → Data → Read Statement) (front : List Statement) (vs : List Value) (start i room : ℕ) (v : Value) (total : Read Block)
-    → i < length vs → v ≡ get_or vs i v → TellsFault e (within (i + start) (read room (view v)))
-    → with_front front (statements_from read (i + start) room (items_view (drop i vs))) ≡ total → TellsFault e total
+    → i < length vs → v ≡ get_or vs i v → ReturnsFault e (within (i + start) (read room (view v)))
+    → with_front front (statements_from read (i + start) room (items_view (drop i vs))) ≡ total → ReturnsFault e total
 unfolding statements_from
 ends error.OutOfMemory read front vs start i room v total lt at is so_far = tt
 ends (error.Bad f) read front vs start i room v total lt at is so_far =

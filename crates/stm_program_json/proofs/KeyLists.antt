@@ -12,7 +12,7 @@ use Rattle.stm_json.specs.declared.cause.Cause.TheVariants.{Shape, TooLong, TooM
 use Rattle.stm_json.specs.declared.read_error.ReadError.{ReadError}
 use Rattle.stm_json.specs.declared.read_error.ReadError.TheVariants as error
 use Rattle.stm_json.specs.Outcome.{Outcome, bad, within}
-use Rattle.stm_json.specs.Tells.{TellsFault}
+use Rattle.stm_json.specs.Returns.{ReturnsFault}
 use Rattle.stm_json.specs.Elements.{worded, one_of}
 use Rattle.stm_json.specs.Parts.{same, spelled}
 use Rattle.stm_json.proofs.ElementLemmas.{worded-is, one_of-is}
@@ -22,7 +22,7 @@ use Rattle.stm_program.specs.declared.limits.TheConstants.{MAX_PREFETCH, MAX_TEX
 use Rattle.stm_program.specs.Limits.{is_no_key, has_repeat}
 use Rattle.stm_program.proofs.ListLemmas.{ListParts, once-push, named-push}
 use Rattle.stm_program_json.specs.Grammar.{SpellsKeys, SpellsList}
-use Rattle.stm_program_json.specs.Reading.{key_told, key_at, keys_from, keys_array, list_of, list_parts}
+use Rattle.stm_program_json.specs.Reading.{key_reported, key_at, keys_from, keys_array, list_of, list_parts}
 
 -- ---- one key
 
@@ -33,25 +33,25 @@ pub record KeyRead (earlier : List (List ℕ)) (d : Data) (key : List ℕ) : Typ
   pub named : is_no_key key ≡ false
   pub new : list_any (bytes_eq key) earlier ≡ false
 
-told_case : (empty listed long : Bool) (s key : List ℕ) → cond (empty || listed) (bad Shape) (cond long (bad TooLong) (Ok s)) ≡ Ok key
+reported_case : (empty listed long : Bool) (s key : List ℕ) → cond (empty || listed) (bad Shape) (cond long (bad TooLong) (Ok s)) ≡ Ok key
     → ((empty || long) ≡ false) × (listed ≡ false) × (s ≡ key)
-told_case true listed long s key h = absurd (cc)
-told_case false true long s key h = absurd (cc)
-told_case false false true s key h = absurd (cc)
-told_case false false false s key h = (refl, refl, cc)
+reported_case true listed long s key h = absurd (cc)
+reported_case false true long s key h = absurd (cc)
+reported_case false false true s key h = absurd (cc)
+reported_case false false false s key h = (refl, refl, cc)
 
-text_told : (earlier : List (List ℕ)) (s key : List ℕ) → length earlier < MAX_PREFETCH → key_told earlier (Some s) ≡ Ok key → KeyRead earlier (string s) key
-text_told earlier s key room h =
-    let parts = told_case (nat_eq (length s) 0) (list_any (bytes_eq s) earlier) (nat_lt MAX_TEXT (length s)) s key h in
+text_reported : (earlier : List (List ℕ)) (s key : List ℕ) → length earlier < MAX_PREFETCH → key_reported earlier (Some s) ≡ Ok key → KeyRead earlier (string s) key
+text_reported earlier s key room h =
+    let parts = reported_case (nat_eq (length s) 0) (list_any (bytes_eq s) earlier) (nat_lt MAX_TEXT (length s)) s key h in
     subst (λ (k : List ℕ). KeyRead earlier (string s) k) parts.2 record { spelled = refl; room = room; named = parts.0; new = parts.1 }
 
-data_told : (earlier : List (List ℕ)) (d : Data) (key : List ℕ) → length earlier < MAX_PREFETCH → key_told earlier (as_str d) ≡ Ok key → KeyRead earlier d key
-data_told earlier null key room h = absurd (cc)
-data_told earlier (boolean b) key room h = absurd (cc)
-data_told earlier (number n) key room h = absurd (cc)
-data_told earlier (string s) key room h = text_told earlier s key room h
-data_told earlier (array ds) key room h = absurd (cc)
-data_told earlier (object ms) key room h = absurd (cc)
+data_reported : (earlier : List (List ℕ)) (d : Data) (key : List ℕ) → length earlier < MAX_PREFETCH → key_reported earlier (as_str d) ≡ Ok key → KeyRead earlier d key
+data_reported earlier null key room h = absurd (cc)
+data_reported earlier (boolean b) key room h = absurd (cc)
+data_reported earlier (number n) key room h = absurd (cc)
+data_reported earlier (string s) key room h = text_reported earlier s key room h
+data_reported earlier (array ds) key room h = absurd (cc)
+data_reported earlier (object ms) key room h = absurd (cc)
 
 room_case : (b : Bool) (reading : Outcome (List ℕ)) (key : List ℕ) → cond b reading (bad TooMany) ≡ Ok key → (b ≡ true) × (reading ≡ Ok key)
 room_case true reading key h = (refl, h)
@@ -59,26 +59,26 @@ room_case false reading key h = absurd (cc)
 
 pub key_read : (earlier : List (List ℕ)) (d : Data) (key : List ℕ) → key_at earlier d ≡ Ok key → KeyRead earlier d key
 key_read earlier d key h =
-    let parts = room_case (nat_lt (length earlier) MAX_PREFETCH) (key_told earlier (as_str d)) key h in
-    data_told earlier d key (ltb-true (length earlier) MAX_PREFETCH parts.0) parts.1
+    let parts = room_case (nat_lt (length earlier) MAX_PREFETCH) (key_reported earlier (as_str d)) key h in
+    data_reported earlier d key (ltb-true (length earlier) MAX_PREFETCH parts.0) parts.1
 
 neither : (b c : Bool) → (b || c) ≡ false → (b ≡ false) × (c ≡ false)
 neither true c h = absurd (cc)
 neither false c h = (refl, h)
 
-key_told-reads : (empty listed long : Bool) (s : List ℕ) → empty ≡ false → listed ≡ false → long ≡ false
+key_reported-reads : (empty listed long : Bool) (s : List ℕ) → empty ≡ false → listed ≡ false → long ≡ false
     → cond (empty || listed) (bad Shape) (cond long (bad TooLong) (Ok s)) ≡ Ok s
-key_told-reads true listed long s e l g = absurd (cc)
-key_told-reads false true long s e l g = absurd (cc)
-key_told-reads false false true s e l g = absurd (cc)
-key_told-reads false false false s e l g = refl
+key_reported-reads true listed long s e l g = absurd (cc)
+key_reported-reads false true long s e l g = absurd (cc)
+key_reported-reads false false true s e l g = absurd (cc)
+key_reported-reads false false false s e l g = refl
 
 pub key_reads : (earlier : List (List ℕ)) (key : List ℕ) → KeyRead earlier (string key) key → key_at earlier (string key) ≡ Ok key
 key_reads earlier key r =
     let parts = neither (nat_eq (length key) 0) (nat_lt MAX_TEXT (length key)) r.named in
     let within_room : nat_lt (length earlier) MAX_PREFETCH ≡ true = lt-ltb (length earlier) MAX_PREFETCH r.room in
-    ap (λ b. cond b (key_told earlier (Some key)) (bad TooMany)) within_room
-    ∙ key_told-reads (nat_eq (length key) 0) (list_any (bytes_eq key) earlier) (nat_lt MAX_TEXT (length key)) key parts.0 r.new parts.1
+    ap (λ b. cond b (key_reported earlier (Some key)) (bad TooMany)) within_room
+    ∙ key_reported-reads (nat_eq (length key) 0) (list_any (bytes_eq key) earlier) (nat_lt MAX_TEXT (length key)) key parts.0 r.new parts.1
 
 -- ---- all keys
 
@@ -133,7 +133,7 @@ first_read earlier v w n o is count read =
     ap (λ (m : ℕ). within m (key_at earlier (view w))) (sym count) ∙ ap (λ (x : Value). within n (key_at earlier (view x))) (sym is) ∙ read
 
 key_faulted : (e : ReadError) (earlier : List (List ℕ)) (vs : List Value) (v : Value) (n : ℕ) → 1 ≤ length vs → v ≡ get_or vs 0 v → n ≡ length earlier
-    → TellsFault e (within n (key_at earlier (view v))) → TellsFault e (keys_from earlier (items_view vs))
+    → ReturnsFault e (within n (key_at earlier (view v))) → ReturnsFault e (keys_from earlier (items_view vs))
 unfolding keys_from
 key_faulted e earlier [] v n some is count fault = absurd (omega arith)
 key_faulted error.OutOfMemory earlier (w ∷ vs) v n some is count fault = tt
@@ -157,10 +157,10 @@ counted texts items same = ap (λ (ts : List (String _)). length ts) same ∙ sy
 
 -- the same of keys as texts
 pub text_faulted : {A : Type 0} (e : ReadError) (texts items : List (String A)) (vs : List Value) (v : Value) → texts ≡ items → 1 ≤ length vs → v ≡ get_or vs 0 v
-    → TellsFault e (within (length texts) (key_at (map string_bytes texts) (view v))) → TellsFault e (keys_from (map string_bytes items) (items_view vs))
+    → ReturnsFault e (within (length texts) (key_at (map string_bytes texts) (view v))) → ReturnsFault e (keys_from (map string_bytes items) (items_view vs))
 text_faulted e texts items vs v same some is fault =
     key_faulted e (map string_bytes items) vs v (length texts) some is (counted texts items same)
-    (subst (λ (ts : List (String _)). TellsFault e (within (length texts) (key_at (map string_bytes ts) (view v)))) same fault)
+    (subst (λ (ts : List (String _)). ReturnsFault e (within (length texts) (key_at (map string_bytes ts) (view v)))) same fault)
 
 pub text_more : {A : Type 0} (texts items longer : List (String A)) (vs : List Value) (v : Value) (key : String A) → texts ≡ items → 1 ≤ length vs
     → v ≡ get_or vs 0 v → within (length texts) (key_at (map string_bytes texts) (view v)) ≡ Ok (string_bytes key) → longer ≡ items ++ key ∷ []

@@ -9,7 +9,7 @@ use Rattle.stm_json.specs.Outcome.{bad}
 use Rattle.stm_json.specs.Elements.{one_of}
 use Rattle.stm_json.specs.Faults.{at}
 use Rattle.stm_program.specs.declared.limits.TheConstants.{MAX_PREFETCH, MAX_TEXT}
-use Rattle.stm_program_json.specs.Reading.{key_told, key_at, keys_from, keys_array, list_of}
+use Rattle.stm_program_json.specs.Reading.{key_reported, key_at, keys_from, keys_array, list_of}
 use Rattle.stm_program_json.specs.FirstFault.{Mark, wrong, first_of_marks, with_text, key_marks, marks_of_keys, marks_of_list}
 use Rattle.stm_program_json.proofs.MarkLemmas.{after_number, wrong_is, alone_then, within_alone, behind}
 use Rattle.stm_program_json.proofs.KeyLists.{KeyRead, key_read, longer}
@@ -22,13 +22,13 @@ text_tested p room false true s next = wrong_is p TooLong room next
 text_tested p room false false s next = refl
 
 key_marked : (p : List ℕ) (room : ℕ) (earlier : List (List ℕ)) (d : Data) (next : List Mark)
-    → first_of_marks room (key_marks p earlier d ++ next) ≡ after_number p room (key_told earlier (as_str d)) next
+    → first_of_marks room (key_marks p earlier d ++ next) ≡ after_number p room (key_reported earlier (as_str d)) next
 key_marked p room earlier (string s) next = text_tested p room (nat_eq (length s) 0 || list_any (bytes_eq s) earlier) (nat_lt MAX_TEXT (length s)) s next
 key_marked p room earlier _ next = wrong_is p Shape room next
 
 room_tested : (p : List ℕ) (room : ℕ) (earlier : List (List ℕ)) (d : Data) (next : List Mark) (b : Bool)
     → first_of_marks room (cond b (key_marks p earlier d) (wrong p TooMany) ++ next)
-    ≡ after_number p room (cond b (key_told earlier (as_str d)) (bad TooMany)) next
+    ≡ after_number p room (cond b (key_reported earlier (as_str d)) (bad TooMany)) next
 room_tested p room earlier d next true = key_marked p room earlier d next
 room_tested p room earlier d next false = wrong_is p TooMany room next
 

@@ -10,7 +10,7 @@ use Rattle.stm_json.specs.declared.read_error.ReadError.TheVariants as error
 use Rattle.stm_program.specs.Syntax.{Block, End, ProgramTree, of_statements}
 use Rattle.stm_program.specs.Limits.{BlockFits, Fits}
 use Rattle.stm_program.proofs.ListLemmas.{list_whole, fits_behind}
-use Rattle.stm_json.specs.Tells.{Tells}
+use Rattle.stm_json.specs.Returns.{Returns}
 use Rattle.stm_json.specs.Faults.{IsFirstFault}
 use Rattle.stm_json.specs.Outcome.{Outcome, ◌>>=◌, within}
 use Rattle.stm_json.specs.Elements.{worded, one_of}
@@ -69,7 +69,7 @@ pub program_sound : (d : Data) (p : ProgramTree) → program_of d ≡ Ok p → S
 unfolding program_of
 program_sound d p h = list_read d (as_array d) p refl h
 
-pub faulted : (d : Data) (r : Result ProgramTree ReadError) → Tells (λ p. p) r (program_of d) → MatchResult r (λ p. first_fault d ≡ None) (IsFirstFault (first_fault d))
+pub faulted : (d : Data) (r : Result ProgramTree ReadError) → Returns (λ p. p) r (program_of d) → MatchResult r (λ p. first_fault d ≡ None) (IsFirstFault (first_fault d))
 faulted d (Ok p) h = program_fault d ∙ ap fault_of h
 faulted d (Err error.OutOfMemory) h = tt
 faulted d (Err (error.Bad f)) h = program_fault d ∙ ap fault_of h
@@ -84,9 +84,9 @@ as_elements d vs rest v is split =
     ∙ ap (λ (ws : List Value). program_after (list_parts (worded (view v))) (items_view ws) (items_view rest)) (sym split)
 
 -- what is read of a program whose first element is a list, and of one that has none
-pub program_told : (r : Result Program ReadError) (d : Data) (vs rest : List Value) (v : Value) (parts : Option Items) → as_array d ≡ Some (items_view vs)
-    → vs ≡ v ∷ rest → list_parts (worded (view v)) ≡ parts → Tells (λ p. p) r (program_after parts (items_view vs) (items_view rest))
-    → Tells (λ p. p) r (program_of d)
-program_told r d vs rest v parts is split first told =
-    subst (λ (o : Outcome ProgramTree). Tells (λ p. p) r o)
-    (sym (as_elements d vs rest v is split ∙ ap (λ (o : Option Items). program_after o (items_view vs) (items_view rest)) first)) told
+pub program_reported : (r : Result Program ReadError) (d : Data) (vs rest : List Value) (v : Value) (parts : Option Items) → as_array d ≡ Some (items_view vs)
+    → vs ≡ v ∷ rest → list_parts (worded (view v)) ≡ parts → Returns (λ p. p) r (program_after parts (items_view vs) (items_view rest))
+    → Returns (λ p. p) r (program_of d)
+program_reported r d vs rest v parts is split first reported =
+    subst (λ (o : Outcome ProgramTree). Returns (λ p. p) r o)
+    (sym (as_elements d vs rest v is split ∙ ap (λ (o : Option Items). program_after o (items_view vs) (items_view rest)) first)) reported

@@ -4,19 +4,19 @@ use Rattle.serde_json.specs.Data.{Data}
 use Rattle.stm_json.specs.declared.cause.Cause.TheVariants.{TooDeep, TooManyNodes}
 use Rattle.stm_json.specs.declared.read_error.ReadError.{ReadError}
 use Rattle.stm_json.specs.declared.read_error.ReadError.TheVariants as error
-use Rattle.stm_json.specs.Tells.{TellsFault}
+use Rattle.stm_json.specs.Returns.{ReturnsFault}
 use Rattle.stm_json.specs.Elements.{worded}
 use Rattle.stm_program_json.specs.Reading.{expression_at, expression_body, condition_at, condition_array, statement_at, statement_array, block_by}
 
 -- ---- one level of reading
 
 pub expression_at-deep : (levels room : ℕ) (d : Data) (e : ReadError) → levels ≡ 0 → e ≡ error.Bad (record { place = []; cause = TooDeep })
-    → TellsFault e (expression_at levels room d)
+    → ReturnsFault e (expression_at levels room d)
 unfolding expression_at
 expression_at-deep levels room d e h is = rw (is, h) refl
 
 pub expression_at-full : (levels room : ℕ) (d : Data) (e : ReadError) → 0 < levels → room ≡ 0 → e ≡ error.Bad (record { place = []; cause = TooManyNodes })
-    → TellsFault e (expression_at levels room d)
+    → ReturnsFault e (expression_at levels room d)
 unfolding expression_at
 expression_at-full zero room d e h k is = absurd (omega arith)
 expression_at-full (suc l) room d e h k is = rw (is, k) refl
@@ -32,12 +32,12 @@ expression_at-step (suc l) (suc r) d h k =
     rw (e, f) refl
 
 pub condition_at-deep : (levels room : ℕ) (d : Data) (e : ReadError) → levels ≡ 0 → e ≡ error.Bad (record { place = []; cause = TooDeep })
-    → TellsFault e (condition_at levels room d)
+    → ReturnsFault e (condition_at levels room d)
 unfolding condition_at
 condition_at-deep levels room d e h is = rw (is, h) refl
 
 pub condition_at-full : (levels room : ℕ) (d : Data) (e : ReadError) → 0 < levels → room ≡ 0 → e ≡ error.Bad (record { place = []; cause = TooManyNodes })
-    → TellsFault e (condition_at levels room d)
+    → ReturnsFault e (condition_at levels room d)
 unfolding condition_at
 condition_at-full zero room d e h k is = absurd (omega arith)
 condition_at-full (suc l) room d e h k is = rw (is, k) refl
@@ -53,12 +53,12 @@ condition_at-step (suc l) (suc r) d h k =
     rw (e, f) refl
 
 pub statement_at-deep : (levels room : ℕ) (d : Data) (e : ReadError) → levels ≡ 0 → e ≡ error.Bad (record { place = []; cause = TooDeep })
-    → TellsFault e (statement_at levels room d)
+    → ReturnsFault e (statement_at levels room d)
 unfolding statement_at
 statement_at-deep levels room d e h is = rw (is, h) refl
 
 pub statement_at-full : (levels room : ℕ) (d : Data) (e : ReadError) → 0 < levels → room ≡ 0 → e ≡ error.Bad (record { place = []; cause = TooManyNodes })
-    → TellsFault e (statement_at levels room d)
+    → ReturnsFault e (statement_at levels room d)
 unfolding statement_at
 statement_at-full zero room d e h k is = absurd (omega arith)
 statement_at-full (suc l) room d e h k is = rw (is, k) refl

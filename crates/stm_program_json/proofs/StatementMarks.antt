@@ -164,13 +164,13 @@ program_steps i ds =
     ∙ ap (first_of_marks MAX_NODES) (sym (append-nil (statements_marks 1 [] i ds)))
     ∙ statements_marked MAX_DEPTH 0 refl (statement_at MAX_DEPTH) (statement_marked MAX_DEPTH 1 refl) [] i MAX_NODES ds []
 
-told : (make : Block → ProgramTree) (reading : Read Block) → after [] reading [] ≡ fault_of (reading >>= λ b. Ok (make b.0))
-told make (Ok x) = refl
-told make (Err f) = refl
+reported : (make : Block → ProgramTree) (reading : Read Block) → after [] reading [] ≡ fault_of (reading >>= λ b. Ok (make b.0))
+reported make (Ok x) = refl
+reported make (Err f) = refl
 
 alone_fault : (all : Items) → first_of_marks MAX_NODES (marks_of_steps 1 [] 0 all)
     ≡ fault_of (statements_from (statement_at MAX_DEPTH) 0 MAX_NODES all >>= λ b. Ok (of_statements b.0))
-alone_fault all = program_steps 0 all ∙ told of_statements (statements_from (statement_at MAX_DEPTH) 0 MAX_NODES all)
+alone_fault all = program_steps 0 all ∙ reported of_statements (statements_from (statement_at MAX_DEPTH) 0 MAX_NODES all)
 
 abbrev listing : List (List ℕ) → Block → ProgramTree
 listing keys b = record { statements = b; prefetch = keys }
@@ -179,7 +179,7 @@ listing keys b = record { statements = b; prefetch = keys }
 behind_fault : (ds : Items) (reading : Outcome (List (List ℕ))) (first : Option BadInput)
     → first ≡ after_number (at [] 0) MAX_NODES reading (marks_of_steps 1 [] 1 ds)
     → first ≡ fault_of (within 0 reading >>= λ keys. statements_from (statement_at MAX_DEPTH) 1 MAX_NODES ds >>= λ b. Ok (listing keys b.0))
-behind_fault ds (Ok keys) first h = h ∙ program_steps 1 ds ∙ told (listing keys) (statements_from (statement_at MAX_DEPTH) 1 MAX_NODES ds)
+behind_fault ds (Ok keys) first h = h ∙ program_steps 1 ds ∙ reported (listing keys) (statements_from (statement_at MAX_DEPTH) 1 MAX_NODES ds)
 behind_fault ds (Err f) first h = h
 
 list_tested : (parts ds all : Items) (b : Bool)

@@ -65,8 +65,8 @@ pub texts_more : {A : Type 0} (vs ws : List Value) (v : Value) (keys : List (Str
     → key ≡ get_or keys 0 key → text ≡ string_bytes key → ws ≡ vs ++ v ∷ [] → view v ≡ string text
     → out ≡ items_after (map view ws) (written_keys (map string_bytes (take (length keys - 1) (drop 1 keys))))
     → out ≡ items_after (map view vs) (written_keys (map string_bytes keys))
-texts_more vs ws v keys key text out some first told pushed is others =
-    keys_more vs ws v (string_bytes key) (map string_bytes (take (length keys - 1) (drop 1 keys))) out pushed (is ∙ ap string told) others
+texts_more vs ws v keys key text out some first reported pushed is others =
+    keys_more vs ws v (string_bytes key) (map string_bytes (take (length keys - 1) (drop 1 keys))) out pushed (is ∙ ap string reported) others
     ∙ ap (λ (ks : List (List ℕ)). items_after (map view vs) (written_keys ks)) (sym (first_text keys key some first))
 
 -- each statement weighs less than its block

@@ -5,6 +5,6 @@ pub mod WordTexts
 pub mod Writing
 pub mod FirstFault
 pub use Rattle.stm_json.specs.Outcome
-pub use Rattle.stm_json.specs.Tells
+pub use Rattle.stm_json.specs.Returns
 pub use Rattle.stm_program.specs.Syntax
 pub use Rattle.stm_program.specs.Limits

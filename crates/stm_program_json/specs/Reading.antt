@@ -174,13 +174,13 @@ statement_at (suc levels) (suc room) d =
 -- ---- the list of keys that a program may begin with: it is no node
 
 -- a key that comes behind these
-abbrev pub key_told : List (List ℕ) → Option (List ℕ) → Outcome (List ℕ)
-key_told earlier None = bad Shape
-key_told earlier (Some s) =
+abbrev pub key_reported : List (List ℕ) → Option (List ℕ) → Outcome (List ℕ)
+key_reported earlier None = bad Shape
+key_reported earlier (Some s) =
     if nat_eq (length s) 0 || list_any (bytes_eq s) earlier then bad Shape else (if nat_lt MAX_TEXT (length s) then bad TooLong else Ok s)
 
 abbrev pub key_at : List (List ℕ) → Data → Outcome (List ℕ)
-key_at earlier d = if nat_lt (length earlier) MAX_PREFETCH then key_told earlier (as_str d) else bad TooMany
+key_at earlier d = if nat_lt (length earlier) MAX_PREFETCH then key_reported earlier (as_str d) else bad TooMany
 
 -- these keys, and the others behind them
 unfoldable pub keys_from : List (List ℕ) → Items → Outcome (List (List ℕ))

@@ -6,7 +6,7 @@ ghost use Rattle.stm_program_json.specs.FirstFault.{first_fault};
 ghost use Rattle.stm_json.specs.Faults.{IsFirstFault};
 ghost use Rattle.stm_program_json.specs.Grammar.{SpellsProgram};
 ghost use Rattle.stm_program.specs.Limits.{Fits};
-ghost use Rattle.stm_json.specs.Tells.{Tells};
+ghost use Rattle.stm_json.specs.Returns.{Returns};
 ghost use Rattle.stm_program_json.specs.Reading.{first_statement, program_after, program_of};
 
 mod conditions;
@@ -27,11 +27,11 @@ use stm_program::{MAX_DEPTH, MAX_NODES, Program};
 /// then the shape, and then the elements. `Bad` is the first fault, with its place in the value.
 /// `OutOfMemory` may come in place of any other answer, where a growth was refused.
 pub fn read_program(alloc: Global, value: &Value) -> Result<Program, ReadError>
-    ensures exact { Tells (λ p. p) result (program_of (view value.now)) }
+    ensures exact { Returns (λ p. p) result (program_of (view value.now)) }
     // What is read is spelled so.
     ensures spelled { IfOk result (SpellsProgram (view value.now)) }
     // A program within the limits that is spelled so is read.
-    ensures accepts { (p : _) → SpellsProgram (view value.now) p → Fits p → Tells (λ q. q) result (OkOf p) }
+    ensures accepts { (p : _) → SpellsProgram (view value.now) p → Fits p → Returns (λ q. q) result (OkOf p) }
     // Which fault it is.
     ensures faults { MatchResult result (λ p. first_fault (view value.now) ≡ None) (IsFirstFault (first_fault (view value.now))) }
 {
@@ -58,7 +58,7 @@ pub fn first_statement(value: &Value) -> usize
 
 /// The program of statements behind a list of what stands behind its word.
 fn program_behind(alloc: Global, parts: &[Value], rest: &[Value]) -> Result<Program, ReadError>
-    ensures { (all : Items) → Tells (λ p. p) result (program_after (Some (items_view parts.now)) all (items_view rest.now)) }
+    ensures { (all : Items) → Returns (λ p. p) result (program_after (Some (items_view parts.now)) all (items_view rest.now)) }
 {
     let keys = list::list_part(alloc, parts)?;
     let (statements, _left) = statements::statement_list(alloc, rest, 1, MAX_DEPTH, MAX_NODES)?;
@@ -69,7 +69,7 @@ fn program_behind(alloc: Global, parts: &[Value], rest: &[Value]) -> Result<Prog
 
 /// The program of statements.
 fn program_alone(alloc: Global, values: &[Value]) -> Result<Program, ReadError>
-    ensures { (rest : Items) → Tells (λ p. p) result (program_after None (items_view values.now) rest) }
+    ensures { (rest : Items) → Returns (λ p. p) result (program_after None (items_view values.now) rest) }
 {
     let (statements, _left) = statements::statement_list(alloc, values, 0, MAX_DEPTH, MAX_NODES)?;
     let program = Program::of(statements).share(alloc)?;
@@ -78,7 +78,7 @@ fn program_alone(alloc: Global, values: &[Value]) -> Result<Program, ReadError>
 
 #[tactic(auto, unfolding(crate::specs::Reading::program_of))]
 fn program(alloc: Global, value: &Value) -> Result<Program, ReadError>
-    ensures { Tells (λ p. p) result (program_of (view value.now)) }
+    ensures { Returns (λ p. p) result (program_of (view value.now)) }
 {
     let Some(values) = value.as_array() else {
         return Err(fault(alloc, Cause::Shape));

@@ -83,9 +83,9 @@ committed statements (Revoke id) r of legal = absurd of
 committed statements (Expire id) r of legal = absurd of
 
 -- what the entry of a commit tells is what its run has emitted
-pub output_told : (statements : Block) (e : Entry) (r : Replayed) → IsCommitOf statements e → IsLegal e r → (run : Run) →
+pub output_reported : (statements : Block) (e : Entry) (r : Replayed) → IsCommitOf statements e → IsLegal e r → (run : Run) →
     run_over (state_now r.history) statements ≡ Ended run → output_of e ≡ run.output
-output_told statements (Program program level answers output trace revision) r of legal run ran =
+output_reported statements (Program program level answers output trace revision) r of legal run ran =
     let h : History = r.history in
     let alone : run_over (state_now h) program.statements ≡ Ended legal.run =
     alone_by (is_comparing level) h (look_up answers) program.statements legal.run of.1 legal.is_run in
@@ -94,8 +94,8 @@ output_told statements (Program program level answers output trace revision) r o
   where
     one_run : (x y : Run) → Ended x ≡ Ended y → x ≡ y
     one_run x y is = cc
-output_told statements (Foreign txn) r of legal run ran = absurd of
-output_told statements (Grant id ttl moment) r of legal run ran = absurd of
-output_told statements (Renew id moment) r of legal run ran = absurd of
-output_told statements (Revoke id) r of legal run ran = absurd of
-output_told statements (Expire id) r of legal run ran = absurd of
+output_reported statements (Foreign txn) r of legal run ran = absurd of
+output_reported statements (Grant id ttl moment) r of legal run ran = absurd of
+output_reported statements (Renew id moment) r of legal run ran = absurd of
+output_reported statements (Revoke id) r of legal run ran = absurd of
+output_reported statements (Expire id) r of legal run ran = absurd of

@@ -34,7 +34,7 @@ use Rattle.stm_recipes.proofs.QueueRuns.{enqueue_alone, dequeue_alone}
 use Rattle.stm_recipe_laws.specs.Queues.{IsCount, Absent, Spelled, place_of, IsItem, AreItems, HoldsItems, IsEnqueue, IsDequeue, LeavesQueue, IsOfQueue, Enqueues}
 use Rattle.stm_recipe_laws.specs.Queues.{Dequeues, Leaves, texts_of, output_of, added_by, taken_by, all_added, all_taken, Kept}
 use Rattle.stm_recipe_laws.specs.Queues.{QueuesKeepTheirItems}
-use Rattle.stm_recipe_laws.proofs.CommitLemmas.{Committed, committed, output_told, now_is_known}
+use Rattle.stm_recipe_laws.proofs.CommitLemmas.{Committed, committed, output_reported, now_is_known}
 use Rattle.stm_recipe_laws.proofs.KeyLemmas.{last_write-cons, change_by, left_of_key}
 use Rattle.stm_recipe_laws.proofs.QueueKeys.{decimal_read, tail_head_apart, head_tail_apart, tail_place_apart, head_place_apart, place_tail_apart}
 use Rattle.stm_recipe_laws.proofs.QueueKeys.{place_head_apart, places_apart, decimals_apart, or_zero_decimal}
@@ -304,7 +304,7 @@ dequeue_by queue e r (item ∷ items) all long legal q held is =
         count = rest;
         each = items_stay h after queue (n + 1) held.tail items rest same each.1;
       };
-      in_order = ap (λ vs. texts_of vs ++ items) (output_told (dequeue_program queue) e r q legal c.run c.alone ∙ x.output_is) ∙ sym is;
+      in_order = ap (λ vs. texts_of vs ++ items) (output_reported (dequeue_program queue) e r q legal c.run c.alone ∙ x.output_is) ∙ sym is;
     }
 
 -- ---- all entries

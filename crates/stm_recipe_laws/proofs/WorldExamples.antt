@@ -160,8 +160,8 @@ of_emptying = (
 in_order : Kept (codes "q") [] (codes "A" ∷ codes "B" ∷ []) (codes "A" ∷ codes "B" ∷ []) (history_after (at_revision 1) (emptying Serializable ++ Step 4 ∷ Step 4 ∷ []))
 in_order = recipes_in_worlds.items (at_revision 1) (emptying Serializable ++ Step 4 ∷ Step 4 ∷ []) (codes "q") queue_entries some emptying_enters of_emptying
 
-abbrev told_to_both : List ReadAnswer
-told_to_both =
+abbrev reported_to_both : List ReadAnswer
+reported_to_both =
     record { key = codes "q/head"; kv = None; of_rev = 3; revision = 3 }
     ∷ record { key = codes "q/tail"; kv = Some (record { value = codes "2"; create_rev = 2; mod_rev = 3; version = 2; lease = 0 }); of_rev = 3; revision = 3 }
     ∷ record { key = codes "q/0"; kv = Some (record { value = codes "A"; create_rev = 2; mod_rev = 2; version = 1; lease = 0 }); of_rev = 3; revision = 3 }
@@ -170,8 +170,8 @@ told_to_both =
 -- At ReadCommitted nothing is compared, and both take the first item: no law speaks of such commits.
 taken_twice : replies_to (emptying ReadCommitted) (opened (at_revision 1))
     ≡ replies_to (take 14 (emptying ReadCommitted)) (opened (at_revision 1))
-    ++ Ok (Committed 3 4 1 (Text (codes "A") ∷ []) (took [] (codes "q/0") (codes "A")) told_to_both)
-    ∷ Ok (Committed 4 5 1 (Text (codes "A") ∷ []) (took [] (codes "q/0") (codes "A")) told_to_both) ∷ []
+    ++ Ok (Committed 3 4 1 (Text (codes "A") ∷ []) (took [] (codes "q/0") (codes "A")) reported_to_both)
+    ∷ Ok (Committed 4 5 1 (Text (codes "A") ∷ []) (took [] (codes "q/0") (codes "A")) reported_to_both) ∷ []
 unfolding start_runner fetch commit step_live settle enqueue_program dequeue_program run_over run_block evaluate holds equal arithmetic computed concatenated text_of num_of written_number key_in put_of del_of get_key last_write latest_writes fresh digits
 taken_twice = refl
 

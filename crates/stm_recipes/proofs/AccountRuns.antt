@@ -22,7 +22,7 @@ use Rattle.stm_meaning.specs.Laws.{KnowsEachKey}
 use Rattle.stm_meaning.specs.Leaves.{value_in, value_after}
 use Rattle.stm_recipes.specs.Accounts.{refuse_below, withdraw, pay, transfer_program, put_sum, deposit_program}
 use Rattle.stm_recipes.specs.Alone.{aborted, put_added, or_zero, moved, moved_or_refused, transferred, deposited, TransferAlone, DepositAlone}
-use Rattle.stm_recipes.proofs.Steps.{deed_in, told, does, after_get, number_of_key, number_put, number_is_put, put_of_sum, told_sum, silent, holding}
+use Rattle.stm_recipes.proofs.Steps.{deed_in, reported, does, after_get, number_of_key, number_put, number_is_put, put_of_sum, reported_sum, silent, holding}
 use Rattle.stm_recipes.proofs.Steps.{count_read, last_sum}
 
 -- ---- numbers that are read are in range
@@ -90,14 +90,14 @@ module _ (look : Lookup) (knows : KnowsEachKey look) (from to : List ℕ) (amoun
   abbrev testing : Block
   testing = Then (refuse_below amount) moving
 
-  paid : (s : Session) → told (run_block look paying (silent s)) ≡ put_added to amount s.writes (written_number (value_after s.writes (value_in look) to))
+  paid : (s : Session) → reported (run_block look paying (silent s)) ≡ put_added to amount s.writes (written_number (value_after s.writes (value_in look) to))
   unfolding run_block
   paid s =
-      ap (λ o. told (and_then o (λ _. run_block look End)))
+      ap (λ o. reported (and_then o (λ _. run_block look End)))
       (put_of_sum look to amount (NumOf (Get (Text to))) (written_number (value_after s.writes (value_in look) to)) (silent s)
       (after_get look to (silent s)) long_to
       (number_of_key look knows to (silent s) long_to))
-      ∙ told_sum look to amount (written_number (value_after s.writes (value_in look) to)) (after_get look to (silent s))
+      ∙ reported_sum look to amount (written_number (value_after s.writes (value_in look) to)) (after_get look to (silent s))
 
   withdrawn : (z : ℤ) (rest : List Value) (s : Session) → is_in_range z ≡ true → int_lt z (pos amount) ≡ false →
       run_statement look (withdraw from amount) (holding (NumberValue z) rest s) ≡ Gives tt
@@ -108,16 +108,16 @@ module _ (look : Lookup) (knows : KnowsEachKey look) (from to : List ℕ) (amoun
       ∙ ap (λ r. number_put from r (holding (NumberValue z) rest s)) (difference z amount fits above)
 
   tested : (b : Bool) (z : ℤ) (rest : List Value) (s : Session) → is_in_range z ≡ true → int_lt z (pos amount) ≡ b →
-      told (and_then (branch (run_block look (Then (Abort (Text (codes "insufficient"))) End)) (run_block look End) b (holding (NumberValue z) rest (blank s)))
+      reported (and_then (branch (run_block look (Then (Abort (Text (codes "insufficient"))) End)) (run_block look End) b (holding (NumberValue z) rest (blank s)))
       (λ _. run_block look moving)) ≡ (if b then aborted (codes "insufficient") else moved from to amount (value_in look) z)
   unfolding run_block evaluate text_in
   tested true z rest s fits below = refl
   tested false z rest s fits above =
-      ap (λ o. told (and_then o (λ _. run_block look paying))) (withdrawn z rest (blank s) fits above)
+      ap (λ o. reported (and_then o (λ _. run_block look paying))) (withdrawn z rest (blank s) fits above)
       ∙ paid (with_write (PutWrite from (signed_decimal (z -ℤ pos amount)) 0) (holding (NumberValue z) rest (blank s)))
 
   balance_read : (r : Result ℤ Fault) (x : Value) (rest : List Value) (s : Session) → ((z : ℤ) → r ≡ Ok z → is_in_range z ≡ true) →
-      told (and_then (and_then (given (as_number r) (holding x rest (blank s))) (λ y t. Gives (tt {0}) (with_variable 0 y t))) (λ _. run_block look testing))
+      reported (and_then (and_then (given (as_number r) (holding x rest (blank s))) (λ y t. Gives (tt {0}) (with_variable 0 y t))) (λ _. run_block look testing))
       ≡ moved_or_refused from to amount (value_in look) r
   unfolding run_block holds evaluate less
   balance_read (Ok z) x rest s fits = tested (int_lt z (pos amount)) z rest s (fits z refl) refl
@@ -126,7 +126,7 @@ module _ (look : Lookup) (knows : KnowsEachKey look) (from to : List ℕ) (amoun
   transfer_runs : deed_in (run_over look (transfer_program from to amount)) ≡ transferred from to amount (value_in look)
   unfolding run_over run_block transfer_program fresh last_write
   transfer_runs =
-      ap (λ o. told (and_then (and_then o (λ y t. Gives (tt {0}) (with_variable 0 y t))) (λ _. run_block look testing)))
+      ap (λ o. reported (and_then (and_then o (λ y t. Gives (tt {0}) (with_variable 0 y t))) (λ _. run_block look testing)))
       (number_of_key look knows from fresh long_from)
       ∙ balance_read (written_number (value_in look from)) (NumberValue (pos 0)) others (after_get look from fresh) (written_in_range (value_in look from))
 
@@ -141,7 +141,7 @@ deposit_runs : (look : Lookup) → KnowsEachKey look → (account : List ℕ) (a
     deed_in (run_over look (deposit_program account amount)) ≡ deposited account amount (value_in look)
 unfolding run_over deposit_program fresh last_write
 deposit_runs look knows account amount long =
-    ap told (count_read look knows account (NumberValue (pos 0)) others fresh (Then (put_sum account amount) End) long)
+    ap reported (count_read look knows account (NumberValue (pos 0)) others fresh (Then (put_sum account amount) End) long)
     ∙ last_sum look account amount (or_zero (value_in look account)) others (after_get look account fresh) long
 
 pub deposit_alone : DepositAlone

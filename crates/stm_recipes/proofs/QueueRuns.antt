@@ -21,7 +21,7 @@ use Rattle.stm_recipes.specs.Accounts.{read_text, zero_if_empty, put_sum}
 use Rattle.stm_recipes.specs.Queues.{put_item, enqueue_program, refuse_empty, name_item, emit_item, delete_item, dequeue_program}
 use Rattle.stm_recipes.specs.Alone.{aborted, faulted, put_number, put_added, or_zero, put_at, enqueued, emitting, taken_at, taken_or_refused, dequeued}
 use Rattle.stm_recipes.specs.Alone.{EnqueueAlone, DequeueAlone}
-use Rattle.stm_recipes.proofs.Steps.{deed_in, told, does, after_get, gotten, number_put, sum_put, is_put, is_deletion, holding, holding_two}
+use Rattle.stm_recipes.proofs.Steps.{deed_in, reported, does, after_get, gotten, number_put, sum_put, is_put, is_deletion, holding, holding_two}
 use Rattle.stm_recipes.proofs.Steps.{count_read, second_read, sum_of_first, last_sum}
 
 -- nothing was emitted, and nothing written
@@ -39,20 +39,20 @@ long_before queue rest long = omega (arith, length-append queue rest)
 -- ---- enqueue
 
 item_placed : (look : Lookup) (queue item number : List ℕ) (b : Bool) (rest : List Value) (s : Session) → 0 < length queue →
-    told (and_then (and_then (given (if b then Ok (TextValue (items_key queue ++ number)) else Err TextTooLong)
+    reported (and_then (and_then (given (if b then Ok (TextValue (items_key queue ++ number)) else Err TextTooLong)
     (holding (TextValue number) rest (blank s)))
     (λ x t. and_then (given (put_of x (TextValue item) 0) t) (λ w u. Gives (tt {0}) (with_write w u))))
     (λ _. run_block look (Then (put_sum (tail_key queue) 1) End)))
     ≡ (if b then put_added (tail_key queue) 1 (PutWrite (items_key queue ++ number) item 0 ∷ []) (written_number number) else faulted TextTooLong [])
 item_placed look queue item number true rest s long =
-    ap (λ r. told (and_then (and_then (given r (holding (TextValue number) rest (blank s))) (λ w t. Gives (tt {0}) (with_write w t)))
+    ap (λ r. reported (and_then (and_then (given r (holding (TextValue number) rest (blank s))) (λ w t. Gives (tt {0}) (with_write w t)))
     (λ _. run_block look (Then (put_sum (tail_key queue) 1) End))))
     (is_put (items_key queue ++ number) item 0 (long_before (items_key queue) number (long_before queue (codes "/") long)))
     ∙ last_sum look (tail_key queue) 1 number rest (with_write (PutWrite (items_key queue ++ number) item 0) (blank s)) (long_before queue (codes "/tail") long)
 item_placed look queue item number false rest s long = refl
 
 item_put : (look : Lookup) (queue item number : List ℕ) (rest : List Value) (s : Session) → 0 < length queue →
-    told (run_block look (Then (put_item queue item) (Then (put_sum (tail_key queue) 1) End)) (holding (TextValue number) rest (blank s)))
+    reported (run_block look (Then (put_item queue item) (Then (put_sum (tail_key queue) 1) End)) (holding (TextValue number) rest (blank s)))
     ≡ put_at queue item number
 unfolding run_block evaluate concatenated
 item_put look queue item number rest s long =
@@ -62,7 +62,7 @@ enqueue_runs : (look : Lookup) → KnowsEachKey look → (queue item : List ℕ)
     deed_in (run_over look (enqueue_program queue item)) ≡ enqueued queue item (value_in look)
 unfolding run_over enqueue_program fresh last_write
 enqueue_runs look knows queue item long =
-    ap told (count_read look knows (tail_key queue) (NumberValue (pos 0)) (NumberValue (pos 0) ∷ others) fresh
+    ap reported (count_read look knows (tail_key queue) (NumberValue (pos 0)) (NumberValue (pos 0) ∷ others) fresh
     (Then (put_item queue item) (Then (put_sum (tail_key queue) 1) End)) (long_before queue (codes "/tail") long))
     ∙ item_put look queue item (or_zero (value_in look (tail_key queue))) (NumberValue (pos 0) ∷ others) (after_get look (tail_key queue) fresh) long
 
@@ -73,20 +73,20 @@ enqueue_alone look queue item knows long =
 -- ---- dequeue
 
 -- a session in which one text was emitted
-abbrev telling : List ℕ → Session → Session
-telling item s = record s { output = TextValue item ∷ [] }
+abbrev reporting : List ℕ → Session → Session
+reporting item s = record s { output = TextValue item ∷ [] }
 
-told_number : (look : Lookup) (item key : List ℕ) (r : Result ℤ Fault) (s : Session) →
-    told (and_then (number_put key r (telling item s)) (λ _. run_block look End)) ≡ emitting item (put_number key s.writes r)
+reported_number : (look : Lookup) (item key : List ℕ) (r : Result ℤ Fault) (s : Session) →
+    reported (and_then (number_put key r (reporting item s)) (λ _. run_block look End)) ≡ emitting item (put_number key s.writes r)
 unfolding run_block
-told_number look item key (Ok z) s = refl
-told_number look item key (Err fault) s = refl
+reported_number look item key (Ok z) s = refl
+reported_number look item key (Err fault) s = refl
 
-told_sum : (look : Lookup) (item key : List ℕ) (amount : ℕ) (r : Result ℤ Fault) (s : Session) →
-    told (and_then (sum_put key amount r (telling item s)) (λ _. run_block look End)) ≡ emitting item (put_added key amount s.writes r)
+reported_sum : (look : Lookup) (item key : List ℕ) (amount : ℕ) (r : Result ℤ Fault) (s : Session) →
+    reported (and_then (sum_put key amount r (reporting item s)) (λ _. run_block look End)) ≡ emitting item (put_added key amount s.writes r)
 unfolding computed
-told_sum look item key amount (Ok number) s = told_number look item key (computed Add number (pos amount)) s
-told_sum look item key amount (Err fault) s = refl
+reported_sum look item key amount (Ok number) s = reported_number look item key (computed Add number (pos amount)) s
+reported_sum look item key amount (Err fault) s = refl
 
 module _ (look : Lookup) (knows : KnowsEachKey look) (queue : List ℕ) (long : 0 < length queue) where
   abbrev advancing : Block
@@ -105,35 +105,35 @@ module _ (look : Lookup) (knows : KnowsEachKey look) (queue : List ℕ) (long : 
   testing = Then refuse_empty naming
 
   advanced : (item number : List ℕ) (rest : List Value) (s : Session) →
-      told (run_block look advancing (holding (TextValue number) rest (telling item s)))
+      reported (run_block look advancing (holding (TextValue number) rest (reporting item s)))
       ≡ emitting item (put_added (head_key queue) 1 s.writes (written_number number))
   unfolding run_block
   advanced item number rest s =
-      ap (λ o. told (and_then o (λ _. run_block look End)))
-      (sum_of_first look (head_key queue) 1 number rest (telling item s) (long_before queue (codes "/head") long))
-      ∙ told_sum look item (head_key queue) 1 (written_number number) (holding (TextValue number) rest s)
+      ap (λ o. reported (and_then o (λ _. run_block look End)))
+      (sum_of_first look (head_key queue) 1 number rest (reporting item s) (long_before queue (codes "/head") long))
+      ∙ reported_sum look item (head_key queue) 1 (written_number number) (holding (TextValue number) rest s)
 
   -- the place of the first item is in the third variable
   deleted : (item number place : List ℕ) (y : Value) (rest : List Value) (s : Session) → 0 < length place →
-      told (run_block look deleting (holding (TextValue number) (y ∷ TextValue place ∷ rest) (telling item (record s { writes = [] }))))
+      reported (run_block look deleting (holding (TextValue number) (y ∷ TextValue place ∷ rest) (reporting item (record s { writes = [] }))))
       ≡ emitting item (put_added (head_key queue) 1 (DelWrite place ∷ []) (written_number number))
   unfolding run_block evaluate
   deleted item number place y rest s full =
-      ap (λ r. told (and_then (and_then (given r (holding (TextValue number) (y ∷ TextValue place ∷ rest) (telling item (record s { writes = [] }))))
+      ap (λ r. reported (and_then (and_then (given r (holding (TextValue number) (y ∷ TextValue place ∷ rest) (reporting item (record s { writes = [] }))))
       (λ w t. Gives (tt {0}) (with_write w t))) (λ _. run_block look advancing))) (is_deletion place full)
       ∙ advanced item number (y ∷ TextValue place ∷ rest) (record s { writes = DelWrite place ∷ [] })
 
   emitted : (number place : List ℕ) (y : Value) (rest : List Value) (s : Session) → 0 < length place →
-      told (run_block look emitting_first (holding (TextValue number) (y ∷ TextValue place ∷ rest) (blank s)))
+      reported (run_block look emitting_first (holding (TextValue number) (y ∷ TextValue place ∷ rest) (blank s)))
       ≡ emitting (value_in look place) (put_added (head_key queue) 1 (DelWrite place ∷ []) (written_number number))
   unfolding run_block evaluate last_write
   emitted number place y rest s full =
       let before = holding (TextValue number) (y ∷ TextValue place ∷ rest) (blank s) in
-      ap (λ o. told (and_then (and_then o (λ x t. Gives (tt {0}) (with_output x t))) (λ _. run_block look deleting))) (gotten look knows place before full)
+      ap (λ o. reported (and_then (and_then o (λ x t. Gives (tt {0}) (with_output x t))) (λ _. run_block look deleting))) (gotten look knows place before full)
       ∙ deleted (value_in look place) number place y rest (after_get look place before) full
 
   named : (number : List ℕ) (b : Bool) (y z : Value) (rest : List Value) (s : Session) →
-      told (and_then (and_then (given (if b then Ok (TextValue (items_key queue ++ number)) else Err TextTooLong)
+      reported (and_then (and_then (given (if b then Ok (TextValue (items_key queue ++ number)) else Err TextTooLong)
       (holding (TextValue number) (y ∷ z ∷ rest) (blank s))) (λ x t. Gives (tt {0}) (with_variable 2 x t))) (λ _. run_block look emitting_first))
       ≡ (if b then emitting (value_in look (items_key queue ++ number))
       (put_added (head_key queue) 1 (DelWrite (items_key queue ++ number) ∷ []) (written_number number)) else faulted TextTooLong [])
@@ -142,7 +142,7 @@ module _ (look : Lookup) (knows : KnowsEachKey look) (queue : List ℕ) (long : 
   named number false y z rest s = refl
 
   tested : (number : List ℕ) (b : Bool) (y z : Value) (rest : List Value) (s : Session) →
-      told (and_then (branch (run_block look (Then (Abort (Text (codes "empty"))) End)) (run_block look End) b
+      reported (and_then (branch (run_block look (Then (Abort (Text (codes "empty"))) End)) (run_block look End) b
       (holding (TextValue number) (y ∷ z ∷ rest) (blank s))) (λ _. run_block look naming))
       ≡ (if b then aborted (codes "empty") else taken_at queue (value_in look) number)
   unfolding run_block evaluate concatenated text_in
@@ -150,7 +150,7 @@ module _ (look : Lookup) (knows : KnowsEachKey look) (queue : List ℕ) (long : 
   tested number false y z rest s = named number (nat_le (length (items_key queue) + length number) longest_text) y z rest s
 
   compared : (head tail : List ℕ) (z : Value) (rest : List Value) (s : Session) →
-      told (run_block look testing (holding_two (TextValue head) (TextValue tail) (z ∷ rest) (blank s))) ≡ taken_or_refused queue (value_in look) head tail
+      reported (run_block look testing (holding_two (TextValue head) (TextValue tail) (z ∷ rest) (blank s))) ≡ taken_or_refused queue (value_in look) head tail
   unfolding run_block holds evaluate equal
   compared head tail z rest s = tested head (bytes_eq head tail) (TextValue tail) z rest s
 
@@ -161,9 +161,9 @@ module _ (look : Lookup) (knows : KnowsEachKey look) (queue : List ℕ) (long : 
       let head = or_zero (value_in look (head_key queue)) in
       let read = after_get look (head_key queue) fresh in
       let both = after_get look (tail_key queue) (holding_two (TextValue head) zero others read) in
-      ap told (count_read look knows (head_key queue) zero (zero ∷ others) fresh
+      ap reported (count_read look knows (head_key queue) zero (zero ∷ others) fresh
       (Then (read_text 1 (tail_key queue)) (Then (zero_if_empty 1) testing)) (long_before queue (codes "/head") long))
-      ∙ ap told (second_read look knows (tail_key queue) (TextValue head) zero others read testing (long_before queue (codes "/tail") long))
+      ∙ ap reported (second_read look knows (tail_key queue) (TextValue head) zero others read testing (long_before queue (codes "/tail") long))
       ∙ compared head (or_zero (value_in look (tail_key queue))) zero (replicate 13 zero) both
 
 pub dequeue_alone : DequeueAlone

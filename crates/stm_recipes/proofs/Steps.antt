@@ -29,8 +29,8 @@ deed_in (Ended run) = deed_of run
 deed_in (Wants key trace) = done []
 
 -- what a run did that ended with such an outcome
-abbrev pub told : Outcome (Unit {0}) → Deed
-told outcome = deed_in (answered outcome)
+abbrev pub reported : Outcome (Unit {0}) → Deed
+reported outcome = deed_in (answered outcome)
 
 pub does : (look : Lookup) (program : Block) (deed : Deed) → deed_in (run_over look program) ≡ deed → Does look program deed
 does look program deed e run ended = sym (ap deed_in ended) ∙ e
@@ -116,17 +116,17 @@ put_of_sum look key amount e r s t long is =
 abbrev pub silent : Session → Session
 silent s = record s { output = [] }
 
-told_number : (look : Lookup) (key : List ℕ) (r : Result ℤ Fault) (s : Session) →
-    told (and_then (number_put key r (silent s)) (λ _. run_block look End)) ≡ put_number key s.writes r
+reported_number : (look : Lookup) (key : List ℕ) (r : Result ℤ Fault) (s : Session) →
+    reported (and_then (number_put key r (silent s)) (λ _. run_block look End)) ≡ put_number key s.writes r
 unfolding run_block
-told_number look key (Ok z) s = refl
-told_number look key (Err fault) s = refl
+reported_number look key (Ok z) s = refl
+reported_number look key (Err fault) s = refl
 
-pub told_sum : (look : Lookup) (key : List ℕ) (amount : ℕ) (r : Result ℤ Fault) (s : Session) →
-    told (and_then (sum_put key amount r (silent s)) (λ _. run_block look End)) ≡ put_added key amount s.writes r
+pub reported_sum : (look : Lookup) (key : List ℕ) (amount : ℕ) (r : Result ℤ Fault) (s : Session) →
+    reported (and_then (sum_put key amount r (silent s)) (λ _. run_block look End)) ≡ put_added key amount s.writes r
 unfolding computed
-told_sum look key amount (Ok number) s = told_number look key (computed Add number (pos amount)) s
-told_sum look key amount (Err fault) s = refl
+reported_sum look key amount (Ok number) s = reported_number look key (computed Add number (pos amount)) s
+reported_sum look key amount (Err fault) s = refl
 
 -- ---- counters
 
@@ -177,8 +177,8 @@ sum_of_first look key amount t rest s long =
 
 -- a run that ends with such a sum
 pub last_sum : (look : Lookup) (key : List ℕ) (amount : ℕ) (t : List ℕ) (rest : List Value) (s : Session) → 0 < length key →
-    told (run_block look (Then (put_sum key amount) End) (holding (TextValue t) rest (silent s))) ≡ put_added key amount s.writes (written_number t)
+    reported (run_block look (Then (put_sum key amount) End) (holding (TextValue t) rest (silent s))) ≡ put_added key amount s.writes (written_number t)
 unfolding run_block
 last_sum look key amount t rest s long =
-    ap (λ o. told (and_then o (λ _. run_block look End))) (sum_of_first look key amount t rest (silent s) long)
-    ∙ told_sum look key amount (written_number t) (holding (TextValue t) rest s)
+    ap (λ o. reported (and_then o (λ _. run_block look End))) (sum_of_first look key amount t rest (silent s) long)
+    ∙ reported_sum look key amount (written_number t) (holding (TextValue t) rest s)

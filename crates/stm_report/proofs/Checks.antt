@@ -6,7 +6,7 @@ use Rattle.stm_compile.proofs.ConflictLemmas.{failed_compares_conflict}
 use Rattle.stm_world.specs.declared.event.WorldEvent.{WorldEvent}
 use Rattle.stm_world.specs.declared.reply.Reply.{Reply}
 use Rattle.stm_world.specs.declared.refusal.Denied.{Denied}
-use Rattle.stm_world.specs.Log.{IsLogOf, store, entries_told}
+use Rattle.stm_world.specs.Log.{IsLogOf, store, entries_reported}
 use Rattle.stm_world.specs.World.{World, opened, world_after, replies_to}
 use Rattle.stm_world.specs.Headline.{Holds}
 use Rattle.stm_world.proofs.Headlines.{headline}
@@ -43,7 +43,7 @@ one_run start events replies w holds =
     ap (λ (rs : List (Result Reply Denied)). event_lines 1 rs
     ++ end_lines (world_after events (opened start)).standing (length (world_after events (opened start)).entries)) (sym same)
     ∙ (λ i. event_lines 1 replies ++ end_lines (run.standing i) (length (run.entries i)))
-    ∙ (λ i. event_lines 1 replies ++ end_lines (store start (log i)) (length (entries_told start (log i))))
+    ∙ (λ i. event_lines 1 replies ++ end_lines (store start (log i)) (length (entries_reported start (log i))))
     ∙ (λ i. event_lines 1 replies ++ end_lines ((sym holds.standing) i) (length ((sym holds.entries) i)))
 
 pub checks_say_yes : ChecksSayYes

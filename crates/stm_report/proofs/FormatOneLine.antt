@@ -21,7 +21,7 @@ use Rattle.stm_report.specs.declared.format_row.Lane.TheVariants.{Store, Runner}
 use Rattle.stm_report.specs.declared.format_pieces.TheConstants.{MOST_SHOWN, KEPT, MOST_COLUMNS}
 use Rattle.stm_report.specs.FormatShown.{shown, plain, front}
 use Rattle.stm_report.specs.FormatPieces.{joined, padded, tag_text}
-use Rattle.stm_report.specs.FormatWords.{named_words, told_words, start_words, listed_words, fetched_words, commit_words, compared_words, txn_words, revoked_words}
+use Rattle.stm_report.specs.FormatWords.{named_words, reported_words, start_words, listed_words, fetched_words, commit_words, compared_words, txn_words, revoked_words}
 use Rattle.stm_report.specs.FormatWords.{changed_words, advanced_words, batch_words, lost_words, asked_word, refused_words, reply_words, words_of}
 use Rattle.stm_report.specs.FormatRows.{lane_of, row_of, rows_of}
 use Rattle.stm_report.specs.FormatColumns.{column}
@@ -126,8 +126,8 @@ compacted_without revision = joined_without (codes "compact" ∷ codes " @" ∷ 
 named_without : (word : List ℕ) (n : ℕ) → has 10 word ≡ false → has 10 (named_words word n) ≡ false
 named_without word n none = joined_without (word ∷ codes " " ∷ decimal n ∷ []) (none, (refl, (decimal_without n, tt)))
 
-told_without : (word text : List ℕ) → has 10 word ≡ false → has 10 (told_words word text) ≡ false
-told_without word text none = joined_without (word ∷ codes " " ∷ shown text ∷ []) (none, (refl, (shown_without text, tt)))
+reported_without : (word text : List ℕ) → has 10 word ≡ false → has 10 (reported_words word text) ≡ false
+reported_without word text none = joined_without (word ∷ codes " " ∷ shown text ∷ []) (none, (refl, (shown_without text, tt)))
 
 listed_without : (count revision : ℕ) → has 10 (listed_words count revision) ≡ false
 listed_without count revision =
@@ -180,9 +180,9 @@ reply_without e (Fetched runner key mod_rev of_rev revision) = fetched_without k
 reply_without e (Committed runner revision attempts output trace answers) = commit_without revision attempts
 reply_without e (Conflict runner key seen now) = compared_without (codes "CONFLICT") key seen now refl
 reply_without e (GaveUp runner attempts key seen now) = compared_without (codes "GAVE UP") key seen now refl
-reply_without e (Aborted runner text) = told_without (codes "ABORT") text refl
-reply_without e (Faulted runner fault) = told_without (codes "FAULT") (fault_name fault) refl
-reply_without e (Ended runner cause) = told_without (codes "ENDED") (store_refusal_name cause) refl
+reply_without e (Aborted runner text) = reported_without (codes "ABORT") text refl
+reply_without e (Faulted runner fault) = reported_without (codes "FAULT") (fault_name fault) refl
+reply_without e (Ended runner cause) = reported_without (codes "ENDED") (store_refusal_name cause) refl
 reply_without e (Txn answer) = txn_without answer.succeeded answer.revision
 reply_without e (Granted id) = named_without (codes "grant") id refl
 reply_without e (Kept id) = named_without (codes "keep") id refl

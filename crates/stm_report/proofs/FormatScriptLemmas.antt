@@ -6,7 +6,7 @@ use Rattle.stm_devices.specs.Transfers.{WritesFront}
 use Rattle.stm_report.specs.declared.run_script.ScriptFault.{ScriptFault}
 use Rattle.stm_report.specs.declared.run_script.ScriptFault.TheVariants.{OutOfMemory, Bad, Read, Write}
 use Rattle.stm_devices.specs.Ends.{Devices}
-use Rattle.stm_texts.proofs.Fronts.{told_at}
+use Rattle.stm_texts.proofs.Fronts.{pending_of_revision}
 use Rattle.stm_report.specs.declared.format.Format.{Format}
 use Rattle.stm_report.specs.FormatScript.{IsOutputOf, Writes, DoesAs}
 
@@ -15,13 +15,13 @@ pub DoesAs-from_Writes : {A : Type 0} (format : Format) (d : Devices) (bytes : L
     IfSome d.input (λ all. bytes ≡ take MOST_READ all) → d.source_failed ≡ false
     → Writes format bytes d.before d.after d.sink_failed result → DoesAs format d result
 DoesAs-from_Writes format d bytes (Ok u) read works did =
-    (works, did.0, told_at bytes d.input (λ outcome. (text : List ℕ) × IsOutputOf format outcome text × Appends d.before d.after text) read (did.1, did.2, did.3))
+    (works, did.0, pending_of_revision bytes d.input (λ outcome. (text : List ℕ) × IsOutputOf format outcome text × Appends d.before d.after text) read (did.1, did.2, did.3))
 DoesAs-from_Writes format d bytes (Err OutOfMemory) read works did = (works, did.0, did.1)
 DoesAs-from_Writes format d bytes (Err (Bad fault)) read works did =
-    ((works, did.0, did.1), told_at bytes d.input (λ outcome. outcome ≡ Err fault) read did.2)
+    ((works, did.0, did.1), pending_of_revision bytes d.input (λ outcome. outcome ≡ Err fault) read did.2)
 DoesAs-from_Writes format d bytes (Err Read) read works did = absurd did
 DoesAs-from_Writes format d bytes (Err Write) read works did = (
   works,
   did.0,
-  told_at bytes d.input (λ outcome. (text : List ℕ) × IsOutputOf format outcome text × WritesFront d.before d.after text) read (did.1, did.2, did.3),
+  pending_of_revision bytes d.input (λ outcome. (text : List ℕ) × IsOutputOf format outcome text × WritesFront d.before d.after text) read (did.1, did.2, did.3),
 )

@@ -4,9 +4,9 @@ pub mod LeaseLemmas
 pub mod LiveLeases
 pub mod RightRuns
 pub mod RunLists
-pub mod RunsTold
-pub mod CallsTold
-pub mod CommitsTold
+pub mod RunsReported
+pub mod CallsReported
+pub mod CommitsReported
 pub mod LinesRight
 pub mod Checks
 pub mod Written

@@ -16,7 +16,7 @@ use Rattle.stm_entries.specs.Replayed.{opening, without_moment}
 use Rattle.stm_entries.specs.Replay.{replay}
 use Rattle.stm_entries.specs.Legal.{AreLegal}
 use Rattle.stm_entries.proofs.Replaying.{rest_legal}
-use Rattle.stm_reports.specs.declared.causes.RefusalName.TheVariants.{NoRunner as NoRunnerTold}
+use Rattle.stm_reports.specs.declared.causes.RefusalName.TheVariants.{NoRunner as NoRunnerReported}
 use Rattle.stm_reports.specs.declared.line.ReportLine.{ReportLine}
 use Rattle.stm_reports.specs.declared.line.ReportLine.TheVariants.{Refused}
 use Rattle.stm_world.specs.declared.event.WorldEvent.{WorldEvent}
@@ -26,9 +26,9 @@ use Rattle.stm_world.specs.declared.reply.Reply.TheVariants.{Started, Prefetched
 use Rattle.stm_world.specs.declared.reply.Reply.TheVariants.{Txn as TxnDone, Granted, Kept, Revoked, Watching, Cancelled, Compacted}
 use Rattle.stm_world.specs.declared.refusal.Denied.{Denied}
 use Rattle.stm_world.specs.declared.refusal.Refusal.TheVariants.{BadLimit, NoRunner}
-use Rattle.stm_world.specs.Told.{denied, reply_to, advance_reply, poll_reply}
+use Rattle.stm_world.specs.Reported.{denied, reply_to, advance_reply, poll_reply}
 use Rattle.stm_world.specs.Task.{Task}
-use Rattle.stm_world.specs.Log.{Line, begun, is_over, running, started, failures, store, with_commit, commit_entry, line_entries, entries_told}
+use Rattle.stm_world.specs.Log.{Line, begun, is_over, running, started, failures, store, with_commit, commit_entry, line_entries, entries_reported}
 use Rattle.stm_world.specs.Right.{IsRight, StepIsRight, RunnerIsRight, StartIsRight, Situation, situation}
 use Rattle.stm_world.specs.World.{World, opened, step, world_after, replies_to}
 use Rattle.stm_world.proofs.Following.{FollowsStep, with_line}
@@ -36,57 +36,57 @@ use Rattle.stm_world.proofs.Headlines.{Follows, step_follows, opened_follows}
 use Rattle.stm_world.proofs.RunnerSteps.{CommitLaws}
 use Rattle.stm_world.proofs.Slots.{same_number, other_number}
 use Rattle.stm_world.proofs.Untouched.{IsFresh}
-use Rattle.stm_lines.specs.Lines.{line_told, answer_told}
+use Rattle.stm_lines.specs.Lines.{line_reported, answer_reported}
 use Rattle.stm_check.specs.declared.runner.Runner.{Runner}
 use Rattle.stm_check.specs.Fits.{number_of, is_number, can_have, fits}
-use Rattle.stm_check.specs.Point.{Point, committed_entry, commit_entries, entries_told as told_entries, led_by, standing_after, after}
+use Rattle.stm_check.specs.Point.{Point, committed_entry, commit_entries, entries_reported as reported_entries, led_by, standing_after, after}
 use Rattle.stm_check.specs.Replays.{IsCommitOf, StepReplays, Replays}
 use Rattle.stm_check.specs.Runners.{running as running_in, runners_after}
 use Rattle.stm_check.specs.StoreLines.{end_lines}
 use Rattle.stm_check.specs.Wrong.{IsRight as IsRightLine, AreRight}
 use Rattle.stm_report.specs.Report.{event_lines}
-use Rattle.stm_report.proofs.RunsTold.{RunsAreTold, SaysNothing, none_are_told, says_nothing, advance_says_nothing, run_with, runs_with}
-use Rattle.stm_report.proofs.RunsTold.{same_runs, Goes, goes_on, ended_runs, failed_runs, begun_runs}
+use Rattle.stm_report.proofs.RunsReported.{RunsAreReported, SaysNothing, none_are_reported, says_nothing, advance_says_nothing, run_with, runs_with}
+use Rattle.stm_report.proofs.RunsReported.{same_runs, Goes, goes_on, ended_runs, failed_runs, begun_runs}
 use Rattle.stm_world.proofs.EventKeeps.{store_limit}
-use Rattle.stm_report.proofs.CallsTold.{unwatched, txn_right, grant_right, keep_right, revoke_right, advance_right, watch_stays, poll_stays}
-use Rattle.stm_report.proofs.CallsTold.{compact_same, compact_store, cancel_stays, by_reply, by_poll}
-use Rattle.stm_report.proofs.CommitsTold.{IsEntered, commit_right, commit_store}
+use Rattle.stm_report.proofs.CallsReported.{unwatched, txn_right, grant_right, keep_right, revoke_right, advance_right, watch_stays, poll_stays}
+use Rattle.stm_report.proofs.CallsReported.{compact_same, compact_store, cancel_stays, by_reply, by_poll}
+use Rattle.stm_report.proofs.CommitsReported.{IsEntered, commit_right, commit_store}
 
 -- ---- a point, by the log so far
 
 abbrev pub point_at : Setup → List Line → List Runner → Point
-point_at start log rs = record { standing = unwatched (store start log); entries = length (entries_told start log); runners = rs }
+point_at start log rs = record { standing = unwatched (store start log); entries = length (entries_reported start log); runners = rs }
 
 -- The line of the next event is right, and the point behind it is that of the longer log.
 record GoesOn (start : Setup) (n : ℕ) (log : List Line) (rs : List Runner) (event : WorldEvent) (reply : Result Reply Denied) : Type 0 where
-  is_right : IsRightLine n (point_at start log rs) event (line_told n reply)
-  store_is : standing_after (unwatched (store start log)) rs event (line_told n reply) ≡ unwatched (store start (with_line event reply log))
-  count_is : length (told_entries (unwatched (store start log)) rs event (line_told n reply))
+  is_right : IsRightLine n (point_at start log rs) event (line_reported n reply)
+  store_is : standing_after (unwatched (store start log)) rs event (line_reported n reply) ≡ unwatched (store start (with_line event reply log))
+  count_is : length (reported_entries (unwatched (store start log)) rs event (line_reported n reply))
       ≡ length (line_entries start (record { event = event; reply = reply }) log)
-  runs : RunsAreTold (with_line event reply log) (runners_after event (line_told n reply) rs)
+  runs : RunsAreReported (with_line event reply log) (runners_after event (line_reported n reply) rs)
 
 next_point : (start : Setup) (n : ℕ) (log : List Line) (rs : List Runner) (event : WorldEvent) (reply : Result Reply Denied) → GoesOn start n log rs event reply →
-    after (point_at start log rs) event (line_told n reply)
-    ≡ point_at start (with_line event reply log) (runners_after event (line_told n reply) rs)
+    after (point_at start log rs) event (line_reported n reply)
+    ≡ point_at start (with_line event reply log) (runners_after event (line_reported n reply) rs)
 next_point start n log rs event reply g =
     let line : Line = record { event = event; reply = reply } in
-    let count : length (entries_told start log) + length (told_entries (unwatched (store start log)) rs event (line_told n reply))
-    ≡ length (entries_told start log ++ line_entries start line log) =
-    ap (λ k. length (entries_told start log) + k) g.count_is ∙ sym (length-append (entries_told start log) (line_entries start line log)) in
-    λ i. record { standing = g.store_is i; entries = count i; runners = runners_after event (line_told n reply) rs }
+    let count : length (entries_reported start log) + length (reported_entries (unwatched (store start log)) rs event (line_reported n reply))
+    ≡ length (entries_reported start log ++ line_entries start line log) =
+    ap (λ k. length (entries_reported start log) + k) g.count_is ∙ sym (length-append (entries_reported start log) (line_entries start line log)) in
+    λ i. record { standing = g.store_is i; entries = count i; runners = runners_after event (line_reported n reply) rs }
 
 -- ---- a line has the number of its event
 
-numbered : (n : ℕ) (reply : Result Reply Denied) → number_of (line_told n reply) ≡ Some n
+numbered : (n : ℕ) (reply : Result Reply Denied) → number_of (line_reported n reply) ≡ Some n
 numbered n (Err refusal) = refl
 numbered n (Ok (Started runner)) = refl
 numbered n (Ok _) = refl
 
-fits_there : (n : ℕ) (rs : List Runner) (event : WorldEvent) (reply : Result Reply Denied) → can_have rs event (line_told n reply) ≡ true →
-    fits n rs event (line_told n reply) ≡ true
+fits_there : (n : ℕ) (rs : List Runner) (event : WorldEvent) (reply : Result Reply Denied) → can_have rs event (line_reported n reply) ≡ true →
+    fits n rs event (line_reported n reply) ≡ true
 fits_there n rs event reply can =
-    ap (λ (o : Option ℕ). is_number n o && can_have rs event (line_told n reply)) (numbered n reply)
-    ∙ ap (λ (b : Bool). b && can_have rs event (line_told n reply)) (same_number n) ∙ can
+    ap (λ (o : Option ℕ). is_number n o && can_have rs event (line_reported n reply)) (numbered n reply)
+    ∙ ap (λ (b : Bool). b && can_have rs event (line_reported n reply)) (same_number n) ∙ can
 
 -- ---- starts
 
@@ -95,37 +95,37 @@ start_can limit count rs some is =
     ap (λ (b : Bool). not b && nat_eq (count + 1) (length rs + 1)) (other_number limit 0 some)
     ∙ ap (λ k. nat_eq (count + 1) (k + 1)) is ∙ same_number (count + 1)
 
-started_goes : (start : Setup) (n : ℕ) (log : List Line) (rs : List Runner) (task : Task) → RunsAreTold log rs → IsFresh start log (started log + 1) → task.limit ≢ 0 →
+started_goes : (start : Setup) (n : ℕ) (log : List Line) (rs : List Runner) (task : Task) → RunsAreReported log rs → IsFresh start log (started log + 1) → task.limit ≢ 0 →
     GoesOn start n log rs (Start task.program task.level task.limit) (Ok (Started (started log + 1)))
-started_goes start n log rs task told fresh some = record {
+started_goes start n log rs task reported fresh some = record {
   is_right = (
-    fits_there n rs (Start task.program task.level task.limit) (Ok (Started (started log + 1))) (start_can task.limit (started log) rs some told.count),
+    fits_there n rs (Start task.program task.level task.limit) (Ok (Started (started log + 1))) (start_can task.limit (started log) rs some reported.count),
     tt,
   );
   store_is = refl;
   count_is = refl;
-  runs = begun_runs start log rs task fresh told;
+  runs = begun_runs start log rs task fresh reported;
 }
 
-refused_start : (start : Setup) (n : ℕ) (log : List Line) (rs : List Runner) (task : Task) → RunsAreTold log rs → task.limit ≡ 0 →
+refused_start : (start : Setup) (n : ℕ) (log : List Line) (rs : List Runner) (task : Task) → RunsAreReported log rs → task.limit ≡ 0 →
     GoesOn start n log rs (Start task.program task.level task.limit) (denied BadLimit)
-refused_start start n log rs task told none = record {
+refused_start start n log rs task reported none = record {
   is_right = (fits_there n rs (Start task.program task.level task.limit) (denied BadLimit) refl, (none, refl, refl));
   store_is = refl;
   count_is = refl;
   runs = same_runs (record { event = Start task.program task.level task.limit; reply = denied BadLimit }) log rs
-      (record { begins_is = refl; ends_is = refl; fails_is = refl }) told;
+      (record { begins_is = refl; ends_is = refl; fails_is = refl }) reported;
 }
 
-start_goes : (start : Setup) (n : ℕ) (log : List Line) (rs : List Runner) (task : Task) (reply : Result Reply Denied) → RunsAreTold log rs →
+start_goes : (start : Setup) (n : ℕ) (log : List Line) (rs : List Runner) (task : Task) (reply : Result Reply Denied) → RunsAreReported log rs →
     IsFresh start log (started log + 1) → StartIsRight (started log) task.limit reply →
     GoesOn start n log rs (Start task.program task.level task.limit) reply
-start_goes start n log rs task (Ok reply) told fresh right =
+start_goes start n log rs task (Ok reply) reported fresh right =
     subst (λ (x : Reply). GoesOn start n log rs (Start task.program task.level task.limit) (Ok x)) (sym right.0)
-    (started_goes start n log rs task told fresh right.1)
-start_goes start n log rs task (Err refusal) told fresh right =
+    (started_goes start n log rs task reported fresh right.1)
+start_goes start n log rs task (Err refusal) reported fresh right =
     subst (λ (x : Denied). GoesOn start n log rs (Start task.program task.level task.limit) (Err x)) (sym right.0)
-    (refused_start start n log rs task told right.1)
+    (refused_start start n log rs task reported right.1)
 
 -- ---- steps
 
@@ -137,17 +137,17 @@ no_entry h l (Some r) none = none r
 still : (s : Standing) (es : List Entry) → es ≡ [] → led_by es s s.moment ≡ s
 still s es none = ap (λ (x : List Entry). led_by x s s.moment) none
 
-none_goes : (start : Setup) (n : ℕ) (log : List Line) (rs : List Runner) (id : ℕ) → RunsAreTold log rs → running id log ≡ None →
+none_goes : (start : Setup) (n : ℕ) (log : List Line) (rs : List Runner) (id : ℕ) → RunsAreReported log rs → running id log ≡ None →
     GoesOn start n log rs (Step id) (denied NoRunner)
-none_goes start n log rs id told none =
+none_goes start n log rs id reported none =
     let h : History = (store start log).history in
-    let l : ReportLine = Refused n NoRunnerTold [] in
+    let l : ReportLine = Refused n NoRunnerReported [] in
     let nothing : commit_entries h l (running_in id rs) ≡ [] = no_entry h l (running_in id rs) (λ r. refl) in
     record {
-      is_right = (fits_there n rs (Step id) (denied NoRunner) refl, (told.runs id ∙ ap (runs_with (failures id log)) none, refl, refl));
+      is_right = (fits_there n rs (Step id) (denied NoRunner) refl, (reported.runs id ∙ ap (runs_with (failures id log)) none, refl, refl));
       store_is = still (unwatched (store start log)) (commit_entries h l (running_in id rs)) nothing;
       count_is = ap (λ (es : List Entry). length es) nothing;
-      runs = same_runs (record { event = Step id; reply = denied NoRunner }) log rs (record { begins_is = refl; ends_is = refl; fails_is = refl }) told;
+      runs = same_runs (record { event = Step id; reply = denied NoRunner }) log rs (record { begins_is = refl; ends_is = refl; fails_is = refl }) reported;
     }
 
 -- a line of the runner, which runs
@@ -159,18 +159,18 @@ step_can log rs id runner task own goes =
 
 -- a step that tells no entry
 record StepsOn (start : Setup) (n : ℕ) (log : List Line) (rs : List Runner) (id : ℕ) (reply : Reply) : Type 0 where
-  can : can_have rs (Step id) (line_told n (Ok reply)) ≡ true
-  replays : StepReplays (unwatched (store start log)) (running_in id rs) (line_told n (Ok reply))
-  none : (r : Runner) → committed_entry (store start log).history (line_told n (Ok reply)) r ≡ []
+  can : can_have rs (Step id) (line_reported n (Ok reply)) ≡ true
+  replays : StepReplays (unwatched (store start log)) (running_in id rs) (line_reported n (Ok reply))
+  none : (r : Runner) → committed_entry (store start log).history (line_reported n (Ok reply)) r ≡ []
   store_stays : unwatched (store start log) ≡ unwatched (store start (with_line (Step id) (Ok reply) log))
   count_stays : 0 ≡ length (line_entries start (record { event = Step id; reply = Ok reply }) log)
-  runs_on : RunsAreTold (with_line (Step id) (Ok reply) log) (runners_after (Step id) (line_told n (Ok reply)) rs)
+  runs_on : RunsAreReported (with_line (Step id) (Ok reply) log) (runners_after (Step id) (line_reported n (Ok reply)) rs)
 
 steps_on : (start : Setup) (n : ℕ) (log : List Line) (rs : List Runner) (id : ℕ) (reply : Reply) → StepsOn start n log rs id reply →
     GoesOn start n log rs (Step id) (Ok reply)
 steps_on start n log rs id reply on =
     let h : History = (store start log).history in
-    let l : ReportLine = line_told n (Ok reply) in
+    let l : ReportLine = line_reported n (Ok reply) in
     let nothing : commit_entries h l (running_in id rs) ≡ [] = no_entry h l (running_in id rs) on.none in
     record {
       is_right = (fits_there n rs (Step id) (Ok reply) on.can, on.replays);
@@ -191,21 +191,21 @@ legal_entry revision output trace answers o task s is legal =
     subst (λ (x : Option Task). AreLegal (commit_entry revision output trace answers x) (without_moment s)) is legal
 
 commit_goes : (start : Setup) (n : ℕ) (log : List Line) (rs : List Runner) (id revision attempts : ℕ) (task : Task) (output : List Value)
-    (trace : List TraceItem) (answers : List ReadAnswer) → RunsAreTold log rs → Goes log rs id task → begun id log ≡ Some task →
+    (trace : List TraceItem) (answers : List ReadAnswer) → RunsAreReported log rs → Goes log rs id task → begun id log ≡ Some task →
     IsEntered (situation start log id task) revision attempts (failures id log) output trace answers →
     GoesOn start n log rs (Step id) (Ok (Committed id revision attempts output trace answers))
-commit_goes start n log rs id revision attempts task output trace answers told goes was e =
+commit_goes start n log rs id revision attempts task output trace answers reported goes was e =
     let at : Situation = situation start log id task in
     let s : Standing = store start log in
     let reply : Reply = Committed id revision attempts output trace answers in
-    let l : ReportLine = line_told n (Ok reply) in
+    let l : ReportLine = line_reported n (Ok reply) in
     let r : Runner = run_with (failures id log) task in
     let entered : commit_entries s.history l (running_in id rs) ≡ committed_entry s.history l r =
     ap (commit_entries s.history l) goes.found in
     record {
       is_right = (
         fits_there n rs (Step id) (Ok reply) (step_can log rs id id task refl goes),
-        subst (λ (o : Option Runner). IsCommitOf (unwatched s) o revision attempts output trace (map answer_told answers)) (sym goes.found)
+        subst (λ (o : Option Runner). IsCommitOf (unwatched s) o revision attempts output trace (map answer_reported answers)) (sym goes.found)
             (commit_right at revision attempts (failures id log) output trace answers e),
       );
       store_is = ap (λ (es : List Entry). led_by es (unwatched s) s.moment) entered
@@ -213,32 +213,32 @@ commit_goes start n log rs id revision attempts task output trace answers told g
           ∙ sym (ap (λ (o : Option Task). unwatched (with_commit s answers o)) was);
       count_is = ap (λ (es : List Entry). length es) entered
           ∙ sym (ap (λ (o : Option Task). length (commit_entry revision output trace answers o)) was);
-      runs = ended_runs (record { event = Step id; reply = Ok reply }) log rs id task (record { begins_is = refl; ends_is = refl; fails_is = refl }) goes told;
+      runs = ended_runs (record { event = Step id; reply = Ok reply }) log rs id task (record { begins_is = refl; ends_is = refl; fails_is = refl }) goes reported;
     }
 
 commit_of : (start : Setup) (n : ℕ) (log : List Line) (rs : List Runner) (id runner revision attempts : ℕ) (task : Task) (output : List Value)
-    (trace : List TraceItem) (answers : List ReadAnswer) → RunsAreTold log rs → Goes log rs id task →
+    (trace : List TraceItem) (answers : List ReadAnswer) → RunsAreReported log rs → Goes log rs id task →
     AreLegal (line_entries start (record { event = Step id; reply = Ok (Committed runner revision attempts output trace answers) }) log)
     (without_moment (store start log)) →
     StepIsRight (situation start log id task) (Ok (Committed runner revision attempts output trace answers)) →
     GoesOn start n log rs (Step id) (Ok (Committed runner revision attempts output trace answers))
-commit_of start n log rs id runner revision attempts task output trace answers told goes legal right =
+commit_of start n log rs id runner revision attempts task output trace answers reported goes legal right =
     let was : begun id log ≡ Some task = begun_by (is_over id log) (begun id log) task goes.runs in
     let own : AreLegal (commit_entry revision output trace answers (begun id log)) (without_moment (store start log)) =
     subst (λ k. AreLegal (commit_entry revision output trace answers (begun k log)) (without_moment (store start log))) right.0 legal in
     subst (λ k. GoesOn start n log rs (Step id) (Ok (Committed k revision attempts output trace answers))) (sym right.0)
-    (commit_goes start n log rs id revision attempts task output trace answers told goes was (record {
+    (commit_goes start n log rs id revision attempts task output trace answers reported goes was (record {
       right = right.3;
       legal = (legal_entry revision output trace answers (begun id log) task (store start log) was own).0;
       attempt = right.1;
       may_be_sent = right.2;
     }))
 
-live_goes : (start : Setup) (n : ℕ) (log : List Line) (rs : List Runner) (id : ℕ) (task : Task) (reply : Result Reply Denied) → RunsAreTold log rs → Goes log rs id task →
+live_goes : (start : Setup) (n : ℕ) (log : List Line) (rs : List Runner) (id : ℕ) (task : Task) (reply : Result Reply Denied) → RunsAreReported log rs → Goes log rs id task →
     AreLegal (line_entries start (record { event = Step id; reply = reply }) log) (without_moment (store start log)) →
     StepIsRight (situation start log id task) reply → GoesOn start n log rs (Step id) reply
-live_goes start n log rs id task (Err refusal) told goes legal right = absurd right
-live_goes start n log rs id task (Ok (Prefetched runner revision reads)) told goes legal right =
+live_goes start n log rs id task (Err refusal) reported goes legal right = absurd right
+live_goes start n log rs id task (Ok (Prefetched runner revision reads)) reported goes legal right =
     steps_on start n log rs id (Prefetched runner revision reads) (record {
       can = step_can log rs id runner task right.0 goes;
       replays = tt;
@@ -246,9 +246,9 @@ live_goes start n log rs id task (Ok (Prefetched runner revision reads)) told go
       store_stays = refl;
       count_stays = refl;
       runs_on = same_runs (record { event = Step id; reply = Ok (Prefetched runner revision reads) }) log rs
-          (record { begins_is = refl; ends_is = refl; fails_is = refl }) told;
+          (record { begins_is = refl; ends_is = refl; fails_is = refl }) reported;
     })
-live_goes start n log rs id task (Ok (Fetched runner key mod_rev of_rev revision)) told goes legal right =
+live_goes start n log rs id task (Ok (Fetched runner key mod_rev of_rev revision)) reported goes legal right =
     steps_on start n log rs id (Fetched runner key mod_rev of_rev revision) (record {
       can = step_can log rs id runner task right.0 goes;
       replays = tt;
@@ -256,11 +256,11 @@ live_goes start n log rs id task (Ok (Fetched runner key mod_rev of_rev revision
       store_stays = refl;
       count_stays = refl;
       runs_on = same_runs (record { event = Step id; reply = Ok (Fetched runner key mod_rev of_rev revision) }) log rs
-          (record { begins_is = refl; ends_is = refl; fails_is = refl }) told;
+          (record { begins_is = refl; ends_is = refl; fails_is = refl }) reported;
     })
-live_goes start n log rs id task (Ok (Committed runner revision attempts output trace answers)) told goes legal right =
-    commit_of start n log rs id runner revision attempts task output trace answers told goes legal right
-live_goes start n log rs id task (Ok (Conflict runner key seen now)) told goes legal right =
+live_goes start n log rs id task (Ok (Committed runner revision attempts output trace answers)) reported goes legal right =
+    commit_of start n log rs id runner revision attempts task output trace answers reported goes legal right
+live_goes start n log rs id task (Ok (Conflict runner key seen now)) reported goes legal right =
     steps_on start n log rs id (Conflict runner key seen now) (record {
       can = step_can log rs id runner task right.0 goes;
       replays = tt;
@@ -268,9 +268,9 @@ live_goes start n log rs id task (Ok (Conflict runner key seen now)) told goes l
       store_stays = refl;
       count_stays = refl;
       runs_on = failed_runs (record { event = Step id; reply = Ok (Conflict runner key seen now) }) log rs id task
-          (record { begins_is = refl; ends_is = refl; fails_is = ap Some right.0 }) goes told;
+          (record { begins_is = refl; ends_is = refl; fails_is = ap Some right.0 }) goes reported;
     })
-live_goes start n log rs id task (Ok (GaveUp runner attempts key seen now)) told goes legal right =
+live_goes start n log rs id task (Ok (GaveUp runner attempts key seen now)) reported goes legal right =
     steps_on start n log rs id (GaveUp runner attempts key seen now) (record {
       can = step_can log rs id runner task right.0 goes;
       replays = tt;
@@ -278,9 +278,9 @@ live_goes start n log rs id task (Ok (GaveUp runner attempts key seen now)) told
       store_stays = refl;
       count_stays = refl;
       runs_on = ended_runs (record { event = Step id; reply = Ok (GaveUp runner attempts key seen now) }) log rs id task
-          (record { begins_is = refl; ends_is = ap Some right.0; fails_is = refl }) goes told;
+          (record { begins_is = refl; ends_is = ap Some right.0; fails_is = refl }) goes reported;
     })
-live_goes start n log rs id task (Ok (Aborted runner text)) told goes legal right =
+live_goes start n log rs id task (Ok (Aborted runner text)) reported goes legal right =
     steps_on start n log rs id (Aborted runner text) (record {
       can = step_can log rs id runner task right.0 goes;
       replays = tt;
@@ -288,9 +288,9 @@ live_goes start n log rs id task (Ok (Aborted runner text)) told goes legal righ
       store_stays = refl;
       count_stays = refl;
       runs_on = ended_runs (record { event = Step id; reply = Ok (Aborted runner text) }) log rs id task
-          (record { begins_is = refl; ends_is = ap Some right.0; fails_is = refl }) goes told;
+          (record { begins_is = refl; ends_is = ap Some right.0; fails_is = refl }) goes reported;
     })
-live_goes start n log rs id task (Ok (Faulted runner fault)) told goes legal right =
+live_goes start n log rs id task (Ok (Faulted runner fault)) reported goes legal right =
     steps_on start n log rs id (Faulted runner fault) (record {
       can = step_can log rs id runner task right.0 goes;
       replays = tt;
@@ -298,9 +298,9 @@ live_goes start n log rs id task (Ok (Faulted runner fault)) told goes legal rig
       store_stays = refl;
       count_stays = refl;
       runs_on = ended_runs (record { event = Step id; reply = Ok (Faulted runner fault) }) log rs id task
-          (record { begins_is = refl; ends_is = ap Some right.0; fails_is = refl }) goes told;
+          (record { begins_is = refl; ends_is = ap Some right.0; fails_is = refl }) goes reported;
     })
-live_goes start n log rs id task (Ok (Ended runner cause)) told goes legal right =
+live_goes start n log rs id task (Ok (Ended runner cause)) reported goes legal right =
     steps_on start n log rs id (Ended runner cause) (record {
       can = step_can log rs id runner task right.0 goes;
       replays = tt;
@@ -308,26 +308,26 @@ live_goes start n log rs id task (Ok (Ended runner cause)) told goes legal right
       store_stays = refl;
       count_stays = refl;
       runs_on = ended_runs (record { event = Step id; reply = Ok (Ended runner cause) }) log rs id task
-          (record { begins_is = refl; ends_is = ap Some right.0; fails_is = refl }) goes told;
+          (record { begins_is = refl; ends_is = ap Some right.0; fails_is = refl }) goes reported;
     })
-live_goes start n log rs id task (Ok (Started runner)) told goes legal right = absurd right
-live_goes start n log rs id task (Ok _) told goes legal right = absurd right
+live_goes start n log rs id task (Ok (Started runner)) reported goes legal right = absurd right
+live_goes start n log rs id task (Ok _) reported goes legal right = absurd right
 
-runner_goes : (start : Setup) (n : ℕ) (log : List Line) (rs : List Runner) (id : ℕ) (o : Option Task) (reply : Result Reply Denied) → RunsAreTold log rs →
+runner_goes : (start : Setup) (n : ℕ) (log : List Line) (rs : List Runner) (id : ℕ) (o : Option Task) (reply : Result Reply Denied) → RunsAreReported log rs →
     running id log ≡ o → AreLegal (line_entries start (record { event = Step id; reply = reply }) log) (without_moment (store start log)) →
     RunnerIsRight start log id o reply → GoesOn start n log rs (Step id) reply
-runner_goes start n log rs id None reply told runs legal right =
-    subst (λ (x : Result Reply Denied). GoesOn start n log rs (Step id) x) (sym right) (none_goes start n log rs id told runs)
-runner_goes start n log rs id (Some task) reply told runs legal right =
-    live_goes start n log rs id task reply told (goes_on log rs id task told runs) legal right
+runner_goes start n log rs id None reply reported runs legal right =
+    subst (λ (x : Result Reply Denied). GoesOn start n log rs (Step id) x) (sym right) (none_goes start n log rs id reported runs)
+runner_goes start n log rs id (Some task) reply reported runs legal right =
+    live_goes start n log rs id task reply reported (goes_on log rs id task reported runs) legal right
 
 -- ---- calls
 
 call_goes : (start : Setup) (n : ℕ) (log : List Line) (rs : List Runner) (event : WorldEvent) (reply : Result Reply Denied) →
-    can_have rs event (line_told n reply) ≡ true → Replays n (unwatched (store start log)) rs event (line_told n reply) →
-    standing_after (unwatched (store start log)) rs event (line_told n reply) ≡ unwatched (store start (with_line event reply log)) →
-    length (told_entries (unwatched (store start log)) rs event (line_told n reply)) ≡ length (line_entries start (record { event = event; reply = reply }) log) →
-    RunsAreTold (with_line event reply log) (runners_after event (line_told n reply) rs) → GoesOn start n log rs event reply
+    can_have rs event (line_reported n reply) ≡ true → Replays n (unwatched (store start log)) rs event (line_reported n reply) →
+    standing_after (unwatched (store start log)) rs event (line_reported n reply) ≡ unwatched (store start (with_line event reply log)) →
+    length (reported_entries (unwatched (store start log)) rs event (line_reported n reply)) ≡ length (line_entries start (record { event = event; reply = reply }) log) →
+    RunsAreReported (with_line event reply log) (runners_after event (line_reported n reply) rs) → GoesOn start n log rs event reply
 call_goes start n log rs event reply can replays store_is count_is runs = record {
   is_right = (fits_there n rs event reply can, replays);
   store_is = store_is;
@@ -335,97 +335,97 @@ call_goes start n log rs event reply can replays store_is count_is runs = record
   runs = runs;
 }
 
-event_goes : (start : Setup) (n : ℕ) (log : List Line) (rs : List Runner) (event : WorldEvent) (reply : Result Reply Denied) → RunsAreTold log rs →
+event_goes : (start : Setup) (n : ℕ) (log : List Line) (rs : List Runner) (event : WorldEvent) (reply : Result Reply Denied) → RunsAreReported log rs →
     IsFresh start log (started log + 1) → AreLegal (line_entries start (record { event = event; reply = reply }) log) (without_moment (store start log)) →
     IsRight start log event reply → GoesOn start n log rs event reply
-event_goes start n log rs (Start program level limit) reply told fresh legal right =
-    start_goes start n log rs (record { program = program; level = level; limit = limit }) reply told fresh right
-event_goes start n log rs (Step id) reply told fresh legal right =
-    runner_goes start n log rs id (running id log) reply told refl legal right
-event_goes start n log rs (Txn txn) reply told fresh legal right =
+event_goes start n log rs (Start program level limit) reply reported fresh legal right =
+    start_goes start n log rs (record { program = program; level = level; limit = limit }) reply reported fresh right
+event_goes start n log rs (Step id) reply reported fresh legal right =
+    runner_goes start n log rs id (running id log) reply reported refl legal right
+event_goes start n log rs (Txn txn) reply reported fresh legal right =
     let s : Standing = store start log in
     let r = transacted s txn in
     let c = txn_right n s rs txn (store_limit start log) in
     subst (λ (x : Result Reply Denied). GoesOn start n log rs (Txn txn) x) (sym right)
     (call_goes start n log rs (Txn txn) (reply_to TxnDone r) c.fits c.is_line c.store c.count
     (same_runs (record { event = Txn txn; reply = reply_to TxnDone r }) log rs
-    (says_nothing TxnDone r (λ x. record { begins_is = refl; ends_is = refl; fails_is = refl })) told))
-event_goes start n log rs (Grant id ttl) reply told fresh legal right =
+    (says_nothing TxnDone r (λ x. record { begins_is = refl; ends_is = refl; fails_is = refl })) reported))
+event_goes start n log rs (Grant id ttl) reply reported fresh legal right =
     let s : Standing = store start log in
     let r = granted s id ttl in
     let c = grant_right n s rs id ttl (GrantEntry id ttl s.moment) in
     subst (λ (x : Result Reply Denied). GoesOn start n log rs (Grant id ttl) x) (sym right)
     (call_goes start n log rs (Grant id ttl) (reply_to (λ _. Granted id) r) c.fits c.is_line c.store c.count
     (same_runs (record { event = Grant id ttl; reply = reply_to (λ _. Granted id) r }) log rs
-    (says_nothing (λ _. Granted id) r (λ x. record { begins_is = refl; ends_is = refl; fails_is = refl })) told))
-event_goes start n log rs (Keep id) reply told fresh legal right =
+    (says_nothing (λ _. Granted id) r (λ x. record { begins_is = refl; ends_is = refl; fails_is = refl })) reported))
+event_goes start n log rs (Keep id) reply reported fresh legal right =
     let s : Standing = store start log in
     let r = kept_alive s id in
     let c = keep_right n s rs id (Renew id s.moment) in
     subst (λ (x : Result Reply Denied). GoesOn start n log rs (Keep id) x) (sym right)
     (call_goes start n log rs (Keep id) (reply_to (λ _. Kept id) r) c.fits c.is_line c.store c.count
     (same_runs (record { event = Keep id; reply = reply_to (λ _. Kept id) r }) log rs
-    (says_nothing (λ _. Kept id) r (λ x. record { begins_is = refl; ends_is = refl; fails_is = refl })) told))
-event_goes start n log rs (Revoke id) reply told fresh legal right =
+    (says_nothing (λ _. Kept id) r (λ x. record { begins_is = refl; ends_is = refl; fails_is = refl })) reported))
+event_goes start n log rs (Revoke id) reply reported fresh legal right =
     let s : Standing = store start log in
     let r = revoked s id in
     let c = revoke_right n s rs id (RevokeEntry id) in
     subst (λ (x : Result Reply Denied). GoesOn start n log rs (Revoke id) x) (sym right)
     (call_goes start n log rs (Revoke id) (reply_to (Revoked id) r) c.fits c.is_line c.store c.count
     (same_runs (record { event = Revoke id; reply = reply_to (Revoked id) r }) log rs
-    (says_nothing (Revoked id) r (λ x. record { begins_is = refl; ends_is = refl; fails_is = refl })) told))
-event_goes start n log rs (Advance moment) reply told fresh legal right =
+    (says_nothing (Revoked id) r (λ x. record { begins_is = refl; ends_is = refl; fails_is = refl })) reported))
+event_goes start n log rs (Advance moment) reply reported fresh legal right =
     let s : Standing = store start log in
     let a = advanced s moment in
     let c = advance_right n s rs moment in
     subst (λ (x : Result Reply Denied). GoesOn start n log rs (Advance moment) x) (sym right)
     (call_goes start n log rs (Advance moment) (advance_reply moment a.expired a.cause) c.fits c.is_line c.store c.count
     (same_runs (record { event = Advance moment; reply = advance_reply moment a.expired a.cause }) log rs
-    (advance_says_nothing moment a.expired a.cause) told))
-event_goes start n log rs (Compact revision) reply told fresh legal right =
+    (advance_says_nothing moment a.expired a.cause) reported))
+event_goes start n log rs (Compact revision) reply reported fresh legal right =
     let s : Standing = store start log in
     let r = raised s revision in
     subst (λ (x : Result Reply Denied). GoesOn start n log rs (Compact revision) x) (sym right)
     (call_goes start n log rs (Compact revision) (reply_to (λ _. Compacted revision) r)
-    (by_reply (λ x. can_have rs (Compact revision) (line_told n x) ≡ true) (λ _. Compacted revision) r (λ x. refl) (λ cause. refl))
+    (by_reply (λ x. can_have rs (Compact revision) (line_reported n x) ≡ true) (λ _. Compacted revision) r (λ x. refl) (λ cause. refl))
     (compact_same n s revision) (compact_store n s rs revision r refl) refl
     (same_runs (record { event = Compact revision; reply = reply_to (λ _. Compacted revision) r }) log rs
-    (says_nothing (λ _. Compacted revision) r (λ x. record { begins_is = refl; ends_is = refl; fails_is = refl })) told))
-event_goes start n log rs (WatchKey key from) reply told fresh legal right =
+    (says_nothing (λ _. Compacted revision) r (λ x. record { begins_is = refl; ends_is = refl; fails_is = refl })) reported))
+event_goes start n log rs (WatchKey key from) reply reported fresh legal right =
     let s : Standing = store start log in
     let r = watched s (Key key) from in
     subst (λ (x : Result Reply Denied). GoesOn start n log rs (WatchKey key from) x) (sym right)
-    (call_goes start n log rs (WatchKey key from) (reply_to Watching r) (by_reply (λ x. can_have rs (WatchKey key from) (line_told n x) ≡ true) Watching r (λ x. refl) (λ cause. refl)) tt
+    (call_goes start n log rs (WatchKey key from) (reply_to Watching r) (by_reply (λ x. can_have rs (WatchKey key from) (line_reported n x) ≡ true) Watching r (λ x. refl) (λ cause. refl)) tt
     (watch_stays s (watch s.history s.floor (Key key) from s.watchers)) refl
     (same_runs (record { event = WatchKey key from; reply = reply_to Watching r }) log rs
-    (says_nothing Watching r (λ x. record { begins_is = refl; ends_is = refl; fails_is = refl })) told))
-event_goes start n log rs (WatchRange first end from) reply told fresh legal right =
+    (says_nothing Watching r (λ x. record { begins_is = refl; ends_is = refl; fails_is = refl })) reported))
+event_goes start n log rs (WatchRange first end from) reply reported fresh legal right =
     let s : Standing = store start log in
     let r = watched s (Range first end) from in
     subst (λ (x : Result Reply Denied). GoesOn start n log rs (WatchRange first end from) x) (sym right)
-    (call_goes start n log rs (WatchRange first end from) (reply_to Watching r) (by_reply (λ x. can_have rs (WatchRange first end from) (line_told n x) ≡ true) Watching r (λ x. refl) (λ cause. refl)) tt
+    (call_goes start n log rs (WatchRange first end from) (reply_to Watching r) (by_reply (λ x. can_have rs (WatchRange first end from) (line_reported n x) ≡ true) Watching r (λ x. refl) (λ cause. refl)) tt
     (watch_stays s (watch s.history s.floor (Range first end) from s.watchers)) refl
     (same_runs (record { event = WatchRange first end from; reply = reply_to Watching r }) log rs
-    (says_nothing Watching r (λ x. record { begins_is = refl; ends_is = refl; fails_is = refl })) told))
-event_goes start n log rs (Poll watcher most) reply told fresh legal right =
+    (says_nothing Watching r (λ x. record { begins_is = refl; ends_is = refl; fails_is = refl })) reported))
+event_goes start n log rs (Poll watcher most) reply reported fresh legal right =
     let s : Standing = store start log in
     let r = polled s watcher most in
     let found = poll s.history watcher most s.watchers in
     subst (λ (x : Result Reply Denied). GoesOn start n log rs (Poll watcher most) x) (sym right)
     (call_goes start n log rs (Poll watcher most) (poll_reply watcher s.floor r)
-    (by_poll (λ x. can_have rs (Poll watcher most) (line_told n x) ≡ true) watcher s.floor s found (λ x. same_number watcher) (same_number watcher) (λ cause. refl)) tt
+    (by_poll (λ x. can_have rs (Poll watcher most) (line_reported n x) ≡ true) watcher s.floor s found (λ x. same_number watcher) (same_number watcher) (λ cause. refl)) tt
     (poll_stays s watcher found) refl
     (same_runs (record { event = Poll watcher most; reply = poll_reply watcher s.floor r }) log rs
     (by_poll (λ x. SaysNothing x) watcher s.floor s found (λ x. record { begins_is = refl; ends_is = refl; fails_is = refl })
-    (record { begins_is = refl; ends_is = refl; fails_is = refl }) (λ cause. record { begins_is = refl; ends_is = refl; fails_is = refl })) told))
-event_goes start n log rs (Cancel watcher) reply told fresh legal right =
+    (record { begins_is = refl; ends_is = refl; fails_is = refl }) (λ cause. record { begins_is = refl; ends_is = refl; fails_is = refl })) reported))
+event_goes start n log rs (Cancel watcher) reply reported fresh legal right =
     let s : Standing = store start log in
     let r = cancelled s watcher in
     subst (λ (x : Result Reply Denied). GoesOn start n log rs (Cancel watcher) x) (sym right)
-    (call_goes start n log rs (Cancel watcher) (reply_to (λ _. Cancelled watcher) r) (by_reply (λ x. can_have rs (Cancel watcher) (line_told n x) ≡ true) (λ _. Cancelled watcher) r (λ x. same_number watcher) (λ cause. refl)) tt
+    (call_goes start n log rs (Cancel watcher) (reply_to (λ _. Cancelled watcher) r) (by_reply (λ x. can_have rs (Cancel watcher) (line_reported n x) ≡ true) (λ _. Cancelled watcher) r (λ x. same_number watcher) (λ cause. refl)) tt
     (cancel_stays s watcher (watcher_at watcher s.watchers)) refl
     (same_runs (record { event = Cancel watcher; reply = reply_to (λ _. Cancelled watcher) r }) log rs
-    (says_nothing (λ _. Cancelled watcher) r (λ x. record { begins_is = refl; ends_is = refl; fails_is = refl })) told))
+    (says_nothing (λ _. Cancelled watcher) r (λ x. record { begins_is = refl; ends_is = refl; fails_is = refl })) reported))
 
 -- ---- all lines
 
@@ -434,28 +434,28 @@ line_legal : (start : Setup) (log : List Line) (w : World) (event : WorldEvent) 
     AreLegal (line_entries start (record { event = event; reply = (step event w).reply }) log) (without_moment (store start log))
 line_legal start log w event f s =
     let line : Line = record { event = event; reply = (step event w).reply } in
-    let all : AreLegal (entries_told start log ++ line_entries start line log) (opening start.revision) =
-    subst (λ (es : List Entry). AreLegal es (opening start.revision)) s.follows.told s.follows.legal in
-    let there : replay (entries_told start log) (opening start.revision) ≡ without_moment (store start log) =
-    ap (λ (es : List Entry). replay es (opening start.revision)) (sym f.at.told) ∙ f.at.replays in
-    subst (AreLegal (line_entries start line log)) there (rest_legal (entries_told start log) (line_entries start line log) (opening start.revision) all)
+    let all : AreLegal (entries_reported start log ++ line_entries start line log) (opening start.revision) =
+    subst (λ (es : List Entry). AreLegal es (opening start.revision)) s.follows.reported s.follows.legal in
+    let there : replay (entries_reported start log) (opening start.revision) ≡ without_moment (store start log) =
+    ap (λ (es : List Entry). replay es (opening start.revision)) (sym f.at.reported) ∙ f.at.replays in
+    subst (AreLegal (line_entries start line log)) there (rest_legal (entries_reported start log) (line_entries start line log) (opening start.revision) all)
 
 lines_right : (start : Setup) (n : ℕ) (events : List WorldEvent) (log : List Line) (w : World) (rs : List Runner) → CommitLaws → Follows start log w →
-    RunsAreTold log rs →
+    RunsAreReported log rs →
     AreRight n (point_at start log rs) events
     (event_lines n (replies_to events w) ++ end_lines (world_after events w).standing (length (world_after events w).entries))
-lines_right start n [] log w rs laws f told = λ i. end_lines (f.standing i) (length (f.at.told i))
-lines_right start n (e ∷ es) log w rs laws f told =
+lines_right start n [] log w rs laws f reported = λ i. end_lines (f.standing i) (length (f.at.reported i))
+lines_right start n (e ∷ es) log w rs laws f reported =
     let s : FollowsStep start log e (step e w) = step_follows start log e w laws f in
     let reply : Result Reply Denied = (step e w).reply in
     let g : GoesOn start n log rs e reply =
-    event_goes start n log rs e reply told (f.at.fresh (started log + 1) (omega arith)) (line_legal start log w e f s) s.follows.right.0 in
+    event_goes start n log rs e reply reported (f.at.fresh (started log + 1) (omega arith)) (line_legal start log w e f s) s.follows.right.0 in
     let next : World = (step e w).next in
     let lines : List ReportLine =
     event_lines (suc n) (replies_to es next) ++ end_lines (world_after es next).standing (length (world_after es next).entries) in (
       g.is_right,
       subst (λ (p : Point). AreRight (suc n) p es lines) (sym (next_point start n log rs e reply g))
-          (lines_right start (suc n) es (with_line e reply log) next (runners_after e (line_told n reply) rs) laws
+          (lines_right start (suc n) es (with_line e reply log) next (runners_after e (line_reported n reply) rs) laws
           (record { standing = s.standing; at = s.follows }) g.runs),
     )
 
@@ -464,4 +464,4 @@ pub all_right : (start : Setup) (events : List WorldEvent) → CommitLaws →
     AreRight 1 (point_at start [] []) events
     (event_lines 1 (replies_to events (opened start))
     ++ end_lines (world_after events (opened start)).standing (length (world_after events (opened start)).entries))
-all_right start events laws = lines_right start 1 events [] (opened start) [] laws (opened_follows start) none_are_told
+all_right start events laws = lines_right start 1 events [] (opened start) [] laws (opened_follows start) none_are_reported

@@ -15,7 +15,7 @@ use Rattle.stm_report.specs.Script.{IsReportOf}
 use Rattle.stm_check.specs.declared.judging.CheckFault.{CheckFault}
 use Rattle.stm_check.specs.declared.judging.CheckFault.TheVariants.{OutOfMemory, BadScenario, BadReport, Device}
 use Rattle.stm_check.specs.Judging.{Sources, NoneFailed}
-use Rattle.stm_check.proofs.JudgingLemmas.{report_told}
+use Rattle.stm_check.proofs.JudgingLemmas.{report_reported}
 use Rattle.stm_report.specs.declared.whole_comparing.WholeChecked.{WholeChecked}
 use Rattle.stm_report.specs.declared.whole_comparing.WholeChecked.TheVariants.{Yes, No}
 use Rattle.stm_report.specs.WholeComparing.{compared, is_yes}
@@ -88,27 +88,27 @@ whole_by false bytes all is read short =
 whole : (bytes all : List ℕ) → bytes ≡ take MOST_READ all → length bytes ≤ MOST_BYTES → bytes ≡ all
 whole bytes all read short = whole_by (nat_lt MOST_BYTES (length all)) bytes all refl read short
 
-text_told : (bytes : List ℕ) (known : Option (List ℕ)) (report : List ℕ) (result : Result WholeChecked CheckFault)
+text_reported : (bytes : List ℕ) (known : Option (List ℕ)) (report : List ℕ) (result : Result WholeChecked CheckFault)
     → IfSome known (λ all. bytes ≡ take MOST_READ all) → JudgesText report bytes result → IfSome known (λ all. JudgesText report all result)
-text_told bytes None report result read told = tt
-text_told bytes (Some all) report (Ok checked) read told =
-    subst (λ (given : List ℕ). JudgesText report given (Ok checked)) (whole bytes all read told.1) told
-text_told bytes (Some all) report (Err OutOfMemory) read told = tt
-text_told bytes (Some all) report (Err (BadScenario fault)) read told = told
-text_told bytes (Some all) report (Err (BadReport fault)) read told = (
-  report_told bytes (Some all) (Err fault) read told.0,
+text_reported bytes None report result read reported = tt
+text_reported bytes (Some all) report (Ok checked) read reported =
+    subst (λ (given : List ℕ). JudgesText report given (Ok checked)) (whole bytes all read reported.1) reported
+text_reported bytes (Some all) report (Err OutOfMemory) read reported = tt
+text_reported bytes (Some all) report (Err (BadScenario fault)) read reported = reported
+text_reported bytes (Some all) report (Err (BadReport fault)) read reported = (
+  report_reported bytes (Some all) (Err fault) read reported.0,
   λ short same.
       let is_whole : bytes ≡ all = read ∙ take_all MOST_READ all (omega (arith, short)) in
-      told.1 (subst (λ (given : List ℕ). length given ≤ MOST_BYTES) (sym is_whole) short) (ap (compared report) is_whole ∙ same),
+      reported.1 (subst (λ (given : List ℕ). length given ≤ MOST_BYTES) (sym is_whole) short) (ap (compared report) is_whole ∙ same),
 )
-text_told bytes (Some all) report (Err Device) read told = told
+text_reported bytes (Some all) report (Err Device) read reported = reported
 
 -- what was judged of the bytes that were read was judged of the sources
 pub judged : (d : Sources) (report bytes : List ℕ) (result : Result WholeChecked CheckFault) → NoneFailed d → IsExpected d report
     → IfSome d.report (λ all. bytes ≡ take MOST_READ all) → JudgesText report bytes result → Judges d result
-judged d report bytes (Ok checked) none expected read told = (none, (report, expected, text_told bytes d.report report (Ok checked) read told))
-judged d report bytes (Err OutOfMemory) none expected read told = none
-judged d report bytes (Err (BadScenario fault)) none expected read told = absurd told
-judged d report bytes (Err (BadReport fault)) none expected read told =
-    (none, (report, expected, text_told bytes d.report report (Err (BadReport fault)) read told))
-judged d report bytes (Err Device) none expected read told = absurd told
+judged d report bytes (Ok checked) none expected read reported = (none, (report, expected, text_reported bytes d.report report (Ok checked) read reported))
+judged d report bytes (Err OutOfMemory) none expected read reported = none
+judged d report bytes (Err (BadScenario fault)) none expected read reported = absurd reported
+judged d report bytes (Err (BadReport fault)) none expected read reported =
+    (none, (report, expected, text_reported bytes d.report report (Err (BadReport fault)) read reported))
+judged d report bytes (Err Device) none expected read reported = absurd reported

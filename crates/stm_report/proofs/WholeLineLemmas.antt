@@ -89,32 +89,32 @@ not_false : (b d : Bool) → d ≡ not b → d ≡ false → b ≡ true
 not_false true d tests is = refl
 not_false false d tests is = absurd (true≢false (sym tests ∙ is))
 
-module _ (n : ℕ) (ls gs line told : List ℕ) (k m : ℕ) (differs : Bool) (total : Option (ℕ × List ℕ)) (some : 0 < length ls) (ends : k ≡ line_end ls)
-    (told_ends : m ≡ line_end gs) (line_is : line ≡ take k ls) (told_is : told ≡ take m gs) (tests : differs ≡ not (bytes_eq line told))
+module _ (n : ℕ) (ls gs line reported : List ℕ) (k m : ℕ) (differs : Bool) (total : Option (ℕ × List ℕ)) (some : 0 < length ls) (ends : k ≡ line_end ls)
+    (reported_ends : m ≡ line_end gs) (line_is : line ≡ take k ls) (reported_is : reported ≡ take m gs) (tests : differs ≡ not (bytes_eq line reported))
     (so_far : first_unlike n (lines_in ls) (lines_in gs) ≡ total) where
   first_line : line ≡ take (line_end ls) ls
   first_line = line_is ∙ ap (λ (i : ℕ). take i ls) ends
 
-  first_told : told ≡ take (line_end gs) gs
-  first_told = told_is ∙ ap (λ (i : ℕ). take i gs) told_ends
+  number_of_first : reported ≡ take (line_end gs) gs
+  number_of_first = reported_is ∙ ap (λ (i : ℕ). take i gs) reported_ends
 
   -- the lines that were cut off are not alike
   pub stopped : differs ≡ true → Some (n, line) ≡ total
   stopped is =
       let differ : bytes_eq (take (line_end ls) ls) (take (line_end gs) gs) ≡ false =
-      ap₂ (λ (x y : List ℕ). bytes_eq x y) (sym first_line) (sym first_told) ∙ not_true (bytes_eq line told) differs tests is in
+      ap₂ (λ (x y : List ℕ). bytes_eq x y) (sym first_line) (sym number_of_first) ∙ not_true (bytes_eq line reported) differs tests is in
       ap (λ (l : List ℕ). Some (n, l)) first_line ∙ sym (stops n ls gs some differ) ∙ so_far
 
   -- they are
-  pub went_on : (after told_after : List ℕ) → after ≡ drop k ls → told_after ≡ drop m gs → differs ≡ false
-      → first_unlike (n + 1) (lines_in after) (lines_in told_after) ≡ total
-  went_on after told_after after_is told_after_is is =
+  pub went_on : (after reported_after : List ℕ) → after ≡ drop k ls → reported_after ≡ drop m gs → differs ≡ false
+      → first_unlike (n + 1) (lines_in after) (lines_in reported_after) ≡ total
+  went_on after reported_after after_is reported_after_is is =
       let same : bytes_eq (take (line_end ls) ls) (take (line_end gs) gs) ≡ true =
-      ap₂ (λ (x y : List ℕ). bytes_eq x y) (sym first_line) (sym first_told) ∙ not_false (bytes_eq line told) differs tests is in
+      ap₂ (λ (x y : List ℕ). bytes_eq x y) (sym first_line) (sym number_of_first) ∙ not_false (bytes_eq line reported) differs tests is in
       let step : n + 1 ≡ suc n = omega arith in
-      ap (λ (i : ℕ). first_unlike i (lines_in after) (lines_in told_after)) step
+      ap (λ (i : ℕ). first_unlike i (lines_in after) (lines_in reported_after)) step
       ∙ ap₂ (λ (x y : List ℕ). first_unlike (suc n) (lines_in x) (lines_in y)) (after_is ∙ ap (λ (i : ℕ). drop i ls) ends)
-      (told_after_is ∙ ap (λ (i : ℕ). drop i gs) told_ends)
+      (reported_after_is ∙ ap (λ (i : ℕ). drop i gs) reported_ends)
       ∙ sym (goes_on n ls gs some same) ∙ so_far
 
 -- both texts have ended

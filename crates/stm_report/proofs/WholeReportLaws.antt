@@ -54,10 +54,10 @@ at_known known all P is holds = subst (λ (k : Option (List ℕ)). IfSome k P) i
 
 yes_means : (d : Sources) (scenario text : List ℕ) → d.scenario ≡ Some scenario → d.report ≡ Some text → Judges d (Ok Yes)
     → IsReportOf (scenario_in scenario) text
-yes_means d scenario text of_scenario of_text (none, (report, expected, told)) =
+yes_means d scenario text of_scenario of_text (none, (report, expected, reported)) =
     let is : IsReportOf (scenario_in scenario) report =
     at_known d.scenario scenario (λ (all : List ℕ). IsReportOf (scenario_in all) report) of_scenario expected in
-    let judged : JudgesText report text (Ok Yes) = at_known d.report text (λ (all : List ℕ). JudgesText report all (Ok Yes)) of_text told in
+    let judged : JudgesText report text (Ok Yes) = at_known d.report text (λ (all : List ℕ). JudgesText report all (Ok Yes)) of_text reported in
     subst (λ (t : List ℕ). IsReportOf (scenario_in scenario) t) ((alike_is_equal report text).0 (sym judged.0)) is
 
 -- the text that is the report is the expected one
@@ -70,18 +70,18 @@ expected_one d scenario text report of_scenario expected is =
 report_means : (d : Sources) (scenario text : List ℕ) (result : Result WholeChecked CheckFault) → d.scenario ≡ Some scenario → d.report ≡ Some text
     → length text ≤ MOST_BYTES → Judges d result → IsSettled result → IsReportOf (scenario_in scenario) text → result ≡ Ok Yes
 report_means d scenario text (Ok Yes) of_scenario of_text short judges settled is = refl
-report_means d scenario text (Ok (No line wanted)) of_scenario of_text short (none, (report, expected, told)) settled is =
+report_means d scenario text (Ok (No line wanted)) of_scenario of_text short (none, (report, expected, reported)) settled is =
     let judged : JudgesText report text (Ok (No line wanted)) =
-    at_known d.report text (λ (all : List ℕ). JudgesText report all (Ok (No line wanted))) of_text told in
+    at_known d.report text (λ (all : List ℕ). JudgesText report all (Ok (No line wanted))) of_text reported in
     absurd (true≢false (sym (ap is_yes (judged.0 ∙ expected_one d scenario text report of_scenario expected is))))
 report_means d scenario text (Err OutOfMemory) of_scenario of_text short judges settled is = absurd settled
 report_means d scenario text (Err (BadScenario fault)) of_scenario of_text short judges settled (s, reads, run) =
     let bad_one : scenario_in scenario ≡ Err fault =
     at_known d.scenario scenario (λ (all : List ℕ). scenario_in all ≡ Err fault) of_scenario judges.1 in
     absurd (read_or_bad (scenario_in scenario) s reads (ap is_read bad_one))
-report_means d scenario text (Err (BadReport fault)) of_scenario of_text short (none, (report, expected, told)) settled is =
+report_means d scenario text (Err (BadReport fault)) of_scenario of_text short (none, (report, expected, reported)) settled is =
     let bad_one : JudgesText report text (Err (BadReport fault)) =
-    at_known d.report text (λ (all : List ℕ). JudgesText report all (Err (BadReport fault))) of_text told in
+    at_known d.report text (λ (all : List ℕ). JudgesText report all (Err (BadReport fault))) of_text reported in
     absurd (bad_one.1 short (expected_one d scenario text report of_scenario expected is))
 report_means d scenario text (Err Device) of_scenario of_text short judges settled is = absurd settled
 

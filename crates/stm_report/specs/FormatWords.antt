@@ -18,8 +18,8 @@ use Rattle.stm_report.specs.FormatPieces.{joined}
 abbrev pub named_words : List ℕ → ℕ → List ℕ
 named_words word n = joined (word ∷ codes " " ∷ decimal n ∷ [])
 
-abbrev pub told_words : List ℕ → List ℕ → List ℕ
-told_words word text = joined (word ∷ codes " " ∷ shown text ∷ [])
+abbrev pub reported_words : List ℕ → List ℕ → List ℕ
+reported_words word text = joined (word ∷ codes " " ∷ shown text ∷ [])
 
 -- what was done to the store, and a revision: the one after a change, and that of a compaction
 abbrev pub changed_words : List ℕ → ℕ → List ℕ
@@ -71,9 +71,9 @@ reply_words event (Fetched runner key mod_rev of_rev revision) = fetched_words k
 reply_words event (Committed runner revision attempts output trace answers) = commit_words revision attempts
 reply_words event (Conflict runner key seen now) = compared_words (codes "CONFLICT") key seen now
 reply_words event (GaveUp runner attempts key seen now) = compared_words (codes "GAVE UP") key seen now
-reply_words event (Aborted runner text) = told_words (codes "ABORT") text
-reply_words event (Faulted runner fault) = told_words (codes "FAULT") (fault_name fault)
-reply_words event (Ended runner cause) = told_words (codes "ENDED") (store_refusal_name cause)
+reply_words event (Aborted runner text) = reported_words (codes "ABORT") text
+reply_words event (Faulted runner fault) = reported_words (codes "FAULT") (fault_name fault)
+reply_words event (Ended runner cause) = reported_words (codes "ENDED") (store_refusal_name cause)
 reply_words event (Txn answer) = txn_words answer.succeeded answer.revision
 reply_words event (Granted id) = named_words (codes "grant") id
 reply_words event (Kept id) = named_words (codes "keep") id

@@ -6,13 +6,13 @@ use Rattle.stm_reports.specs.Text.{text_of}
 use Rattle.stm_world.specs.declared.reply.Reply.{Reply}
 use Rattle.stm_world.specs.declared.refusal.Denied.{Denied}
 use Rattle.stm_world.specs.World.{World}
-use Rattle.stm_lines.specs.Lines.{line_told}
+use Rattle.stm_lines.specs.Lines.{line_reported}
 use Rattle.stm_check.specs.StoreLines.{end_lines}
 
 -- a line for each event, numbered from n
 abbrev pub event_lines : ℕ → List (Result Reply Denied) → List ReportLine
 event_lines n [] = []
-event_lines n (reply ∷ replies) = line_told n reply ∷ event_lines (suc n) replies
+event_lines n (reply ∷ replies) = line_reported n reply ∷ event_lines (suc n) replies
 
 -- The report of a world and the replies that it gave: a line for each event, and then those of the store that the world has, and of the
 -- number of its entries.

@@ -2,7 +2,7 @@
 ghost use Rattle.std.specs.Prelude.{◌≡◌, codes, IfOk};
 ghost use Rattle.stm_texts.specs.Grammar.{level_text};
 ghost use Rattle.stm_lines.specs.Lines.{IsOfRunner};
-ghost use Rattle.stm_report.specs.FormatWords.{named_words, told_words, changed_words, start_words, listed_words, fetched_words, commit_words, compared_words};
+ghost use Rattle.stm_report.specs.FormatWords.{named_words, reported_words, changed_words, start_words, listed_words, fetched_words, commit_words, compared_words};
 ghost use Rattle.stm_report.specs.FormatWords.{txn_words, revoked_words, advanced_words, batch_words, lost_words, reply_words, asked_word, refused_words, words_of};
 
 use crate::format_pieces::{Piece, said};
@@ -32,8 +32,8 @@ fn named(alloc: Global, word: &str, number: u64) -> Result<Sequence<u8>, AllocEr
 }
 
 /// A word and the text that it is about.
-fn told<'a>(alloc: Global, word: &'a str, text: &'a str) -> Result<Sequence<u8>, AllocError>
-    ensures { IfOk result (λ words. words ≡ told_words word.now text.now) }
+fn reported<'a>(alloc: Global, word: &'a str, text: &'a str) -> Result<Sequence<u8>, AllocError>
+    ensures { IfOk result (λ words. words ≡ reported_words word.now text.now) }
 {
     let pieces = [Piece::Say(word), Piece::Say(" "), Piece::Shown(text)];
     said(alloc, &pieces)
@@ -222,9 +222,9 @@ fn runner_words(
         Reply::GaveUp { key, seen, now, .. } => {
             compared(alloc, "GAVE UP", key.as_str(), *seen, *now)
         }
-        Reply::Aborted { text, .. } => told(alloc, "ABORT", text.as_str()),
-        Reply::Faulted { fault, .. } => told(alloc, "FAULT", fault.name()),
-        Reply::Ended { cause, .. } => told(alloc, "ENDED", cause.name()),
+        Reply::Aborted { text, .. } => reported(alloc, "ABORT", text.as_str()),
+        Reply::Faulted { fault, .. } => reported(alloc, "FAULT", fault.name()),
+        Reply::Ended { cause, .. } => reported(alloc, "ENDED", cause.name()),
         _ => unreachable!(),
     }
 }

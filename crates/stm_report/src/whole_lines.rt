@@ -27,19 +27,19 @@ pub fn first_unlike<'a>(expected: &'a [u8], given: &[u8]) -> Option<(u64, &'a [u
     ensures { option_map (λ p. (p.0, p.1.now)) result ≡ unlike_from 1 (lines_in expected.now) (lines_in given.now) }
 {
     let mut left = expected;
-    let mut told = given;
+    let mut reported = given;
     let mut number: usize = 1;
     while !left.is_empty() {
         let (line, left_after) = left.split_at(line_end(left));
-        let (told_line, told_after) = told.split_at(line_end(told));
-        if line != told_line {
+        let (reported_line, reported_after) = reported.split_at(line_end(reported));
+        if line != reported_line {
             return Some((number as u64, line));
         }
         left = left_after;
-        told = told_after;
+        reported = reported_after;
         number += 1;
     }
-    if told.is_empty() {
+    if reported.is_empty() {
         None
     } else {
         Some((number as u64, left))

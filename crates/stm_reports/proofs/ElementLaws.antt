@@ -18,12 +18,12 @@ use Rattle.stm_json.specs.Parts.{SpellsEach, same}
 use Rattle.stm_json.proofs.FaultLemmas.{fault_of, wrong_is, made}
 use Rattle.stm_json.proofs.ListLemmas.{list_sound, each_reads}
 use Rattle.stm_json.proofs.PartLemmas.{list_is}
-use Rattle.stm_reports.specs.declared.line.ToldAnswer.{ToldAnswer}
-use Rattle.stm_reports.specs.declared.line.ToldEvent.{ToldEvent}
-use Rattle.stm_reports.specs.declared.line.ToldEvent.TheVariants as event
-use Rattle.stm_reports.specs.declared.line.ToldOp.{ToldOp}
-use Rattle.stm_reports.specs.declared.line.ToldOp.TheVariants as op
-use Rattle.stm_reports.specs.declared.line.ToldRead.{ToldRead}
+use Rattle.stm_reports.specs.declared.line.ReportedAnswer.{ReportedAnswer}
+use Rattle.stm_reports.specs.declared.line.ReportedEvent.{ReportedEvent}
+use Rattle.stm_reports.specs.declared.line.ReportedEvent.TheVariants as event
+use Rattle.stm_reports.specs.declared.line.ReportedOp.{ReportedOp}
+use Rattle.stm_reports.specs.declared.line.ReportedOp.TheVariants as op
+use Rattle.stm_reports.specs.declared.line.ReportedRead.{ReportedRead}
 use Rattle.stm_reports.specs.Elements.{six_of}
 use Rattle.stm_reports.specs.FirstFault.{or_null, plain_faults, list_of as list_faults, state_sorts, trace_table, answer_sorts, op_table}
 use Rattle.stm_reports.specs.FirstFault.{read_sorts, expired_sorts, watched_table}
@@ -37,11 +37,11 @@ use Rattle.stm_reports.specs.Parts.{read_with, read_parts, read_array, read_of}
 use Rattle.stm_reports.specs.Parts.{event_put_of, event_delete_of, event_worded, event_of}
 use Rattle.stm_reports.specs.Reading.{ops_of}
 use Rattle.stm_reports.proofs.ArrayLemmas.{worded_array, worded_spells, worded_shape}
-use Rattle.stm_reports.proofs.PartLaws.{count_told, count_means, count_reads}
-use Rattle.stm_reports.proofs.PartLaws.{text_or_null-told, text_or_null-means, text_or_null-reads, list_told}
-use Rattle.stm_reports.proofs.Rows.{Part, part, Row, nothing, ◌&◌, read_row, row_reads, plain_told, plain_means, behind_told, behind_means}
+use Rattle.stm_reports.proofs.PartLaws.{count_reported, count_means, count_reads}
+use Rattle.stm_reports.proofs.PartLaws.{text_or_null-reported, text_or_null-means, text_or_null-reads, list_reported}
+use Rattle.stm_reports.proofs.Rows.{Part, part, Row, nothing, ◌&◌, read_row, row_reads, plain_reported, plain_means, behind_reported, behind_means}
 use Rattle.stm_reports.proofs.Rows.{second, third, fourth, one_counted, two_counted, four_counted}
-use Rattle.stm_reports.proofs.StateLaws.{whole_part, text_part, state_or_null_part, keyed_items, keyed_sorts, keyed_told, keyed_means, keyed_reads}
+use Rattle.stm_reports.proofs.StateLaws.{whole_part, text_part, state_or_null_part, keyed_items, keyed_sorts, keyed_reported, keyed_means, keyed_reads}
 
 -- ---- an array that begins with a word
 
@@ -81,14 +81,14 @@ rev_is = two_counted (rev_row.read TraceItem 1 rev_made) AnyText any_number trac
 trace_tested : (p : List ℕ) (ds : Items) (gets revs : Bool)
     → first_of (sorted_faults p (cond gets (Some get_row.sorts) (cond revs (Some rev_row.sorts) None)) ds)
     ≡ fault_of p (cond gets (get_from ds) (cond revs (rev_from ds) (bad Shape)))
-trace_tested p ds true revs = behind_told get_row get_made get_from get_is p ds
-trace_tested p ds false true = behind_told rev_row rev_made rev_from rev_is p ds
+trace_tested p ds true revs = behind_reported get_row get_made get_from get_is p ds
+trace_tested p ds false true = behind_reported rev_row rev_made rev_from rev_is p ds
 trace_tested p ds false false = wrong_is {A = TraceItem} p Shape (bad Shape) refl
 
-pub trace_told : (p : List ℕ) (d : Data) → first_of (worded_faults trace_table p d) ≡ fault_of p (trace_of d)
+pub trace_reported : (p : List ℕ) (d : Data) → first_of (worded_faults trace_table p d) ≡ fault_of p (trace_of d)
 unfolding trace_of
-trace_told p (array (item (string w) ds)) = trace_tested p ds (same w (codes "get")) (same w (codes "rev"))
-trace_told p _ = wrong_is {A = TraceItem} p Shape (bad Shape) refl
+trace_reported p (array (item (string w) ds)) = trace_tested p ds (same w (codes "get")) (same w (codes "rev"))
+trace_reported p _ = wrong_is {A = TraceItem} p Shape (bad Shape) refl
 
 trace_word : (d : Data) (p : List ℕ × Items) (t : TraceItem) (gets revs : Bool) → worded d ≡ Some p → same p.0 (codes "get") ≡ gets
     → same p.0 (codes "rev") ≡ revs → cond gets (get_from p.1) (cond revs (rev_from p.1) (bad Shape)) ≡ Ok t → Spells d (trace_data t)
@@ -120,7 +120,7 @@ trace_reads d (trace.Rev key mod_rev) s =
 -- ---- answers of a commit
 
 abbrev text_or_null_part : Part (Option (List ℕ))
-text_or_null_part = part text_or_null_of text_or_null (By (or_null (faults_by AnyText))) text_or_null-told text_or_null-means text_or_null-reads
+text_or_null_part = part text_or_null_of text_or_null (By (or_null (faults_by AnyText))) text_or_null-reported text_or_null-means text_or_null-reads
 
 abbrev Answer : Type 0
 Answer = List ℕ × (Option (List ℕ) × (ℕ × (ℕ × Unit {0})))
@@ -128,33 +128,33 @@ Answer = List ℕ × (Option (List ℕ) × (ℕ × (ℕ × Unit {0})))
 abbrev answer_row : Row Answer
 answer_row = text_part & text_or_null_part & whole_part & whole_part & nothing
 
-abbrev answer_made : Answer → ToldAnswer
+abbrev answer_made : Answer → ReportedAnswer
 answer_made x = answer_with x.0 (second x) (third x) (fourth x)
 
-abbrev answer_from : Items → Outcome ToldAnswer
+abbrev answer_from : Items → Outcome ReportedAnswer
 answer_from ds = answer_parts (four_of ds)
 
 answer_is : (ds : Items) → answer_from ds ≡ read_row answer_row 0 answer_made ds
 answer_is =
-    four_counted (answer_row.read ToldAnswer 0 answer_made) AnyText (By (or_null (faults_by AnyText))) any_number any_number answer_parts refl
+    four_counted (answer_row.read ReportedAnswer 0 answer_made) AnyText (By (or_null (faults_by AnyText))) any_number any_number answer_parts refl
     (λ a b c d. refl)
 
-pub answer_told : (p : List ℕ) (d : Data) → first_of (plain_faults answer_sorts p d) ≡ fault_of p (answer_of d)
+pub answer_reported : (p : List ℕ) (d : Data) → first_of (plain_faults answer_sorts p d) ≡ fault_of p (answer_of d)
 unfolding answer_of
-answer_told p (array ds) = plain_told answer_row answer_made answer_from answer_is p ds
-answer_told p _ = wrong_is {A = ToldAnswer} p Shape (bad Shape) refl
+answer_reported p (array ds) = plain_reported answer_row answer_made answer_from answer_is p ds
+answer_reported p _ = wrong_is {A = ReportedAnswer} p Shape (bad Shape) refl
 
-answer_array-means : (d : Data) (o : Option Items) (x : ToldAnswer) → as_array d ≡ o → answer_array o ≡ Ok x → Spells d (answer_data x)
+answer_array-means : (d : Data) (o : Option Items) (x : ReportedAnswer) → as_array d ≡ o → answer_array o ≡ Ok x → Spells d (answer_data x)
 answer_array-means d None x e h = cc
 answer_array-means d (Some ds) x e h =
     subst (λ (y : Data). Spells y (answer_data x)) (sym (list_is d ds e))
     (plain_means answer_row answer_made answer_from answer_is answer_data (λ y. refl) ds x h)
 
-pub answer_means : (d : Data) (x : ToldAnswer) → answer_of d ≡ Ok x → Spells d (answer_data x)
+pub answer_means : (d : Data) (x : ReportedAnswer) → answer_of d ≡ Ok x → Spells d (answer_data x)
 unfolding answer_of
 answer_means d x h = answer_array-means d (as_array d) x refl h
 
-pub answer_reads : (d : Data) (x : ToldAnswer) → Spells d (answer_data x) → answer_of d ≡ Ok x
+pub answer_reads : (d : Data) (x : ReportedAnswer) → Spells d (answer_data x) → answer_of d ≡ Ok x
 unfolding answer_of
 answer_reads d x (ds, is, m) =
     rw is (row_reads answer_row 0 answer_made answer_from answer_is ds (x.key, (x.value, (x.mod_rev, (x.of_rev, tt)))) m (tt, (tt, (tt, (tt, tt)))))
@@ -164,17 +164,17 @@ answer_reads d x (ds, is, m) =
 abbrev op_get_row : Row (ℕ × (Option KeyState × Unit {0}))
 op_get_row = whole_part & state_or_null_part & nothing
 
-abbrev op_get_made : ℕ × (Option KeyState × Unit {0}) → ToldOp
+abbrev op_get_made : ℕ × (Option KeyState × Unit {0}) → ReportedOp
 op_get_made x = op.Get x.0 (second x)
 
-abbrev op_get_from : Items → Outcome ToldOp
+abbrev op_get_from : Items → Outcome ReportedOp
 op_get_from ds = op_get_of (two_of ds)
 
 op_get_is : (ds : Items) → op_get_from ds ≡ read_row op_get_row 1 op_get_made ds
 op_get_is =
-    two_counted (op_get_row.read ToldOp 1 op_get_made) any_number (By (or_null (plain_faults state_sorts))) op_get_of refl (λ a b. refl)
+    two_counted (op_get_row.read ReportedOp 1 op_get_made) any_number (By (or_null (plain_faults state_sorts))) op_get_of refl (λ a b. refl)
 
-abbrev op_put_made : Unit {0} → ToldOp
+abbrev op_put_made : Unit {0} → ReportedOp
 op_put_made x = op.Put
 
 op_put_is : (ds : Items) → op_put_of ds ≡ read_row nothing 1 op_put_made ds
@@ -187,7 +187,7 @@ count_part = record {
   spell = whole;
   sort = NumberIn 0 1;
   Fits = λ n. n ≤ 1;
-  told = count_told;
+  reported = count_reported;
   means = count_means;
   reads = count_reads;
 }
@@ -195,29 +195,29 @@ count_part = record {
 abbrev op_del_row : Row (ℕ × Unit {0})
 op_del_row = count_part & nothing
 
-abbrev op_del_made : ℕ × Unit {0} → ToldOp
+abbrev op_del_made : ℕ × Unit {0} → ReportedOp
 op_del_made x = op.Del x.0
 
-abbrev op_del_from : Items → Outcome ToldOp
+abbrev op_del_from : Items → Outcome ReportedOp
 op_del_from ds = op_del_of (one_of ds)
 
 op_del_is : (ds : Items) → op_del_from ds ≡ read_row op_del_row 1 op_del_made ds
-op_del_is = one_counted (op_del_row.read ToldOp 1 op_del_made) (NumberIn 0 1) op_del_of refl (λ a. refl)
+op_del_is = one_counted (op_del_row.read ReportedOp 1 op_del_made) (NumberIn 0 1) op_del_of refl (λ a. refl)
 
 op_tested : (p : List ℕ) (ds : Items) (gets puts dels : Bool)
     → first_of (sorted_faults p (cond gets (Some op_get_row.sorts) (cond puts (Some []) (cond dels (Some op_del_row.sorts) None))) ds)
     ≡ fault_of p (cond gets (op_get_from ds) (cond puts (op_put_of ds) (cond dels (op_del_from ds) (bad Shape))))
-op_tested p ds true puts dels = behind_told op_get_row op_get_made op_get_from op_get_is p ds
-op_tested p ds false true dels = behind_told nothing op_put_made op_put_of op_put_is p ds
-op_tested p ds false false true = behind_told op_del_row op_del_made op_del_from op_del_is p ds
-op_tested p ds false false false = wrong_is {A = ToldOp} p Shape (bad Shape) refl
+op_tested p ds true puts dels = behind_reported op_get_row op_get_made op_get_from op_get_is p ds
+op_tested p ds false true dels = behind_reported nothing op_put_made op_put_of op_put_is p ds
+op_tested p ds false false true = behind_reported op_del_row op_del_made op_del_from op_del_is p ds
+op_tested p ds false false false = wrong_is {A = ReportedOp} p Shape (bad Shape) refl
 
-pub op_told : (p : List ℕ) (d : Data) → first_of (worded_faults op_table p d) ≡ fault_of p (op_of d)
+pub op_reported : (p : List ℕ) (d : Data) → first_of (worded_faults op_table p d) ≡ fault_of p (op_of d)
 unfolding op_of
-op_told p (array (item (string w) ds)) = op_tested p ds (same w (codes "get")) (same w (codes "put")) (same w (codes "del"))
-op_told p _ = wrong_is {A = ToldOp} p Shape (bad Shape) refl
+op_reported p (array (item (string w) ds)) = op_tested p ds (same w (codes "get")) (same w (codes "put")) (same w (codes "del"))
+op_reported p _ = wrong_is {A = ReportedOp} p Shape (bad Shape) refl
 
-op_word : (d : Data) (p : List ℕ × Items) (o : ToldOp) (gets puts dels : Bool) → worded d ≡ Some p → same p.0 (codes "get") ≡ gets
+op_word : (d : Data) (p : List ℕ × Items) (o : ReportedOp) (gets puts dels : Bool) → worded d ≡ Some p → same p.0 (codes "get") ≡ gets
     → same p.0 (codes "put") ≡ puts → same p.0 (codes "del") ≡ dels
     → cond gets (op_get_from p.1) (cond puts (op_put_of p.1) (cond dels (op_del_from p.1) (bad Shape))) ≡ Ok o
     → Spells d (op_data o) × CountFits o
@@ -232,15 +232,15 @@ op_word d p o false false true is g u l h =
     (of_word d p (codes "del") (op_data o) is ((bytes_eq-Decides p.0 (codes "del")).0 l) m.0, m.1)
 op_word d p o false false false is g u l h = cc
 
-op_array : (d : Data) (x : Option (List ℕ × Items)) (o : ToldOp) → worded d ≡ x → op_worded x ≡ Ok o → Spells d (op_data o) × CountFits o
+op_array : (d : Data) (x : Option (List ℕ × Items)) (o : ReportedOp) → worded d ≡ x → op_worded x ≡ Ok o → Spells d (op_data o) × CountFits o
 op_array d None o is h = cc
 op_array d (Some p) o is h = op_word d p o (same p.0 (codes "get")) (same p.0 (codes "put")) (same p.0 (codes "del")) is refl refl refl h
 
-pub op_means : (d : Data) (o : ToldOp) → op_of d ≡ Ok o → Spells d (op_data o) × CountFits o
+pub op_means : (d : Data) (o : ReportedOp) → op_of d ≡ Ok o → Spells d (op_data o) × CountFits o
 unfolding op_of
 op_means d o h = op_array d (worded d) o refl h
 
-pub op_reads : (d : Data) (o : ToldOp) → Spells d (op_data o) → CountFits o → op_of d ≡ Ok o
+pub op_reads : (d : Data) (o : ReportedOp) → Spells d (op_data o) → CountFits o → op_of d ≡ Ok o
 unfolding op_of
 op_reads d (op.Get revision kv) s fits =
     let w = worded_shape d (codes "get") (whole revision ∷ state_or_null kv ∷ []) s in
@@ -257,31 +257,31 @@ op_reads d (op.Del count) s fits =
 abbrev read_row_parts : Row (List ℕ × (ℕ × Unit {0}))
 read_row_parts = text_part & whole_part & nothing
 
-abbrev read_made : List ℕ × (ℕ × Unit {0}) → ToldRead
+abbrev read_made : List ℕ × (ℕ × Unit {0}) → ReportedRead
 read_made x = read_with x.0 (second x)
 
-abbrev read_from : Items → Outcome ToldRead
+abbrev read_from : Items → Outcome ReportedRead
 read_from ds = read_parts (two_of ds)
 
 read_is : (ds : Items) → read_from ds ≡ read_row read_row_parts 0 read_made ds
-read_is = two_counted (read_row_parts.read ToldRead 0 read_made) AnyText any_number read_parts refl (λ a b. refl)
+read_is = two_counted (read_row_parts.read ReportedRead 0 read_made) AnyText any_number read_parts refl (λ a b. refl)
 
-pub read_told : (p : List ℕ) (d : Data) → first_of (plain_faults read_sorts p d) ≡ fault_of p (read_of d)
+pub read_reported : (p : List ℕ) (d : Data) → first_of (plain_faults read_sorts p d) ≡ fault_of p (read_of d)
 unfolding read_of
-read_told p (array ds) = plain_told read_row_parts read_made read_from read_is p ds
-read_told p _ = wrong_is {A = ToldRead} p Shape (bad Shape) refl
+read_reported p (array ds) = plain_reported read_row_parts read_made read_from read_is p ds
+read_reported p _ = wrong_is {A = ReportedRead} p Shape (bad Shape) refl
 
-read_array-means : (d : Data) (o : Option Items) (x : ToldRead) → as_array d ≡ o → read_array o ≡ Ok x → Spells d (read_data x)
+read_array-means : (d : Data) (o : Option Items) (x : ReportedRead) → as_array d ≡ o → read_array o ≡ Ok x → Spells d (read_data x)
 read_array-means d None x e h = cc
 read_array-means d (Some ds) x e h =
     subst (λ (y : Data). Spells y (read_data x)) (sym (list_is d ds e))
     (plain_means read_row_parts read_made read_from read_is read_data (λ y. refl) ds x h)
 
-pub read_means : (d : Data) (x : ToldRead) → read_of d ≡ Ok x → Spells d (read_data x)
+pub read_means : (d : Data) (x : ReportedRead) → read_of d ≡ Ok x → Spells d (read_data x)
 unfolding read_of
 read_means d x h = read_array-means d (as_array d) x refl h
 
-pub read_reads : (d : Data) (x : ToldRead) → Spells d (read_data x) → read_of d ≡ Ok x
+pub read_reads : (d : Data) (x : ReportedRead) → Spells d (read_data x) → read_of d ≡ Ok x
 unfolding read_of
 read_reads d x (ds, is, m) = rw is (row_reads read_row_parts 0 read_made read_from read_is ds (x.key, (x.mod_rev, tt)) m (tt, (tt, tt)))
 
@@ -299,10 +299,10 @@ expired_from ds = expired_parts (two_of ds)
 expired_is : (ds : Items) → expired_from ds ≡ read_row expired_row 0 expired_made ds
 expired_is = two_counted (expired_row.read Expired 0 expired_made) any_number any_number expired_parts refl (λ a b. refl)
 
-pub expired_told : (p : List ℕ) (d : Data) → first_of (plain_faults expired_sorts p d) ≡ fault_of p (expired_of d)
+pub expired_reported : (p : List ℕ) (d : Data) → first_of (plain_faults expired_sorts p d) ≡ fault_of p (expired_of d)
 unfolding expired_of
-expired_told p (array ds) = plain_told expired_row expired_made expired_from expired_is p ds
-expired_told p _ = wrong_is {A = Expired} p Shape (bad Shape) refl
+expired_reported p (array ds) = plain_reported expired_row expired_made expired_from expired_is p ds
+expired_reported p _ = wrong_is {A = Expired} p Shape (bad Shape) refl
 
 expired_array-means : (d : Data) (o : Option Items) (x : Expired) → as_array d ≡ o → expired_array o ≡ Ok x → Spells d (expired_data x)
 expired_array-means d None x e h = cc
@@ -323,23 +323,23 @@ expired_reads d x (ds, is, m) = rw is (row_reads expired_row 0 expired_made expi
 abbrev delete_row : Row (List ℕ × (ℕ × Unit {0}))
 delete_row = text_part & whole_part & nothing
 
-abbrev delete_made : List ℕ × (ℕ × Unit {0}) → ToldEvent
+abbrev delete_made : List ℕ × (ℕ × Unit {0}) → ReportedEvent
 delete_made x = event.Delete x.0 (second x)
 
-abbrev delete_from : Items → Outcome ToldEvent
+abbrev delete_from : Items → Outcome ReportedEvent
 delete_from ds = event_delete_of (two_of ds)
 
 delete_is : (ds : Items) → delete_from ds ≡ read_row delete_row 1 delete_made ds
-delete_is = two_counted (delete_row.read ToldEvent 1 delete_made) AnyText any_number event_delete_of refl (λ a b. refl)
+delete_is = two_counted (delete_row.read ReportedEvent 1 delete_made) AnyText any_number event_delete_of refl (λ a b. refl)
 
-event_put_told : (p : List ℕ) (ds : Items) → first_of (sorted_faults p (Some keyed_sorts) ds) ≡ fault_of p (event_put_of (six_of ds))
-event_put_told p ds = made p (keyed_of (six_of ds)) (λ q. event.Put q.0 q.1) (sorted_faults p (Some keyed_sorts) ds) (keyed_told p ds)
+event_put_reported : (p : List ℕ) (ds : Items) → first_of (sorted_faults p (Some keyed_sorts) ds) ≡ fault_of p (event_put_of (six_of ds))
+event_put_reported p ds = made p (keyed_of (six_of ds)) (λ q. event.Put q.0 q.1) (sorted_faults p (Some keyed_sorts) ds) (keyed_reported p ds)
 
-event_put_means : (ds : Items) (e : ToldEvent) → event_put_of (six_of ds) ≡ Ok e → Spells (worded_array (codes "PUT") ds) (event_data e)
+event_put_means : (ds : Items) (e : ReportedEvent) → event_put_of (six_of ds) ≡ Ok e → Spells (worded_array (codes "PUT") ds) (event_data e)
 event_put_means ds e h =
     let q = bind_ok (keyed_of (six_of ds)) _ e h in
     let is : event.Put (q.0).0 (q.0).1 ≡ e = cc q.2 in
-    subst (λ (y : ToldEvent). Spells (worded_array (codes "PUT") ds) (event_data y)) is
+    subst (λ (y : ReportedEvent). Spells (worded_array (codes "PUT") ds) (event_data y)) is
     (worded_spells ds (codes "PUT") (keyed_items q.0) (keyed_means ds q.0 q.1))
 
 event_put_reads : (ds : Items) (key : List ℕ) (s : KeyState) → SpellsItems ds (items_of (keyed_items (key, s)))
@@ -351,16 +351,16 @@ event_put_reads ds key s m =
 event_tested : (p : List ℕ) (ds : Items) (puts deletes : Bool)
     → first_of (sorted_faults p (cond puts (Some keyed_sorts) (cond deletes (Some delete_row.sorts) None)) ds)
     ≡ fault_of p (cond puts (event_put_of (six_of ds)) (cond deletes (event_delete_of (two_of ds)) (bad Shape)))
-event_tested p ds true deletes = event_put_told p ds
-event_tested p ds false true = behind_told delete_row delete_made delete_from delete_is p ds
-event_tested p ds false false = wrong_is {A = ToldEvent} p Shape (bad Shape) refl
+event_tested p ds true deletes = event_put_reported p ds
+event_tested p ds false true = behind_reported delete_row delete_made delete_from delete_is p ds
+event_tested p ds false false = wrong_is {A = ReportedEvent} p Shape (bad Shape) refl
 
-pub event_told : (p : List ℕ) (d : Data) → first_of (worded_faults watched_table p d) ≡ fault_of p (event_of d)
+pub event_reported : (p : List ℕ) (d : Data) → first_of (worded_faults watched_table p d) ≡ fault_of p (event_of d)
 unfolding event_of
-event_told p (array (item (string w) ds)) = event_tested p ds (same w (codes "PUT")) (same w (codes "DELETE"))
-event_told p _ = wrong_is {A = ToldEvent} p Shape (bad Shape) refl
+event_reported p (array (item (string w) ds)) = event_tested p ds (same w (codes "PUT")) (same w (codes "DELETE"))
+event_reported p _ = wrong_is {A = ReportedEvent} p Shape (bad Shape) refl
 
-event_word : (d : Data) (p : List ℕ × Items) (e : ToldEvent) (puts deletes : Bool) → worded d ≡ Some p → same p.0 (codes "PUT") ≡ puts
+event_word : (d : Data) (p : List ℕ × Items) (e : ReportedEvent) (puts deletes : Bool) → worded d ≡ Some p → same p.0 (codes "PUT") ≡ puts
     → same p.0 (codes "DELETE") ≡ deletes
     → cond puts (event_put_of (six_of p.1)) (cond deletes (event_delete_of (two_of p.1)) (bad Shape)) ≡ Ok e → Spells d (event_data e)
 event_word d p e true deletes is u l h =
@@ -370,15 +370,15 @@ event_word d p e false true is u l h =
     of_word d p (codes "DELETE") (event_data e) is ((bytes_eq-Decides p.0 (codes "DELETE")).0 l) m.0
 event_word d p e false false is u l h = cc
 
-event_array : (d : Data) (o : Option (List ℕ × Items)) (e : ToldEvent) → worded d ≡ o → event_worded o ≡ Ok e → Spells d (event_data e)
+event_array : (d : Data) (o : Option (List ℕ × Items)) (e : ReportedEvent) → worded d ≡ o → event_worded o ≡ Ok e → Spells d (event_data e)
 event_array d None e is h = cc
 event_array d (Some p) e is h = event_word d p e (same p.0 (codes "PUT")) (same p.0 (codes "DELETE")) is refl refl h
 
-pub event_means : (d : Data) (e : ToldEvent) → event_of d ≡ Ok e → Spells d (event_data e)
+pub event_means : (d : Data) (e : ReportedEvent) → event_of d ≡ Ok e → Spells d (event_data e)
 unfolding event_of
 event_means d e h = event_array d (worded d) e refl h
 
-pub event_reads : (d : Data) (e : ToldEvent) → Spells d (event_data e) → event_of d ≡ Ok e
+pub event_reads : (d : Data) (e : ReportedEvent) → Spells d (event_data e) → event_of d ≡ Ok e
 unfolding event_of
 event_reads d (event.Put key state) s =
     let w = worded_shape d (codes "PUT") (keyed_items (key, state)) s in
@@ -389,28 +389,28 @@ event_reads d (event.Delete key revision) s =
 
 -- ---- the answers of a branch's operations, with counts that fit
 
-pub ops_told : (p : List ℕ) (d : Data) → first_of (faults_by (By (list_faults (worded_faults op_table))) p d) ≡ fault_of p (ops_of d)
-ops_told p d = list_told (worded_faults op_table) op_of op_told p d
+pub ops_reported : (p : List ℕ) (d : Data) → first_of (faults_by (By (list_faults (worded_faults op_table))) p d) ≡ fault_of p (ops_of d)
+ops_reported p d = list_reported (worded_faults op_table) op_of op_reported p d
 
 -- an operation's answer with a count that fits
-abbrev SpellsOp : Data → ToldOp → Type 0
+abbrev SpellsOp : Data → ReportedOp → Type 0
 SpellsOp d o = Spells d (op_data o) × CountFits o
 
-counted : (ds : Items) (xs : List ToldOp) → SpellsEach SpellsOp ds xs → SpellsItems ds (items_of (map op_data xs)) × AllCountsFit xs
+counted : (ds : Items) (xs : List ReportedOp) → SpellsEach SpellsOp ds xs → SpellsItems ds (items_of (map op_data xs)) × AllCountsFit xs
 counted ds [] is = (is, tt)
 counted ds (x ∷ xs) (d, rest, is, (s, fits), more) =
     let others = counted rest xs more in
     ((d, rest, is, s, others.0), (fits, others.1))
 
-each_counted : (ds : Items) (xs : List ToldOp) → SpellsItems ds (items_of (map op_data xs)) → AllCountsFit xs → SpellsEach SpellsOp ds xs
+each_counted : (ds : Items) (xs : List ReportedOp) → SpellsItems ds (items_of (map op_data xs)) → AllCountsFit xs → SpellsEach SpellsOp ds xs
 each_counted ds [] is fits = is
 each_counted ds (x ∷ xs) (d, rest, is, s, more) (fits, others) = (d, rest, is, (s, fits), each_counted rest xs more others)
 
-pub ops_means : (d : Data) (xs : List ToldOp) → ops_of d ≡ Ok xs → Spells d (list (map op_data xs)) × AllCountsFit xs
+pub ops_means : (d : Data) (xs : List ReportedOp) → ops_of d ≡ Ok xs → Spells d (list (map op_data xs)) × AllCountsFit xs
 ops_means d xs h =
     let s = list_sound op_of SpellsOp op_means d xs h in
     let c = counted s.0 xs s.2 in
     ((s.0, s.1, c.0), c.1)
 
-pub ops_reads : (d : Data) (xs : List ToldOp) → Spells d (list (map op_data xs)) → AllCountsFit xs → ops_of d ≡ Ok xs
+pub ops_reads : (d : Data) (xs : List ReportedOp) → Spells d (list (map op_data xs)) → AllCountsFit xs → ops_of d ≡ Ok xs
 ops_reads d xs (ds, is, m) fits = rw is (each_reads op_of SpellsOp (λ e x s. op_reads e x s.0 s.1) 0 ds xs (each_counted ds xs m fits))

@@ -12,15 +12,15 @@ use Rattle.stm_meaning.specs.declared.value.Value.{Value}
 use Rattle.stm_meaning.specs.Faults.{fault_name}
 use Rattle.stm_outcome.specs.declared.advance.Expired.{Expired}
 use Rattle.stm_json.specs.Faults.{Sort, AnyText, WordOf, By, first_of, at, faults_by, worded_faults, is_count, parts_faults, any_number}
-use Rattle.stm_json.proofs.FaultLemmas.{fault_of, part_then, number_told}
+use Rattle.stm_json.proofs.FaultLemmas.{fault_of, part_then, number_reported}
 use Rattle.stm_reports.specs.declared.causes.RefusalName.{RefusalName}
 use Rattle.stm_reports.specs.declared.line.ReportLine.{ReportLine}
 use Rattle.stm_reports.specs.declared.line.ReportLine.TheVariants.{Started, Prefetched, Fetched, Committed, Conflict, GaveUp, Aborted, Faulted, Ended, Txn, Granted}
 use Rattle.stm_reports.specs.declared.line.ReportLine.TheVariants.{Kept, Revoked, Advanced, Compacted, Watching, Cancelled, Batch, Lost, Refused}
-use Rattle.stm_reports.specs.declared.line.ToldAnswer.{ToldAnswer}
-use Rattle.stm_reports.specs.declared.line.ToldEvent.{ToldEvent}
-use Rattle.stm_reports.specs.declared.line.ToldOp.{ToldOp}
-use Rattle.stm_reports.specs.declared.line.ToldRead.{ToldRead}
+use Rattle.stm_reports.specs.declared.line.ReportedAnswer.{ReportedAnswer}
+use Rattle.stm_reports.specs.declared.line.ReportedEvent.{ReportedEvent}
+use Rattle.stm_reports.specs.declared.line.ReportedOp.{ReportedOp}
+use Rattle.stm_reports.specs.declared.line.ReportedRead.{ReportedRead}
 use Rattle.stm_reports.specs.declared.words.EventWord.{EventWord}
 use Rattle.stm_reports.specs.declared.words.EventWord.TheVariants as event
 use Rattle.stm_reports.specs.FirstFault.{flag_faults, value_faults, plain_faults, list_of as list_faults, fault_names, refusal_names, trace_table}
@@ -34,51 +34,51 @@ use Rattle.stm_reports.specs.Reading.{gave_up_of, aborted_of, faulted_of, ended_
 use Rattle.stm_reports.specs.Reading.{started_of, granted_of, kept_of, watching_of, cancelled_of, compacted_of, lost_of}
 use Rattle.stm_reports.specs.Words.{named, event_words}
 use Rattle.stm_reports.proofs.ArrayLemmas.{numbered_array, numbered_spells}
-use Rattle.stm_reports.proofs.ElementLaws.{trace_told, trace_means, trace_reads, answer_told, answer_means, answer_reads}
-use Rattle.stm_reports.proofs.ElementLaws.{read_told, read_means, read_reads, expired_told, expired_means, expired_reads, event_told, event_means, event_reads}
-use Rattle.stm_reports.proofs.ElementLaws.{ops_told, ops_means, ops_reads}
-use Rattle.stm_reports.proofs.PartLaws.{number_means, flag_told, flag_means, flag_reads, fault_told, fault_means, fault_reads, cause_told}
-use Rattle.stm_reports.proofs.PartLaws.{cause_means, cause_reads, value_told, value_means, value_reads}
-use Rattle.stm_reports.proofs.Rows.{Part, part, list_part, Row, nothing, ◌&◌, second, third, fourth, fifth, sixth, counted, counted_told, counted_ok}
+use Rattle.stm_reports.proofs.ElementLaws.{trace_reported, trace_means, trace_reads, answer_reported, answer_means, answer_reads}
+use Rattle.stm_reports.proofs.ElementLaws.{read_reported, read_means, read_reads, expired_reported, expired_means, expired_reads, event_reported, event_means, event_reads}
+use Rattle.stm_reports.proofs.ElementLaws.{ops_reported, ops_means, ops_reads}
+use Rattle.stm_reports.proofs.PartLaws.{number_means, flag_reported, flag_means, flag_reads, fault_reported, fault_means, fault_reads, cause_reported}
+use Rattle.stm_reports.proofs.PartLaws.{cause_means, cause_reads, value_reported, value_means, value_reads}
+use Rattle.stm_reports.proofs.Rows.{Part, part, list_part, Row, nothing, ◌&◌, second, third, fourth, fifth, sixth, counted, counted_reported, counted_ok}
 use Rattle.stm_reports.proofs.Rows.{one_counted, two_counted, three_counted, four_counted, five_counted, six_counted}
 use Rattle.stm_reports.proofs.StateLaws.{whole_part, text_part}
 
 -- ---- parts
 
 abbrev flag_part : Part Bool
-flag_part = part flag_of boolean (By flag_faults) flag_told flag_means flag_reads
+flag_part = part flag_of boolean (By flag_faults) flag_reported flag_means flag_reads
 
 abbrev fault_part : Part Fault
-fault_part = part fault_part_of (λ f. word (fault_name f)) (WordOf fault_names) fault_told fault_means fault_reads
+fault_part = part fault_part_of (λ f. word (fault_name f)) (WordOf fault_names) fault_reported fault_means fault_reads
 
 abbrev cause_part : Part RefusalName
-cause_part = part cause_of (λ c. word (refusal_text c)) (WordOf refusal_names) cause_told cause_means cause_reads
+cause_part = part cause_of (λ c. word (refusal_text c)) (WordOf refusal_names) cause_reported cause_means cause_reads
 
 abbrev values_part : Part (List Value)
-values_part = list_part value_faults value_of value_data value_told value_means value_reads
+values_part = list_part value_faults value_of value_data value_reported value_means value_reads
 
 abbrev traces_part : Part (List TraceItem)
-traces_part = list_part (worded_faults trace_table) trace_of trace_data trace_told trace_means trace_reads
+traces_part = list_part (worded_faults trace_table) trace_of trace_data trace_reported trace_means trace_reads
 
-abbrev answers_part : Part (List ToldAnswer)
-answers_part = list_part (plain_faults answer_sorts) answer_of answer_data answer_told answer_means answer_reads
+abbrev answers_part : Part (List ReportedAnswer)
+answers_part = list_part (plain_faults answer_sorts) answer_of answer_data answer_reported answer_means answer_reads
 
-abbrev reads_part : Part (List ToldRead)
-reads_part = list_part (plain_faults read_sorts) read_of read_data read_told read_means read_reads
+abbrev reads_part : Part (List ReportedRead)
+reads_part = list_part (plain_faults read_sorts) read_of read_data read_reported read_means read_reads
 
 abbrev expireds_part : Part (List Expired)
-expireds_part = list_part (plain_faults expired_sorts) expired_of expired_data expired_told expired_means expired_reads
+expireds_part = list_part (plain_faults expired_sorts) expired_of expired_data expired_reported expired_means expired_reads
 
-abbrev events_part : Part (List ToldEvent)
-events_part = list_part (worded_faults watched_table) event_of event_data event_told event_means event_reads
+abbrev events_part : Part (List ReportedEvent)
+events_part = list_part (worded_faults watched_table) event_of event_data event_reported event_means event_reads
 
-abbrev ops_part : Part (List ToldOp)
+abbrev ops_part : Part (List ReportedOp)
 ops_part = record {
   read = ops_of;
   spell = λ xs. list (map op_data xs);
   sort = By (list_faults (worded_faults op_table));
   Fits = AllCountsFit;
-  told = ops_told;
+  reported = ops_reported;
   means = ops_means;
   reads = ops_reads;
 }
@@ -217,13 +217,13 @@ event_is event.Refused n ds = two_counted (numbered_read event.Refused n) (WordO
 
 -- ---- the three laws
 
-pub event_line_told : (p : List ℕ) (n : Data) (w : EventWord) (ds : Items)
+pub event_line_reported : (p : List ℕ) (n : Data) (w : EventWord) (ds : Items)
     → first_of (numbered_faults p n (Some (event_sorts w)) ds) ≡ fault_of p (event_line_of w n ds)
-event_line_told p n w ds =
+event_line_reported p n w ds =
     let sorts : List Sort = event_sorts w in
-    counted_told p (is_count sorts ds) _ (numbered_read w n ds)
+    counted_reported p (is_count sorts ds) _ (numbered_read w n ds)
     (λ h. part_then p 0 (number_of n) (λ x. (event_row w).row.read ReportLine 2 (event_made w x) ds) (faults_by any_number (at p 0) n)
-    (parts_faults p 2 sorts ds) (number_told (at p 0) n) (λ (x : ℕ). (event_row w).row.told ReportLine p 2 (event_made w x) ds h))
+    (parts_faults p 2 sorts ds) (number_reported (at p 0) n) (λ (x : ℕ). (event_row w).row.reported ReportLine p 2 (event_made w x) ds h))
     ∙ ap (λ (o : Outcome ReportLine). fault_of p o) (sym (event_is w n ds))
 
 pub event_line_means : (n : Data) (w : EventWord) (ds : Items) (l : ReportLine) → event_line_of w n ds ≡ Ok l

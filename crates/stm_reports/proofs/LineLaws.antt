@@ -28,9 +28,9 @@ use Rattle.stm_reports.specs.Reading.{key_of, lease_of, end_of, standing_line_of
 use Rattle.stm_reports.specs.Words.{named, event_words, standing_words}
 use Rattle.stm_reports.proofs.ArrayLemmas.{worded_array, worded_spells, worded_shape, numbered_array, numbered_shape}
 use Rattle.stm_reports.proofs.EventRows.{event_parts, event_row, event_sorts, event_made, event_text, event_named-text, event_spelled}
-use Rattle.stm_reports.proofs.EventRows.{event_line_told, event_line_means, event_line_reads}
-use Rattle.stm_reports.proofs.Rows.{Row, nothing, ◌&◌, second, third, read_row, row_reads, behind_told, behind_means, two_counted, three_counted}
-use Rattle.stm_reports.proofs.StateLaws.{whole_part, keyed_items, keyed_sorts, keyed_told, keyed_means, keyed_reads}
+use Rattle.stm_reports.proofs.EventRows.{event_line_reported, event_line_means, event_line_reads}
+use Rattle.stm_reports.proofs.Rows.{Row, nothing, ◌&◌, second, third, read_row, row_reads, behind_reported, behind_means, two_counted, three_counted}
+use Rattle.stm_reports.proofs.StateLaws.{whole_part, keyed_items, keyed_sorts, keyed_reported, keyed_means, keyed_reads}
 use Rattle.stm_reports.proofs.WordLaws.{AreTexts, named-is, sorts_named}
 
 -- ---- lines of what is left at the end
@@ -59,8 +59,8 @@ end_from ds = end_of (two_of ds)
 end_is : (ds : Items) → end_from ds ≡ read_row end_row 1 end_made ds
 end_is = two_counted (end_row.read ReportLine 1 end_made) any_number any_number end_of refl (λ a b. refl)
 
-key_told : (p : List ℕ) (ds : Items) → first_of (sorted_faults p (Some keyed_sorts) ds) ≡ fault_of p (key_of (six_of ds))
-key_told p ds = made p (keyed_of (six_of ds)) (λ q. Key q.0 q.1) (sorted_faults p (Some keyed_sorts) ds) (keyed_told p ds)
+key_reported : (p : List ℕ) (ds : Items) → first_of (sorted_faults p (Some keyed_sorts) ds) ≡ fault_of p (key_of (six_of ds))
+key_reported p ds = made p (keyed_of (six_of ds)) (λ q. Key q.0 q.1) (sorted_faults p (Some keyed_sorts) ds) (keyed_reported p ds)
 
 key_means : (ds : Items) (l : ReportLine) → key_of (six_of ds) ≡ Ok l → SpellsLine (worded_array (codes "key") ds) l
 key_means ds l h =
@@ -84,12 +84,12 @@ standing_text standing.Key = codes "key"
 standing_text standing.Lease = codes "lease"
 standing_text standing.End = codes "end"
 
-standing_told : (p : List ℕ) (o : Option StandingWord) (ds : Items)
+standing_reported : (p : List ℕ) (o : Option StandingWord) (ds : Items)
     → first_of (sorted_faults p (option_map standing_sorts o) ds) ≡ fault_of p (standing_named o ds)
-standing_told p None ds = wrong_is {A = ReportLine} p Shape (bad Shape) refl
-standing_told p (Some standing.Key) ds = key_told p ds
-standing_told p (Some standing.Lease) ds = behind_told lease_row lease_made lease_from lease_is p ds
-standing_told p (Some standing.End) ds = behind_told end_row end_made end_from end_is p ds
+standing_reported p None ds = wrong_is {A = ReportLine} p Shape (bad Shape) refl
+standing_reported p (Some standing.Key) ds = key_reported p ds
+standing_reported p (Some standing.Lease) ds = behind_reported lease_row lease_made lease_from lease_is p ds
+standing_reported p (Some standing.End) ds = behind_reported end_row end_made end_from end_is p ds
 
 standing_line_means : (w : StandingWord) (ds : Items) (l : ReportLine) → standing_line_of w ds ≡ Ok l → SpellsLine (worded_array
     (standing_text w) ds) l
@@ -101,32 +101,32 @@ standing_line_means standing.End ds l h =
 
 -- ---- the first fault
 
-standing_word-told : (p w : List ℕ) (ds : Items) → first_of (sorted_faults p (sorts_of standing_table w) ds) ≡ fault_of p (standing_named
+standing_word-reported : (p w : List ℕ) (ds : Items) → first_of (sorted_faults p (sorts_of standing_table w) ds) ≡ fault_of p (standing_named
     (named standing_words w) ds)
-standing_word-told p w ds =
+standing_word-reported p w ds =
     ap (λ (o : Option (List Sort)). first_of (sorted_faults p o ds)) (sorts_named standing_sorts standing_words w)
-    ∙ standing_told p (named standing_words w) ds
+    ∙ standing_reported p (named standing_words w) ds
 
-event_told : (p : List ℕ) (n : Data) (o : Option EventWord) (ds : Items)
+event_reported : (p : List ℕ) (n : Data) (o : Option EventWord) (ds : Items)
     → first_of (numbered_faults p n (option_map event_sorts o) ds) ≡ fault_of p (event_named o n ds)
-event_told p n None ds = wrong_is {A = ReportLine} p Shape (bad Shape) refl
-event_told p n (Some w) ds = event_line_told p n w ds
+event_reported p n None ds = wrong_is {A = ReportLine} p Shape (bad Shape) refl
+event_reported p n (Some w) ds = event_line_reported p n w ds
 
-event_word-told : (p : List ℕ) (n : Data) (w : List ℕ) (ds : Items)
+event_word-reported : (p : List ℕ) (n : Data) (w : List ℕ) (ds : Items)
     → first_of (numbered_faults p n (sorts_of event_table w) ds) ≡ fault_of p (event_named (named event_words w) n ds)
-event_word-told p n w ds =
+event_word-reported p n w ds =
     ap (λ (o : Option (List Sort)). first_of (numbered_faults p n o ds)) (sorts_named event_sorts event_words w)
-    ∙ event_told p n (named event_words w) ds
+    ∙ event_reported p n (named event_words w) ds
 
-pub line_told : (p : List ℕ) (d : Data) → first_of (line_faults p d) ≡ fault_of p (line_of d)
+pub line_reported : (p : List ℕ) (d : Data) → first_of (line_faults p d) ≡ fault_of p (line_of d)
 unfolding line_of
-line_told p (array (item (string w) ds)) = standing_word-told p w ds
-line_told p (array (item null (item (string w) ds))) = event_word-told p null w ds
-line_told p (array (item (boolean b) (item (string w) ds))) = event_word-told p (boolean b) w ds
-line_told p (array (item (number n) (item (string w) ds))) = event_word-told p (number n) w ds
-line_told p (array (item (array es) (item (string w) ds))) = event_word-told p (array es) w ds
-line_told p (array (item (object ms) (item (string w) ds))) = event_word-told p (object ms) w ds
-line_told p _ = wrong_is {A = ReportLine} p Shape (bad Shape) refl
+line_reported p (array (item (string w) ds)) = standing_word-reported p w ds
+line_reported p (array (item null (item (string w) ds))) = event_word-reported p null w ds
+line_reported p (array (item (boolean b) (item (string w) ds))) = event_word-reported p (boolean b) w ds
+line_reported p (array (item (number n) (item (string w) ds))) = event_word-reported p (number n) w ds
+line_reported p (array (item (array es) (item (string w) ds))) = event_word-reported p (array es) w ds
+line_reported p (array (item (object ms) (item (string w) ds))) = event_word-reported p (object ms) w ds
+line_reported p _ = wrong_is {A = ReportLine} p Shape (bad Shape) refl
 
 -- ---- what was read is spelled
 

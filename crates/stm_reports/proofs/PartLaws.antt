@@ -26,7 +26,7 @@ use Rattle.stm_reports.specs.LineData.{list, whole, word, value_data, text_or_nu
 use Rattle.stm_reports.specs.Names.{refusal_text}
 use Rattle.stm_reports.specs.Parts.{if_there, number_of, flag_of, fault_of as fault_part_of, cause_of, value_from, value_of, text_or_null_of}
 use Rattle.stm_reports.specs.Words.{named, fault_words, refusal_words}
-use Rattle.stm_reports.proofs.WordLaws.{name_told, fault_named-is, fault_named-text, refusal_named-is, refusal_named-text}
+use Rattle.stm_reports.proofs.WordLaws.{name_reported, fault_named-is, fault_named-text, refusal_named-is, refusal_named-text}
 
 -- ---- numbers
 
@@ -51,8 +51,8 @@ number_reads d n m =
 
 -- a number that is 0 or 1
 
-pub count_told : (p : List ℕ) (d : Data) → first_of (faults_by (NumberIn 0 1) p d) ≡ fault_of p (number_up_to 1 d)
-count_told p d = number_up_faulted p 1 d (omega arith)
+pub count_reported : (p : List ℕ) (d : Data) → first_of (faults_by (NumberIn 0 1) p d) ≡ fault_of p (number_up_to 1 d)
+count_reported p d = number_up_faulted p 1 d (omega arith)
 
 pub count_means : (d : Data) (n : ℕ) → number_up_to 1 d ≡ Ok n → Spells d (whole n) × (n ≤ 1)
 count_means d n h =
@@ -68,10 +68,10 @@ number_no_text d n (z, (m, e, f), is, fits) = rw e refl
 
 -- ---- flags and names
 
-pub flag_told : (p : List ℕ) (d : Data) → first_of (faults_by (By flag_faults) p d) ≡ fault_of p (flag_of d)
+pub flag_reported : (p : List ℕ) (d : Data) → first_of (faults_by (By flag_faults) p d) ≡ fault_of p (flag_of d)
 unfolding flag_of
-flag_told p (boolean b) = refl
-flag_told p _ = wrong_is {A = Bool} p Shape (bad Shape) refl
+flag_reported p (boolean b) = refl
+flag_reported p _ = wrong_is {A = Bool} p Shape (bad Shape) refl
 
 pub flag_means : (d : Data) (b : Bool) → flag_of d ≡ Ok b → Spells d (boolean b)
 unfolding flag_of
@@ -87,9 +87,9 @@ there_is : {A : Type 0} (o : Option A) (x : A) → if_there o ≡ Ok x → o ≡
 there_is (Some y) x h = ap Some cc
 there_is None x h = cc
 
-pub fault_told : (p : List ℕ) (d : Data) → first_of (faults_by (WordOf fault_names) p d) ≡ fault_of p (fault_part_of d)
+pub fault_reported : (p : List ℕ) (d : Data) → first_of (faults_by (WordOf fault_names) p d) ≡ fault_of p (fault_part_of d)
 unfolding fault_part_of
-fault_told p d = name_told p fault_words (as_str d)
+fault_reported p d = name_reported p fault_words (as_str d)
 
 pub fault_means : (d : Data) (f : Fault) → fault_part_of d ≡ Ok f → Spells d (word (fault_name f))
 unfolding fault_part_of
@@ -101,9 +101,9 @@ pub fault_reads : (d : Data) (f : Fault) → Spells d (word (fault_name f)) → 
 unfolding fault_part_of
 fault_reads d f is = ap fault_part_of is ∙ ap (λ (o : Option Fault). if_there o) (fault_named-text f)
 
-pub cause_told : (p : List ℕ) (d : Data) → first_of (faults_by (WordOf refusal_names) p d) ≡ fault_of p (cause_of d)
+pub cause_reported : (p : List ℕ) (d : Data) → first_of (faults_by (WordOf refusal_names) p d) ≡ fault_of p (cause_of d)
 unfolding cause_of
-cause_told p d = name_told p refusal_words (as_str d)
+cause_reported p d = name_reported p refusal_words (as_str d)
 
 pub cause_means : (d : Data) (c : RefusalName) → cause_of d ≡ Ok c → Spells d (word (refusal_text c))
 unfolding cause_of
@@ -160,27 +160,27 @@ unsigned_tested : (p : List ℕ) (b : Bool) (m : ℕ) → ltb m (2 ^ 63) ≡ b
 unsigned_tested p true m e = rw e refl
 unsigned_tested p false m e = wrong_is {A = Value} p Range (bad Range) refl
 
-pub value_told : (p : List ℕ) (d : Data) → first_of (value_faults p d) ≡ fault_of p (value_of d)
+pub value_reported : (p : List ℕ) (d : Data) → first_of (value_faults p d) ≡ fault_of p (value_of d)
 unfolding value_of whole_number
-value_told p (string s) = refl
-value_told p (number (unsigned m)) = unsigned_tested p (ltb m (2 ^ 63)) m refl
-value_told p (number (negative z)) = value_tested p (is_64_bit z) z
-value_told p (number (float x)) = wrong_is {A = Value} p Shape (bad Shape) refl
-value_told p _ = wrong_is {A = Value} p Shape (bad Shape) refl
+value_reported p (string s) = refl
+value_reported p (number (unsigned m)) = unsigned_tested p (ltb m (2 ^ 63)) m refl
+value_reported p (number (negative z)) = value_tested p (is_64_bit z) z
+value_reported p (number (float x)) = wrong_is {A = Value} p Shape (bad Shape) refl
+value_reported p _ = wrong_is {A = Value} p Shape (bad Shape) refl
 
 -- ---- null for what is absent
 
-some_text-told : (p : List ℕ) (d : Data) → first_of (faults_by AnyText p d) ≡ fault_of p (text_of d >>= λ s. Ok (Some s))
-some_text-told p d = made p (text_of d) (λ (s : List ℕ). Some s) (faults_by AnyText p d) (text_faulted p d)
+some_text-reported : (p : List ℕ) (d : Data) → first_of (faults_by AnyText p d) ≡ fault_of p (text_of d >>= λ s. Ok (Some s))
+some_text-reported p d = made p (text_of d) (λ (s : List ℕ). Some s) (faults_by AnyText p d) (text_faulted p d)
 
-pub text_or_null-told : (p : List ℕ) (d : Data) → first_of (or_null (faults_by AnyText) p d) ≡ fault_of p (text_or_null_of d)
+pub text_or_null-reported : (p : List ℕ) (d : Data) → first_of (or_null (faults_by AnyText) p d) ≡ fault_of p (text_or_null_of d)
 unfolding text_or_null_of
-text_or_null-told p null = refl
-text_or_null-told p (boolean b) = some_text-told p (boolean b)
-text_or_null-told p (number n) = some_text-told p (number n)
-text_or_null-told p (string s) = some_text-told p (string s)
-text_or_null-told p (array ds) = some_text-told p (array ds)
-text_or_null-told p (object ms) = some_text-told p (object ms)
+text_or_null-reported p null = refl
+text_or_null-reported p (boolean b) = some_text-reported p (boolean b)
+text_or_null-reported p (number n) = some_text-reported p (number n)
+text_or_null-reported p (string s) = some_text-reported p (string s)
+text_or_null-reported p (array ds) = some_text-reported p (array ds)
+text_or_null-reported p (object ms) = some_text-reported p (object ms)
 
 text_there : (d : Data) (o : Option (List ℕ)) → (text_of d >>= λ s. Ok (Some s)) ≡ Ok o → Spells d (text_or_null o)
 text_there d o h =
@@ -206,22 +206,22 @@ text_or_null-reads d (Some s) is = rw is refl
 
 -- ---- lists
 
-each_told : {A : Type 0} (faults : List ℕ → Data → Faults) (read : Data → Outcome A)
+each_reported : {A : Type 0} (faults : List ℕ → Data → Faults) (read : Data → Outcome A)
     → ((p : List ℕ) (d : Data) → first_of (faults p d) ≡ fault_of p (read d))
     → (p : List ℕ) (index : ℕ) (ds : Items) → first_of (each_of faults p index ds) ≡ fault_of p (each_from read index ds)
 unfolding each_from
-each_told faults read told p index no_items = refl
-each_told {A} faults read told p index (item d ds) =
-    part_then p index (read d) _ (faults (at p index) d) (each_of faults p (suc index) ds) (told (at p index) d)
+each_reported faults read reported p index no_items = refl
+each_reported {A} faults read reported p index (item d ds) =
+    part_then p index (read d) _ (faults (at p index) d) (each_of faults p (suc index) ds) (reported (at p index) d)
     (λ (x : A). made p (each_from read (suc index) ds) (λ (xs : List A). x ∷ xs) (each_of faults p (suc index) ds)
-    (each_told faults read told p (suc index) ds))
+    (each_reported faults read reported p (suc index) ds))
 
-pub list_told : {A : Type 0} (faults : List ℕ → Data → Faults) (read : Data → Outcome A)
+pub list_reported : {A : Type 0} (faults : List ℕ → Data → Faults) (read : Data → Outcome A)
     → ((p : List ℕ) (d : Data) → first_of (faults p d) ≡ fault_of p (read d))
     → (p : List ℕ) (d : Data) → first_of (faults_by (By (list_faults faults)) p d) ≡ fault_of p (list_of read (as_array d))
-list_told faults read told p (array ds) = each_told faults read told p 0 ds
-list_told {A} faults read told p null = wrong_is {A = List A} p Shape (bad Shape) refl
-list_told {A} faults read told p _ = wrong_is {A = List A} p Shape (bad Shape) refl
+list_reported faults read reported p (array ds) = each_reported faults read reported p 0 ds
+list_reported {A} faults read reported p null = wrong_is {A = List A} p Shape (bad Shape) refl
+list_reported {A} faults read reported p _ = wrong_is {A = List A} p Shape (bad Shape) refl
 
 pub items_spelled : {A : Type 0} (spell : A → Data) (ds : Items) (xs : List A) → SpellsEach (λ (e : Data) (x : A). Spells e (spell x)) ds xs
     → SpellsItems ds (items_of (map spell xs))

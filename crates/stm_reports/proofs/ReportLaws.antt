@@ -17,35 +17,35 @@ use Rattle.stm_reports.specs.FirstFault.{json_faults, rest_faults, lines_faults,
 use Rattle.stm_reports.specs.Grammar.{SpellsLine, SpellsParts, SpellsReport}
 use Rattle.stm_reports.specs.Reading.{line_read, line_in, rest_of, lines_from, report_with, report_in}
 use Rattle.stm_reports.proofs.CutLemmas.{parts_start}
-use Rattle.stm_reports.proofs.LineLaws.{line_told, line_means, line_reads}
+use Rattle.stm_reports.proofs.LineLaws.{line_reported, line_means, line_reads}
 
 -- ---- the first fault
 
-json_told : (p : List ℕ) (o : Option Data) → first_of (json_faults p o) ≡ fault_of p (line_read o)
-json_told p None = wrong_is {A = ReportLine} p NotJson (bad NotJson) refl
-json_told p (Some d) = line_told p d
+json_reported : (p : List ℕ) (o : Option Data) → first_of (json_faults p o) ≡ fault_of p (line_read o)
+json_reported p None = wrong_is {A = ReportLine} p NotJson (bad NotJson) refl
+json_reported p (Some d) = line_reported p d
 
-part_told : (p part : List ℕ) → first_of (json_faults p (data_of part)) ≡ fault_of p (line_in part)
+part_reported : (p part : List ℕ) → first_of (json_faults p (data_of part)) ≡ fault_of p (line_in part)
 unfolding line_in
-part_told p part = json_told p (data_of part)
+part_reported p part = json_reported p (data_of part)
 
 -- what stands behind the last line feed
-rest_told : (index : ℕ) (rest : List ℕ) → first_of (rest_faults (step index) rest) ≡ fault_of [] (within index (rest_of rest))
-rest_told index [] = refl
-rest_told index (b ∷ bs) = wrong_is {A = List ReportLine} (step index) Shape (bad Shape) refl
+rest_reported : (index : ℕ) (rest : List ℕ) → first_of (rest_faults (step index) rest) ≡ fault_of [] (within index (rest_of rest))
+rest_reported index [] = refl
+rest_reported index (b ∷ bs) = wrong_is {A = List ReportLine} (step index) Shape (bad Shape) refl
 
-lines_told : (index : ℕ) (parts : List (List ℕ)) → first_of (lines_faults index parts) ≡ fault_of [] (lines_from index parts)
-lines_told index [] = refl
-lines_told index (rest ∷ []) = rest_told index rest
-lines_told index (part ∷ next ∷ more) =
-    part_then [] index (line_in part) _ (json_faults (step index) (data_of part)) (lines_faults (suc index) (next ∷ more)) (part_told (step index) part)
+lines_reported : (index : ℕ) (parts : List (List ℕ)) → first_of (lines_faults index parts) ≡ fault_of [] (lines_from index parts)
+lines_reported index [] = refl
+lines_reported index (rest ∷ []) = rest_reported index rest
+lines_reported index (part ∷ next ∷ more) =
+    part_then [] index (line_in part) _ (json_faults (step index) (data_of part)) (lines_faults (suc index) (next ∷ more)) (part_reported (step index) part)
     (λ (l : ReportLine). made [] (lines_from (suc index) (next ∷ more)) (λ (ls : List ReportLine). l ∷ ls) (lines_faults (suc index) (next ∷ more))
-    (lines_told (suc index) (next ∷ more)))
+    (lines_reported (suc index) (next ∷ more)))
 
 length_tested : (parts : List (List ℕ)) (b : Bool) → first_of (cond b (wrong [] TooLong) [] ++ lines_faults 0 parts)
     ≡ fault_of [] (cond b (bad TooLong) (lines_from 0 parts >>= λ ls. Ok (report_with ls)))
 length_tested parts true = refl
-length_tested parts false = made [] (lines_from 0 parts) report_with (lines_faults 0 parts) (lines_told 0 parts)
+length_tested parts false = made [] (lines_from 0 parts) report_with (lines_faults 0 parts) (lines_reported 0 parts)
 
 -- the first fault is that which reading answers, if it does
 pub first_fault-is : (bytes : List ℕ) → first_fault bytes ≡ fault_of [] (report_in bytes)

@@ -16,7 +16,7 @@ use Rattle.stm_reports.specs.FirstFault.{plain_faults, list_of as list_faults}
 use Rattle.stm_reports.specs.Grammar.{Spells, SpellsItems}
 use Rattle.stm_reports.specs.LineData.{list, word}
 use Rattle.stm_reports.proofs.ArrayLemmas.{worded_array, worded_spells}
-use Rattle.stm_reports.proofs.PartLaws.{list_told, list_means, list_reads}
+use Rattle.stm_reports.proofs.PartLaws.{list_reported, list_means, list_reads}
 
 -- What may stand as an element of an array: what is read of it, what spells it, and its sort in a table of first faults.
 pub record Part (A : Type 0) : Type 1 where
@@ -24,7 +24,7 @@ pub record Part (A : Type 0) : Type 1 where
   pub spell : A → Data
   pub sort : Sort
   pub Fits : A → Type 0
-  pub told : (p : List ℕ) (d : Data) → first_of (faults_by sort p d) ≡ fault_of p (read d)
+  pub reported : (p : List ℕ) (d : Data) → first_of (faults_by sort p d) ≡ fault_of p (read d)
   pub means : (d : Data) (x : A) → read d ≡ Ok x → Spells d (spell x) × Fits x
   pub reads : (d : Data) (x : A) → Spells d (spell x) → Fits x → read d ≡ Ok x
 
@@ -32,12 +32,12 @@ pub record Part (A : Type 0) : Type 1 where
 abbrev pub part : {A : Type 0} (read : Data → Outcome A) (spell : A → Data) (sort : Sort)
     → ((p : List ℕ) (d : Data) → first_of (faults_by sort p d) ≡ fault_of p (read d))
     → ((d : Data) (x : A) → read d ≡ Ok x → Spells d (spell x)) → ((d : Data) (x : A) → Spells d (spell x) → read d ≡ Ok x) → Part A
-part read spell sort told means reads = record {
+part read spell sort reported means reads = record {
   read = read;
   spell = spell;
   sort = sort;
   Fits = λ x. Unit {0};
-  told = told;
+  reported = reported;
   means = λ d x h. (means d x h, tt);
   reads = λ d x s fits. reads d x s;
 }
@@ -46,8 +46,8 @@ part read spell sort told means reads = record {
 abbrev pub list_part : {A : Type 0} (faults : List ℕ → Data → Faults) (read : Data → Outcome A) (spell : A → Data)
     → ((p : List ℕ) (d : Data) → first_of (faults p d) ≡ fault_of p (read d)) → ((d : Data) (x : A) → read d ≡ Ok x → Spells d (spell x))
     → ((d : Data) (x : A) → Spells d (spell x) → read d ≡ Ok x) → Part (List A)
-list_part faults read spell told means reads =
-    part (λ d. list_of read (as_array d)) (λ xs. list (map spell xs)) (By (list_faults faults)) (λ p d. list_told faults read told p d)
+list_part faults read spell reported means reads =
+    part (λ d. list_of read (as_array d)) (λ xs. list (map spell xs)) (By (list_faults faults)) (λ p d. list_reported faults read reported p d)
     (λ d xs h. list_means read spell means d xs h) (λ d xs s. list_reads read spell reads d xs s)
 
 -- Parts one behind the other, whose values are an X, and what is made of them. Reading begins at an index of the array.
@@ -56,7 +56,7 @@ pub record Row (X : Type 0) : Type 1 where
   pub spell : X → List Data
   pub Fits : X → Type 0
   pub read : (Y : Type 0) → ℕ → (X → Y) → Items → Outcome Y
-  pub told : (Y : Type 0) (p : List ℕ) (i : ℕ) (make : X → Y) (ds : Items) → is_count sorts ds ≡ true
+  pub reported : (Y : Type 0) (p : List ℕ) (i : ℕ) (make : X → Y) (ds : Items) → is_count sorts ds ≡ true
       → first_of (parts_faults p i sorts ds) ≡ fault_of p (read Y i make ds)
   pub means : (Y : Type 0) (i : ℕ) (make : X → Y) (ds : Items) (y : Y) → is_count sorts ds ≡ true → read Y i make ds ≡ Ok y
       → (x : X) × (make x ≡ y) × SpellsItems ds (items_of (spell x)) × Fits x
@@ -80,7 +80,7 @@ nothing = record {
   spell = λ x. [];
   Fits = λ x. Unit {0};
   read = λ Y i make ds. Ok (make tt);
-  told = λ Y p i make ds h. refl;
+  reported = λ Y p i make ds h. refl;
   means = λ Y i make ds y h e. nothing_means Y make ds y h e;
   reads = λ Y i make ds x s fits. (ap (λ (es : Items). is_count [] es) s, refl);
 }
@@ -92,11 +92,11 @@ module _ {A X : Type 0} (P : Part A) (R : Row X) where
   read_then Y i make no_items = bad Shape
   read_then Y i make (item d ds) = within i (P.read d) >>= λ a. R.read Y (suc i) (λ x. make (a, x)) ds
 
-  pub then_told : (Y : Type 0) (p : List ℕ) (i : ℕ) (make : A × X → Y) (ds : Items) → is_count (P.sort ∷ R.sorts) ds ≡ true
+  pub then_reported : (Y : Type 0) (p : List ℕ) (i : ℕ) (make : A × X → Y) (ds : Items) → is_count (P.sort ∷ R.sorts) ds ≡ true
       → first_of (parts_faults p i (P.sort ∷ R.sorts) ds) ≡ fault_of p (read_then Y i make ds)
-  then_told Y p i make no_items h = cc
-  then_told Y p i make (item d ds) h =
-      part_then p i (P.read d) _ (faults_by P.sort (at p i) d) _ (P.told (at p i) d) (λ (a : A). R.told Y p (suc i) (λ x. make (a, x)) ds h)
+  then_reported Y p i make no_items h = cc
+  then_reported Y p i make (item d ds) h =
+      part_then p i (P.read d) _ (faults_by P.sort (at p i) d) _ (P.reported (at p i) d) (λ (a : A). R.reported Y p (suc i) (λ x. make (a, x)) ds h)
 
   pub then_means : (Y : Type 0) (i : ℕ) (make : A × X → Y) (ds : Items) (y : Y) → is_count (P.sort ∷ R.sorts) ds ≡ true → read_then Y i make ds ≡ Ok y
       → (x : A × X) × (make x ≡ y) × SpellsItems ds (items_of (P.spell x.0 ∷ R.spell x.1)) × (P.Fits x.0 × R.Fits x.1)
@@ -122,7 +122,7 @@ P & R = record {
   spell = λ x. P.spell x.0 ∷ R.spell x.1;
   Fits = λ x. P.Fits x.0 × R.Fits x.1;
   read = λ Y i make ds. read_then P R Y i make ds;
-  told = λ Y p i make ds h. then_told P R Y p i make ds h;
+  reported = λ Y p i make ds h. then_reported P R Y p i make ds h;
   means = λ Y i make ds y h e. then_means P R Y i make ds y h e;
   reads = λ Y i make ds x s fits. then_reads P R Y i make ds x s fits;
 }
@@ -148,10 +148,10 @@ sixth x = (((((x.1).1).1).1).1).0
 abbrev pub counted : {Y : Type 0} → List Sort → (Items → Outcome Y) → Items → Outcome Y
 counted sorts body ds = cond (is_count sorts ds) (body ds) (bad Shape)
 
-pub counted_told : {Y : Type 0} (p : List ℕ) (b : Bool) (faults : Faults) (o : Outcome Y) → (b ≡ true → first_of faults ≡ fault_of p o)
+pub counted_reported : {Y : Type 0} (p : List ℕ) (b : Bool) (faults : Faults) (o : Outcome Y) → (b ≡ true → first_of faults ≡ fault_of p o)
     → first_of (cond b faults (wrong p Shape)) ≡ fault_of p (cond b o (bad Shape))
-counted_told p true faults o h = h refl
-counted_told {Y} p false faults o h = wrong_is {A = Y} p Shape (bad Shape) refl
+counted_reported p true faults o h = h refl
+counted_reported {Y} p false faults o h = wrong_is {A = Y} p Shape (bad Shape) refl
 
 pub counted_ok : {Y : Type 0} (b : Bool) (o : Outcome Y) (y : Y) → cond b o (bad Shape) ≡ Ok y → (b ≡ true) × (o ≡ Ok y)
 counted_ok true o y h = (refl, h)
@@ -163,9 +163,9 @@ read_row {X} {Y} R i make ds = counted R.sorts (R.read Y i make) ds
 -- ---- what is read as a row
 
 module _ {X Y : Type 0} (R : Row X) (i : ℕ) (make : X → Y) (f : Items → Outcome Y) (is : (ds : Items) → f ds ≡ read_row R i make ds) where
-  row_told : (p : List ℕ) (ds : Items) → first_of (cond (is_count R.sorts ds) (parts_faults p i R.sorts ds) (wrong p Shape)) ≡ fault_of p (f ds)
-  row_told p ds =
-      counted_told p (is_count R.sorts ds) (parts_faults p i R.sorts ds) (R.read Y i make ds) (λ h. R.told Y p i make ds h)
+  row_reported : (p : List ℕ) (ds : Items) → first_of (cond (is_count R.sorts ds) (parts_faults p i R.sorts ds) (wrong p Shape)) ≡ fault_of p (f ds)
+  row_reported p ds =
+      counted_reported p (is_count R.sorts ds) (parts_faults p i R.sorts ds) (R.read Y i make ds) (λ h. R.reported Y p i make ds h)
       ∙ ap (λ (o : Outcome Y). fault_of p o) (sym (is ds))
 
   pub row_means : (ds : Items) (y : Y) → f ds ≡ Ok y → (x : X) × (make x ≡ y) × SpellsItems ds (items_of (R.spell x)) × R.Fits x
@@ -180,9 +180,9 @@ module _ {X Y : Type 0} (R : Row X) (i : ℕ) (make : X → Y) (f : Items → Ou
 
 -- an array of such parts alone, or behind a word
 module _ {X Y : Type 0} (R : Row X) (make : X → Y) (f : Items → Outcome Y) where
-  pub plain_told : ((ds : Items) → f ds ≡ read_row R 0 make ds) → (p : List ℕ) (ds : Items)
+  pub plain_reported : ((ds : Items) → f ds ≡ read_row R 0 make ds) → (p : List ℕ) (ds : Items)
       → first_of (plain_faults R.sorts p (array ds)) ≡ fault_of p (f ds)
-  plain_told is p ds = row_told R 0 make f is p ds
+  plain_reported is p ds = row_reported R 0 make f is p ds
 
   pub plain_means : ((ds : Items) → f ds ≡ read_row R 0 make ds) → (spell : Y → Data) → ((x : X) → spell (make x) ≡ list (R.spell x))
       → (ds : Items) (y : Y) → f ds ≡ Ok y → Spells (array ds) (spell y)
@@ -190,9 +190,9 @@ module _ {X Y : Type 0} (R : Row X) (make : X → Y) (f : Items → Outcome Y) w
       let m = row_means R 0 make f is ds y h in
       subst (λ (z : Y). Spells (array ds) (spell z)) m.1 (subst (λ (e : Data). Spells (array ds) e) (sym (spelled m.0)) (ds, refl, m.2))
 
-  pub behind_told : ((ds : Items) → f ds ≡ read_row R 1 make ds) → (p : List ℕ) (ds : Items)
+  pub behind_reported : ((ds : Items) → f ds ≡ read_row R 1 make ds) → (p : List ℕ) (ds : Items)
       → first_of (sorted_faults p (Some R.sorts) ds) ≡ fault_of p (f ds)
-  behind_told is p ds = row_told R 1 make f is p ds
+  behind_reported is p ds = row_reported R 1 make f is p ds
 
   -- and what was made of it fits
   pub behind_means : ((ds : Items) → f ds ≡ read_row R 1 make ds) → (w : List ℕ) (spell : Y → Data) (Fits : Y → Type 0)

@@ -15,12 +15,12 @@ use Rattle.stm_outcome.specs.declared.advance.Expired.{Expired}
 use Rattle.stm_reports.specs.declared.line.ReportLine.{ReportLine}
 use Rattle.stm_reports.specs.declared.line.ReportLine.TheVariants.{Started, Prefetched, Fetched, Committed, Conflict, GaveUp, Aborted, Faulted, Ended, Txn, Granted}
 use Rattle.stm_reports.specs.declared.line.ReportLine.TheVariants.{Kept, Revoked, Advanced, Compacted, Watching, Cancelled, Batch, Lost, Refused, Key, Lease, End}
-use Rattle.stm_reports.specs.declared.line.ToldAnswer.{ToldAnswer}
-use Rattle.stm_reports.specs.declared.line.ToldEvent.{ToldEvent}
-use Rattle.stm_reports.specs.declared.line.ToldEvent.TheVariants as event
-use Rattle.stm_reports.specs.declared.line.ToldOp.{ToldOp}
-use Rattle.stm_reports.specs.declared.line.ToldOp.TheVariants as op
-use Rattle.stm_reports.specs.declared.line.ToldRead.{ToldRead}
+use Rattle.stm_reports.specs.declared.line.ReportedAnswer.{ReportedAnswer}
+use Rattle.stm_reports.specs.declared.line.ReportedEvent.{ReportedEvent}
+use Rattle.stm_reports.specs.declared.line.ReportedEvent.TheVariants as event
+use Rattle.stm_reports.specs.declared.line.ReportedOp.{ReportedOp}
+use Rattle.stm_reports.specs.declared.line.ReportedOp.TheVariants as op
+use Rattle.stm_reports.specs.declared.line.ReportedRead.{ReportedRead}
 use Rattle.stm_reports.specs.LineData.{value_data, trace_data, text_or_null, answer_data, state_or_null, op_data, read_data, expired_data, event_data, line_data}
 
 -- data with no float and no object, nested at most so deep
@@ -86,25 +86,25 @@ text_shallow : (value : Option (List ℕ)) → IsShallow (text_or_null value) 2
 text_shallow None = tt
 text_shallow (Some text) = tt
 
-answer_shallow : (a : ToldAnswer) → IsShallow (answer_data a) 3
+answer_shallow : (a : ReportedAnswer) → IsShallow (answer_data a) 3
 answer_shallow a = (tt, (text_shallow a.value, (refl, (refl, tt))))
 
 state_shallow : (kv : Option KeyState) → IsShallow (state_or_null kv) 2
 state_shallow None = tt
 state_shallow (Some s) = (tt, (refl, (refl, (refl, (refl, tt)))))
 
-op_shallow : (o : ToldOp) → IsShallow (op_data o) 3
+op_shallow : (o : ReportedOp) → IsShallow (op_data o) 3
 op_shallow (op.Get revision kv) = (tt, (refl, (state_shallow kv, tt)))
 op_shallow op.Put = (tt, tt)
 op_shallow (op.Del count) = (tt, (refl, tt))
 
-read_shallow : (r : ToldRead) → IsShallow (read_data r) 3
+read_shallow : (r : ReportedRead) → IsShallow (read_data r) 3
 read_shallow r = (tt, (refl, tt))
 
 expired_shallow : (e : Expired) → IsShallow (expired_data e) 3
 expired_shallow e = (refl, (refl, tt))
 
-event_shallow : (e : ToldEvent) → IsShallow (event_data e) 3
+event_shallow : (e : ReportedEvent) → IsShallow (event_data e) 3
 event_shallow (event.Put key state) = (tt, (tt, (tt, (refl, (refl, (refl, (refl, tt)))))))
 event_shallow (event.Delete key revision) = (tt, (tt, (refl, tt)))
 

@@ -9,7 +9,7 @@ use Rattle.stm_json.specs.Outcome.{bad, ◌>>=◌}
 use Rattle.stm_json.proofs.OutcomeLemmas.{bind_ok}
 use Rattle.stm_json.specs.Faults.{Sort, AnyText, By, first_of, sorted_faults, any_number}
 use Rattle.stm_json.specs.Parts.{text_of}
-use Rattle.stm_json.proofs.FaultLemmas.{fault_of, wrong_is, made, text_faulted, number_told}
+use Rattle.stm_json.proofs.FaultLemmas.{fault_of, wrong_is, made, text_faulted, number_reported}
 use Rattle.stm_json.proofs.PartLemmas.{list_is, text_of-is, text_reads}
 use Rattle.stm_reports.specs.Elements.{five_of, six_of}
 use Rattle.stm_reports.specs.FirstFault.{or_null, plain_faults, state_sorts}
@@ -17,11 +17,11 @@ use Rattle.stm_reports.specs.Grammar.{Spells, SpellsItems}
 use Rattle.stm_reports.specs.LineData.{whole, state_data, state_or_null}
 use Rattle.stm_reports.specs.Parts.{number_of, state_with, state_parts, state_array, state_of, keyed_of, state_or_null_of}
 use Rattle.stm_reports.proofs.PartLaws.{number_means, number_reads}
-use Rattle.stm_reports.proofs.Rows.{Part, part, Row, nothing, ◌&◌, read_row, row_means, row_reads, plain_told, plain_means, behind_told}
+use Rattle.stm_reports.proofs.Rows.{Part, part, Row, nothing, ◌&◌, read_row, row_means, row_reads, plain_reported, plain_means, behind_reported}
 use Rattle.stm_reports.proofs.Rows.{second, third, fourth, fifth, five_counted, six_counted}
 
 abbrev pub whole_part : Part ℕ
-whole_part = part number_of whole any_number number_told number_means number_reads
+whole_part = part number_of whole any_number number_reported number_means number_reads
 
 abbrev pub text_part : Part (List ℕ)
 text_part = part text_of string AnyText text_faulted text_of-is text_reads
@@ -45,10 +45,10 @@ state_is : (ds : Items) → state_parts (five_of ds) ≡ read_row state_row 0 st
 state_is =
     five_counted (state_row.read KeyState 0 state_made) AnyText any_number any_number any_number any_number state_parts refl (λ a b c d e. refl)
 
-pub state_told : (p : List ℕ) (d : Data) → first_of (plain_faults state_sorts p d) ≡ fault_of p (state_of d)
+pub state_reported : (p : List ℕ) (d : Data) → first_of (plain_faults state_sorts p d) ≡ fault_of p (state_of d)
 unfolding state_of
-state_told p (array ds) = plain_told state_row state_made (λ es. state_parts (five_of es)) state_is p ds
-state_told p _ = wrong_is {A = KeyState} p Shape (bad Shape) refl
+state_reported p (array ds) = plain_reported state_row state_made (λ es. state_parts (five_of es)) state_is p ds
+state_reported p _ = wrong_is {A = KeyState} p Shape (bad Shape) refl
 
 state_array-means : (d : Data) (o : Option Items) (x : KeyState) → as_array d ≡ o → state_array o ≡ Ok x → Spells d (state_data x)
 state_array-means d None x e h = cc
@@ -65,17 +65,17 @@ unfolding state_of
 state_reads d x (ds, is, m) =
     rw is (row_reads state_row 0 state_made (λ es. state_parts (five_of es)) state_is ds (parts_of_state x) m (tt, (tt, (tt, (tt, (tt, tt))))))
 
-some_state-told : (p : List ℕ) (d : Data) → first_of (plain_faults state_sorts p d) ≡ fault_of p (state_of d >>= λ s. Ok (Some s))
-some_state-told p d = made p (state_of d) (λ (s : KeyState). Some s) (plain_faults state_sorts p d) (state_told p d)
+some_state-reported : (p : List ℕ) (d : Data) → first_of (plain_faults state_sorts p d) ≡ fault_of p (state_of d >>= λ s. Ok (Some s))
+some_state-reported p d = made p (state_of d) (λ (s : KeyState). Some s) (plain_faults state_sorts p d) (state_reported p d)
 
-pub state_or_null-told : (p : List ℕ) (d : Data) → first_of (or_null (plain_faults state_sorts) p d) ≡ fault_of p (state_or_null_of d)
+pub state_or_null-reported : (p : List ℕ) (d : Data) → first_of (or_null (plain_faults state_sorts) p d) ≡ fault_of p (state_or_null_of d)
 unfolding state_or_null_of
-state_or_null-told p null = refl
-state_or_null-told p (boolean b) = some_state-told p (boolean b)
-state_or_null-told p (number n) = some_state-told p (number n)
-state_or_null-told p (string s) = some_state-told p (string s)
-state_or_null-told p (array ds) = some_state-told p (array ds)
-state_or_null-told p (object ms) = some_state-told p (object ms)
+state_or_null-reported p null = refl
+state_or_null-reported p (boolean b) = some_state-reported p (boolean b)
+state_or_null-reported p (number n) = some_state-reported p (number n)
+state_or_null-reported p (string s) = some_state-reported p (string s)
+state_or_null-reported p (array ds) = some_state-reported p (array ds)
+state_or_null-reported p (object ms) = some_state-reported p (object ms)
 
 state_there : (d : Data) (o : Option KeyState) → (state_of d >>= λ s. Ok (Some s)) ≡ Ok o → Spells d (state_or_null o)
 state_there d o h =
@@ -105,7 +105,7 @@ state_or_null-reads d (Some s) (ds, is, m) = ap state_or_null_of is ∙ state_in
 
 abbrev pub state_or_null_part : Part (Option KeyState)
 state_or_null_part =
-    part state_or_null_of state_or_null (By (or_null (plain_faults state_sorts))) state_or_null-told state_or_null-means state_or_null-reads
+    part state_or_null_of state_or_null (By (or_null (plain_faults state_sorts))) state_or_null-reported state_or_null-means state_or_null-reads
 
 -- ---- a key and what it had
 
@@ -127,8 +127,8 @@ keyed_is =
     six_counted (keyed_row.read (List ℕ × KeyState) 1 keyed_made) AnyText AnyText any_number any_number any_number any_number keyed_of refl
     (λ a b c d e g. refl)
 
-pub keyed_told : (p : List ℕ) (ds : Items) → first_of (sorted_faults p (Some keyed_sorts) ds) ≡ fault_of p (keyed_of (six_of ds))
-keyed_told p ds = behind_told keyed_row keyed_made (λ es. keyed_of (six_of es)) keyed_is p ds
+pub keyed_reported : (p : List ℕ) (ds : Items) → first_of (sorted_faults p (Some keyed_sorts) ds) ≡ fault_of p (keyed_of (six_of ds))
+keyed_reported p ds = behind_reported keyed_row keyed_made (λ es. keyed_of (six_of es)) keyed_is p ds
 
 pub keyed_means : (ds : Items) (l : List ℕ × KeyState) → keyed_of (six_of ds) ≡ Ok l → SpellsItems ds (items_of (keyed_items l))
 keyed_means ds l h =

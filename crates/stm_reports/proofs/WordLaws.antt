@@ -43,15 +43,15 @@ word_tested : {W : Type 0} (p : List ℕ) (b rest : Bool) (y : W) (o : Option W)
 word_tested p true rest y o h = refl
 word_tested p false rest y o h = h
 
-pub word_told : {W : Type 0} (p : List ℕ) (rows : List (List ℕ × W)) (w : List ℕ)
+pub word_reported : {W : Type 0} (p : List ℕ) (rows : List (List ℕ × W)) (w : List ℕ)
     → first_of (cond (is_word_of (texts rows) w) [] (wrong p Shape)) ≡ fault_of p (if_there (named rows w))
-word_told {W} p [] w = wrong_is {A = W} p Shape (bad Shape) refl
-word_told p (r ∷ rows) w = word_tested p (same w r.0) (is_word_of (texts rows) w) r.1 (named rows w) (word_told p rows w)
+word_reported {W} p [] w = wrong_is {A = W} p Shape (bad Shape) refl
+word_reported p (r ∷ rows) w = word_tested p (same w r.0) (is_word_of (texts rows) w) r.1 (named rows w) (word_reported p rows w)
 
-pub name_told : {W : Type 0} (p : List ℕ) (rows : List (List ℕ × W)) (o : Option (List ℕ))
+pub name_reported : {W : Type 0} (p : List ℕ) (rows : List (List ℕ × W)) (o : Option (List ℕ))
     → first_of (word_faults (texts rows) p o) ≡ fault_of p (on_text (λ w. if_there (named rows w)) o)
-name_told p rows (Some w) = word_told p rows w
-name_told {W} p rows None = wrong_is {A = W} p Shape (bad Shape) refl
+name_reported p rows (Some w) = word_reported p rows w
+name_reported {W} p rows None = wrong_is {A = W} p Shape (bad Shape) refl
 
 -- the sorts behind a word, in a table that has them for each word of a list
 sorts_tested : {W : Type 0} (sorts : W → List Sort) (b : Bool) (x : W) (o : Option W) (rest : Option (List Sort)) → rest ≡ option_map sorts o

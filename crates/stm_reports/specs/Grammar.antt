@@ -6,8 +6,8 @@ use Rattle.serde_json.specs.Find.{as_integer}
 use Rattle.stm_json.specs.Elements.{SpellsNumber, is_64_bit}
 use Rattle.stm_reports.specs.declared.line.ReportLine.{ReportLine}
 use Rattle.stm_reports.specs.declared.line.ReportLine.TheVariants.{Txn}
-use Rattle.stm_reports.specs.declared.line.ToldOp.{ToldOp}
-use Rattle.stm_reports.specs.declared.line.ToldOp.TheVariants.{Get, Put, Del}
+use Rattle.stm_reports.specs.declared.line.ReportedOp.{ReportedOp}
+use Rattle.stm_reports.specs.declared.line.ReportedOp.TheVariants.{Get, Put, Del}
 use Rattle.stm_json.specs.declared.limits.TheConstants.{MOST_BYTES}
 use Rattle.stm_reports.specs.declared.report.Report.{Report}
 use Rattle.stm_json.specs.Bytes.{data_of}
@@ -29,12 +29,12 @@ abbrev mutual
   SpellsItems ds (item e es) = (a : Data) × (rest : Items) × (ds ≡ item a rest) × Spells a e × SpellsItems rest es
 
 -- a delete deletes one key at most
-abbrev pub CountFits : ToldOp → Type 0
+abbrev pub CountFits : ReportedOp → Type 0
 CountFits (Get revision kv) = Unit {0}
 CountFits Put = Unit {0}
 CountFits (Del count) = count ≤ 1
 
-abbrev pub AllCountsFit : List ToldOp → Type 0
+abbrev pub AllCountsFit : List ReportedOp → Type 0
 AllCountsFit [] = Unit {0}
 AllCountsFit (o ∷ os) = CountFits o × AllCountsFit os
 

@@ -2,7 +2,7 @@ pub mod Names
 pub mod Words
 pub mod LineData
 pub mod Text
-pub mod Told
+pub mod Reported
 pub mod Elements
 pub mod Parts
 pub mod Bytes
@@ -12,4 +12,4 @@ pub mod Grammar
 pub mod FirstFault
 pub mod ReadBack
 pub use Rattle.stm_json.specs.Outcome
-pub use Rattle.stm_json.specs.Tells
+pub use Rattle.stm_json.specs.Returns

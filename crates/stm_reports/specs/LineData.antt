@@ -16,12 +16,12 @@ use Rattle.stm_outcome.specs.declared.advance.Expired.{Expired}
 use Rattle.stm_reports.specs.declared.line.ReportLine.{ReportLine}
 use Rattle.stm_reports.specs.declared.line.ReportLine.TheVariants.{Started, Prefetched, Fetched, Committed, Conflict, GaveUp, Aborted, Faulted, Ended, Txn, Granted}
 use Rattle.stm_reports.specs.declared.line.ReportLine.TheVariants.{Kept, Revoked, Advanced, Compacted, Watching, Cancelled, Batch, Lost, Refused, Key, Lease, End}
-use Rattle.stm_reports.specs.declared.line.ToldAnswer.{ToldAnswer}
-use Rattle.stm_reports.specs.declared.line.ToldEvent.{ToldEvent}
-use Rattle.stm_reports.specs.declared.line.ToldEvent.TheVariants as event
-use Rattle.stm_reports.specs.declared.line.ToldOp.{ToldOp}
-use Rattle.stm_reports.specs.declared.line.ToldOp.TheVariants as op
-use Rattle.stm_reports.specs.declared.line.ToldRead.{ToldRead}
+use Rattle.stm_reports.specs.declared.line.ReportedAnswer.{ReportedAnswer}
+use Rattle.stm_reports.specs.declared.line.ReportedEvent.{ReportedEvent}
+use Rattle.stm_reports.specs.declared.line.ReportedEvent.TheVariants as event
+use Rattle.stm_reports.specs.declared.line.ReportedOp.{ReportedOp}
+use Rattle.stm_reports.specs.declared.line.ReportedOp.TheVariants as op
+use Rattle.stm_reports.specs.declared.line.ReportedRead.{ReportedRead}
 use Rattle.stm_reports.specs.Names.{refusal_text}
 
 abbrev pub list : List Data → Data
@@ -48,7 +48,7 @@ abbrev pub text_or_null : Option (List ℕ) → Data
 text_or_null None = null
 text_or_null (Some value) = string value
 
-abbrev pub answer_data : ToldAnswer → Data
+abbrev pub answer_data : ReportedAnswer → Data
 answer_data a = list (string a.key ∷ text_or_null a.value ∷ whole a.mod_rev ∷ whole a.of_rev ∷ [])
 
 abbrev pub state_data : KeyState → Data
@@ -58,13 +58,13 @@ abbrev pub state_or_null : Option KeyState → Data
 state_or_null None = null
 state_or_null (Some state) = state_data state
 
-abbrev pub op_data : ToldOp → Data
+abbrev pub op_data : ReportedOp → Data
 op_data (op.Get revision kv) = list (word (codes "get") ∷ whole revision ∷ state_or_null kv ∷ [])
 op_data op.Put = list (word (codes "put") ∷ [])
 op_data (op.Del count) = list (word (codes "del") ∷ whole count ∷ [])
 
 -- a key of a list
-abbrev pub read_data : ToldRead → Data
+abbrev pub read_data : ReportedRead → Data
 read_data r = list (string r.key ∷ whole r.mod_rev ∷ [])
 
 abbrev pub expired_data : Expired → Data
@@ -75,7 +75,7 @@ abbrev pub keyed_data : List ℕ → List ℕ → KeyState → Data
 keyed_data w key s =
     list (word w ∷ string key ∷ string s.value ∷ whole s.create_rev ∷ whole s.mod_rev ∷ whole s.version ∷ whole s.lease ∷ [])
 
-abbrev pub event_data : ToldEvent → Data
+abbrev pub event_data : ReportedEvent → Data
 event_data (event.Put key state) = keyed_data (codes "PUT") key state
 event_data (event.Delete key revision) = list (word (codes "DELETE") ∷ string key ∷ whole revision ∷ [])
 

@@ -15,12 +15,12 @@ use Rattle.stm_meaning.specs.declared.trace_item.TraceItem.TheVariants as trace
 use Rattle.stm_outcome.specs.declared.advance.Expired.{Expired}
 use Rattle.stm_json.specs.Parts.{on_text, text_of, same}
 use Rattle.stm_reports.specs.declared.causes.RefusalName.{RefusalName}
-use Rattle.stm_reports.specs.declared.line.ToldAnswer.{ToldAnswer}
-use Rattle.stm_reports.specs.declared.line.ToldEvent.{ToldEvent}
-use Rattle.stm_reports.specs.declared.line.ToldEvent.TheVariants as event
-use Rattle.stm_reports.specs.declared.line.ToldOp.{ToldOp}
-use Rattle.stm_reports.specs.declared.line.ToldOp.TheVariants as op
-use Rattle.stm_reports.specs.declared.line.ToldRead.{ToldRead}
+use Rattle.stm_reports.specs.declared.line.ReportedAnswer.{ReportedAnswer}
+use Rattle.stm_reports.specs.declared.line.ReportedEvent.{ReportedEvent}
+use Rattle.stm_reports.specs.declared.line.ReportedEvent.TheVariants as event
+use Rattle.stm_reports.specs.declared.line.ReportedOp.{ReportedOp}
+use Rattle.stm_reports.specs.declared.line.ReportedOp.TheVariants as op
+use Rattle.stm_reports.specs.declared.line.ReportedRead.{ReportedRead}
 use Rattle.stm_reports.specs.Elements.{five_of, six_of}
 use Rattle.stm_reports.specs.Words.{named, fault_words, refusal_words}
 
@@ -106,35 +106,35 @@ trace_worded (Some p) =
 unfoldable pub trace_of : Data → Outcome TraceItem
 trace_of d = trace_worded (worded d)
 
-abbrev pub answer_with : List ℕ → Option (List ℕ) → ℕ → ℕ → ToldAnswer
+abbrev pub answer_with : List ℕ → Option (List ℕ) → ℕ → ℕ → ReportedAnswer
 answer_with key value mod_rev of_rev = record { key = key; value = value; mod_rev = mod_rev; of_rev = of_rev }
 
-abbrev pub answer_parts : Option (Data × Data × Data × Data) → Outcome ToldAnswer
+abbrev pub answer_parts : Option (Data × Data × Data × Data) → Outcome ReportedAnswer
 answer_parts None = bad Shape
 answer_parts (Some p) =
     within 0 (text_of p.0) >>= λ key. within 1 (text_or_null_of p.1) >>= λ value. within 2 (number_of p.2) >>= λ mod_rev.
     within 3 (number_of p.3) >>= λ of_rev. Ok (answer_with key value mod_rev of_rev)
 
-abbrev pub answer_array : Option Items → Outcome ToldAnswer
+abbrev pub answer_array : Option Items → Outcome ReportedAnswer
 answer_array None = bad Shape
 answer_array (Some ds) = answer_parts (four_of ds)
 
-unfoldable pub answer_of : Data → Outcome ToldAnswer
+unfoldable pub answer_of : Data → Outcome ReportedAnswer
 answer_of d = answer_array (as_array d)
 
-abbrev pub op_get_of : Option (Data × Data) → Outcome ToldOp
+abbrev pub op_get_of : Option (Data × Data) → Outcome ReportedOp
 op_get_of None = bad Shape
 op_get_of (Some p) = within 1 (number_of p.0) >>= λ revision. within 2 (state_or_null_of p.1) >>= λ kv. Ok (op.Get revision kv)
 
-abbrev pub op_put_of : Items → Outcome ToldOp
+abbrev pub op_put_of : Items → Outcome ReportedOp
 op_put_of no_items = Ok op.Put
 op_put_of (item d ds) = bad Shape
 
-abbrev pub op_del_of : Option Data → Outcome ToldOp
+abbrev pub op_del_of : Option Data → Outcome ReportedOp
 op_del_of None = bad Shape
 op_del_of (Some d) = within 1 (number_up_to 1 d) >>= λ count. Ok (op.Del count)
 
-abbrev pub op_worded : Option (List ℕ × Items) → Outcome ToldOp
+abbrev pub op_worded : Option (List ℕ × Items) → Outcome ReportedOp
 op_worded None = bad Shape
 op_worded (Some p) =
     if same p.0 (codes "get") then op_get_of (two_of p.1)
@@ -142,21 +142,21 @@ op_worded (Some p) =
     else (if same p.0 (codes "del") then op_del_of (one_of p.1)
     else bad Shape))
 
-unfoldable pub op_of : Data → Outcome ToldOp
+unfoldable pub op_of : Data → Outcome ReportedOp
 op_of d = op_worded (worded d)
 
-abbrev pub read_with : List ℕ → ℕ → ToldRead
+abbrev pub read_with : List ℕ → ℕ → ReportedRead
 read_with key mod_rev = record { key = key; mod_rev = mod_rev }
 
-abbrev pub read_parts : Option (Data × Data) → Outcome ToldRead
+abbrev pub read_parts : Option (Data × Data) → Outcome ReportedRead
 read_parts None = bad Shape
 read_parts (Some p) = within 0 (text_of p.0) >>= λ key. within 1 (number_of p.1) >>= λ mod_rev. Ok (read_with key mod_rev)
 
-abbrev pub read_array : Option Items → Outcome ToldRead
+abbrev pub read_array : Option Items → Outcome ReportedRead
 read_array None = bad Shape
 read_array (Some ds) = read_parts (two_of ds)
 
-unfoldable pub read_of : Data → Outcome ToldRead
+unfoldable pub read_of : Data → Outcome ReportedRead
 read_of d = read_array (as_array d)
 
 abbrev pub expired_with : ℕ → ℕ → Expired
@@ -173,19 +173,19 @@ expired_array (Some ds) = expired_parts (two_of ds)
 unfoldable pub expired_of : Data → Outcome Expired
 expired_of d = expired_array (as_array d)
 
-abbrev pub event_put_of : Option (Data × Data × Data × Data × Data × Data) → Outcome ToldEvent
+abbrev pub event_put_of : Option (Data × Data × Data × Data × Data × Data) → Outcome ReportedEvent
 event_put_of o = keyed_of o >>= λ p. Ok (event.Put p.0 p.1)
 
-abbrev pub event_delete_of : Option (Data × Data) → Outcome ToldEvent
+abbrev pub event_delete_of : Option (Data × Data) → Outcome ReportedEvent
 event_delete_of None = bad Shape
 event_delete_of (Some p) = within 1 (text_of p.0) >>= λ key. within 2 (number_of p.1) >>= λ revision. Ok (event.Delete key revision)
 
-abbrev pub event_worded : Option (List ℕ × Items) → Outcome ToldEvent
+abbrev pub event_worded : Option (List ℕ × Items) → Outcome ReportedEvent
 event_worded None = bad Shape
 event_worded (Some p) =
     if same p.0 (codes "PUT") then event_put_of (six_of p.1)
     else (if same p.0 (codes "DELETE") then event_delete_of (two_of p.1)
     else bad Shape)
 
-unfoldable pub event_of : Data → Outcome ToldEvent
+unfoldable pub event_of : Data → Outcome ReportedEvent
 event_of d = event_worded (worded d)

@@ -13,10 +13,10 @@ use Rattle.stm_json.specs.Parts.{text_of, list_of}
 use Rattle.stm_reports.specs.declared.line.ReportLine.{ReportLine}
 use Rattle.stm_reports.specs.declared.line.ReportLine.TheVariants.{Started, Prefetched, Fetched, Committed, Conflict, GaveUp, Aborted, Faulted, Ended, Txn, Granted}
 use Rattle.stm_reports.specs.declared.line.ReportLine.TheVariants.{Kept, Revoked, Advanced, Compacted, Watching, Cancelled, Batch, Lost, Refused, Key, Lease, End}
-use Rattle.stm_reports.specs.declared.line.ToldAnswer.{ToldAnswer}
-use Rattle.stm_reports.specs.declared.line.ToldEvent.{ToldEvent}
-use Rattle.stm_reports.specs.declared.line.ToldOp.{ToldOp}
-use Rattle.stm_reports.specs.declared.line.ToldRead.{ToldRead}
+use Rattle.stm_reports.specs.declared.line.ReportedAnswer.{ReportedAnswer}
+use Rattle.stm_reports.specs.declared.line.ReportedEvent.{ReportedEvent}
+use Rattle.stm_reports.specs.declared.line.ReportedOp.{ReportedOp}
+use Rattle.stm_reports.specs.declared.line.ReportedRead.{ReportedRead}
 use Rattle.stm_reports.specs.declared.report.Report.{Report}
 use Rattle.stm_json.specs.declared.limits.TheConstants.{MOST_BYTES}
 use Rattle.stm_reports.specs.declared.words.EventWord.{EventWord}
@@ -37,19 +37,19 @@ values_of d = list_of value_of (as_array d)
 abbrev pub traces_of : Data → Outcome (List TraceItem)
 traces_of d = list_of trace_of (as_array d)
 
-abbrev pub answers_of : Data → Outcome (List ToldAnswer)
+abbrev pub answers_of : Data → Outcome (List ReportedAnswer)
 answers_of d = list_of answer_of (as_array d)
 
-abbrev pub ops_of : Data → Outcome (List ToldOp)
+abbrev pub ops_of : Data → Outcome (List ReportedOp)
 ops_of d = list_of op_of (as_array d)
 
-abbrev pub key_reads_of : Data → Outcome (List ToldRead)
+abbrev pub key_reads_of : Data → Outcome (List ReportedRead)
 key_reads_of d = list_of read_of (as_array d)
 
 abbrev pub expireds_of : Data → Outcome (List Expired)
 expireds_of d = list_of expired_of (as_array d)
 
-abbrev pub events_of : Data → Outcome (List ToldEvent)
+abbrev pub events_of : Data → Outcome (List ReportedEvent)
 events_of d = list_of event_of (as_array d)
 
 -- ---- lines of events: the number, and the elements behind the word

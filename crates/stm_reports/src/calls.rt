@@ -1,7 +1,7 @@
 //! The lines of calls.
 ghost use Rattle.std.specs.Prelude.{◌≡◌, ◌↔◌, IsTrue};
-ghost use Rattle.stm_reports.specs.declared.line.ReportLine.TheVariants as tells;
-ghost use Rattle.stm_reports.specs.Told.{cause_told, txn_line};
+ghost use Rattle.stm_reports.specs.declared.line.ReportLine.TheVariants as reports;
+ghost use Rattle.stm_reports.specs.Reported.{cause_reported, txn_line};
 
 use crate::causes::RefusalName;
 use crate::line::ReportLine;
@@ -9,8 +9,8 @@ use crate::same::{are_ops, are_same_expired};
 use stm_outcome::{Expired, Refusal, TxnAnswer};
 
 /// The name under which a line tells a refusal of the store.
-pub fn told_cause(cause: Refusal) -> RefusalName
-    ensures { result ≡ cause_told cause }
+pub fn reported_cause(cause: Refusal) -> RefusalName
+    ensures { result ≡ cause_reported cause }
 {
     match cause {
         Refusal::OutOfMemory => RefusalName::OutOfMemory,
@@ -31,14 +31,14 @@ pub fn told_cause(cause: Refusal) -> RefusalName
 
 /// Whether this is the line of an event that was refused for this cause, after these leases expired.
 pub fn is_refused(line: &ReportLine, event: u64, cause: RefusalName, expired: &[Expired]) -> bool
-    ensures { IsTrue result ↔ tells.Refused event cause expired.now ≡ line.now }
+    ensures { IsTrue result ↔ reports.Refused event cause expired.now ≡ line.now }
 {
     match line {
         ReportLine::Refused {
             number,
-            cause: told,
+            cause: reported,
             expired: list,
-        } => *number == event && *told == cause && are_same_expired(list.as_slice(), expired),
+        } => *number == event && *reported == cause && are_same_expired(list.as_slice(), expired),
         _ => false,
     }
 }
@@ -65,7 +65,7 @@ pub fn is_txn(line: &ReportLine, event: u64, answer: &TxnAnswer) -> bool
 
 /// Whether this is the line of a lease that was granted.
 pub fn is_granted(line: &ReportLine, event: u64, lease: u64) -> bool
-    ensures { IsTrue result ↔ tells.Granted event lease ≡ line.now }
+    ensures { IsTrue result ↔ reports.Granted event lease ≡ line.now }
 {
     match line {
         ReportLine::Granted { number, id } => *number == event && *id == lease,
@@ -75,7 +75,7 @@ pub fn is_granted(line: &ReportLine, event: u64, lease: u64) -> bool
 
 /// Whether this is the line of a lease that was renewed.
 pub fn is_kept(line: &ReportLine, event: u64, lease: u64) -> bool
-    ensures { IsTrue result ↔ tells.Kept event lease ≡ line.now }
+    ensures { IsTrue result ↔ reports.Kept event lease ≡ line.now }
 {
     match line {
         ReportLine::Kept { number, id } => *number == event && *id == lease,
@@ -85,7 +85,7 @@ pub fn is_kept(line: &ReportLine, event: u64, lease: u64) -> bool
 
 /// Whether this is the line of a lease that was revoked, with this revision after it.
 pub fn is_revoked(line: &ReportLine, event: u64, lease: u64, after: u64) -> bool
-    ensures { IsTrue result ↔ tells.Revoked event lease after ≡ line.now }
+    ensures { IsTrue result ↔ reports.Revoked event lease after ≡ line.now }
 {
     match line {
         ReportLine::Revoked {
@@ -99,7 +99,7 @@ pub fn is_revoked(line: &ReportLine, event: u64, lease: u64, after: u64) -> bool
 
 /// Whether this is the line of a compaction at a revision.
 pub fn is_compacted(line: &ReportLine, event: u64, floor: u64) -> bool
-    ensures { IsTrue result ↔ tells.Compacted event floor ≡ line.now }
+    ensures { IsTrue result ↔ reports.Compacted event floor ≡ line.now }
 {
     match line {
         ReportLine::Compacted { number, revision } => *number == event && *revision == floor,
@@ -109,7 +109,7 @@ pub fn is_compacted(line: &ReportLine, event: u64, floor: u64) -> bool
 
 /// Whether this is the line of an advance to a moment, after which these leases have expired.
 pub fn is_advanced(line: &ReportLine, event: u64, moment: u64, expired: &[Expired]) -> bool
-    ensures { IsTrue result ↔ tells.Advanced event moment expired.now ≡ line.now }
+    ensures { IsTrue result ↔ reports.Advanced event moment expired.now ≡ line.now }
 {
     match line {
         ReportLine::Advanced {

@@ -1,7 +1,7 @@
 //! Reading the lines of events: the number, the word, and the elements behind it.
 ghost use Rattle.serde_json.specs.View.{view, items_view};
 ghost use Rattle.stm_json.specs.Elements.{one_of, two_of, three_of, four_of};
-ghost use Rattle.stm_json.specs.Tells.{Tells};
+ghost use Rattle.stm_json.specs.Returns.{Returns};
 ghost use Rattle.stm_reports.specs.Elements.{five_of, six_of};
 ghost use Rattle.stm_reports.specs.Reading.{named_of, prefetched_of, fetched_of, committed_of, conflict_of, gave_up_of, aborted_of, faulted_of, ended_of, txn_of};
 ghost use Rattle.stm_reports.specs.Reading.{revoked_of, advanced_of, batch_of, refused_of, started_of, granted_of, kept_of, watching_of, cancelled_of};
@@ -19,7 +19,7 @@ use stm_json::{Cause, ReadError, fault, four, number_part, one, text_part, three
 
 /// The number of an event, and the one number behind the word.
 fn named(alloc: Global, number: &Json, elements: &[Json]) -> Result<(u64, u64), ReadError>
-    ensures { Tells (λ p. p) result (named_of (view number.now) (one_of (items_view elements.now))) }
+    ensures { Returns (λ p. p) result (named_of (view number.now) (one_of (items_view elements.now))) }
 {
     let Some(id) = one(elements) else {
         return Err(fault(alloc, Cause::Shape));
@@ -30,42 +30,42 @@ fn named(alloc: Global, number: &Json, elements: &[Json]) -> Result<(u64, u64), 
 }
 
 fn started(alloc: Global, number: &Json, elements: &[Json]) -> Result<ReportLine, ReadError>
-    ensures { Tells (λ l. l) result (started_of (view number.now) (one_of (items_view elements.now))) }
+    ensures { Returns (λ l. l) result (started_of (view number.now) (one_of (items_view elements.now))) }
 {
     let (number, runner) = named(alloc, number, elements)?;
     Ok(ReportLine::Started { number, runner })
 }
 
 fn granted(alloc: Global, number: &Json, elements: &[Json]) -> Result<ReportLine, ReadError>
-    ensures { Tells (λ l. l) result (granted_of (view number.now) (one_of (items_view elements.now))) }
+    ensures { Returns (λ l. l) result (granted_of (view number.now) (one_of (items_view elements.now))) }
 {
     let (number, id) = named(alloc, number, elements)?;
     Ok(ReportLine::Granted { number, id })
 }
 
 fn kept(alloc: Global, number: &Json, elements: &[Json]) -> Result<ReportLine, ReadError>
-    ensures { Tells (λ l. l) result (kept_of (view number.now) (one_of (items_view elements.now))) }
+    ensures { Returns (λ l. l) result (kept_of (view number.now) (one_of (items_view elements.now))) }
 {
     let (number, id) = named(alloc, number, elements)?;
     Ok(ReportLine::Kept { number, id })
 }
 
 fn watching(alloc: Global, number: &Json, elements: &[Json]) -> Result<ReportLine, ReadError>
-    ensures { Tells (λ l. l) result (watching_of (view number.now) (one_of (items_view elements.now))) }
+    ensures { Returns (λ l. l) result (watching_of (view number.now) (one_of (items_view elements.now))) }
 {
     let (number, id) = named(alloc, number, elements)?;
     Ok(ReportLine::Watching { number, id })
 }
 
 fn cancelled(alloc: Global, number: &Json, elements: &[Json]) -> Result<ReportLine, ReadError>
-    ensures { Tells (λ l. l) result (cancelled_of (view number.now) (one_of (items_view elements.now))) }
+    ensures { Returns (λ l. l) result (cancelled_of (view number.now) (one_of (items_view elements.now))) }
 {
     let (number, id) = named(alloc, number, elements)?;
     Ok(ReportLine::Cancelled { number, id })
 }
 
 fn compacted(alloc: Global, number: &Json, elements: &[Json]) -> Result<ReportLine, ReadError>
-    ensures { Tells (λ l. l) result (compacted_of (view number.now) (one_of (items_view elements.now))) }
+    ensures { Returns (λ l. l) result (compacted_of (view number.now) (one_of (items_view elements.now))) }
 {
     let (number, revision) = named(alloc, number, elements)?;
     Ok(ReportLine::Compacted { number, revision })
@@ -81,7 +81,7 @@ fn fetched_key(
     of_rev: &Json,
     revision: &Json,
 ) -> Result<ReportLine, ReadError>
-    ensures { Tells (λ l. l) result (fetched_rest number runner (view key.now) (view mod_rev.now) (view of_rev.now) (view revision.now)) }
+    ensures { Returns (λ l. l) result (fetched_rest number runner (view key.now) (view mod_rev.now) (view of_rev.now) (view revision.now)) }
 {
     let key = text_part(alloc, 3, key)?;
     let mod_rev = number_part(alloc, 4, mod_rev)?;
@@ -99,7 +99,7 @@ fn fetched_key(
 
 /// The line of a fetch.
 fn fetched(alloc: Global, number: &Json, elements: &[Json]) -> Result<ReportLine, ReadError>
-    ensures { Tells (λ l. l) result (fetched_of (view number.now) (five_of (items_view elements.now))) }
+    ensures { Returns (λ l. l) result (fetched_of (view number.now) (five_of (items_view elements.now))) }
 {
     let Some((runner, key, mod_rev, of_rev, revision)) = five(elements) else {
         return Err(fault(alloc, Cause::Shape));
@@ -111,7 +111,7 @@ fn fetched(alloc: Global, number: &Json, elements: &[Json]) -> Result<ReportLine
 
 /// The line of a commit.
 fn committed(alloc: Global, number: &Json, elements: &[Json]) -> Result<ReportLine, ReadError>
-    ensures { Tells (λ l. l) result (committed_of (view number.now) (six_of (items_view elements.now))) }
+    ensures { Returns (λ l. l) result (committed_of (view number.now) (six_of (items_view elements.now))) }
 {
     let Some((runner, revision, attempts, output, trace, answers)) = six(elements) else {
         return Err(fault(alloc, Cause::Shape));
@@ -143,7 +143,7 @@ fn conflict_key(
     seen: &Json,
     now: &Json,
 ) -> Result<ReportLine, ReadError>
-    ensures { Tells (λ l. l) result (conflict_rest number runner (view key.now) (view seen.now) (view now.now)) }
+    ensures { Returns (λ l. l) result (conflict_rest number runner (view key.now) (view seen.now) (view now.now)) }
 {
     let key = text_part(alloc, 3, key)?;
     let seen = number_part(alloc, 4, seen)?;
@@ -159,7 +159,7 @@ fn conflict_key(
 
 /// The line of a failed commit after which the run goes on.
 fn conflict(alloc: Global, number: &Json, elements: &[Json]) -> Result<ReportLine, ReadError>
-    ensures { Tells (λ l. l) result (conflict_of (view number.now) (four_of (items_view elements.now))) }
+    ensures { Returns (λ l. l) result (conflict_of (view number.now) (four_of (items_view elements.now))) }
 {
     let Some((runner, key, seen, now)) = four(elements) else {
         return Err(fault(alloc, Cause::Shape));
@@ -179,7 +179,7 @@ fn gave_up_key(
     seen: &Json,
     now: &Json,
 ) -> Result<ReportLine, ReadError>
-    ensures { Tells (λ l. l) result (gave_up_rest number runner attempts (view key.now) (view seen.now) (view now.now)) }
+    ensures { Returns (λ l. l) result (gave_up_rest number runner attempts (view key.now) (view seen.now) (view now.now)) }
 {
     let key = text_part(alloc, 4, key)?;
     let seen = number_part(alloc, 5, seen)?;
@@ -196,7 +196,7 @@ fn gave_up_key(
 
 /// The line of the last commit that a run may send, which failed.
 fn gave_up(alloc: Global, number: &Json, elements: &[Json]) -> Result<ReportLine, ReadError>
-    ensures { Tells (λ l. l) result (gave_up_of (view number.now) (five_of (items_view elements.now))) }
+    ensures { Returns (λ l. l) result (gave_up_of (view number.now) (five_of (items_view elements.now))) }
 {
     let Some((runner, attempts, key, seen, now)) = five(elements) else {
         return Err(fault(alloc, Cause::Shape));
@@ -209,7 +209,7 @@ fn gave_up(alloc: Global, number: &Json, elements: &[Json]) -> Result<ReportLine
 
 /// The line of a program that aborted.
 fn aborted(alloc: Global, number: &Json, elements: &[Json]) -> Result<ReportLine, ReadError>
-    ensures { Tells (λ l. l) result (aborted_of (view number.now) (two_of (items_view elements.now))) }
+    ensures { Returns (λ l. l) result (aborted_of (view number.now) (two_of (items_view elements.now))) }
 {
     let Some((runner, text)) = two(elements) else {
         return Err(fault(alloc, Cause::Shape));
@@ -226,7 +226,7 @@ fn aborted(alloc: Global, number: &Json, elements: &[Json]) -> Result<ReportLine
 
 /// The line of a program that a fault ended.
 fn faulted(alloc: Global, number: &Json, elements: &[Json]) -> Result<ReportLine, ReadError>
-    ensures { Tells (λ l. l) result (faulted_of (view number.now) (two_of (items_view elements.now))) }
+    ensures { Returns (λ l. l) result (faulted_of (view number.now) (two_of (items_view elements.now))) }
 {
     let Some((runner, fault)) = two(elements) else {
         return Err(fault(alloc, Cause::Shape));
@@ -243,7 +243,7 @@ fn faulted(alloc: Global, number: &Json, elements: &[Json]) -> Result<ReportLine
 
 /// The line of a run that the store refused.
 fn ended(alloc: Global, number: &Json, elements: &[Json]) -> Result<ReportLine, ReadError>
-    ensures { Tells (λ l. l) result (ended_of (view number.now) (two_of (items_view elements.now))) }
+    ensures { Returns (λ l. l) result (ended_of (view number.now) (two_of (items_view elements.now))) }
 {
     let Some((runner, cause)) = two(elements) else {
         return Err(fault(alloc, Cause::Shape));
@@ -260,7 +260,7 @@ fn ended(alloc: Global, number: &Json, elements: &[Json]) -> Result<ReportLine, 
 
 /// The line of another client's transaction.
 fn txn(alloc: Global, number: &Json, elements: &[Json]) -> Result<ReportLine, ReadError>
-    ensures { Tells (λ l. l) result (txn_of (view number.now) (three_of (items_view elements.now))) }
+    ensures { Returns (λ l. l) result (txn_of (view number.now) (three_of (items_view elements.now))) }
 {
     let Some((succeeded, revision, answers)) = three(elements) else {
         return Err(fault(alloc, Cause::Shape));
@@ -279,7 +279,7 @@ fn txn(alloc: Global, number: &Json, elements: &[Json]) -> Result<ReportLine, Re
 
 /// The line of a revocation.
 fn revoked(alloc: Global, number: &Json, elements: &[Json]) -> Result<ReportLine, ReadError>
-    ensures { Tells (λ l. l) result (revoked_of (view number.now) (two_of (items_view elements.now))) }
+    ensures { Returns (λ l. l) result (revoked_of (view number.now) (two_of (items_view elements.now))) }
 {
     let Some((id, revision)) = two(elements) else {
         return Err(fault(alloc, Cause::Shape));
@@ -296,7 +296,7 @@ fn revoked(alloc: Global, number: &Json, elements: &[Json]) -> Result<ReportLine
 
 /// The line of an advance.
 fn advanced(alloc: Global, number: &Json, elements: &[Json]) -> Result<ReportLine, ReadError>
-    ensures { Tells (λ l. l) result (advanced_of (view number.now) (two_of (items_view elements.now))) }
+    ensures { Returns (λ l. l) result (advanced_of (view number.now) (two_of (items_view elements.now))) }
 {
     let Some((now, expired)) = two(elements) else {
         return Err(fault(alloc, Cause::Shape));
@@ -313,7 +313,7 @@ fn advanced(alloc: Global, number: &Json, elements: &[Json]) -> Result<ReportLin
 
 /// The line of a list that was fetched.
 fn prefetched(alloc: Global, number: &Json, elements: &[Json]) -> Result<ReportLine, ReadError>
-    ensures { Tells (λ l. l) result (prefetched_of (view number.now) (three_of (items_view elements.now))) }
+    ensures { Returns (λ l. l) result (prefetched_of (view number.now) (three_of (items_view elements.now))) }
 {
     let Some((runner, revision, reads)) = three(elements) else {
         return Err(fault(alloc, Cause::Shape));
@@ -332,7 +332,7 @@ fn prefetched(alloc: Global, number: &Json, elements: &[Json]) -> Result<ReportL
 
 /// The line of what a watcher had pending.
 fn batch(alloc: Global, number: &Json, elements: &[Json]) -> Result<ReportLine, ReadError>
-    ensures { Tells (λ l. l) result (batch_of (view number.now) (three_of (items_view elements.now))) }
+    ensures { Returns (λ l. l) result (batch_of (view number.now) (three_of (items_view elements.now))) }
 {
     let Some((id, up_to, events)) = three(elements) else {
         return Err(fault(alloc, Cause::Shape));
@@ -351,7 +351,7 @@ fn batch(alloc: Global, number: &Json, elements: &[Json]) -> Result<ReportLine, 
 
 /// The line of a lost watcher.
 fn lost(alloc: Global, number: &Json, elements: &[Json]) -> Result<ReportLine, ReadError>
-    ensures { Tells (λ l. l) result (lost_of (view number.now) (two_of (items_view elements.now))) }
+    ensures { Returns (λ l. l) result (lost_of (view number.now) (two_of (items_view elements.now))) }
 {
     let Some((id, floor)) = two(elements) else {
         return Err(fault(alloc, Cause::Shape));
@@ -364,7 +364,7 @@ fn lost(alloc: Global, number: &Json, elements: &[Json]) -> Result<ReportLine, R
 
 /// The line of a refused event.
 fn refused(alloc: Global, number: &Json, elements: &[Json]) -> Result<ReportLine, ReadError>
-    ensures { Tells (λ l. l) result (refused_of (view number.now) (two_of (items_view elements.now))) }
+    ensures { Returns (λ l. l) result (refused_of (view number.now) (two_of (items_view elements.now))) }
 {
     let Some((cause, expired)) = two(elements) else {
         return Err(fault(alloc, Cause::Shape));
@@ -386,7 +386,7 @@ pub(crate) fn event_line(
     number: &Json,
     elements: &[Json],
 ) -> Result<ReportLine, ReadError>
-    ensures { Tells (λ l. l) result (event_line_of word (view number.now) (items_view elements.now)) }
+    ensures { Returns (λ l. l) result (event_line_of word (view number.now) (items_view elements.now)) }
 {
     match word {
         EventWord::Started => started(alloc, number, elements),

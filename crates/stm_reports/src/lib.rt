@@ -19,10 +19,10 @@ mod text;
 mod words;
 
 pub use calls::{
-    is_advanced, is_compacted, is_granted, is_kept, is_refused, is_revoked, is_txn, told_cause,
+    is_advanced, is_compacted, is_granted, is_kept, is_refused, is_revoked, is_txn, reported_cause,
 };
 pub use causes::RefusalName;
-pub use line::{ReportLine, ToldAnswer, ToldEvent, ToldOp, ToldRead};
+pub use line::{ReportLine, ReportedAnswer, ReportedEvent, ReportedOp, ReportedRead};
 pub use reading::read_report;
 pub use report::Report;
 pub use same::{are_same_traces, are_same_values};

@@ -6,7 +6,7 @@ use stm_outcome::Expired;
 
 /// An answer that a commit at ReadCommitted was made on, as its line tells it.
 #[derive(Debug, Drop)]
-pub struct ToldAnswer {
+pub struct ReportedAnswer {
     /// The key that was read.
     pub key: Text,
     /// Its value, `None` where it was absent.
@@ -19,7 +19,7 @@ pub struct ToldAnswer {
 
 /// A key of a program's list that was read, as the line of the list tells it.
 #[derive(Debug, Drop)]
-pub struct ToldRead {
+pub struct ReportedRead {
     /// The key that was read.
     pub key: Text,
     /// Its modification revision, 0 where it was absent.
@@ -28,7 +28,7 @@ pub struct ToldRead {
 
 /// The answer to one operation of a transaction, as the transaction's line tells it.
 #[derive(Debug, Drop)]
-pub enum ToldOp {
+pub enum ReportedOp {
     /// What a read showed, and the revision that its answer carries.
     Get { revision: u64, kv: Option<KeyState> },
     /// A put was made.
@@ -39,7 +39,7 @@ pub enum ToldOp {
 
 /// An event of a watcher, as a batch tells it.
 #[derive(Debug, Drop)]
-pub enum ToldEvent {
+pub enum ReportedEvent {
     /// A put, with what the store then had under the key.
     Put { key: Text, state: KeyState },
     /// A deletion at a revision.
@@ -60,7 +60,7 @@ pub enum ReportLine {
         number: u64,
         runner: u64,
         revision: u64,
-        reads: Sequence<ToldRead>,
+        reads: Sequence<ReportedRead>,
     },
     /// A step fetched a key: its modification revision, the revision shown, and the one carried.
     Fetched {
@@ -79,7 +79,7 @@ pub enum ReportLine {
         attempts: u64,
         output: Sequence<Value>,
         trace: Sequence<TraceItem>,
-        answers: Sequence<ToldAnswer>,
+        answers: Sequence<ReportedAnswer>,
     },
     /// A commit failed and the run goes on: the key, the revision that was seen, and its current one.
     Conflict {
@@ -121,7 +121,7 @@ pub enum ReportLine {
         number: u64,
         succeeded: bool,
         revision: u64,
-        answers: Sequence<ToldOp>,
+        answers: Sequence<ReportedOp>,
     },
     /// A lease was granted.
     Granted {
@@ -165,7 +165,7 @@ pub enum ReportLine {
         number: u64,
         id: u64,
         up_to: u64,
-        events: Sequence<ToldEvent>,
+        events: Sequence<ReportedEvent>,
     },
     /// A watcher was found lost, and is cancelled: the store's floor, the lowest revision whose events are kept.
     Lost {

@@ -1,7 +1,7 @@
 //! Reading a line from its JSON.
 ghost use Rattle.serde_json.specs.View.{view, items_view};
 ghost use Rattle.stm_json.specs.Elements.{first_word, two_of, three_of};
-ghost use Rattle.stm_json.specs.Tells.{Tells};
+ghost use Rattle.stm_json.specs.Returns.{Returns};
 ghost use Rattle.stm_reports.specs.Elements.{six_of};
 ghost use Rattle.stm_reports.specs.Reading.{key_of, lease_of, end_of, standing_line_of, standing_named, event_named, event_worded, line_front, line_of};
 ghost use Rattle.stm_reports.specs.Words.{named, standing_words};
@@ -16,14 +16,14 @@ use std::alloc::Global;
 use stm_json::{Cause, ReadError, fault, number_part, three, two};
 
 fn key(alloc: Global, elements: &[Json]) -> Result<ReportLine, ReadError>
-    ensures { Tells (λ l. l) result (key_of (six_of (items_view elements.now))) }
+    ensures { Returns (λ l. l) result (key_of (six_of (items_view elements.now))) }
 {
     let (key, state) = keyed(alloc, elements)?;
     Ok(ReportLine::Key { key, state })
 }
 
 fn lease(alloc: Global, elements: &[Json]) -> Result<ReportLine, ReadError>
-    ensures { Tells (λ l. l) result (lease_of (three_of (items_view elements.now))) }
+    ensures { Returns (λ l. l) result (lease_of (three_of (items_view elements.now))) }
 {
     let Some((id, ttl, renewed)) = three(elements) else {
         return Err(fault(alloc, Cause::Shape));
@@ -35,7 +35,7 @@ fn lease(alloc: Global, elements: &[Json]) -> Result<ReportLine, ReadError>
 }
 
 fn end(alloc: Global, elements: &[Json]) -> Result<ReportLine, ReadError>
-    ensures { Tells (λ l. l) result (end_of (two_of (items_view elements.now))) }
+    ensures { Returns (λ l. l) result (end_of (two_of (items_view elements.now))) }
 {
     let Some((revision, entries)) = two(elements) else {
         return Err(fault(alloc, Cause::Shape));
@@ -47,7 +47,7 @@ fn end(alloc: Global, elements: &[Json]) -> Result<ReportLine, ReadError>
 
 /// A line of what is left at the end, by its first element and the elements behind it.
 fn standing_line(alloc: Global, word: &str, elements: &[Json]) -> Result<ReportLine, ReadError>
-    ensures { Tells (λ l. l) result (standing_named (named standing_words word.now) (items_view elements.now)) }
+    ensures { Returns (λ l. l) result (standing_named (named standing_words word.now) (items_view elements.now)) }
 {
     let Some(word) = standing_word(word) else {
         return Err(fault(alloc, Cause::Shape));
@@ -61,7 +61,7 @@ fn standing_line(alloc: Global, word: &str, elements: &[Json]) -> Result<ReportL
 
 /// The line of an event, by its first element and the elements behind it.
 fn numbered_line(alloc: Global, number: &Json, rest: &[Json]) -> Result<ReportLine, ReadError>
-    ensures { Tells (λ l. l) result (event_worded (view number.now) (first_word (items_view rest.now))) }
+    ensures { Returns (λ l. l) result (event_worded (view number.now) (first_word (items_view rest.now))) }
 {
     let Some((word, elements)) = front_word(rest) else {
         return Err(fault(alloc, Cause::Shape));
@@ -75,7 +75,7 @@ fn numbered_line(alloc: Global, number: &Json, rest: &[Json]) -> Result<ReportLi
 /// A line. Its kind is told by its first word, which is the first element or else the second.
 #[tactic(auto, unfolding(crate::specs::Reading::line_of))]
 pub(crate) fn line(alloc: Global, value: &Json) -> Result<ReportLine, ReadError>
-    ensures { Tells (λ l. l) result (line_of (view value.now)) }
+    ensures { Returns (λ l. l) result (line_of (view value.now)) }
 {
     let Some(elements) = value.as_array() else {
         return Err(fault(alloc, Cause::Shape));

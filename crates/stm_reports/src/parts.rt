@@ -5,7 +5,7 @@ ghost use Rattle.serde_json.specs.Find.{as_array};
 ghost use Rattle.serde_json.specs.View.{view, items_view};
 ghost use Rattle.stm_json.specs.Elements.{one_of, two_of, three_of, four_of};
 ghost use Rattle.stm_json.specs.Outcome.{Outcome, within as within_list};
-ghost use Rattle.stm_json.specs.Tells.{Tells};
+ghost use Rattle.stm_json.specs.Returns.{Returns};
 ghost use Rattle.stm_json.specs.Parts.{text_of, each_from, list_of};
 ghost use Rattle.stm_reports.specs.Elements.{five_of, six_of};
 ghost use Rattle.stm_reports.specs.Parts.{flag_of, fault_of, cause_of, value_of, state_parts, state_of, keyed_of, text_or_null_of, state_or_null_of};
@@ -14,7 +14,7 @@ ghost use Rattle.stm_reports.specs.Parts.{read_parts, read_of, expired_parts, ex
 
 use crate::causes::RefusalName;
 use crate::elements::{five, six};
-use crate::line::{ToldAnswer, ToldEvent, ToldOp, ToldRead};
+use crate::line::{ReportedAnswer, ReportedEvent, ReportedOp, ReportedRead};
 use crate::words::{fault_named, refusal_name};
 use serde_json::Value as Json;
 use std::alloc::Global;
@@ -28,7 +28,7 @@ use stm_outcome::Expired;
 
 #[tactic(auto, unfolding(crate::specs::Parts::flag_of))]
 fn flag(alloc: Global, value: &Json) -> Result<bool, ReadError>
-    ensures { Tells (λ b. b) result (flag_of (view value.now)) }
+    ensures { Returns (λ b. b) result (flag_of (view value.now)) }
 {
     match value.as_bool() {
         Some(flag) => Ok(flag),
@@ -38,14 +38,14 @@ fn flag(alloc: Global, value: &Json) -> Result<bool, ReadError>
 
 /// True or false, as an element of an array.
 pub(crate) fn flag_part(alloc: Global, index: usize, value: &Json) -> Result<bool, ReadError>
-    ensures { Tells (λ b. b) result (within_list index (flag_of (view value.now))) }
+    ensures { Returns (λ b. b) result (within_list index (flag_of (view value.now))) }
 {
     within(alloc, index, flag(alloc, value))
 }
 
 #[tactic(auto, unfolding(crate::specs::Parts::fault_of))]
 fn program_fault(alloc: Global, value: &Json) -> Result<Fault, ReadError>
-    ensures { Tells (λ f. f) result (fault_of (view value.now)) }
+    ensures { Returns (λ f. f) result (fault_of (view value.now)) }
 {
     let Some(word) = value.as_str() else {
         return Err(fault(alloc, Cause::Shape));
@@ -58,14 +58,14 @@ fn program_fault(alloc: Global, value: &Json) -> Result<Fault, ReadError>
 
 /// The name of a fault, as an element of an array.
 pub(crate) fn fault_part(alloc: Global, index: usize, value: &Json) -> Result<Fault, ReadError>
-    ensures { Tells (λ f. f) result (within_list index (fault_of (view value.now))) }
+    ensures { Returns (λ f. f) result (within_list index (fault_of (view value.now))) }
 {
     within(alloc, index, program_fault(alloc, value))
 }
 
 #[tactic(auto, unfolding(crate::specs::Parts::cause_of))]
 fn refusal(alloc: Global, value: &Json) -> Result<RefusalName, ReadError>
-    ensures { Tells (λ c. c) result (cause_of (view value.now)) }
+    ensures { Returns (λ c. c) result (cause_of (view value.now)) }
 {
     let Some(word) = value.as_str() else {
         return Err(fault(alloc, Cause::Shape));
@@ -82,14 +82,14 @@ pub(crate) fn refusal_part(
     index: usize,
     value: &Json,
 ) -> Result<RefusalName, ReadError>
-    ensures { Tells (λ c. c) result (within_list index (cause_of (view value.now))) }
+    ensures { Returns (λ c. c) result (within_list index (cause_of (view value.now))) }
 {
     within(alloc, index, refusal(alloc, value))
 }
 
 /// What a key had, from the five elements that spell it.
 fn state_in(alloc: Global, elements: &[Json]) -> Result<KeyState, ReadError>
-    ensures { Tells (λ s. s) result (state_parts (five_of (items_view elements.now))) }
+    ensures { Returns (λ s. s) result (state_parts (five_of (items_view elements.now))) }
 {
     let Some((value, create_rev, mod_rev, version, lease)) = five(elements) else {
         return Err(fault(alloc, Cause::Shape));
@@ -110,7 +110,7 @@ fn state_in(alloc: Global, elements: &[Json]) -> Result<KeyState, ReadError>
 
 #[tactic(auto, unfolding(crate::specs::Parts::state_of))]
 fn state(alloc: Global, value: &Json) -> Result<KeyState, ReadError>
-    ensures { Tells (λ s. s) result (state_of (view value.now)) }
+    ensures { Returns (λ s. s) result (state_of (view value.now)) }
 {
     match value.as_array() {
         Some(elements) => state_in(alloc, elements.as_slice()),
@@ -120,7 +120,7 @@ fn state(alloc: Global, value: &Json) -> Result<KeyState, ReadError>
 
 /// A key and what it had, from the six elements behind a word.
 pub(crate) fn keyed(alloc: Global, elements: &[Json]) -> Result<(Text, KeyState), ReadError>
-    ensures { Tells (λ p. p) result (keyed_of (six_of (items_view elements.now))) }
+    ensures { Returns (λ p. p) result (keyed_of (six_of (items_view elements.now))) }
 {
     let Some((key, value, create_rev, mod_rev, version, lease)) = six(elements) else {
         return Err(fault(alloc, Cause::Shape));
@@ -143,7 +143,7 @@ pub(crate) fn keyed(alloc: Global, elements: &[Json]) -> Result<(Text, KeyState)
 
 #[tactic(auto, unfolding(crate::specs::Parts::text_or_null_of))]
 fn text_or_null(alloc: Global, value: &Json) -> Result<Option<Text>, ReadError>
-    ensures { Tells (λ o. o) result (text_or_null_of (view value.now)) }
+    ensures { Returns (λ o. o) result (text_or_null_of (view value.now)) }
 {
     if value.is_null() {
         Ok(None)
@@ -155,7 +155,7 @@ fn text_or_null(alloc: Global, value: &Json) -> Result<Option<Text>, ReadError>
 
 #[tactic(auto, unfolding(crate::specs::Parts::state_or_null_of))]
 fn state_or_null(alloc: Global, value: &Json) -> Result<Option<KeyState>, ReadError>
-    ensures { Tells (λ o. o) result (state_or_null_of (view value.now)) }
+    ensures { Returns (λ o. o) result (state_or_null_of (view value.now)) }
 {
     if value.is_null() {
         Ok(None)
@@ -174,18 +174,18 @@ pub(crate) trait Element {
 
     /// An element.
     fn read(alloc: Global, value: &Json) -> Result<Self, ReadError>
-        ensures { Tells (λ x. x) result (reading (view value.now)) };
+        ensures { Returns (λ x. x) result (reading (view value.now)) };
 }
 
 /// An element at an index. A fault's place is that in the list.
 fn element_at<T: Element>(alloc: Global, index: usize, value: &Json) -> Result<T, ReadError>
-    ensures { Tells (λ x. x) result (within_list index (T.reading (view value.now))) }
+    ensures { Returns (λ x. x) result (within_list index (T.reading (view value.now))) }
 {
     within(alloc, index, T::read(alloc, value))
 }
 
 fn each_element<T: Element + Drop>(alloc: Global, values: &[Json]) -> Result<Vec<T>, ReadError>
-    ensures { Tells (λ v. v.items) result (each_from T.reading 0 (items_view values.now)) }
+    ensures { Returns (λ v. v.items) result (each_from T.reading 0 (items_view values.now)) }
 {
     let mut elements = Vec::new(alloc);
     for (index, value) in values.iter().enumerate() {
@@ -196,7 +196,7 @@ fn each_element<T: Element + Drop>(alloc: Global, values: &[Json]) -> Result<Vec
 }
 
 fn list<T: Element + Drop>(alloc: Global, value: &Json) -> Result<Sequence<T>, ReadError>
-    ensures { Tells (λ s. s) result (list_of T.reading (as_array (view value.now))) }
+    ensures { Returns (λ s. s) result (list_of T.reading (as_array (view value.now))) }
 {
     match value.as_array() {
         Some(values) => {
@@ -213,7 +213,7 @@ pub(crate) fn list_part<T: Element + Drop>(
     index: usize,
     value: &Json,
 ) -> Result<Sequence<T>, ReadError>
-    ensures { Tells (λ s. s) result (within_list index (list_of T.reading (as_array (view value.now)))) }
+    ensures { Returns (λ s. s) result (within_list index (list_of T.reading (as_array (view value.now)))) }
 {
     within(alloc, index, list(alloc, value))
 }
@@ -238,7 +238,7 @@ impl Element for Value {
 
 /// What a `get` gave, from the elements behind its word.
 fn trace_get(alloc: Global, elements: &[Json]) -> Result<TraceItem, ReadError>
-    ensures { Tells (λ t. t) result (trace_get_of (two_of (items_view elements.now))) }
+    ensures { Returns (λ t. t) result (trace_get_of (two_of (items_view elements.now))) }
 {
     let Some((key, value)) = two(elements) else {
         return Err(fault(alloc, Cause::Shape));
@@ -250,7 +250,7 @@ fn trace_get(alloc: Global, elements: &[Json]) -> Result<TraceItem, ReadError>
 
 /// What a `rev` gave, from the elements behind its word.
 fn trace_rev(alloc: Global, elements: &[Json]) -> Result<TraceItem, ReadError>
-    ensures { Tells (λ t. t) result (trace_rev_of (two_of (items_view elements.now))) }
+    ensures { Returns (λ t. t) result (trace_rev_of (two_of (items_view elements.now))) }
 {
     let Some((key, mod_rev)) = two(elements) else {
         return Err(fault(alloc, Cause::Shape));
@@ -279,8 +279,8 @@ impl Element for TraceItem {
 }
 
 /// An answer, from the four elements that spell it.
-fn answer(alloc: Global, elements: &[Json]) -> Result<ToldAnswer, ReadError>
-    ensures { Tells (λ a. a) result (answer_parts (four_of (items_view elements.now))) }
+fn answer(alloc: Global, elements: &[Json]) -> Result<ReportedAnswer, ReadError>
+    ensures { Returns (λ a. a) result (answer_parts (four_of (items_view elements.now))) }
 {
     let Some((key, value, mod_rev, of_rev)) = four(elements) else {
         return Err(fault(alloc, Cause::Shape));
@@ -289,7 +289,7 @@ fn answer(alloc: Global, elements: &[Json]) -> Result<ToldAnswer, ReadError>
     let value = within(alloc, 1, text_or_null(alloc, value))?;
     let mod_rev = number_part(alloc, 2, mod_rev)?;
     let of_rev = number_part(alloc, 3, of_rev)?;
-    Ok(ToldAnswer {
+    Ok(ReportedAnswer {
         key,
         value,
         mod_rev,
@@ -297,11 +297,11 @@ fn answer(alloc: Global, elements: &[Json]) -> Result<ToldAnswer, ReadError>
     })
 }
 
-impl Element for ToldAnswer {
+impl Element for ReportedAnswer {
     ghost reading = { answer_of };
 
     #[tactic(auto, unfolding(crate::specs::Parts::answer_of))]
-    fn read(alloc: Global, value: &Json) -> Result<ToldAnswer, ReadError> {
+    fn read(alloc: Global, value: &Json) -> Result<ReportedAnswer, ReadError> {
         match value.as_array() {
             Some(elements) => answer(alloc, elements.as_slice()),
             None => Err(fault(alloc, Cause::Shape)),
@@ -310,43 +310,43 @@ impl Element for ToldAnswer {
 }
 
 /// What a read answered, from the elements behind its word.
-fn op_get(alloc: Global, elements: &[Json]) -> Result<ToldOp, ReadError>
-    ensures { Tells (λ o. o) result (op_get_of (two_of (items_view elements.now))) }
+fn op_get(alloc: Global, elements: &[Json]) -> Result<ReportedOp, ReadError>
+    ensures { Returns (λ o. o) result (op_get_of (two_of (items_view elements.now))) }
 {
     let Some((revision, kv)) = two(elements) else {
         return Err(fault(alloc, Cause::Shape));
     };
     let revision = number_part(alloc, 1, revision)?;
     let kv = within(alloc, 2, state_or_null(alloc, kv))?;
-    Ok(ToldOp::Get { revision, kv })
+    Ok(ReportedOp::Get { revision, kv })
 }
 
 /// What a put answered: there are no elements behind its word.
-fn op_put(alloc: Global, elements: &[Json]) -> Result<ToldOp, ReadError>
-    ensures { Tells (λ o. o) result (op_put_of (items_view elements.now)) }
+fn op_put(alloc: Global, elements: &[Json]) -> Result<ReportedOp, ReadError>
+    ensures { Returns (λ o. o) result (op_put_of (items_view elements.now)) }
 {
     match elements.split_first() {
-        None => Ok(ToldOp::Put),
+        None => Ok(ReportedOp::Put),
         Some(_) => Err(fault(alloc, Cause::Shape)),
     }
 }
 
 /// What a delete answered, from the elements behind its word.
-fn op_del(alloc: Global, elements: &[Json]) -> Result<ToldOp, ReadError>
-    ensures { Tells (λ o. o) result (op_del_of (one_of (items_view elements.now))) }
+fn op_del(alloc: Global, elements: &[Json]) -> Result<ReportedOp, ReadError>
+    ensures { Returns (λ o. o) result (op_del_of (one_of (items_view elements.now))) }
 {
     let Some(count) = one(elements) else {
         return Err(fault(alloc, Cause::Shape));
     };
     let count = within(alloc, 1, number_within(alloc, 1, count))?;
-    Ok(ToldOp::Del { count })
+    Ok(ReportedOp::Del { count })
 }
 
-impl Element for ToldOp {
+impl Element for ReportedOp {
     ghost reading = { op_of };
 
     #[tactic(auto, unfolding(crate::specs::Parts::op_of))]
-    fn read(alloc: Global, value: &Json) -> Result<ToldOp, ReadError> {
+    fn read(alloc: Global, value: &Json) -> Result<ReportedOp, ReadError> {
         let Some((word, elements)) = worded_array(value) else {
             return Err(fault(alloc, Cause::Shape));
         };
@@ -363,22 +363,22 @@ impl Element for ToldOp {
 }
 
 /// A key of a list that was read, from the two elements that spell it.
-fn key_read(alloc: Global, elements: &[Json]) -> Result<ToldRead, ReadError>
-    ensures { Tells (λ r. r) result (read_parts (two_of (items_view elements.now))) }
+fn key_read(alloc: Global, elements: &[Json]) -> Result<ReportedRead, ReadError>
+    ensures { Returns (λ r. r) result (read_parts (two_of (items_view elements.now))) }
 {
     let Some((key, mod_rev)) = two(elements) else {
         return Err(fault(alloc, Cause::Shape));
     };
     let key = text_part(alloc, 0, key)?;
     let mod_rev = number_part(alloc, 1, mod_rev)?;
-    Ok(ToldRead { key, mod_rev })
+    Ok(ReportedRead { key, mod_rev })
 }
 
-impl Element for ToldRead {
+impl Element for ReportedRead {
     ghost reading = { read_of };
 
     #[tactic(auto, unfolding(crate::specs::Parts::read_of))]
-    fn read(alloc: Global, value: &Json) -> Result<ToldRead, ReadError> {
+    fn read(alloc: Global, value: &Json) -> Result<ReportedRead, ReadError> {
         match value.as_array() {
             Some(elements) => key_read(alloc, elements.as_slice()),
             None => Err(fault(alloc, Cause::Shape)),
@@ -388,7 +388,7 @@ impl Element for ToldRead {
 
 /// A lease that expired, from the two elements that spell it.
 fn expired(alloc: Global, elements: &[Json]) -> Result<Expired, ReadError>
-    ensures { Tells (λ e. e) result (expired_parts (two_of (items_view elements.now))) }
+    ensures { Returns (λ e. e) result (expired_parts (two_of (items_view elements.now))) }
 {
     let Some((id, revision)) = two(elements) else {
         return Err(fault(alloc, Cause::Shape));
@@ -411,30 +411,30 @@ impl Element for Expired {
 }
 
 /// A put, from the elements behind its word.
-fn event_put(alloc: Global, elements: &[Json]) -> Result<ToldEvent, ReadError>
-    ensures { Tells (λ e. e) result (event_put_of (six_of (items_view elements.now))) }
+fn event_put(alloc: Global, elements: &[Json]) -> Result<ReportedEvent, ReadError>
+    ensures { Returns (λ e. e) result (event_put_of (six_of (items_view elements.now))) }
 {
     let (key, state) = keyed(alloc, elements)?;
-    Ok(ToldEvent::Put { key, state })
+    Ok(ReportedEvent::Put { key, state })
 }
 
 /// A deletion, from the elements behind its word.
-fn event_delete(alloc: Global, elements: &[Json]) -> Result<ToldEvent, ReadError>
-    ensures { Tells (λ e. e) result (event_delete_of (two_of (items_view elements.now))) }
+fn event_delete(alloc: Global, elements: &[Json]) -> Result<ReportedEvent, ReadError>
+    ensures { Returns (λ e. e) result (event_delete_of (two_of (items_view elements.now))) }
 {
     let Some((key, revision)) = two(elements) else {
         return Err(fault(alloc, Cause::Shape));
     };
     let key = text_part(alloc, 1, key)?;
     let revision = number_part(alloc, 2, revision)?;
-    Ok(ToldEvent::Delete { key, revision })
+    Ok(ReportedEvent::Delete { key, revision })
 }
 
-impl Element for ToldEvent {
+impl Element for ReportedEvent {
     ghost reading = { event_of };
 
     #[tactic(auto, unfolding(crate::specs::Parts::event_of))]
-    fn read(alloc: Global, value: &Json) -> Result<ToldEvent, ReadError> {
+    fn read(alloc: Global, value: &Json) -> Result<ReportedEvent, ReadError> {
         let Some((word, elements)) = worded_array(value) else {
             return Err(fault(alloc, Cause::Shape));
         };

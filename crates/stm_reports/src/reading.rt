@@ -1,7 +1,7 @@
 //! Reading reports.
 ghost use Rattle.std.specs.Prelude.{◌≡◌, ◌≤◌, List, [], length, Ok as OkOf, None, option_map, IfOk, MatchResult};
 ghost use Rattle.stm_json.specs.Outcome.{within as within_list};
-ghost use Rattle.stm_json.specs.Tells.{Tells};
+ghost use Rattle.stm_json.specs.Returns.{Returns};
 ghost use Rattle.stm_reports.specs.Bytes.{is_line_feed as is_line_feed_byte, line_length as line_length_of, first_cut, parts_of};
 ghost use Rattle.stm_reports.specs.FirstFault.{first_fault};
 ghost use Rattle.stm_json.specs.Faults.{IsFirstFault};
@@ -19,7 +19,7 @@ use stm_json::{Cause, MOST_BYTES, ReadError, fault, within};
 /// The line that bytes spell, or their first fault.
 #[tactic(auto, unfolding(crate::specs::Reading::line_in))]
 fn line_of_bytes(alloc: Global, bytes: &[u8]) -> Result<ReportLine, ReadError>
-    ensures { Tells (λ l. l) result (line_in bytes.now) }
+    ensures { Returns (λ l. l) result (line_in bytes.now) }
 {
     match Json::from_slice(alloc, bytes) {
         Ok(value) => line(alloc, &value),
@@ -35,7 +35,7 @@ fn line_of_bytes(alloc: Global, bytes: &[u8]) -> Result<ReportLine, ReadError>
 
 /// The same of a line at an index. A fault's place is that in the report.
 fn line_at(alloc: Global, index: usize, bytes: &[u8]) -> Result<ReportLine, ReadError>
-    ensures { Tells (λ l. l) result (within_list index (line_in bytes.now)) }
+    ensures { Returns (λ l. l) result (within_list index (line_in bytes.now)) }
 {
     within(alloc, index, line_of_bytes(alloc, bytes))
 }
@@ -70,7 +70,7 @@ fn first_part(bytes: &[u8]) -> Option<(&[u8], &[u8])>
 
 /// Nothing may stand behind the last line feed. A fault's place is that of a line there.
 fn rest_at(alloc: Global, index: usize, rest: &[u8]) -> Result<(), ReadError>
-    ensures { Tells (λ _. []) result (within_list index (rest_of rest.now)) }
+    ensures { Returns (λ _. []) result (within_list index (rest_of rest.now)) }
 {
     match rest.split_first() {
         None => Ok(()),
@@ -79,7 +79,7 @@ fn rest_at(alloc: Global, index: usize, rest: &[u8]) -> Result<(), ReadError>
 }
 
 fn each_line(alloc: Global, bytes: &[u8]) -> Result<Vec<ReportLine>, ReadError>
-    ensures { Tells (λ v. v.items) result (lines_from 0 (parts_of bytes.now)) }
+    ensures { Returns (λ v. v.items) result (lines_from 0 (parts_of bytes.now)) }
 {
     let mut lines = Vec::new(alloc);
     let mut rest = bytes;
@@ -95,7 +95,7 @@ fn each_line(alloc: Global, bytes: &[u8]) -> Result<Vec<ReportLine>, ReadError>
 /// The report that bytes spell, or their first fault.
 #[tactic(auto, unfolding(crate::specs::Reading::report_in))]
 fn report_of_bytes(alloc: Global, bytes: &[u8]) -> Result<Report, ReadError>
-    ensures { Tells (λ r. r) result (report_in bytes.now) }
+    ensures { Returns (λ r. r) result (report_in bytes.now) }
 {
     if bytes.len() > MOST_BYTES {
         return Err(fault(alloc, Cause::TooLong));
@@ -114,11 +114,11 @@ fn report_of_bytes(alloc: Global, bytes: &[u8]) -> Result<Report, ReadError>
 /// JSON first, then its word and its length, and then its elements in order. Or it fails as `OutOfMemory`, where a
 /// growth was refused.
 pub fn read_report(alloc: Global, bytes: &[u8]) -> Result<Report, ReadError>
-    ensures exact { Tells (λ r. r) result (report_in bytes.now) }
+    ensures exact { Returns (λ r. r) result (report_in bytes.now) }
     // What is read is spelled so.
     ensures spelled { IfOk result (SpellsReport bytes.now) }
     // A report that is spelled so is read.
-    ensures accepts { (r : _) → SpellsReport bytes.now r → Tells (λ x. x) result (OkOf r) }
+    ensures accepts { (r : _) → SpellsReport bytes.now r → Returns (λ x. x) result (OkOf r) }
     // Which fault it is.
     ensures faults { MatchResult result (λ r. first_fault bytes.now ≡ None) (IsFirstFault (first_fault bytes.now)) }
 {

@@ -1,8 +1,8 @@
 //! Whether what stands in lines is the same.
 ghost use Rattle.std.specs.Prelude.{◌≡◌, ◌↔◌, IsTrue, map};
-ghost use Rattle.stm_reports.specs.Told.{op_told};
+ghost use Rattle.stm_reports.specs.Reported.{op_reported};
 
-use crate::line::ToldOp;
+use crate::line::ReportedOp;
 use stm_history::KeyState;
 use stm_meaning::{TraceItem, Value};
 use stm_outcome::{Expired, OpAnswer};
@@ -32,32 +32,32 @@ pub(crate) fn is_same_state(left: &Option<KeyState>, right: &Option<KeyState>) -
 }
 
 /// Whether this tells the answer to an operation.
-fn is_op(told: &ToldOp, answer: &OpAnswer) -> bool
-    ensures { IsTrue result ↔ told.now ≡ op_told answer.now }
+fn is_op(reported: &ReportedOp, answer: &OpAnswer) -> bool
+    ensures { IsTrue result ↔ reported.now ≡ op_reported answer.now }
 {
     match answer {
-        OpAnswer::Get(read) => match told {
-            ToldOp::Get { revision, kv } => {
+        OpAnswer::Get(read) => match reported {
+            ReportedOp::Get { revision, kv } => {
                 *revision == read.revision && is_same_state(kv, &read.kv)
             }
             _ => false,
         },
-        OpAnswer::Put => match told {
-            ToldOp::Put => true,
+        OpAnswer::Put => match reported {
+            ReportedOp::Put => true,
             _ => false,
         },
-        OpAnswer::Del(count) => match told {
-            ToldOp::Del { count: other } => *other == *count,
+        OpAnswer::Del(count) => match reported {
+            ReportedOp::Del { count: other } => *other == *count,
             _ => false,
         },
     }
 }
 
 /// Whether these tell the answers to the operations of a branch, in their order.
-pub(crate) fn are_ops(told: &[ToldOp], answers: &[OpAnswer]) -> bool
-    ensures { IsTrue result ↔ told.now ≡ map op_told answers.now }
+pub(crate) fn are_ops(reported: &[ReportedOp], answers: &[OpAnswer]) -> bool
+    ensures { IsTrue result ↔ reported.now ≡ map op_reported answers.now }
 {
-    match told {
+    match reported {
         [] => answers.is_empty(),
         [first, rest @ ..] => match answers {
             [] => false,

@@ -1,6 +1,6 @@
 //! The lines of what stands at the end.
 ghost use Rattle.std.specs.Prelude.{◌≡◌, ◌↔◌, IsTrue};
-ghost use Rattle.stm_reports.specs.declared.line.ReportLine.TheVariants as tells;
+ghost use Rattle.stm_reports.specs.declared.line.ReportLine.TheVariants as reports;
 
 use crate::line::ReportLine;
 use crate::same::are_same_states;
@@ -8,7 +8,7 @@ use stm_history::{KeyState, Text};
 
 /// Whether this is the line of a key with this state.
 pub fn is_key(line: &ReportLine, name: &Text, has: &KeyState) -> bool
-    ensures { IsTrue result ↔ tells.Key name.now has.now ≡ line.now }
+    ensures { IsTrue result ↔ reports.Key name.now has.now ≡ line.now }
 {
     match line {
         ReportLine::Key { key, state } => *key == *name && are_same_states(state, has),
@@ -18,7 +18,7 @@ pub fn is_key(line: &ReportLine, name: &Text, has: &KeyState) -> bool
 
 /// Whether this is the line of a lease with this time to live, granted or renewed last at this moment.
 pub fn is_lease(line: &ReportLine, lease: u64, seconds: u64, at: u64) -> bool
-    ensures { IsTrue result ↔ tells.Lease lease seconds at ≡ line.now }
+    ensures { IsTrue result ↔ reports.Lease lease seconds at ≡ line.now }
 {
     match line {
         ReportLine::Lease { id, ttl, renewed } => {
@@ -30,7 +30,7 @@ pub fn is_lease(line: &ReportLine, lease: u64, seconds: u64, at: u64) -> bool
 
 /// Whether this is the end line, with this revision and this number of entries.
 pub fn is_end(line: &ReportLine, after: u64, count: u64) -> bool
-    ensures { IsTrue result ↔ tells.End after count ≡ line.now }
+    ensures { IsTrue result ↔ reports.End after count ≡ line.now }
 {
     match line {
         ReportLine::End { revision, entries } => *revision == after && *entries == count,

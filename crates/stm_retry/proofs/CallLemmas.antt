@@ -21,47 +21,47 @@ use Rattle.stm_world.specs.declared.reply.Reply.{Reply}
 use Rattle.stm_world.specs.declared.reply.Reply.TheVariants.{Txn as TxnDone}
 use Rattle.stm_world.specs.declared.refusal.Refusal.TheVariants.{Store}
 use Rattle.stm_world.specs.declared.refusal.Denied.{Denied}
-use Rattle.stm_world.specs.Told.{denied, reply_to, store_after_call, advance_reply}
+use Rattle.stm_world.specs.Reported.{denied, reply_to, store_after_call, advance_reply}
 use Rattle.stm_world.specs.World.{World, Slot, step, if_changed, expiries}
-use Rattle.stm_retry.specs.Tells.{IsStep, WantTells, StoreRefusalTells, Tells}
-use Rattle.stm_retry.specs.CallTells.{world_of, CallTells, or_want}
-use Rattle.stm_world.proofs.Wants.{NeverWants, NoWant, transacted_never, advanced_never}
+use Rattle.stm_retry.specs.Returns.{IsStep, OutOfMemoryReturns, StoreRefusalReturns, Returns}
+use Rattle.stm_retry.specs.CallReturns.{world_of, CallReturns, or_out_of_memory}
+use Rattle.stm_world.proofs.Wants.{NeverWants, NoOutOfMemory, transacted_never, advanced_never}
 
 -- ---- refusals ----
 
 -- what is told of a refusal, whether it is want of memory or not
-pub refusal_tells : (event : WorldEvent) (d : Denied) (cause : StoreRefusal) (old new : World) →
-    (cause ≡ OutOfMemory → WantTells event d.expired old new) → (cause ≢ OutOfMemory → IsStep (step event old) (Err d) new) →
-    StoreRefusalTells cause event d old new
-refusal_tells event d OutOfMemory old new want other = want refl
-refusal_tells event d EmptyKey old new want other = other (λ e. absurd (cc))
-refusal_tells event d FutureRevision old new want other = other (λ e. absurd (cc))
-refusal_tells event d Compacted old new want other = other (λ e. absurd (cc))
-refusal_tells event d RevisionsUsedUp old new want other = other (λ e. absurd (cc))
-refusal_tells event d LeaseExists old new want other = other (λ e. absurd (cc))
-refusal_tells event d TtlOutOfRange old new want other = other (λ e. absurd (cc))
-refusal_tells event d LeaseIdOutOfRange old new want other = other (λ e. absurd (cc))
-refusal_tells event d LeaseNotFound old new want other = other (λ e. absurd (cc))
-refusal_tells event d NoWatcher old new want other = other (λ e. absurd (cc))
-refusal_tells event d TooManyOps old new want other = other (λ e. absurd (cc))
-refusal_tells event d DuplicateKey old new want other = other (λ e. absurd (cc))
-refusal_tells event d TimeGoesBack old new want other = other (λ e. absurd (cc))
+pub refusal_reports : (event : WorldEvent) (d : Denied) (cause : StoreRefusal) (old new : World) →
+    (cause ≡ OutOfMemory → OutOfMemoryReturns event d.expired old new) → (cause ≢ OutOfMemory → IsStep (step event old) (Err d) new) →
+    StoreRefusalReturns cause event d old new
+refusal_reports event d OutOfMemory old new want other = want refl
+refusal_reports event d EmptyKey old new want other = other (λ e. absurd (cc))
+refusal_reports event d FutureRevision old new want other = other (λ e. absurd (cc))
+refusal_reports event d Compacted old new want other = other (λ e. absurd (cc))
+refusal_reports event d RevisionsUsedUp old new want other = other (λ e. absurd (cc))
+refusal_reports event d LeaseExists old new want other = other (λ e. absurd (cc))
+refusal_reports event d TtlOutOfRange old new want other = other (λ e. absurd (cc))
+refusal_reports event d LeaseIdOutOfRange old new want other = other (λ e. absurd (cc))
+refusal_reports event d LeaseNotFound old new want other = other (λ e. absurd (cc))
+refusal_reports event d NoWatcher old new want other = other (λ e. absurd (cc))
+refusal_reports event d TooManyOps old new want other = other (λ e. absurd (cc))
+refusal_reports event d DuplicateKey old new want other = other (λ e. absurd (cc))
+refusal_reports event d TimeGoesBack old new want other = other (λ e. absurd (cc))
 
 -- the world is as it was, and so it is told
 as_it_was : (event : WorldEvent) (reply reply' : Result Reply Denied) (s next : Standing) (es es' : List Entry) → reply ≡ reply' → next ≡ s → es' ≡ es →
-    ((runners : List Slot) → Tells event reply' (world_of runners s es) (world_of runners s es)) → CallTells event reply s es next es'
-as_it_was event reply reply' s next es es' replied same kept tells runners =
-    subst (λ (r : Result Reply Denied). Tells event r (world_of runners s es) (world_of runners next es')) (sym replied)
-    (subst (λ (n : Standing). Tells event reply' (world_of runners s es) (world_of runners n es')) (sym same)
-    (subst (λ (l : List Entry). Tells event reply' (world_of runners s es) (world_of runners s l)) (sym kept) (tells runners)))
+    ((runners : List Slot) → Returns event reply' (world_of runners s es) (world_of runners s es)) → CallReturns event reply s es next es'
+as_it_was event reply reply' s next es es' replied same kept reports runners =
+    subst (λ (r : Result Reply Denied). Returns event r (world_of runners s es) (world_of runners next es')) (sym replied)
+    (subst (λ (n : Standing). Returns event reply' (world_of runners s es) (world_of runners n es')) (sym same)
+    (subst (λ (l : List Entry). Returns event reply' (world_of runners s es) (world_of runners s l)) (sym kept) (reports runners)))
 
 -- the refusal of a call for which room could not be made
-by_result : {A : Type 0} (r : Result A StoreRefusal) → IsRefusalOf r (or_want (refusal_of r))
+by_result : {A : Type 0} (r : Result A StoreRefusal) → IsRefusalOf r (or_out_of_memory (refusal_of r))
 by_result (Ok done) = refl
 by_result (Err cause) = refl
 
-pub wanted : {A : Type 0} (o : Result A StoreRefusal) (found : Option StoreRefusal) → found ≡ refusal_of o → IsRefusalOf o (or_want found)
-wanted o found is = subst (λ (f : Option StoreRefusal). IsRefusalOf o (or_want f)) (sym is) (by_result o)
+pub wanted : {A : Type 0} (o : Result A StoreRefusal) (found : Option StoreRefusal) → found ≡ refusal_of o → IsRefusalOf o (or_out_of_memory found)
+wanted o found is = subst (λ (f : Option StoreRefusal). IsRefusalOf o (or_out_of_memory f)) (sym is) (by_result o)
 
 -- ---- a transaction ----
 
@@ -84,20 +84,20 @@ refused_txn s es txn runners cause is = record {
 }
 
 refused_by : (s : Standing) (es : List Entry) (txn : StoreTxn) (runners : List Slot) (o : Result (StoreStep TxnAnswer) StoreRefusal) (cause : StoreRefusal) →
-    transacted s txn ≡ o → NeverWants o → IsRefusalOf o cause → Tells (Txn txn) (denied (Store cause)) (world_of runners s es) (world_of runners s es)
+    transacted s txn ≡ o → NeverWants o → IsRefusalOf o cause → Returns (Txn txn) (denied (Store cause)) (world_of runners s es) (world_of runners s es)
 refused_by s es txn runners (Ok done) cause is never refusal =
-    refusal_tells (Txn txn) (record { cause = Store cause; expired = [] }) cause (world_of runners s es) (world_of runners s es)
+    refusal_reports (Txn txn) (record { cause = Store cause; expired = [] }) cause (world_of runners s es) (world_of runners s es)
     (λ e. ((refl, refl), subst (λ (o : Result (StoreStep TxnAnswer) StoreRefusal). IsOk (reply_to TxnDone o)) (sym is) refl))
     (λ not. absurd (not refusal))
 refused_by s es txn runners (Err c) cause is never refusal =
-    refusal_tells (Txn txn) (record { cause = Store cause; expired = [] }) cause (world_of runners s es) (world_of runners s es)
+    refusal_reports (Txn txn) (record { cause = Store cause; expired = [] }) cause (world_of runners s es) (world_of runners s es)
     (λ e. absurd (never (sym refusal ∙ e)))
     (λ not. subst (λ (x : StoreRefusal). IsStep (step (Txn txn) (world_of runners s es)) (denied (Store x)) (world_of runners s es)) (sym refusal)
     (refused_txn s es txn runners c is))
 
 -- a transaction that was refused, by the store or for want of room
 pub txn_refused : (txn : StoreTxn) (s next : Standing) (es es' : List Entry) (reply : Result Reply Denied) (cause : StoreRefusal) →
-    IsRefusalOf (transacted s txn) cause → reply ≡ denied (Store cause) → next ≡ s → es' ≡ es → CallTells (Txn txn) reply s es next es'
+    IsRefusalOf (transacted s txn) cause → reply ≡ denied (Store cause) → next ≡ s → es' ≡ es → CallReturns (Txn txn) reply s es next es'
 txn_refused txn s next es es' reply cause refusal replied same kept =
     as_it_was (Txn txn) reply (denied (Store cause)) s next es es' replied same kept
     (λ runners. refused_by s es txn runners (transacted s txn) cause refl (transacted_never s txn) refusal)
@@ -116,7 +116,7 @@ advance_is runners s next es es' moment expired cause is entered = record {
 stopped_by : (s next : Standing) (moment : ℕ) (expired : List Expired) (cause : StoreRefusal) → StoreCutShort (advanced s moment) expired cause next →
     cause ≡ OutOfMemory → IsStopped (advanced s moment) expired next
 stopped_by s next moment expired cause (inl is) want =
-    let never : cause ≢ OutOfMemory = subst (λ (a : StoreAdvance). NoWant a.cause) is (advanced_never s moment) in absurd (never want)
+    let never : cause ≢ OutOfMemory = subst (λ (a : StoreAdvance). NoOutOfMemory a.cause) is (advanced_never s moment) in absurd (never want)
 stopped_by s next moment expired cause (inr (e, stopped)) want = stopped
 
 refused_for : (s next : Standing) (moment : ℕ) (expired : List Expired) (cause : StoreRefusal) → StoreCutShort (advanced s moment) expired cause next →
@@ -127,9 +127,9 @@ refused_for s next moment expired cause (inr (e, stopped)) other = absurd (other
 -- an advance that stopped, for its definition's cause or for want of memory
 pub advance_cut : (s next : Standing) (es es' : List Entry) (moment : ℕ) (expired : List Expired) (cause : StoreRefusal) → s.moment ≤ moment →
     StoreCutShort (advanced s moment) expired cause next → (s.moment ≤ moment → HasCome (at_moment s moment) expired next) → es' ≡ es ++ expiries expired →
-    CallTells (Advance moment) (Err record { cause = Store cause; expired = expired }) s es next es'
+    CallReturns (Advance moment) (Err record { cause = Store cause; expired = expired }) s es next es'
 advance_cut s next es es' moment expired cause forward cut come entered runners =
-    refusal_tells (Advance moment) (record { cause = Store cause; expired = expired }) cause (world_of runners s es) (world_of runners next es')
+    refusal_reports (Advance moment) (record { cause = Store cause; expired = expired }) cause (world_of runners s es) (world_of runners next es')
     (λ want. (
       forward,
       inr record {

@@ -36,7 +36,7 @@ use Rattle.stm_attempt.specs.Known.{Known}
 use Rattle.stm_attempt.specs.Settled.{run_on}
 use Rattle.stm_attempt.specs.Entering.{is_due}
 use Rattle.stm_attempt.specs.Fetches.{at_of}
-use Rattle.stm_calls.specs.Fetched.{fetch_told, fetch_all_told}
+use Rattle.stm_calls.specs.Fetched.{fetch_reported, fetch_all_reported}
 use Rattle.stm_calls.specs.StateOf.{IsStateOf, entry_now}
 use Rattle.stm_entries.specs.declared.entry.Entry.{Entry}
 use Rattle.stm_entries.specs.declared.entry.Entry.TheVariants.{Grant as GrantEntry, Renew, Revoke as RevokeEntry, Foreign}
@@ -61,23 +61,23 @@ use Rattle.stm_world.specs.declared.reply.Reply.TheVariants.{Txn as TxnDone, Gra
 use Rattle.stm_world.specs.declared.refusal.Refusal.{Refusal}
 use Rattle.stm_world.specs.declared.refusal.Refusal.TheVariants.{Store, BadLimit, NoRunner}
 use Rattle.stm_world.specs.declared.refusal.Denied.{Denied}
-use Rattle.stm_world.specs.Told.{denied, reply_to, store_after_call, advance_reply, poll_reply, store_after_poll}
-use Rattle.stm_world.specs.Task.{Task, with_served, after_conflict, answers_told}
+use Rattle.stm_world.specs.Reported.{denied, reply_to, store_after_call, advance_reply, poll_reply, store_after_poll}
+use Rattle.stm_world.specs.Task.{Task, with_served, after_conflict, answers_reported}
 use Rattle.stm_world.specs.World.{World, Stepped, Runner, Over, Live, runner_at, with_slot, begin, replied, refused, start_runner, entry_of, seen_in}
-use Rattle.stm_world.specs.World.{decided, commit_told, commit, finish, fetch_at, fetch_list, step_on, step_live, step_runner, called, if_taken, if_changed, expiries}
+use Rattle.stm_world.specs.World.{decided, commit_reported, commit, finish, fetch_at, fetch_list, step_on, step_live, step_runner, called, if_taken, if_changed, expiries}
 use Rattle.stm_world.specs.World.{quietly_called, step, opened as opened_world}
 use Rattle.stm_world.specs.Sound.{IsSound, after_expiries}
 use Rattle.stm_world.specs.Appended.{HasAppended}
-use Rattle.stm_world.proofs.Wants.{NoWant, NeverWants, advanced_never}
+use Rattle.stm_world.proofs.Wants.{NoOutOfMemory, NeverWants, advanced_never}
 use Rattle.stm_world.proofs.NeverOutOfMemory.{raised_never}
 use Rattle.stm_world.proofs.Calls.{txn_goes_on, at_moment_follows}
 use Rattle.stm_world.proofs.Appending.{events_append}
 use Rattle.stm_world.proofs.Sound.{opened_is_sound, step_is_sound, base_is_reached}
-use Rattle.stm_retry.specs.Tells.{IsStep, IsUnchanged, IsCutShort, WantTells, RefusalTells, Tells, is_want_of_store, is_want}
-use Rattle.stm_retry.specs.Kept.{whole_store, whole_world, kept_world, IsKeptBy, compact_kept, KeptTells, BasesAreReached}
-use Rattle.stm_retry.proofs.CallLemmas.{refusal_tells}
+use Rattle.stm_retry.specs.Returns.{IsStep, IsUnchanged, IsCutShort, OutOfMemoryReturns, RefusalReturns, Returns, is_out_of_memory_of_store, is_want}
+use Rattle.stm_retry.specs.Kept.{whole_store, whole_world, kept_world, IsKeptBy, compact_kept, KeptReturns, BasesAreReached}
+use Rattle.stm_retry.proofs.CallLemmas.{refusal_reports}
 use Rattle.stm_retry.proofs.StepLemmas.{fetched_step, step_fetches, listed_step, step_lists}
-use Rattle.stm_retry.proofs.WorldLemmas.{refusal_cases, tells_sound}
+use Rattle.stm_retry.proofs.WorldLemmas.{refusal_cases, reports_sound}
 
 -- ---- the world of which something is kept
 
@@ -137,7 +137,7 @@ fetch_kept : (id : ℕ) (r : Runner) (key : List ℕ) (base : ℕ) (w : World) �
 fetch_kept id r key base w reached =
     step_fetches id r key base (kept_world w)
     ∙ ap (λ (o : Result ReadAnswer StoreRefusal). fetched_step id r key o (kept_world w)) (fetched_kept w.standing reached key base)
-    ∙ fetched_by id r key (fetch_told w.standing key base) w
+    ∙ fetched_by id r key (fetch_reported w.standing key base) w
     ∙ ap kept_stepped (sym (step_fetches id r key base w))
 
 -- a commit
@@ -145,7 +145,7 @@ abbrev answer_as : (List ℕ → Option KeyState) → ℕ → List ℕ → ReadA
 answer_as state counter key = record { key = key; kv = state key; of_rev = counter; revision = counter }
 
 -- a list
-listed_kept : (s : Standing) (keys : List (List ℕ)) → HasReached s → fetch_all_told (kept s) keys ≡ fetch_all_told s keys
+listed_kept : (s : Standing) (keys : List (List ℕ)) → HasReached s → fetch_all_reported (kept s) keys ≡ fetch_all_reported s keys
 listed_kept s keys reached =
     let g : History = cut (s.floor - 1) s.history in
     let alike : IsAlike s.floor g s.history = cut_is_alike s.floor s.history reached in
@@ -162,9 +162,9 @@ list_kept : (id : ℕ) (r : Runner) (w : World) → HasReached w.standing → fe
 list_kept id r w reached =
     let keys : List (List ℕ) = r.task.program.prefetch in
     step_lists id r (kept_world w)
-    ∙ ap (λ (n : ℕ). listed_step id r n (fetch_all_told (kept w.standing) keys) (kept_world w)) (counted w.standing reached)
+    ∙ ap (λ (n : ℕ). listed_step id r n (fetch_all_reported (kept w.standing) keys) (kept_world w)) (counted w.standing reached)
     ∙ ap (λ (o : Result (List ReadAnswer) StoreRefusal). listed_step id r (now w.standing.history) o (kept_world w)) (listed_kept w.standing keys reached)
-    ∙ listed_by id r (now w.standing.history) (fetch_all_told w.standing keys) w
+    ∙ listed_by id r (now w.standing.history) (fetch_all_reported w.standing keys) w
     ∙ ap kept_stepped (sym (step_lists id r w))
 
 conflict_kept : (task : Task) (floor : ℕ) (h : History) (known : Known) → floor ≤ now h →
@@ -176,23 +176,23 @@ conflict_kept task floor h known reached =
     λ state counter. with_served task (record { reads = []; prefetched = map (answer_as state counter) (reread_keys task.level known.reads) }) in
     ap (λ (state : List ℕ → Option KeyState). next state (now g)) alike.keys_now ∙ ap (next (key_now h)) alike.counter
 
-abbrev conflict_told : ℕ → Runner → Seen → ℕ → World → Known → Stepped
-conflict_told id r seen modified w known =
+abbrev conflict_reported : ℕ → Runner → Seen → ℕ → World → Known → Stepped
+conflict_reported id r seen modified w known =
     replied (Conflict id seen.key seen.mod_rev modified) id (Live (record { task = r.task; failures = r.failures + 1; known = known })) w
 
 fail_by : (id : ℕ) (r : Runner) (seen : Seen) (modified : ℕ) (w : World) (more : Bool) → HasReached w.standing →
-    cond more (conflict_told id r seen modified (kept_world w) (after_conflict r.task (kept w.standing).history r.known))
+    cond more (conflict_reported id r seen modified (kept_world w) (after_conflict r.task (kept w.standing).history r.known))
     (replied (GaveUp id (r.failures + 1) seen.key seen.mod_rev modified) id Over (kept_world w))
-    ≡ kept_stepped (cond more (conflict_told id r seen modified w (after_conflict r.task w.standing.history r.known))
+    ≡ kept_stepped (cond more (conflict_reported id r seen modified w (after_conflict r.task w.standing.history r.known))
     (replied (GaveUp id (r.failures + 1) seen.key seen.mod_rev modified) id Over w))
 fail_by id r seen modified w true reached =
-    ap (conflict_told id r seen modified (kept_world w)) (conflict_kept r.task w.standing.floor w.standing.history r.known reached)
+    ap (conflict_reported id r seen modified (kept_world w)) (conflict_kept r.task w.standing.floor w.standing.history r.known reached)
 fail_by id r seen modified w false reached = refl
 
 -- a commit that succeeded, after which the store's revision is this
 abbrev taken_at : ℕ → Runner → List ReadAnswer → Run → World → Standing → ℕ → Stepped
 taken_at id r reads run w after revision = record {
-  reply = Ok (Committed id revision (r.failures + 1) run.output run.trace (answers_told r.task.level reads));
+  reply = Ok (Committed id revision (r.failures + 1) run.output run.trace (answers_reported r.task.level reads));
   next = record { standing = after; runners = with_slot id Over w.runners; entries = w.entries ++ entry_of r.task reads run revision ∷ [] };
 }
 
@@ -209,18 +209,18 @@ decided_kept id r reads run done (Some failed) w reached grown =
     fail_by id r (seen_in (slice_get (seen_by reads (latest_writes run.writes)) failed.index)) failed.mod_rev w
     (nat_lt (r.failures + 1) r.task.limit) reached
 
-told_kept : (id : ℕ) (r : Runner) (reads : List ReadAnswer) (run : Run) (o : Result Done StoreRefusal) (w : World) → HasReached w.standing →
-    Grows w.standing.history o → commit_told id r reads run (kept_done w.standing.floor o) (kept_world w) ≡ kept_stepped (commit_told id r reads run o w)
-told_kept id r reads run (Ok done) w reached grown = decided_kept id r reads run done done.answer.failed w reached grown
-told_kept id r reads run (Err cause) w reached grown = refl
+reported_kept : (id : ℕ) (r : Runner) (reads : List ReadAnswer) (run : Run) (o : Result Done StoreRefusal) (w : World) → HasReached w.standing →
+    Grows w.standing.history o → commit_reported id r reads run (kept_done w.standing.floor o) (kept_world w) ≡ kept_stepped (commit_reported id r reads run o w)
+reported_kept id r reads run (Ok done) w reached grown = decided_kept id r reads run done done.answer.failed w reached grown
+reported_kept id r reads run (Err cause) w reached grown = refl
 
 commit_kept : (id : ℕ) (r : Runner) (reads : List ReadAnswer) (run : Run) (w : World) → HasReached w.standing →
     commit id r reads run (kept_world w) ≡ kept_stepped (commit id r reads run w)
 unfolding commit
 commit_kept id r reads run w reached =
     let s : Standing = w.standing in
-    ap (λ (o : Result Done StoreRefusal). commit_told id r reads run o (kept_world w)) (committed_kept (terms_of s) reached r.task.level reads run)
-    ∙ told_kept id r reads run (committed (terms_of s) r.task.level reads run) w reached (committed_grows (terms_of s) r.task.level reads run)
+    ap (λ (o : Result Done StoreRefusal). commit_reported id r reads run o (kept_world w)) (committed_kept (terms_of s) reached r.task.level reads run)
+    ∙ reported_kept id r reads run (committed (terms_of s) r.task.level reads run) w reached (committed_grows (terms_of s) r.task.level reads run)
 
 finish_kept : (id : ℕ) (r : Runner) (reads : List ReadAnswer) (run : Run) (end : End) (w : World) → HasReached w.standing →
     finish id r reads run end (kept_world w) ≡ kept_stepped (finish id r reads run end w)
@@ -264,17 +264,17 @@ txn_by txn w (Err cause) reached still =
     let entered : ℕ → Stepped = λ n. called (denied (Store cause)) (kept s) (cond (nat_lt n n) (Foreign txn ∷ []) []) (kept_world w) in
     ap entered (counted s reached)
 
-call_kept : {A : Type 0} (tell : A → Reply) (entry : Entry) (o : Result (StoreStep A) StoreRefusal) (w : World) →
-    called (reply_to tell (kept_step o)) (store_after_call (kept w.standing) (kept_step o)) (if_taken (kept_step o) entry) (kept_world w)
-    ≡ kept_stepped (called (reply_to tell o) (store_after_call w.standing o) (if_taken o entry) w)
-call_kept tell entry (Ok done) w = refl
-call_kept tell entry (Err cause) w = refl
+call_kept : {A : Type 0} (report : A → Reply) (entry : Entry) (o : Result (StoreStep A) StoreRefusal) (w : World) →
+    called (reply_to report (kept_step o)) (store_after_call (kept w.standing) (kept_step o)) (if_taken (kept_step o) entry) (kept_world w)
+    ≡ kept_stepped (called (reply_to report o) (store_after_call w.standing o) (if_taken o entry) w)
+call_kept report entry (Ok done) w = refl
+call_kept report entry (Err cause) w = refl
 
-quiet_kept : {A : Type 0} (tell : A → Reply) (o : Result (StoreStep A) StoreRefusal) (w : World) →
-    quietly_called (reply_to tell (kept_step o)) (store_after_call (kept w.standing) (kept_step o)) (kept_world w)
-    ≡ kept_stepped (quietly_called (reply_to tell o) (store_after_call w.standing o) w)
-quiet_kept tell (Ok done) w = refl
-quiet_kept tell (Err cause) w = refl
+quiet_kept : {A : Type 0} (report : A → Reply) (o : Result (StoreStep A) StoreRefusal) (w : World) →
+    quietly_called (reply_to report (kept_step o)) (store_after_call (kept w.standing) (kept_step o)) (kept_world w)
+    ≡ kept_stepped (quietly_called (reply_to report o) (store_after_call w.standing o) w)
+quiet_kept report (Ok done) w = refl
+quiet_kept report (Err cause) w = refl
 
 poll_kept : (id : ℕ) (o : Result (StoreStep Batch) StoreRefusal) (w : World) →
     quietly_called (poll_reply id w.standing.floor (kept_step o)) (store_after_poll id (kept w.standing) (kept_step o)) (kept_world w)
@@ -345,28 +345,28 @@ step_kept (Compact revision) w k =
 -- what an event told and left over what is kept, it tells and leaves of the whole world, too
 pub record Lifted (event : WorldEvent) (reply : Result Reply Denied) (w next : World) : Type 0 where
   pub after : World
-  pub tells : Tells event reply w after
+  pub reports : Returns event reply w after
   pub is : next ≡ kept_world after
 
-want_is : (cause : StoreRefusal) → is_want_of_store cause ≡ true → cause ≡ OutOfMemory
+want_is : (cause : StoreRefusal) → is_out_of_memory_of_store cause ≡ true → cause ≡ OutOfMemory
 want_is OutOfMemory want = refl
 want_is other want = absurd (cc)
 
-not_want : (cause : StoreRefusal) → is_want_of_store cause ≡ false → cause ≢ OutOfMemory
-not_want cause not same = let both : true ≡ false = ap is_want_of_store (sym same) ∙ not in absurd (cc)
+not_want : (cause : StoreRefusal) → is_out_of_memory_of_store cause ≡ false → cause ≢ OutOfMemory
+not_want cause not same = let both : true ≡ false = ap is_out_of_memory_of_store (sym same) ∙ not in absurd (cc)
 
 -- a reply by the step
-step_tells_by : (cause : Refusal) (event : WorldEvent) (d : Denied) (old new : World) → is_want cause ≡ false → IsStep (step event old) (Err d) new →
-    RefusalTells cause event d old new
-step_tells_by (Store cause) event d old new not is = refusal_tells event d cause old new (λ want. absurd (not_want cause not want)) (λ _. is)
-step_tells_by BadLimit event d old new not is = is
-step_tells_by NoRunner event d old new not is = is
+step_reports_by : (cause : Refusal) (event : WorldEvent) (d : Denied) (old new : World) → is_want cause ≡ false → IsStep (step event old) (Err d) new →
+    RefusalReturns cause event d old new
+step_reports_by (Store cause) event d old new not is = refusal_reports event d cause old new (λ want. absurd (not_want cause not want)) (λ _. is)
+step_reports_by BadLimit event d old new not is = is
+step_reports_by NoRunner event d old new not is = is
 
-want_tells_by : (cause : Refusal) (event : WorldEvent) (d : Denied) (old new : World) → is_want cause ≡ true → WantTells event d.expired old new →
-    RefusalTells cause event d old new
-want_tells_by (Store cause) event d old new want is = refusal_tells event d cause old new (λ _. is) (λ not. absurd (not (want_is cause want)))
-want_tells_by BadLimit event d old new want is = absurd (cc)
-want_tells_by NoRunner event d old new want is = absurd (cc)
+out_of_memory_reports_by : (cause : Refusal) (event : WorldEvent) (d : Denied) (old new : World) → is_want cause ≡ true → OutOfMemoryReturns event d.expired old new →
+    RefusalReturns cause event d old new
+out_of_memory_reports_by (Store cause) event d old new want is = refusal_reports event d cause old new (λ _. is) (λ not. absurd (not (want_is cause want)))
+out_of_memory_reports_by BadLimit event d old new want is = absurd (cc)
+out_of_memory_reports_by NoRunner event d old new want is = absurd (cc)
 
 stepped_lifts : (event : WorldEvent) (reply : Result Reply Denied) (w next : World) → step event (kept_world w) ≡ kept_stepped (step event w) →
     IsStep (step event (kept_world w)) reply next → IsStep (step event w) reply (step event w).next × (next ≡ kept_world (step event w).next)
@@ -377,7 +377,7 @@ stepped_lifts event reply w next same is = (
 
 -- want of memory
 abbrev WantLifts : WorldEvent → List Expired → World → World → Type 0
-WantLifts event expired w next = (after : World) × WantTells event expired w after × (next ≡ kept_world after)
+WantLifts event expired w next = (after : World) × OutOfMemoryReturns event expired w after × (next ≡ kept_world after)
 
 taken_too : (event : WorldEvent) (w : World) → step event (kept_world w) ≡ kept_stepped (step event w) → IsOk (step event (kept_world w)).reply →
     IsOk (step event w).reply
@@ -386,7 +386,7 @@ taken_too event w same is = subst (λ (x : Stepped). IsOk x.reply) same is
 stopped_of : (s left : Standing) (moment : ℕ) (expired : List Expired) → StoreCutShort (advanced s moment) expired OutOfMemory left →
     IsStopped (advanced s moment) expired left
 stopped_of s left moment expired (inl is) =
-    let never : OutOfMemory ≢ OutOfMemory = subst (λ (a : StoreAdvance). NoWant a.cause) is (advanced_never s moment) in absurd (never refl)
+    let never : OutOfMemory ≢ OutOfMemory = subst (λ (a : StoreAdvance). NoOutOfMemory a.cause) is (advanced_never s moment) in absurd (never refl)
 stopped_of s left moment expired (inr (want, stopped)) = stopped
 
 cut_lifts : (moment : ℕ) (expired : List Expired) (w next : World) → HasReached w.standing → w.standing.moment ≤ moment →
@@ -407,7 +407,7 @@ advance_lifts moment expired w next reached forward (inl same) = (w, (forward, i
 advance_lifts moment expired w next reached forward (inr cut) = cut_lifts moment expired w next reached forward cut
 
 want_lifts : (event : WorldEvent) (expired : List Expired) (w next : World) → HasReached w.standing →
-    step event (kept_world w) ≡ kept_stepped (step event w) → WantTells event expired (kept_world w) next → WantLifts event expired w next
+    step event (kept_world w) ≡ kept_stepped (step event w) → OutOfMemoryReturns event expired (kept_world w) next → WantLifts event expired w next
 want_lifts (Advance moment) expired w next reached same want = advance_lifts moment expired w next reached want.0 want.1
 want_lifts (Start program level limit) expired w next reached same want =
     (w, ((want.0.0, refl), taken_too (Start program level limit) w same want.1), want.0.1)
@@ -424,42 +424,42 @@ want_lifts (Cancel watcher) expired w next reached same want = (w, ((want.0.0, r
 want_lifts (Compact revision) expired w next reached same want = absurd want
 
 refused_lifts : (event : WorldEvent) (d : Denied) (w next : World) → HasReached w.standing → step event (kept_world w) ≡ kept_stepped (step event w) →
-    (((is_want d.cause ≡ true) × WantTells event d.expired (kept_world w) next)
+    (((is_want d.cause ≡ true) × OutOfMemoryReturns event d.expired (kept_world w) next)
     ⊎ ((is_want d.cause ≡ false) × IsStep (step event (kept_world w)) (Err d) next)) → Lifted event (Err d) w next
 refused_lifts event d w next reached same (inl want) =
     let lifts : WantLifts event d.expired w next = want_lifts event d.expired w next reached same want.1 in
-    record { after = lifts.0; tells = want_tells_by d.cause event d w lifts.0 want.0 lifts.1; is = lifts.2 }
+    record { after = lifts.0; reports = out_of_memory_reports_by d.cause event d w lifts.0 want.0 lifts.1; is = lifts.2 }
 refused_lifts event d w next reached same (inr is) =
     let lifts = stepped_lifts event (Err d) w next same is.1 in
-    record { after = (step event w).next; tells = step_tells_by d.cause event d w (step event w).next is.0 lifts.0; is = lifts.1 }
+    record { after = (step event w).next; reports = step_reports_by d.cause event d w (step event w).next is.0 lifts.0; is = lifts.1 }
 
 -- an event that is no compaction
-tells_lift : (event : WorldEvent) (reply : Result Reply Denied) (w next : World) → HasReached w.standing →
-    step event (kept_world w) ≡ kept_stepped (step event w) → Tells event reply (kept_world w) next → Lifted event reply w next
-tells_lift event (Ok reply) w next reached same tells =
-    let lifts = stepped_lifts event (Ok reply) w next same tells in
-    record { after = (step event w).next; tells = lifts.0; is = lifts.1 }
-tells_lift event (Err d) w next reached same tells =
-    refused_lifts event d w next reached same (refusal_cases d.cause event d (kept_world w) next tells)
+reports_lift : (event : WorldEvent) (reply : Result Reply Denied) (w next : World) → HasReached w.standing →
+    step event (kept_world w) ≡ kept_stepped (step event w) → Returns event reply (kept_world w) next → Lifted event reply w next
+reports_lift event (Ok reply) w next reached same reports =
+    let lifts = stepped_lifts event (Ok reply) w next same reports in
+    record { after = (step event w).next; reports = lifts.0; is = lifts.1 }
+reports_lift event (Err d) w next reached same reports =
+    refused_lifts event d w next reached same (refusal_cases d.cause event d (kept_world w) next reports)
 
 -- a compaction wants no memory
-is_plain : (cause : StoreRefusal) → cause ≢ OutOfMemory → is_want_of_store cause ≡ false
-is_plain cause not = by (is_want_of_store cause) refl
+is_plain : (cause : StoreRefusal) → cause ≢ OutOfMemory → is_out_of_memory_of_store cause ≡ false
+is_plain cause not = by (is_out_of_memory_of_store cause) refl
   where
-    by : (b : Bool) → is_want_of_store cause ≡ b → b ≡ false
+    by : (b : Bool) → is_out_of_memory_of_store cause ≡ b → b ≡ false
     by true is = absurd (not (want_is cause is))
     by false is = refl
 
-compact_tells : (revision : ℕ) (w : World) (o : Result (StoreStep (Unit {0})) StoreRefusal) (reply : Result Reply Denied) → NeverWants o →
+compact_reports : (revision : ℕ) (w : World) (o : Result (StoreStep (Unit {0})) StoreRefusal) (reply : Result Reply Denied) → NeverWants o →
     reply_to (λ _. Compacted revision) o ≡ reply → IsStep (step (Compact revision) w) reply (step (Compact revision) w).next →
-    Tells (Compact revision) reply w (step (Compact revision) w).next
-compact_tells revision w (Ok done) reply never told is =
-    subst (λ (r : Result Reply Denied). Tells (Compact revision) r w (step (Compact revision) w).next) told
-    (subst (λ (r : Result Reply Denied). IsStep (step (Compact revision) w) r (step (Compact revision) w).next) (sym told) is)
-compact_tells revision w (Err cause) reply never told is =
-    subst (λ (r : Result Reply Denied). Tells (Compact revision) r w (step (Compact revision) w).next) told
-    (step_tells_by (Store cause) (Compact revision) (record { cause = Store cause; expired = [] }) w (step (Compact revision) w).next (is_plain cause never)
-    (subst (λ (r : Result Reply Denied). IsStep (step (Compact revision) w) r (step (Compact revision) w).next) (sym told) is))
+    Returns (Compact revision) reply w (step (Compact revision) w).next
+compact_reports revision w (Ok done) reply never reported is =
+    subst (λ (r : Result Reply Denied). Returns (Compact revision) r w (step (Compact revision) w).next) reported
+    (subst (λ (r : Result Reply Denied). IsStep (step (Compact revision) w) r (step (Compact revision) w).next) (sym reported) is)
+compact_reports revision w (Err cause) reply never reported is =
+    subst (λ (r : Result Reply Denied). Returns (Compact revision) r w (step (Compact revision) w).next) reported
+    (step_reports_by (Store cause) (Compact revision) (record { cause = Store cause; expired = [] }) w (step (Compact revision) w).next (is_plain cause never)
+    (subst (λ (r : Result Reply Denied). IsStep (step (Compact revision) w) r (step (Compact revision) w).next) (sym reported) is))
 
 compact_lifts : (revision : ℕ) (reply : Result Reply Denied) (w next : World) → HasKept w.standing →
     IsStep (compact_kept revision (kept_world w)) reply next → Lifted (Compact revision) reply w next
@@ -468,27 +468,27 @@ compact_lifts revision reply w next k is =
     let replied_so : (step (Compact revision) w).reply ≡ reply = sym (ap (λ (x : Stepped). x.reply) same) ∙ is.reply_is in
     record {
       after = (step (Compact revision) w).next;
-      tells = compact_tells revision w (raised w.standing revision) reply (raised_never w.standing revision) replied_so
+      reports = compact_reports revision w (raised w.standing revision) reply (raised_never w.standing revision) replied_so
           (record { reply_is = replied_so; next_is = refl });
       is = sym is.next_is ∙ ap (λ (x : Stepped). x.next) same;
     }
 
-event_lifts : (event : WorldEvent) (reply : Result Reply Denied) (w next : World) → HasKept w.standing → KeptTells event reply (kept_world w) next →
+event_lifts : (event : WorldEvent) (reply : Result Reply Denied) (w next : World) → HasKept w.standing → KeptReturns event reply (kept_world w) next →
     Lifted event reply w next
-event_lifts (Compact revision) reply w next k tells = compact_lifts revision reply w next k tells
-event_lifts (Start program level limit) reply w next k tells =
-    tells_lift (Start program level limit) reply w next k.reached (step_kept (Start program level limit) w k) tells
-event_lifts (Step id) reply w next k tells = tells_lift (Step id) reply w next k.reached (step_kept (Step id) w k) tells
-event_lifts (Txn txn) reply w next k tells = tells_lift (Txn txn) reply w next k.reached (step_kept (Txn txn) w k) tells
-event_lifts (Grant id ttl) reply w next k tells = tells_lift (Grant id ttl) reply w next k.reached (step_kept (Grant id ttl) w k) tells
-event_lifts (Keep id) reply w next k tells = tells_lift (Keep id) reply w next k.reached (step_kept (Keep id) w k) tells
-event_lifts (Revoke id) reply w next k tells = tells_lift (Revoke id) reply w next k.reached (step_kept (Revoke id) w k) tells
-event_lifts (Advance moment) reply w next k tells = tells_lift (Advance moment) reply w next k.reached (step_kept (Advance moment) w k) tells
-event_lifts (WatchKey key from) reply w next k tells = tells_lift (WatchKey key from) reply w next k.reached (step_kept (WatchKey key from) w k) tells
-event_lifts (WatchRange first end from) reply w next k tells =
-    tells_lift (WatchRange first end from) reply w next k.reached (step_kept (WatchRange first end from) w k) tells
-event_lifts (Poll watcher most) reply w next k tells = tells_lift (Poll watcher most) reply w next k.reached (step_kept (Poll watcher most) w k) tells
-event_lifts (Cancel watcher) reply w next k tells = tells_lift (Cancel watcher) reply w next k.reached (step_kept (Cancel watcher) w k) tells
+event_lifts (Compact revision) reply w next k reports = compact_lifts revision reply w next k reports
+event_lifts (Start program level limit) reply w next k reports =
+    reports_lift (Start program level limit) reply w next k.reached (step_kept (Start program level limit) w k) reports
+event_lifts (Step id) reply w next k reports = reports_lift (Step id) reply w next k.reached (step_kept (Step id) w k) reports
+event_lifts (Txn txn) reply w next k reports = reports_lift (Txn txn) reply w next k.reached (step_kept (Txn txn) w k) reports
+event_lifts (Grant id ttl) reply w next k reports = reports_lift (Grant id ttl) reply w next k.reached (step_kept (Grant id ttl) w k) reports
+event_lifts (Keep id) reply w next k reports = reports_lift (Keep id) reply w next k.reached (step_kept (Keep id) w k) reports
+event_lifts (Revoke id) reply w next k reports = reports_lift (Revoke id) reply w next k.reached (step_kept (Revoke id) w k) reports
+event_lifts (Advance moment) reply w next k reports = reports_lift (Advance moment) reply w next k.reached (step_kept (Advance moment) w k) reports
+event_lifts (WatchKey key from) reply w next k reports = reports_lift (WatchKey key from) reply w next k.reached (step_kept (WatchKey key from) w k) reports
+event_lifts (WatchRange first end from) reply w next k reports =
+    reports_lift (WatchRange first end from) reply w next k.reached (step_kept (WatchRange first end from) w k) reports
+event_lifts (Poll watcher most) reply w next k reports = reports_lift (Poll watcher most) reply w next k.reached (step_kept (Poll watcher most) w k) reports
+event_lifts (Cancel watcher) reply w next k reports = reports_lift (Cancel watcher) reply w next k.reached (step_kept (Cancel watcher) w k) reports
 
 -- ---- the opening stays
 
@@ -513,7 +513,7 @@ advance_opens : (moment : ℕ) (expired : List Expired) (old new : World) → (I
 advance_opens moment expired old new (inl same) = unchanged_opens expired old new same
 advance_opens moment expired old new (inr cut) = cut_opens moment expired old new cut
 
-want_opens : (event : WorldEvent) (expired : List Expired) (old new : World) → WantTells event expired old new →
+want_opens : (event : WorldEvent) (expired : List Expired) (old new : World) → OutOfMemoryReturns event expired old new →
     new.standing.history.opening ≡ old.standing.history.opening
 want_opens (Start program level limit) expired old new want = unchanged_opens expired old new want.0
 want_opens (Step id) expired old new want = unchanged_opens expired old new want.0
@@ -534,21 +534,21 @@ is_step_opens event reply old new sound is =
     subst (λ (w : World). w.standing.history.opening ≡ old.standing.history.opening) is.next_is (stepped_opens event old sound)
 
 refused_opens : (event : WorldEvent) (d : Denied) (old new : World) → IsSound old →
-    (((is_want d.cause ≡ true) × WantTells event d.expired old new) ⊎ ((is_want d.cause ≡ false) × IsStep (step event old) (Err d) new)) →
+    (((is_want d.cause ≡ true) × OutOfMemoryReturns event d.expired old new) ⊎ ((is_want d.cause ≡ false) × IsStep (step event old) (Err d) new)) →
     new.standing.history.opening ≡ old.standing.history.opening
 refused_opens event d old new sound (inl want) = want_opens event d.expired old new want.1
 refused_opens event d old new sound (inr is) = is_step_opens event (Err d) old new sound is.1
 
-tells_opens : (event : WorldEvent) (reply : Result Reply Denied) (old new : World) → IsSound old → Tells event reply old new →
+reports_opens : (event : WorldEvent) (reply : Result Reply Denied) (old new : World) → IsSound old → Returns event reply old new →
     new.standing.history.opening ≡ old.standing.history.opening
-tells_opens event (Ok reply) old new sound told = is_step_opens event (Ok reply) old new sound told
-tells_opens event (Err d) old new sound told = refused_opens event d old new sound (refusal_cases d.cause event d old new told)
+reports_opens event (Ok reply) old new sound reported = is_step_opens event (Ok reply) old new sound reported
+reports_opens event (Err d) old new sound reported = refused_opens event d old new sound (refusal_cases d.cause event d old new reported)
 
 -- ---- the calls of a world
 
 -- what a call leaves of a world that keeps this
 pub record Leaves (event : WorldEvent) (reply : Result Reply Denied) (opened : ℕ) (old new : World) : Type 0 where
-  pub tells : Tells event reply (whole_world opened old) (whole_world opened new)
+  pub reports : Returns event reply (whole_world opened old) (whole_world opened new)
   pub is_kept : IsKeptBy new.standing (whole_world opened new)
 
 -- a world of which this is kept, and whose store opened there
@@ -561,17 +561,17 @@ kept_again opened after new sound opens is =
     )
 
 pub step_leaves : (event : WorldEvent) (reply : Result Reply Denied) (opened : ℕ) (old new : World) → IsKeptBy old.standing (whole_world opened old) →
-    KeptTells event reply old new → Leaves event reply opened old new
-step_leaves event reply opened old new x tells =
+    KeptReturns event reply old new → Leaves event reply opened old new
+step_leaves event reply opened old new x reports =
     let w : World = whole_world opened old in
     let lifted : Lifted event reply w new =
-    event_lifts event reply w new x.sound.kept (subst (λ (m : World). KeptTells event reply m new) (kept_of opened old x) tells) in
-    let sound : IsSound lifted.after = tells_sound event reply w lifted.after x.sound lifted.tells in
+    event_lifts event reply w new x.sound.kept (subst (λ (m : World). KeptReturns event reply m new) (kept_of opened old x) reports) in
+    let sound : IsSound lifted.after = reports_sound event reply w lifted.after x.sound lifted.reports in
     let opens : lifted.after.standing.history.opening.number ≡ opened =
-    ap (λ (o : Opening). o.number) (tells_opens event reply w lifted.after x.sound lifted.tells) ∙ opens_at opened old in
+    ap (λ (o : Opening). o.number) (reports_opens event reply w lifted.after x.sound lifted.reports) ∙ opens_at opened old in
     let again = kept_again opened lifted.after new sound opens lifted.is in
     record {
-      tells = subst (λ (v : World). Tells event reply w v) (sym again.0) lifted.tells;
+      reports = subst (λ (v : World). Returns event reply w v) (sym again.0) lifted.reports;
       is_kept = again.1;
     }
 
@@ -632,13 +632,13 @@ state_of_whole opened m state x is key =
     is key ∙ ap (λ (s : Standing). entry_now key (key_now s.history key)) x.stands
     ∙ ap (λ (state : List ℕ → Option KeyState). entry_now key (state key)) alike.keys_now
 
-pub state_told : (opened : ℕ) (m seen : World) {h : History} (result : Result (List StateEntry) AllocError) → IsKeptBy m.standing (whole_world opened m) →
+pub state_reported : (opened : ℕ) (m seen : World) {h : History} (result : Result (List StateEntry) AllocError) → IsKeptBy m.standing (whole_world opened m) →
     whole_world opened m ≡ seen → h ≡ m.standing.history → IfOk result (λ state. IsStateOf h state) →
     IfOk result (λ state. IsStateOf seen.standing.history state)
-state_told opened m seen (Ok state) x is same told =
+state_reported opened m seen (Ok state) x is same reported =
     subst (λ (w : World). IsStateOf w.standing.history state) is
-    (state_of_whole opened m state x (subst (λ (g : History). IsStateOf g state) same told))
-state_told opened m seen (Err e) x is same told = tt
+    (state_of_whole opened m state x (subst (λ (g : History). IsStateOf g state) same reported))
+state_reported opened m seen (Err e) x is same reported = tt
 
 -- the store stands for the history that the entries replay to
 pub stands_replayed : (opened : ℕ) (m seen : World) → IsKeptBy m.standing (whole_world opened m) → whole_world opened m ≡ seen →

@@ -84,8 +84,8 @@ awaits_of program known key not is =
 
 awaits_behind : (program : ProgramTree) (known : Known) (key : List ℕ) (due : Bool) → is_due program.prefetch known.reads ≡ due →
     cond due None (unserved (serving known.reads known.prefetched) (wanted (run_on program known.reads))) ≡ Some key → Awaits program known key
-awaits_behind program known key true is told = absurd (cc)
-awaits_behind program known key false is told = awaits_of program known key is told
+awaits_behind program known key true is reported = absurd (cc)
+awaits_behind program known key false is reported = awaits_of program known key is reported
 
 awaits_by : (program : ProgramTree) (kept : Option ProgramTree) (level : Level) (known : Known) (key : List ℕ) →
     IfSome kept (λ (k : ProgramTree). k ≡ program) → awaited (record { program = kept; level = level; known = known }) ≡ Some key →

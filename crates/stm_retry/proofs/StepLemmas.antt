@@ -39,22 +39,22 @@ use Rattle.stm_attempt.specs.ReadyRun.{ReadyRun}
 use Rattle.stm_attempt.specs.Next.{next_at_end, next_after, list_asked}
 use Rattle.stm_entries.specs.declared.entry.Entry.{Entry}
 use Rattle.stm_entries.specs.declared.entry.Entry.TheVariants.{Program as ProgramEntry}
-use Rattle.stm_calls.specs.Fetched.{fetched, fetch_told, fetch_all_told, IsRefusalOfAll}
-use Rattle.stm_calls.specs.Sent.{sent, seen_in as seen_told}
+use Rattle.stm_calls.specs.Fetched.{fetched, fetch_reported, fetch_all_reported, IsRefusalOfAll}
+use Rattle.stm_calls.specs.Sent.{sent, seen_in as seen_reported}
 use Rattle.stm_calls.proofs.Cases.{HasCommitted, HasFailed, is_refused}
 use Rattle.stm_world.specs.declared.reply.Reply.{Reply}
 use Rattle.stm_world.specs.declared.reply.KeyRead.{KeyRead}
 use Rattle.stm_world.specs.declared.reply.Reply.TheVariants.{Started, Prefetched, Fetched, Committed, Conflict, GaveUp, Ended}
 use Rattle.stm_world.specs.declared.refusal.Refusal.TheVariants.{BadLimit}
-use Rattle.stm_world.specs.Task.{Task, modified_now, after_fetch, answers_told}
+use Rattle.stm_world.specs.Task.{Task, modified_now, after_fetch, answers_reported}
 use Rattle.stm_world.specs.World.{World, Stepped, Runner, Slot, Over, Live, begin, runner_at, with_slot, start_runner, step_runner, step_live}
-use Rattle.stm_world.specs.World.{step_on, fetch, fetch_at, fetch_list, finish, commit, commit_told, decided, take_commit, fail_commit, seen_in, replied, refused, entry_of}
-use Rattle.stm_retry.specs.declared.told.Told.{Told}
-use Rattle.stm_retry.specs.declared.told.Told.TheVariants.{GoesOn, Ends}
-use Rattle.stm_retry.specs.MachineTells.{Tells}
+use Rattle.stm_world.specs.World.{step_on, fetch, fetch_at, fetch_list, finish, commit, commit_reported, decided, take_commit, fail_commit, seen_in, replied, refused, entry_of}
+use Rattle.stm_retry.specs.declared.step_outcome.StepOutcome.{StepOutcome}
+use Rattle.stm_retry.specs.declared.step_outcome.StepOutcome.TheVariants.{GoesOn, Ends}
+use Rattle.stm_retry.specs.MachineReturns.{Returns}
 use Rattle.stm_retry.specs.RunnerView.{AreNamed, next_for, with_answer, with_answers, begun_again}
-use Rattle.stm_retry.specs.RunnerTells.{Workplace, workplace, world_around, reply_in, slot_after, Leaves, TellsEnd, IsReady, may_go_on}
-use Rattle.stm_retry.specs.RunnerTells.{told_of_fetch, after_told_fetch, key_read, told_of_list, after_told_list, told_of_failure, reply_told, slot_left}
+use Rattle.stm_retry.specs.RunnerReturns.{Workplace, workplace, world_around, reply_in, slot_after, Leaves, ReturnsEnd, IsReady, may_go_on}
+use Rattle.stm_retry.specs.RunnerReturns.{reported_of_fetch, after_reported_fetch, key_read, reported_of_list, after_reported_list, reported_of_failure, reply_reported, slot_left}
 use Rattle.stm_world.proofs.Slots.{other_number, count_grows}
 use Rattle.stm_retry.proofs.SlotLemmas.{put_back, put_there}
 
@@ -68,13 +68,13 @@ pub record IsBehind (r : Runner) (next : Next) : Type 0 where
 behind_by : (r : Runner) (next : Next) (due : Bool) → is_due r.task.program.prefetch r.known.reads ≡ due → list_asked next ≡ None →
     cond due (FetchAll r.task.program.prefetch 0) (next_after r.task.program r.task.level r.known.reads (run_on r.task.program r.known.reads)) ≡ next →
     IsBehind r next
-behind_by r next true is no_list told =
-    let both : Some r.task.program.prefetch ≡ None = ap list_asked told ∙ no_list in absurd (cc both)
-behind_by r next false is no_list told = record { has_list = is; is_next = told }
+behind_by r next true is no_list reported =
+    let both : Some r.task.program.prefetch ≡ None = ap list_asked reported ∙ no_list in absurd (cc both)
+behind_by r next false is no_list reported = record { has_list = is; is_next = reported }
 
 -- where what is next is no list, the list is not due
 is_behind : (r : Runner) (next : Next) → list_asked next ≡ None → next_for r ≡ next → IsBehind r next
-is_behind r next no_list told = behind_by r next (is_due r.task.program.prefetch r.known.reads) refl no_list told
+is_behind r next no_list reported = behind_by r next (is_due r.task.program.prefetch r.known.reads) refl no_list reported
 
 step_behind : (id : ℕ) (r : Runner) (w : World) → is_due r.task.program.prefetch r.known.reads ≡ false →
     step_live id r w ≡ step_on id r r.known.reads (run_on r.task.program r.known.reads) w
@@ -96,33 +96,33 @@ pub record IsListing (r : Runner) (keys : List (List ℕ)) : Type 0 where
 
 no_list_at_end : (program : ProgramTree) (level : Level) (reads : List ReadAnswer) (run : Run) (end : End) (keys : List (List ℕ)) (at : ℕ) →
     next_at_end program level reads run end ≡ FetchAll keys at → ⊥
-no_list_at_end program level reads run DoneEnd keys at told = cc
-no_list_at_end program level reads run (AbortedEnd text) keys at told = cc
-no_list_at_end program level reads run (FaultedEnd fault) keys at told = cc
+no_list_at_end program level reads run DoneEnd keys at reported = cc
+no_list_at_end program level reads run (AbortedEnd text) keys at reported = cc
+no_list_at_end program level reads run (FaultedEnd fault) keys at reported = cc
 
 no_list_behind : (program : ProgramTree) (level : Level) (reads : List ReadAnswer) (x : Answered) (keys : List (List ℕ)) (at : ℕ) →
     next_after program level reads x ≡ FetchAll keys at → ⊥
-no_list_behind program level reads (Wants k trace) keys at told = cc
-no_list_behind program level reads (EndedRun run) keys at told = no_list_at_end program level reads run run.end keys at told
+no_list_behind program level reads (Wants k trace) keys at reported = cc
+no_list_behind program level reads (EndedRun run) keys at reported = no_list_at_end program level reads run run.end keys at reported
 
 listing_by : (r : Runner) (keys : List (List ℕ)) (at : ℕ) (due : Bool) → is_due r.task.program.prefetch r.known.reads ≡ due →
     cond due (FetchAll r.task.program.prefetch 0) (next_after r.task.program r.task.level r.known.reads (run_on r.task.program r.known.reads))
     ≡ FetchAll keys at → IsListing r keys
-listing_by r keys at true is told = record { due = is; keys_are = cc }
-listing_by r keys at false is told =
-    absurd (no_list_behind r.task.program r.task.level r.known.reads (run_on r.task.program r.known.reads) keys at told)
+listing_by r keys at true is reported = record { due = is; keys_are = cc }
+listing_by r keys at false is reported =
+    absurd (no_list_behind r.task.program r.task.level r.known.reads (run_on r.task.program r.known.reads) keys at reported)
 
 pub is_listing : (r : Runner) (keys : List (List ℕ)) (at : ℕ) → next_for r ≡ FetchAll keys at → IsListing r keys
-is_listing r keys at told = listing_by r keys at (is_due r.task.program.prefetch r.known.reads) refl told
+is_listing r keys at reported = listing_by r keys at (is_due r.task.program.prefetch r.known.reads) refl reported
 
 -- a fetch of the list in the step of a runner, by what it comes to
 abbrev pub listed_step : ℕ → Runner → ℕ → Result (List ReadAnswer) StoreRefusal → World → Stepped
 listed_step id r revision (Ok answers) w = replied (Prefetched id revision (map key_read answers)) id (Live (with_answers answers r)) w
 listed_step id r revision (Err cause) w = replied (Ended id cause) id Over w
 
-told_now : (h : History) (keys : List (List ℕ)) → map key_read (map (answer_now h) keys) ≡ map (modified_now h) keys
-told_now h [] = refl
-told_now h (key ∷ keys) = ap (λ (l : List KeyRead). modified_now h key ∷ l) (told_now h keys)
+reported_now : (h : History) (keys : List (List ℕ)) → map key_read (map (answer_now h) keys) ≡ map (modified_now h) keys
+reported_now h [] = refl
+reported_now h (key ∷ keys) = ap (λ (l : List KeyRead). modified_now h key ∷ l) (reported_now h keys)
 
 listed_by : (id : ℕ) (r : Runner) (w : World) (many : Bool) →
     cond many (replied (Ended id TooManyOps) id Over w)
@@ -133,37 +133,37 @@ listed_by id r w true = refl
 listed_by id r w false =
     ap (λ (reads : List KeyRead). replied (Prefetched id (now w.standing.history) reads) id
     (Live (with_answers (map (answer_now w.standing.history) r.task.program.prefetch) r)) w)
-    (sym (told_now w.standing.history r.task.program.prefetch))
+    (sym (reported_now w.standing.history r.task.program.prefetch))
 
 pub step_lists : (id : ℕ) (r : Runner) (w : World) →
-    fetch_list id r w ≡ listed_step id r (now w.standing.history) (fetch_all_told w.standing r.task.program.prefetch) w
+    fetch_list id r w ≡ listed_step id r (now w.standing.history) (fetch_all_reported w.standing r.task.program.prefetch) w
 step_lists id r w = listed_by id r w (nat_lt w.standing.limit (length r.task.program.prefetch))
 
 listed_leaves : (id : ℕ) (r q : Runner) (s after : Standing) (entries : List Entry) (slots : List Slot) (revision : ℕ)
-    (o : Result (List ReadAnswer) StoreRefusal) (told : Told) → told ≡ told_of_list id revision o → q ≡ after_told_list o r → after ≡ s →
+    (o : Result (List ReadAnswer) StoreRefusal) (reported : StepOutcome) → reported ≡ reported_of_list id revision o → q ≡ after_reported_list o r → after ≡ s →
     listed_step id r revision o (world_around (workplace s entries r) slots)
-    ≡ record { reply = Ok (reply_in told); next = world_around (workplace after entries q) (with_slot id (slot_after told q) slots) }
-listed_leaves id r q s after entries slots revision (Ok answers) told told_is runner_is standing_is =
+    ≡ record { reply = Ok (reply_in reported); next = world_around (workplace after entries q) (with_slot id (slot_after reported q) slots) }
+listed_leaves id r q s after entries slots revision (Ok answers) reported reported_is runner_is standing_is =
     let new : Runner = with_answers answers r in
-    let says : Told = GoesOn (Prefetched id revision (map key_read answers)) in
-    let made : Told → Runner → Standing → Stepped = λ t p x.
+    let says : StepOutcome = GoesOn (Prefetched id revision (map key_read answers)) in
+    let made : StepOutcome → Runner → Standing → Stepped = λ t p x.
     record { reply = Ok (reply_in t); next = world_around (workplace x entries p) (with_slot id (slot_after t p) slots) } in
-    sym (ap (λ (t : Told). made t q after) told_is ∙ ap (λ (p : Runner). made says p after) runner_is ∙ ap (λ (x : Standing). made says new x) standing_is)
-listed_leaves id r q s after entries slots revision (Err cause) told told_is runner_is standing_is =
-    let says : Told = Ends (Ended id cause) in
-    let made : Told → Standing → Stepped = λ t x.
+    sym (ap (λ (t : StepOutcome). made t q after) reported_is ∙ ap (λ (p : Runner). made says p after) runner_is ∙ ap (λ (x : Standing). made says new x) standing_is)
+listed_leaves id r q s after entries slots revision (Err cause) reported reported_is runner_is standing_is =
+    let says : StepOutcome = Ends (Ended id cause) in
+    let made : StepOutcome → Standing → Stepped = λ t x.
     record { reply = Ok (reply_in t); next = world_around (workplace x entries q) (with_slot id (slot_after t q) slots) } in
-    sym (ap (λ (t : Told). made t after) told_is ∙ ap (λ (x : Standing). made says x) standing_is)
+    sym (ap (λ (t : StepOutcome). made t after) reported_is ∙ ap (λ (x : Standing). made says x) standing_is)
 
-pub list_leaves : (id : ℕ) (r q : Runner) (s after : Standing) (entries : List Entry) (keys : List (List ℕ)) (told : Told) → IsListing r keys →
-    told ≡ told_of_list id (now s.history) (fetch_all_told s keys) → q ≡ after_told_list (fetch_all_told s keys) r → after ≡ s →
-    Leaves id (Ok told) (workplace s entries r) (workplace after entries q) (step_live id r)
-list_leaves id r q s after entries keys told x told_is runner_is standing_is slots =
+pub list_leaves : (id : ℕ) (r q : Runner) (s after : Standing) (entries : List Entry) (keys : List (List ℕ)) (reported : StepOutcome) → IsListing r keys →
+    reported ≡ reported_of_list id (now s.history) (fetch_all_reported s keys) → q ≡ after_reported_list (fetch_all_reported s keys) r → after ≡ s →
+    Leaves id (Ok reported) (workplace s entries r) (workplace after entries q) (step_live id r)
+list_leaves id r q s after entries keys reported x reported_is runner_is standing_is slots =
     let w : World = world_around (workplace s entries r) slots in
     step_due id r w x.due
     ∙ step_lists id r w
-    ∙ ap (λ (l : List (List ℕ)). listed_step id r (now s.history) (fetch_all_told s l) w) x.keys_are
-    ∙ listed_leaves id r q s after entries slots (now s.history) (fetch_all_told s keys) told told_is runner_is standing_is
+    ∙ ap (λ (l : List (List ℕ)). listed_step id r (now s.history) (fetch_all_reported s l) w) x.keys_are
+    ∙ listed_leaves id r q s after entries slots (now s.history) (fetch_all_reported s keys) reported reported_is runner_is standing_is
 
 -- what the fetch of a list has answered: each key as it is now
 pub record AreAnswers (s : Standing) (keys : List (List ℕ)) (answers : List ReadAnswer) : Type 0 where
@@ -174,7 +174,7 @@ answers_by : (s : Standing) (keys : List (List ℕ)) (answers : List ReadAnswer)
 answers_by s keys answers true is = absurd (cc)
 answers_by s keys answers false is = record { are_now = cc }
 
-are_answers : (s : Standing) (keys : List (List ℕ)) (answers : List ReadAnswer) → fetch_all_told s keys ≡ Ok answers → AreAnswers s keys answers
+are_answers : (s : Standing) (keys : List (List ℕ)) (answers : List ReadAnswer) → fetch_all_reported s keys ≡ Ok answers → AreAnswers s keys answers
 are_answers s keys answers is = answers_by s keys answers (nat_lt s.limit (length keys)) is
 
 keys_now : (h : History) (keys : List (List ℕ)) → map (λ (a : ReadAnswer). a.key) (map (answer_now h) keys) ≡ keys
@@ -182,7 +182,7 @@ keys_now h [] = refl
 keys_now h (key ∷ keys) = ap (λ (l : List (List ℕ)). key ∷ l) (keys_now h keys)
 
 -- they are of the list's keys, in its order
-pub listed_keys : (s : Standing) (keys : List (List ℕ)) (answers : List ReadAnswer) → fetch_all_told s keys ≡ Ok answers →
+pub listed_keys : (s : Standing) (keys : List (List ℕ)) (answers : List ReadAnswer) → fetch_all_reported s keys ≡ Ok answers →
     keys ≡ map (λ (a : ReadAnswer). a.key) answers
 listed_keys s keys answers is =
     sym (keys_now s.history keys) ∙ ap (λ (l : List ReadAnswer). map (λ (a : ReadAnswer). a.key) l) (are_answers s keys answers is).are_now
@@ -196,40 +196,40 @@ show_one : (h : History) (keys : List (List ℕ)) → ShowOneRevision (map (answ
 show_one h [] = tt
 show_one h (key ∷ keys) = show_now h keys
 
-pub listed_show_one : (s : Standing) (keys : List (List ℕ)) (answers : List ReadAnswer) → fetch_all_told s keys ≡ Ok answers → ShowOneRevision answers
+pub listed_show_one : (s : Standing) (keys : List (List ℕ)) (answers : List ReadAnswer) → fetch_all_reported s keys ≡ Ok answers → ShowOneRevision answers
 listed_show_one s keys answers is = subst ShowOneRevision (are_answers s keys answers is).are_now (show_one s.history keys)
 
 -- what a fetch of a list that the store answered tells and leaves, where a growth was refused too
-pub list_answers : (s : Standing) (id revision : ℕ) (keys : List (List ℕ)) (answers : List ReadAnswer) (outcome : Result Told AllocError) →
-    revision ≡ now s.history → fetch_all_told s keys ≡ Ok answers →
-    IfOk outcome (λ told. told ≡ GoesOn (Prefetched id revision (map key_read answers))) →
-    IfOk outcome (λ told. told ≡ told_of_list id (now s.history) (fetch_all_told s keys))
-list_answers s id revision keys answers (Ok told) counts is told_is =
-    told_is ∙ ap (λ (n : ℕ). told_of_list id n (Ok answers)) counts ∙ ap (told_of_list id (now s.history)) (sym is)
-list_answers s id revision keys answers (Err e) counts is told_is = tt
+pub list_answers : (s : Standing) (id revision : ℕ) (keys : List (List ℕ)) (answers : List ReadAnswer) (outcome : Result StepOutcome AllocError) →
+    revision ≡ now s.history → fetch_all_reported s keys ≡ Ok answers →
+    IfOk outcome (λ reported. reported ≡ GoesOn (Prefetched id revision (map key_read answers))) →
+    IfOk outcome (λ reported. reported ≡ reported_of_list id (now s.history) (fetch_all_reported s keys))
+list_answers s id revision keys answers (Ok reported) counts is reported_is =
+    reported_is ∙ ap (λ (n : ℕ). reported_of_list id n (Ok answers)) counts ∙ ap (reported_of_list id (now s.history)) (sym is)
+list_answers s id revision keys answers (Err e) counts is reported_is = tt
 
-pub list_answers_leaves : (s : Standing) (keys : List (List ℕ)) (answers : List ReadAnswer) (r q : Runner) (outcome : Result Told AllocError) →
-    fetch_all_told s keys ≡ Ok answers → OnOk outcome (q ≡ with_answers answers r) → OnOk outcome (q ≡ after_told_list (fetch_all_told s keys) r)
-list_answers_leaves s keys answers r q (Ok told) is left = left ∙ ap (λ (o : Result (List ReadAnswer) StoreRefusal). after_told_list o r) (sym is)
+pub list_answers_leaves : (s : Standing) (keys : List (List ℕ)) (answers : List ReadAnswer) (r q : Runner) (outcome : Result StepOutcome AllocError) →
+    fetch_all_reported s keys ≡ Ok answers → OnOk outcome (q ≡ with_answers answers r) → OnOk outcome (q ≡ after_reported_list (fetch_all_reported s keys) r)
+list_answers_leaves s keys answers r q (Ok reported) is left = left ∙ ap (λ (o : Result (List ReadAnswer) StoreRefusal). after_reported_list o r) (sym is)
 list_answers_leaves s keys answers r q (Err e) is left = tt
 
 -- the same of one that the store refused
 list_cause : (s : Standing) (keys : List (List ℕ)) (cause : StoreRefusal) → cause ≢ OutOfMemory → IsRefusalOfAll s keys cause →
-    fetch_all_told s keys ≡ Err cause
+    fetch_all_reported s keys ≡ Err cause
 list_cause s keys cause not (inl want) = absurd (not want)
 list_cause s keys cause not (inr is) = is
 
-pub list_refused : (s : Standing) (id : ℕ) (keys : List (List ℕ)) (cause : StoreRefusal) (outcome : Result Told AllocError) →
-    IsRefusalOfAll s keys cause → IfOk outcome (λ told. told ≡ Ends (Ended id cause)) → OnOk outcome (cause ≢ OutOfMemory) →
-    IfOk outcome (λ told. told ≡ told_of_list id (now s.history) (fetch_all_told s keys))
-list_refused s id keys cause (Ok told) refused told_is not =
-    told_is ∙ ap (told_of_list id (now s.history)) (sym (list_cause s keys cause not refused))
-list_refused s id keys cause (Err e) refused told_is not = tt
+pub list_refused : (s : Standing) (id : ℕ) (keys : List (List ℕ)) (cause : StoreRefusal) (outcome : Result StepOutcome AllocError) →
+    IsRefusalOfAll s keys cause → IfOk outcome (λ reported. reported ≡ Ends (Ended id cause)) → OnOk outcome (cause ≢ OutOfMemory) →
+    IfOk outcome (λ reported. reported ≡ reported_of_list id (now s.history) (fetch_all_reported s keys))
+list_refused s id keys cause (Ok reported) refused reported_is not =
+    reported_is ∙ ap (reported_of_list id (now s.history)) (sym (list_cause s keys cause not refused))
+list_refused s id keys cause (Err e) refused reported_is not = tt
 
-pub list_refused_leaves : (s : Standing) (keys : List (List ℕ)) (cause : StoreRefusal) (r : Runner) (outcome : Result Told AllocError) →
-    IsRefusalOfAll s keys cause → OnOk outcome (cause ≢ OutOfMemory) → OnOk outcome (r ≡ after_told_list (fetch_all_told s keys) r)
-list_refused_leaves s keys cause r (Ok told) refused not =
-    ap (λ (o : Result (List ReadAnswer) StoreRefusal). after_told_list o r) (sym (list_cause s keys cause not refused))
+pub list_refused_leaves : (s : Standing) (keys : List (List ℕ)) (cause : StoreRefusal) (r : Runner) (outcome : Result StepOutcome AllocError) →
+    IsRefusalOfAll s keys cause → OnOk outcome (cause ≢ OutOfMemory) → OnOk outcome (r ≡ after_reported_list (fetch_all_reported s keys) r)
+list_refused_leaves s keys cause r (Ok reported) refused not =
+    ap (λ (o : Result (List ReadAnswer) StoreRefusal). after_reported_list o r) (sym (list_cause s keys cause not refused))
 list_refused_leaves s keys cause r (Err e) refused not = tt
 
 -- ---- a fetch ----
@@ -243,20 +243,20 @@ pub record IsWanting (r : Runner) (key : List ℕ) (at : ℕ) : Type 0 where
 
 no_fetch_at_end : (program : ProgramTree) (level : Level) (reads : List ReadAnswer) (run : Run) (end : End) (key : List ℕ) (at : ℕ) →
     next_at_end program level reads run end ≡ Fetch key at → ⊥
-no_fetch_at_end program level reads run DoneEnd key at told = cc
-no_fetch_at_end program level reads run (AbortedEnd text) key at told = cc
-no_fetch_at_end program level reads run (FaultedEnd fault) key at told = cc
+no_fetch_at_end program level reads run DoneEnd key at reported = cc
+no_fetch_at_end program level reads run (AbortedEnd text) key at reported = cc
+no_fetch_at_end program level reads run (FaultedEnd fault) key at reported = cc
 
 wanting_by : (r : Runner) (x : Answered) (key : List ℕ) (at : ℕ) → is_due r.task.program.prefetch r.known.reads ≡ false → run_on r.task.program r.known.reads ≡ x →
     next_after r.task.program r.task.level r.known.reads x ≡ Fetch key at → IsWanting r key at
-wanting_by r (Wants k trace) key at listed is told =
+wanting_by r (Wants k trace) key at listed is reported =
     let same : k ≡ key = cc in
     record { has_list = listed; trace = trace; wants = is ∙ ap (λ (l : List ℕ). Wants l trace) same; at_is = cc }
-wanting_by r (EndedRun run) key at listed is told = absurd (no_fetch_at_end r.task.program r.task.level r.known.reads run run.end key at told)
+wanting_by r (EndedRun run) key at listed is reported = absurd (no_fetch_at_end r.task.program r.task.level r.known.reads run run.end key at reported)
 
 pub is_wanting : (r : Runner) (key : List ℕ) (at : ℕ) → next_for r ≡ Fetch key at → IsWanting r key at
-is_wanting r key at told =
-    let behind : IsBehind r (Fetch key at) = is_behind r (Fetch key at) refl told in
+is_wanting r key at reported =
+    let behind : IsBehind r (Fetch key at) = is_behind r (Fetch key at) refl reported in
     wanting_by r (run_on r.task.program r.known.reads) key at behind.has_list refl behind.is_next
 
 -- a key that is wanted is not empty
@@ -276,35 +276,35 @@ fetched_by id r key base w true = refl
 fetched_by id r key base w false = refl
 
 pub step_fetches : (id : ℕ) (r : Runner) (key : List ℕ) (base : ℕ) (w : World) →
-    fetch_at id r key base w ≡ fetched_step id r key (fetch_told w.standing key base) w
+    fetch_at id r key base w ≡ fetched_step id r key (fetch_reported w.standing key base) w
 step_fetches id r key base w = fetched_by id r key base w (is_below_floor w.standing.floor base)
 
 fetched_leaves : (id : ℕ) (r q : Runner) (s after : Standing) (entries : List Entry) (slots : List Slot) (key : List ℕ) (o : Result ReadAnswer StoreRefusal)
-    (told : Told) → told ≡ told_of_fetch id key o → q ≡ after_told_fetch o r → after ≡ s →
+    (reported : StepOutcome) → reported ≡ reported_of_fetch id key o → q ≡ after_reported_fetch o r → after ≡ s →
     fetched_step id r key o (world_around (workplace s entries r) slots)
-    ≡ record { reply = Ok (reply_in told); next = world_around (workplace after entries q) (with_slot id (slot_after told q) slots) }
-fetched_leaves id r q s after entries slots key (Ok a) told told_is runner_is standing_is =
+    ≡ record { reply = Ok (reply_in reported); next = world_around (workplace after entries q) (with_slot id (slot_after reported q) slots) }
+fetched_leaves id r q s after entries slots key (Ok a) reported reported_is runner_is standing_is =
     let new : Runner = with_answer a r in
-    let says : Told = GoesOn (Fetched id key (mod_of a.kv) a.of_rev a.revision) in
-    let made : Told → Runner → Standing → Stepped = λ t p x.
+    let says : StepOutcome = GoesOn (Fetched id key (mod_of a.kv) a.of_rev a.revision) in
+    let made : StepOutcome → Runner → Standing → Stepped = λ t p x.
     record { reply = Ok (reply_in t); next = world_around (workplace x entries p) (with_slot id (slot_after t p) slots) } in
-    sym (ap (λ (t : Told). made t q after) told_is ∙ ap (λ (p : Runner). made says p after) runner_is ∙ ap (λ (x : Standing). made says new x) standing_is)
-fetched_leaves id r q s after entries slots key (Err cause) told told_is runner_is standing_is =
-    let says : Told = Ends (Ended id cause) in
-    let made : Told → Standing → Stepped = λ t x.
+    sym (ap (λ (t : StepOutcome). made t q after) reported_is ∙ ap (λ (p : Runner). made says p after) runner_is ∙ ap (λ (x : Standing). made says new x) standing_is)
+fetched_leaves id r q s after entries slots key (Err cause) reported reported_is runner_is standing_is =
+    let says : StepOutcome = Ends (Ended id cause) in
+    let made : StepOutcome → Standing → Stepped = λ t x.
     record { reply = Ok (reply_in t); next = world_around (workplace x entries q) (with_slot id (slot_after t q) slots) } in
-    sym (ap (λ (t : Told). made t after) told_is ∙ ap (λ (x : Standing). made says x) standing_is)
+    sym (ap (λ (t : StepOutcome). made t after) reported_is ∙ ap (λ (x : Standing). made says x) standing_is)
 
-pub fetch_leaves : (id : ℕ) (r q : Runner) (s after : Standing) (entries : List Entry) (key : List ℕ) (at : ℕ) (told : Told) → IsWanting r key at →
-    told ≡ told_of_fetch id key (fetch_told s key at) → q ≡ after_told_fetch (fetch_told s key at) r → after ≡ s →
-    Leaves id (Ok told) (workplace s entries r) (workplace after entries q) (step_live id r)
-fetch_leaves id r q s after entries key at told x told_is runner_is standing_is slots =
+pub fetch_leaves : (id : ℕ) (r q : Runner) (s after : Standing) (entries : List Entry) (key : List ℕ) (at : ℕ) (reported : StepOutcome) → IsWanting r key at →
+    reported ≡ reported_of_fetch id key (fetch_reported s key at) → q ≡ after_reported_fetch (fetch_reported s key at) r → after ≡ s →
+    Leaves id (Ok reported) (workplace s entries r) (workplace after entries q) (step_live id r)
+fetch_leaves id r q s after entries key at reported x reported_is runner_is standing_is slots =
     let w : World = world_around (workplace s entries r) slots in
     step_behind id r w x.has_list
     ∙ ap (λ (a : Answered). step_on id r r.known.reads a w) x.wants
     ∙ ap (λ (n : ℕ). fetch_at id r key n w) x.at_is
     ∙ step_fetches id r key at w
-    ∙ fetched_leaves id r q s after entries slots key (fetch_told s key at) told told_is runner_is standing_is
+    ∙ fetched_leaves id r q s after entries slots key (fetch_reported s key at) reported reported_is runner_is standing_is
 
 -- what a fetch that the store answered tells and leaves, where a growth was refused too
 answered_key : (s : Standing) (key : List ℕ) (at : ℕ) (a : ReadAnswer) (below : Bool) →
@@ -313,37 +313,37 @@ answered_key s key at a true is = absurd (cc)
 answered_key s key at a false is = let same : fetched s.history key at ≡ a = cc in ap (λ (x : ReadAnswer). x.key) same
 
 -- it is of the key that was fetched
-pub fetched_key : (s : Standing) (key : List ℕ) (at : ℕ) (a : ReadAnswer) → fetch_told s key at ≡ Ok a → key ≡ a.key
+pub fetched_key : (s : Standing) (key : List ℕ) (at : ℕ) (a : ReadAnswer) → fetch_reported s key at ≡ Ok a → key ≡ a.key
 fetched_key s key at a is = answered_key s key at a (is_below_floor s.floor at) is
 
-pub fetch_answers : (s : Standing) (id : ℕ) (key : List ℕ) (at : ℕ) (a : ReadAnswer) (outcome : Result Told AllocError) → fetch_told s key at ≡ Ok a →
-    IfOk outcome (λ told. told ≡ GoesOn (Fetched id key (mod_of a.kv) a.of_rev a.revision)) →
-    IfOk outcome (λ told. told ≡ told_of_fetch id key (fetch_told s key at))
-fetch_answers s id key at a (Ok told) is told_is = told_is ∙ ap (told_of_fetch id key) (sym is)
-fetch_answers s id key at a (Err e) is told_is = tt
+pub fetch_answers : (s : Standing) (id : ℕ) (key : List ℕ) (at : ℕ) (a : ReadAnswer) (outcome : Result StepOutcome AllocError) → fetch_reported s key at ≡ Ok a →
+    IfOk outcome (λ reported. reported ≡ GoesOn (Fetched id key (mod_of a.kv) a.of_rev a.revision)) →
+    IfOk outcome (λ reported. reported ≡ reported_of_fetch id key (fetch_reported s key at))
+fetch_answers s id key at a (Ok reported) is reported_is = reported_is ∙ ap (reported_of_fetch id key) (sym is)
+fetch_answers s id key at a (Err e) is reported_is = tt
 
-pub fetch_answers_leaves : (s : Standing) (key : List ℕ) (at : ℕ) (a : ReadAnswer) (r q : Runner) (outcome : Result Told AllocError) →
-    fetch_told s key at ≡ Ok a → OnOk outcome (q ≡ with_answer a r) → OnOk outcome (q ≡ after_told_fetch (fetch_told s key at) r)
-fetch_answers_leaves s key at a r q (Ok told) is left = left ∙ ap (λ (o : Result ReadAnswer StoreRefusal). after_told_fetch o r) (sym is)
+pub fetch_answers_leaves : (s : Standing) (key : List ℕ) (at : ℕ) (a : ReadAnswer) (r q : Runner) (outcome : Result StepOutcome AllocError) →
+    fetch_reported s key at ≡ Ok a → OnOk outcome (q ≡ with_answer a r) → OnOk outcome (q ≡ after_reported_fetch (fetch_reported s key at) r)
+fetch_answers_leaves s key at a r q (Ok reported) is left = left ∙ ap (λ (o : Result ReadAnswer StoreRefusal). after_reported_fetch o r) (sym is)
 fetch_answers_leaves s key at a r q (Err e) is left = tt
 
 -- the same of one that the store refused
 refused_cause : (s : Standing) (key : List ℕ) (at : ℕ) (cause : StoreRefusal) → cause ≢ OutOfMemory →
-    (cause ≡ OutOfMemory) ⊎ (fetch_told s key at ≡ Err cause) → fetch_told s key at ≡ Err cause
+    (cause ≡ OutOfMemory) ⊎ (fetch_reported s key at ≡ Err cause) → fetch_reported s key at ≡ Err cause
 refused_cause s key at cause not (inl want) = absurd (not want)
 refused_cause s key at cause not (inr is) = is
 
-pub fetch_refused : (s : Standing) (id : ℕ) (key : List ℕ) (at : ℕ) (cause : StoreRefusal) (outcome : Result Told AllocError) →
-    (cause ≡ OutOfMemory) ⊎ (fetch_told s key at ≡ Err cause) → IfOk outcome (λ told. told ≡ Ends (Ended id cause)) → OnOk outcome (cause ≢ OutOfMemory) →
-    IfOk outcome (λ told. told ≡ told_of_fetch id key (fetch_told s key at))
-fetch_refused s id key at cause (Ok told) refused told_is not = told_is ∙ ap (told_of_fetch id key) (sym (refused_cause s key at cause not refused))
-fetch_refused s id key at cause (Err e) refused told_is not = tt
+pub fetch_refused : (s : Standing) (id : ℕ) (key : List ℕ) (at : ℕ) (cause : StoreRefusal) (outcome : Result StepOutcome AllocError) →
+    (cause ≡ OutOfMemory) ⊎ (fetch_reported s key at ≡ Err cause) → IfOk outcome (λ reported. reported ≡ Ends (Ended id cause)) → OnOk outcome (cause ≢ OutOfMemory) →
+    IfOk outcome (λ reported. reported ≡ reported_of_fetch id key (fetch_reported s key at))
+fetch_refused s id key at cause (Ok reported) refused reported_is not = reported_is ∙ ap (reported_of_fetch id key) (sym (refused_cause s key at cause not refused))
+fetch_refused s id key at cause (Err e) refused reported_is not = tt
 
-pub fetch_refused_leaves : (s : Standing) (key : List ℕ) (at : ℕ) (cause : StoreRefusal) (r : Runner) (outcome : Result Told AllocError) →
-    (cause ≡ OutOfMemory) ⊎ (fetch_told s key at ≡ Err cause) → OnOk outcome (cause ≢ OutOfMemory) →
-    OnOk outcome (r ≡ after_told_fetch (fetch_told s key at) r)
-fetch_refused_leaves s key at cause r (Ok told) refused not =
-    ap (λ (o : Result ReadAnswer StoreRefusal). after_told_fetch o r) (sym (refused_cause s key at cause not refused))
+pub fetch_refused_leaves : (s : Standing) (key : List ℕ) (at : ℕ) (cause : StoreRefusal) (r : Runner) (outcome : Result StepOutcome AllocError) →
+    (cause ≡ OutOfMemory) ⊎ (fetch_reported s key at ≡ Err cause) → OnOk outcome (cause ≢ OutOfMemory) →
+    OnOk outcome (r ≡ after_reported_fetch (fetch_reported s key at) r)
+fetch_refused_leaves s key at cause r (Ok reported) refused not =
+    ap (λ (o : Result ReadAnswer StoreRefusal). after_reported_fetch o r) (sym (refused_cause s key at cause not refused))
 fetch_refused_leaves s key at cause r (Err e) refused not = tt
 
 -- ---- a run that came to its end ----
@@ -351,18 +351,18 @@ fetch_refused_leaves s key at cause r (Err e) refused not = tt
 ready_at_end : (r : Runner) (run : Run) (end : End) (ready : ReadyRun) → is_due r.task.program.prefetch r.known.reads ≡ false →
     run_on r.task.program r.known.reads ≡ EndedRun run → run.end ≡ end →
     next_at_end r.task.program r.task.level r.known.reads run end ≡ Ready ready → (q : Run) × IsReady r q ready
-ready_at_end r run DoneEnd ready listed is ended told = (run, record { has_list = listed; is_run = is; is_done = ended; is = cc })
-ready_at_end r run (AbortedEnd text) ready listed is ended told = absurd (cc)
-ready_at_end r run (FaultedEnd fault) ready listed is ended told = absurd (cc)
+ready_at_end r run DoneEnd ready listed is ended reported = (run, record { has_list = listed; is_run = is; is_done = ended; is = cc })
+ready_at_end r run (AbortedEnd text) ready listed is ended reported = absurd (cc)
+ready_at_end r run (FaultedEnd fault) ready listed is ended reported = absurd (cc)
 
 ready_by : (r : Runner) (x : Answered) (ready : ReadyRun) → is_due r.task.program.prefetch r.known.reads ≡ false → run_on r.task.program r.known.reads ≡ x →
     next_after r.task.program r.task.level r.known.reads x ≡ Ready ready → (q : Run) × IsReady r q ready
-ready_by r (Wants k trace) ready listed is told = absurd (cc)
-ready_by r (EndedRun run) ready listed is told = ready_at_end r run run.end ready listed is refl told
+ready_by r (Wants k trace) ready listed is reported = absurd (cc)
+ready_by r (EndedRun run) ready listed is reported = ready_at_end r run run.end ready listed is refl reported
 
 pub is_ready : (r : Runner) (ready : ReadyRun) → next_for r ≡ Ready ready → (q : Run) × IsReady r q ready
-is_ready r ready told =
-    let behind : IsBehind r (Ready ready) = is_behind r (Ready ready) refl told in
+is_ready r ready reported =
+    let behind : IsBehind r (Ready ready) = is_behind r (Ready ready) refl reported in
     ready_by r (run_on r.task.program r.known.reads) ready behind.has_list refl behind.is_next
 
 finished : (id : ℕ) (r : Runner) (run : Run) (w : World) → is_due r.task.program.prefetch r.known.reads ≡ false →
@@ -374,19 +374,19 @@ step_commits : (id : ℕ) (r : Runner) (run : Run) (ready : ReadyRun) (w : World
 step_commits id r run ready w x = finished id r run w x.has_list x.is_run ∙ ap (λ (e : End). finish id r r.known.reads run e w) x.is_done
 
 -- what its commit leaves is what its step leaves
-pub commit_leaves : (id : ℕ) (r : Runner) (run : Run) (ready : ReadyRun) (outcome : Result Told AllocError) (before after : Workplace) → IsReady r run ready →
+pub commit_leaves : (id : ℕ) (r : Runner) (run : Run) (ready : ReadyRun) (outcome : Result StepOutcome AllocError) (before after : Workplace) → IsReady r run ready →
     Leaves id outcome before after (commit id r r.known.reads run) → Leaves id outcome before after (step_live id r)
-commit_leaves id r run ready (Ok told) before after x leaves =
+commit_leaves id r run ready (Ok reported) before after x leaves =
     λ slots. step_commits id r run ready (world_around before slots) x ∙ leaves slots
 commit_leaves id r run ready (Err e) before after x leaves = leaves
 
 -- A runner that went on is still the one that it was: what its commit leaves is what its step leaves.
-pub ready_leaves : (id : ℕ) (r q : Runner) (ready : ReadyRun) (outcome : Result Told AllocError) (s : Standing) (entries : List Entry) (after : Workplace) →
+pub ready_leaves : (id : ℕ) (r q : Runner) (ready : ReadyRun) (outcome : Result StepOutcome AllocError) (s : Standing) (entries : List Entry) (after : Workplace) →
     q ≡ r → next_for r ≡ Ready ready →
     ((run : Run) → IsReady q run ready → Leaves id outcome (workplace s entries q) after (commit id q q.known.reads run)) →
     Leaves id outcome (workplace s entries r) after (step_live id r)
-ready_leaves id r q ready outcome s entries after same told leaves =
-    let found : (run : Run) × IsReady r run ready = is_ready r ready told in
+ready_leaves id r q ready outcome s entries after same reported leaves =
+    let found : (run : Run) × IsReady r run ready = is_ready r ready reported in
     let mine = subst (λ (x : Runner). (run : Run) → IsReady x run ready → Leaves id outcome (workplace s entries x) after (commit id x x.known.reads run))
     same leaves in
     commit_leaves id r found.0 ready outcome (workplace s entries r) after found.1 (mine found.0 found.1)
@@ -404,57 +404,57 @@ pub record IsOver (r : Runner) (run : Run) : Type 0 where
 aborted_at_end : (r : Runner) (run aborted : Run) (end : End) → is_due r.task.program.prefetch r.known.reads ≡ false →
     run_on r.task.program r.known.reads ≡ EndedRun run → run.end ≡ end →
     next_at_end r.task.program r.task.level r.known.reads run end ≡ AbortedNext aborted → IsOver r aborted
-aborted_at_end r run aborted DoneEnd listed is ended told = absurd (cc)
-aborted_at_end r run aborted (AbortedEnd text) listed is ended told =
+aborted_at_end r run aborted DoneEnd listed is ended reported = absurd (cc)
+aborted_at_end r run aborted (AbortedEnd text) listed is ended reported =
     let same : run ≡ aborted = cc in subst (IsOver r) same (record { has_list = listed; is_run = is; not_done = λ done. absurd (cc) })
-aborted_at_end r run aborted (FaultedEnd fault) listed is ended told = absurd (cc)
+aborted_at_end r run aborted (FaultedEnd fault) listed is ended reported = absurd (cc)
 
 aborted_by : (r : Runner) (x : Answered) (aborted : Run) → is_due r.task.program.prefetch r.known.reads ≡ false →
     run_on r.task.program r.known.reads ≡ x →
     next_after r.task.program r.task.level r.known.reads x ≡ AbortedNext aborted → IsOver r aborted
-aborted_by r (Wants k trace) aborted listed is told = absurd (cc)
-aborted_by r (EndedRun run) aborted listed is told = aborted_at_end r run aborted run.end listed is refl told
+aborted_by r (Wants k trace) aborted listed is reported = absurd (cc)
+aborted_by r (EndedRun run) aborted listed is reported = aborted_at_end r run aborted run.end listed is refl reported
 
 pub has_aborted : (r : Runner) (run : Run) → next_for r ≡ AbortedNext run → IsOver r run
-has_aborted r run told =
-    let behind : IsBehind r (AbortedNext run) = is_behind r (AbortedNext run) refl told in
+has_aborted r run reported =
+    let behind : IsBehind r (AbortedNext run) = is_behind r (AbortedNext run) refl reported in
     aborted_by r (run_on r.task.program r.known.reads) run behind.has_list refl behind.is_next
 
 faulted_at_end : (r : Runner) (run faulted : Run) (end : End) → is_due r.task.program.prefetch r.known.reads ≡ false →
     run_on r.task.program r.known.reads ≡ EndedRun run → run.end ≡ end →
     next_at_end r.task.program r.task.level r.known.reads run end ≡ FaultedNext faulted → IsOver r faulted
-faulted_at_end r run faulted DoneEnd listed is ended told = absurd (cc)
-faulted_at_end r run faulted (AbortedEnd text) listed is ended told = absurd (cc)
-faulted_at_end r run faulted (FaultedEnd fault) listed is ended told =
+faulted_at_end r run faulted DoneEnd listed is ended reported = absurd (cc)
+faulted_at_end r run faulted (AbortedEnd text) listed is ended reported = absurd (cc)
+faulted_at_end r run faulted (FaultedEnd fault) listed is ended reported =
     let same : run ≡ faulted = cc in subst (IsOver r) same (record { has_list = listed; is_run = is; not_done = λ done. absurd (cc) })
 
 faulted_by : (r : Runner) (x : Answered) (faulted : Run) → is_due r.task.program.prefetch r.known.reads ≡ false →
     run_on r.task.program r.known.reads ≡ x →
     next_after r.task.program r.task.level r.known.reads x ≡ FaultedNext faulted → IsOver r faulted
-faulted_by r (Wants k trace) faulted listed is told = absurd (cc)
-faulted_by r (EndedRun run) faulted listed is told = faulted_at_end r run faulted run.end listed is refl told
+faulted_by r (Wants k trace) faulted listed is reported = absurd (cc)
+faulted_by r (EndedRun run) faulted listed is reported = faulted_at_end r run faulted run.end listed is refl reported
 
 pub has_faulted : (r : Runner) (run : Run) → next_for r ≡ FaultedNext run → IsOver r run
-has_faulted r run told =
-    let behind : IsBehind r (FaultedNext run) = is_behind r (FaultedNext run) refl told in
+has_faulted r run reported =
+    let behind : IsBehind r (FaultedNext run) = is_behind r (FaultedNext run) refl reported in
     faulted_by r (run_on r.task.program r.known.reads) run behind.has_list refl behind.is_next
 
-end_is : (id : ℕ) (r : Runner) (run : Run) (end : End) (reply : Reply) (w : World) → TellsEnd id end reply →
+end_is : (id : ℕ) (r : Runner) (run : Run) (end : End) (reply : Reply) (w : World) → ReturnsEnd id end reply →
     finish id r r.known.reads run end w ≡ replied reply id Over w
-end_is id r run DoneEnd reply w tells = absurd tells
-end_is id r run (AbortedEnd text) reply w tells = ap (λ (x : Reply). replied x id Over w) (sym tells)
-end_is id r run (FaultedEnd fault) reply w tells = ap (λ (x : Reply). replied x id Over w) (sym tells)
+end_is id r run DoneEnd reply w reports = absurd reports
+end_is id r run (AbortedEnd text) reply w reports = ap (λ (x : Reply). replied x id Over w) (sym reports)
+end_is id r run (FaultedEnd fault) reply w reports = ap (λ (x : Reply). replied x id Over w) (sym reports)
 
-pub end_leaves : (id : ℕ) (r q : Runner) (s : Standing) (entries : List Entry) (run : Run) (reply : Reply) → IsOver r run → TellsEnd id run.end reply →
+pub end_leaves : (id : ℕ) (r q : Runner) (s : Standing) (entries : List Entry) (run : Run) (reply : Reply) → IsOver r run → ReturnsEnd id run.end reply →
     Leaves id (Ok (Ends reply)) (workplace s entries r) (workplace s entries q) (step_live id r)
-end_leaves id r q s entries run reply x tells slots =
-    finished id r run (world_around (workplace s entries r) slots) x.has_list x.is_run ∙ end_is id r run run.end reply (world_around (workplace s entries r) slots) tells
+end_leaves id r q s entries run reply x reports slots =
+    finished id r run (world_around (workplace s entries r) slots) x.has_list x.is_run ∙ end_is id r run run.end reply (world_around (workplace s entries r) slots) reports
 
 -- ---- a commit ----
 
 commit_is : (id : ℕ) (r : Runner) (run : Run) (w : World) →
     commit id r r.known.reads run w
-    ≡ commit_told id r r.known.reads run (committed (terms_of w.standing) r.task.level r.known.reads run) w
+    ≡ commit_reported id r r.known.reads run (committed (terms_of w.standing) r.task.level r.known.reads run) w
 unfolding commit
 commit_is id r run w = refl
 
@@ -466,14 +466,14 @@ outcome_of s ready run = committed (terms_of s) ready.level ready.answers run
 
 commit_by : (id : ℕ) (r : Runner) (run : Run) (ready : ReadyRun) (s : Standing) (entries : List Entry) (slots : List Slot) → IsReady r run ready →
     commit id r r.known.reads run (world_around (workplace s entries r) slots)
-    ≡ commit_told id r r.known.reads run (outcome_of s ready run) (world_around (workplace s entries r) slots)
+    ≡ commit_reported id r r.known.reads run (outcome_of s ready run) (world_around (workplace s entries r) slots)
 commit_by id r run ready s entries slots x =
     commit_is id r run (world_around (workplace s entries r) slots)
-    ∙ ap (λ (a : ReadyRun). commit_told id r r.known.reads run (outcome_of s a run) (world_around (workplace s entries r) slots)) (sym x.is)
+    ∙ ap (λ (a : ReadyRun). commit_reported id r r.known.reads run (outcome_of s a run) (world_around (workplace s entries r) slots)) (sym x.is)
 
 taken_is : (id : ℕ) (r : Runner) (run : Run) (s after : Standing) (entries more : List Entry) (slots : List Slot) (done : Done) (revision attempts : ℕ)
     (output : List Value) (trace : List TraceItem) (answers : List ReadAnswer) →
-    revision ≡ now done.history → attempts ≡ r.failures + 1 → output ≡ run.output → trace ≡ run.trace → answers ≡ answers_told r.task.level r.known.reads →
+    revision ≡ now done.history → attempts ≡ r.failures + 1 → output ≡ run.output → trace ≡ run.trace → answers ≡ answers_reported r.task.level r.known.reads →
     after ≡ with_history s done.history → more ≡ entries ++ entry_of r.task r.known.reads run (now done.history) ∷ [] → (q : Runner) →
     take_commit id r r.known.reads run done (world_around (workplace s entries r) slots)
     ≡ record {
@@ -487,119 +487,119 @@ taken_is id r run s after entries more slots done revision attempts output trace
 pub take_leaves : (id : ℕ) (r q : Runner) (run : Run) (ready : ReadyRun) (s after : Standing) (entries more : List Entry) (entry : Entry)
     (revision attempts : ℕ) (output : List Value) (trace : List TraceItem) (answers : List ReadAnswer) →
     IsReady r run ready → HasCommitted s after (outcome_of s ready run) revision →
-    attempts ≡ r.failures + 1 → output ≡ ready.output → trace ≡ ready.trace → answers ≡ answers_told ready.level ready.answers →
-    entry ≡ ProgramEntry ready.program ready.level (answers_told ready.level ready.answers) ready.output ready.trace revision →
+    attempts ≡ r.failures + 1 → output ≡ ready.output → trace ≡ ready.trace → answers ≡ answers_reported ready.level ready.answers →
+    entry ≡ ProgramEntry ready.program ready.level (answers_reported ready.level ready.answers) ready.output ready.trace revision →
     more ≡ entries ++ entry ∷ [] →
     Leaves id (Ok (Ends (Committed id revision attempts output trace answers))) (workplace s entries r) (workplace after more q) (commit id r r.known.reads run)
 take_leaves id r q run ready s after entries more entry revision attempts output trace answers x y a b c d e f slots =
     let w : World = world_around (workplace s entries r) slots in
     let reads : List ReadAnswer = r.known.reads in
     let entry_is : entry ≡ entry_of r.task reads run (now y.done.history) =
-    e ∙ ap (λ (p : ReadyRun). ProgramEntry p.program p.level (answers_told p.level p.answers) p.output p.trace revision) x.is
+    e ∙ ap (λ (p : ReadyRun). ProgramEntry p.program p.level (answers_reported p.level p.answers) p.output p.trace revision) x.is
     ∙ ap (λ (n : ℕ). entry_of r.task reads run n) y.revision_is in
     commit_by id r run ready s entries slots x
-    ∙ ap (λ (o : Result Done StoreRefusal). commit_told id r reads run o w) y.taken
+    ∙ ap (λ (o : Result Done StoreRefusal). commit_reported id r reads run o w) y.taken
     ∙ ap (λ (o : Option FailedCompare). decided id r reads run y.done o w) y.none_failed
     ∙ taken_is id r run s after entries more slots y.done revision attempts output trace answers y.revision_is a
     (b ∙ ap (λ (p : ReadyRun). p.output) x.is) (c ∙ ap (λ (p : ReadyRun). p.trace) x.is)
-    (d ∙ ap (λ (p : ReadyRun). answers_told p.level p.answers) x.is) y.left
+    (d ∙ ap (λ (p : ReadyRun). answers_reported p.level p.answers) x.is) y.left
     (f ∙ ap (λ (l : Entry). entries ++ l ∷ []) entry_is) q
 
-again_by : (id : ℕ) (r q : Runner) (seen : Seen) (s after : Standing) (entries : List Entry) (slots : List Slot) (modified : ℕ) (told : Told) (more : Bool) →
+again_by : (id : ℕ) (r q : Runner) (seen : Seen) (s after : Standing) (entries : List Entry) (slots : List Slot) (modified : ℕ) (reported : StepOutcome) (more : Bool) →
     may_go_on r ≡ more →
-    told ≡ cond more (GoesOn (Conflict id seen.key seen.mod_rev modified)) (Ends (GaveUp id (r.failures + 1) seen.key seen.mod_rev modified)) →
+    reported ≡ cond more (GoesOn (Conflict id seen.key seen.mod_rev modified)) (Ends (GaveUp id (r.failures + 1) seen.key seen.mod_rev modified)) →
     (more ≡ true → q ≡ begun_again (map (answer_now s.history) (reread_keys r.task.level r.known.reads)) r) → after ≡ s →
     fail_commit id r seen modified (world_around (workplace s entries r) slots)
-    ≡ record { reply = Ok (reply_in told); next = world_around (workplace after entries q) (with_slot id (slot_after told q) slots) }
-again_by id r q seen s after entries slots modified told true go told_is again same =
+    ≡ record { reply = Ok (reply_in reported); next = world_around (workplace after entries q) (with_slot id (slot_after reported q) slots) }
+again_by id r q seen s after entries slots modified reported true go reported_is again same =
     let new : Runner = begun_again (map (answer_now s.history) (reread_keys r.task.level r.known.reads)) r in
-    let says : Told = GoesOn (Conflict id seen.key seen.mod_rev modified) in
+    let says : StepOutcome = GoesOn (Conflict id seen.key seen.mod_rev modified) in
     let w : World = world_around (workplace s entries r) slots in
-    let made : Told → Runner → Standing → Stepped = λ t p x.
+    let made : StepOutcome → Runner → Standing → Stepped = λ t p x.
     record { reply = Ok (reply_in t); next = world_around (workplace x entries p) (with_slot id (slot_after t p) slots) } in
     ap (λ b. cond b (replied (Conflict id seen.key seen.mod_rev modified) id (Live new) w)
     (replied (GaveUp id (r.failures + 1) seen.key seen.mod_rev modified) id Over w)) go
-    ∙ sym (ap (λ (t : Told). made t q after) told_is ∙ ap (λ (p : Runner). made says p after) (again refl) ∙ ap (λ (x : Standing). made says new x) same)
-again_by id r q seen s after entries slots modified told false go told_is again same =
+    ∙ sym (ap (λ (t : StepOutcome). made t q after) reported_is ∙ ap (λ (p : Runner). made says p after) (again refl) ∙ ap (λ (x : Standing). made says new x) same)
+again_by id r q seen s after entries slots modified reported false go reported_is again same =
     let new : Runner = begun_again (map (answer_now s.history) (reread_keys r.task.level r.known.reads)) r in
-    let says : Told = Ends (GaveUp id (r.failures + 1) seen.key seen.mod_rev modified) in
+    let says : StepOutcome = Ends (GaveUp id (r.failures + 1) seen.key seen.mod_rev modified) in
     let w : World = world_around (workplace s entries r) slots in
-    let made : Told → Standing → Stepped = λ t x.
+    let made : StepOutcome → Standing → Stepped = λ t x.
     record { reply = Ok (reply_in t); next = world_around (workplace x entries q) (with_slot id (slot_after t q) slots) } in
     ap (λ b. cond b (replied (Conflict id seen.key seen.mod_rev modified) id (Live new) w)
     (replied (GaveUp id (r.failures + 1) seen.key seen.mod_rev modified) id Over w)) go
-    ∙ sym (ap (λ (t : Told). made t after) told_is ∙ ap (λ (x : Standing). made says x) same)
+    ∙ sym (ap (λ (t : StepOutcome). made t after) reported_is ∙ ap (λ (x : Standing). made says x) same)
 
-same_seen : (o : Option Seen) → seen_told o ≡ seen_in o
+same_seen : (o : Option Seen) → seen_reported o ≡ seen_in o
 same_seen None = refl
 same_seen (Some seen) = refl
 
 -- a commit of which a compare failed
 fail_leaves : (id : ℕ) (r q : Runner) (run : Run) (ready : ReadyRun) (s after : Standing) (entries : List Entry) (key : List ℕ) (seen modified : ℕ)
-    (answers : List ReadAnswer) (told : Told) → IsReady r run ready →
+    (answers : List ReadAnswer) (reported : StepOutcome) → IsReady r run ready →
     HasFailed s after ready.level ready.answers (latest_writes run.writes) (outcome_of s ready run) key seen modified answers →
-    told ≡ told_of_failure id r key seen modified → (may_go_on r ≡ true → q ≡ begun_again answers r) →
-    Leaves id (Ok told) (workplace s entries r) (workplace after entries q) (commit id r r.known.reads run)
-fail_leaves id r q run ready s after entries key seen modified answers told x y told_is again slots =
+    reported ≡ reported_of_failure id r key seen modified → (may_go_on r ≡ true → q ≡ begun_again answers r) →
+    Leaves id (Ok reported) (workplace s entries r) (workplace after entries q) (commit id r r.known.reads run)
+fail_leaves id r q run ready s after entries key seen modified answers reported x y reported_is again slots =
     let w : World = world_around (workplace s entries r) slots in
     let reads : List ReadAnswer = r.known.reads in
     let writes : List Write = latest_writes run.writes in
     let answers_are : answers ≡ map (answer_now s.history) (reread_keys r.task.level reads) =
     y.answers_are ∙ ap (λ (p : ReadyRun). map (answer_now s.history) (reread_keys p.level p.answers)) x.is in
     let about : Seen = seen_in (slice_get (seen_by reads writes) y.failed.index) in
-    let same : seen_told (slice_get (seen_by ready.answers writes) y.failed.index) ≡ about =
-    ap (λ (p : ReadyRun). seen_told (slice_get (seen_by p.answers writes) y.failed.index)) x.is
+    let same : seen_reported (slice_get (seen_by ready.answers writes) y.failed.index) ≡ about =
+    ap (λ (p : ReadyRun). seen_reported (slice_get (seen_by p.answers writes) y.failed.index)) x.is
     ∙ same_seen (slice_get (seen_by reads writes) y.failed.index) in
-    let says : told ≡ told_of_failure id r about.key about.mod_rev y.failed.mod_rev =
-    told_is ∙ ap (λ (k : List ℕ). told_of_failure id r k seen modified) (y.key_is ∙ ap (λ (z : Seen). z.key) same)
-    ∙ ap (λ (n : ℕ). told_of_failure id r about.key n modified) (y.seen_is ∙ ap (λ (z : Seen). z.mod_rev) same)
-    ∙ ap (λ (n : ℕ). told_of_failure id r about.key about.mod_rev n) y.now_is in
+    let says : reported ≡ reported_of_failure id r about.key about.mod_rev y.failed.mod_rev =
+    reported_is ∙ ap (λ (k : List ℕ). reported_of_failure id r k seen modified) (y.key_is ∙ ap (λ (z : Seen). z.key) same)
+    ∙ ap (λ (n : ℕ). reported_of_failure id r about.key n modified) (y.seen_is ∙ ap (λ (z : Seen). z.mod_rev) same)
+    ∙ ap (λ (n : ℕ). reported_of_failure id r about.key about.mod_rev n) y.now_is in
     commit_by id r run ready s entries slots x
-    ∙ ap (λ (o : Result Done StoreRefusal). commit_told id r reads run o w) y.taken
+    ∙ ap (λ (o : Result Done StoreRefusal). commit_reported id r reads run o w) y.taken
     ∙ ap (λ (o : Option FailedCompare). decided id r reads run y.done o w) y.some_failed
-    ∙ again_by id r q about s after entries slots y.failed.mod_rev told (may_go_on r) refl says
+    ∙ again_by id r q about s after entries slots y.failed.mod_rev reported (may_go_on r) refl says
     (λ more. again more ∙ ap (λ (l : List ReadAnswer). begun_again l r) answers_are) y.unchanged
 
 -- a commit that the store refused
-refused_leaves : (id : ℕ) (r q : Runner) (run : Run) (ready : ReadyRun) (s after : Standing) (entries : List Entry) (cause : StoreRefusal) (told : Told) →
-    IsReady r run ready → told ≡ Ends (Ended id cause) → outcome_of s ready run ≡ Err cause → after ≡ s →
-    Leaves id (Ok told) (workplace s entries r) (workplace after entries q) (commit id r r.known.reads run)
-refused_leaves id r q run ready s after entries cause told x told_is refused same slots =
-    let made : Told → Standing → Stepped = λ t y.
+refused_leaves : (id : ℕ) (r q : Runner) (run : Run) (ready : ReadyRun) (s after : Standing) (entries : List Entry) (cause : StoreRefusal) (reported : StepOutcome) →
+    IsReady r run ready → reported ≡ Ends (Ended id cause) → outcome_of s ready run ≡ Err cause → after ≡ s →
+    Leaves id (Ok reported) (workplace s entries r) (workplace after entries q) (commit id r r.known.reads run)
+refused_leaves id r q run ready s after entries cause reported x reported_is refused same slots =
+    let made : StepOutcome → Standing → Stepped = λ t y.
     record { reply = Ok (reply_in t); next = world_around (workplace y entries q) (with_slot id (slot_after t q) slots) } in
     commit_by id r run ready s entries slots x
-    ∙ ap (λ (o : Result Done StoreRefusal). commit_told id r r.known.reads run o (world_around (workplace s entries r) slots)) refused
-    ∙ sym (ap (λ (t : Told). made t after) told_is ∙ ap (λ (y : Standing). made (Ends (Ended id cause)) y) same)
+    ∙ ap (λ (o : Result Done StoreRefusal). commit_reported id r r.known.reads run o (world_around (workplace s entries r) slots)) refused
+    ∙ sym (ap (λ (t : StepOutcome). made t after) reported_is ∙ ap (λ (y : Standing). made (Ends (Ended id cause)) y) same)
 
 -- the cause of a refusal that is no want of memory
 cause_is : (s : Standing) (ready : ReadyRun) (run : Run) (cause : StoreRefusal) → cause ≢ OutOfMemory →
     (cause ≡ OutOfMemory) ⊎ (sent s ready.level ready.answers run ≡ Err cause) → outcome_of s ready run ≡ Err cause
 cause_is s ready run cause other (inl want) = absurd (other want)
-cause_is s ready run cause other (inr told) = is_refused s ready.level ready.answers run cause told
+cause_is s ready run cause other (inr reported) = is_refused s ready.level ready.answers run cause reported
 
 -- what a commit of which a compare failed comes to, told or not for want of memory
 pub fail_comes_to : (id : ℕ) (r q : Runner) (run : Run) (ready : ReadyRun) (s after : Standing) (entries : List Entry) (key : List ℕ) (seen modified : ℕ)
-    (answers : List ReadAnswer) (outcome : Result Told AllocError) → IsReady r run ready →
+    (answers : List ReadAnswer) (outcome : Result StepOutcome AllocError) → IsReady r run ready →
     HasFailed s after ready.level ready.answers (latest_writes run.writes) (outcome_of s ready run) key seen modified answers →
-    IfOk outcome (λ told. told ≡ told_of_failure id r key seen modified) → OnOk outcome (may_go_on r ≡ true → q ≡ begun_again answers r) →
+    IfOk outcome (λ reported. reported ≡ reported_of_failure id r key seen modified) → OnOk outcome (may_go_on r ≡ true → q ≡ begun_again answers r) →
     OnErr outcome (q ≡ r) → Leaves id outcome (workplace s entries r) (workplace after entries q) (commit id r r.known.reads run)
-fail_comes_to id r q run ready s after entries key seen modified answers (Ok told) x y told_is again same =
-    fail_leaves id r q run ready s after entries key seen modified answers told x y told_is again
-fail_comes_to id r q run ready s after entries key seen modified answers (Err e) x y told_is again same =
+fail_comes_to id r q run ready s after entries key seen modified answers (Ok reported) x y reported_is again same =
+    fail_leaves id r q run ready s after entries key seen modified answers reported x y reported_is again
+fail_comes_to id r q run ready s after entries key seen modified answers (Err e) x y reported_is again same =
     ap (λ (n : Standing). workplace n entries q) y.unchanged ∙ ap (λ (p : Runner). workplace s entries p) same
 
 -- what a commit that the store refused comes to, told or not for want of memory
 pub refusal_comes_to : (id : ℕ) (r : Runner) (run : Run) (ready : ReadyRun) (s after : Standing) (entries : List Entry) (cause : StoreRefusal)
-    (outcome : Result Told AllocError) → IsReady r run ready → IfOk outcome (λ told. told ≡ Ends (Ended id cause)) → OnOk outcome (cause ≢ OutOfMemory) →
+    (outcome : Result StepOutcome AllocError) → IsReady r run ready → IfOk outcome (λ reported. reported ≡ Ends (Ended id cause)) → OnOk outcome (cause ≢ OutOfMemory) →
     (cause ≡ OutOfMemory) ⊎ (sent s ready.level ready.answers run ≡ Err cause) → after ≡ s →
     Leaves id outcome (workplace s entries r) (workplace after entries r) (commit id r r.known.reads run)
-refusal_comes_to id r run ready s after entries cause (Ok told) x told_is other refused same =
-    refused_leaves id r r run ready s after entries cause told x told_is (cause_is s ready run cause other refused) same
-refusal_comes_to id r run ready s after entries cause (Err e) x told_is other refused same =
+refusal_comes_to id r run ready s after entries cause (Ok reported) x reported_is other refused same =
+    refused_leaves id r r run ready s after entries cause reported x reported_is (cause_is s ready run cause other refused) same
+refusal_comes_to id r run ready s after entries cause (Err e) x reported_is other refused same =
     ap (λ (n : Standing). workplace n entries r) same
 
 -- room for an entry is none yet
-pub with_room : (id : ℕ) (outcome : Result Told AllocError) (before : Workplace) (s : Standing) (entries more : List Entry) (q : Runner)
+pub with_room : (id : ℕ) (outcome : Result StepOutcome AllocError) (before : Workplace) (s : Standing) (entries more : List Entry) (q : Runner)
     (step : World → Stepped) → more ≡ entries → Leaves id outcome before (workplace s entries q) step → Leaves id outcome before (workplace s more q) step
 with_room id outcome before s entries more q step same leaves =
     subst (λ (l : List Entry). Leaves id outcome before (workplace s l q) step) (sym same) leaves
@@ -633,15 +633,15 @@ decided_is_taken : (id : ℕ) (r : Runner) (reads : List ReadAnswer) (run : Run)
 decided_is_taken id r reads run done None w = refl
 decided_is_taken id r reads run done (Some f) w = either_is_taken (may_go_on r) _ _ refl refl
 
-told_is_taken : (id : ℕ) (r : Runner) (reads : List ReadAnswer) (run : Run) (o : Result Done StoreRefusal) (w : World) →
-    IsOk (commit_told id r reads run o w).reply
-told_is_taken id r reads run (Ok done) w = decided_is_taken id r reads run done done.answer.failed w
-told_is_taken id r reads run (Err cause) w = refl
+reported_is_taken : (id : ℕ) (r : Runner) (reads : List ReadAnswer) (run : Run) (o : Result Done StoreRefusal) (w : World) →
+    IsOk (commit_reported id r reads run o w).reply
+reported_is_taken id r reads run (Ok done) w = decided_is_taken id r reads run done done.answer.failed w
+reported_is_taken id r reads run (Err cause) w = refl
 
 commit_is_taken : (id : ℕ) (r : Runner) (reads : List ReadAnswer) (run : Run) (w : World) → IsOk (commit id r reads run w).reply
 unfolding commit
 commit_is_taken id r reads run w =
-    told_is_taken id r reads run (committed (terms_of w.standing) r.task.level reads run) w
+    reported_is_taken id r reads run (committed (terms_of w.standing) r.task.level reads run) w
 
 finish_is_taken : (id : ℕ) (r : Runner) (reads : List ReadAnswer) (run : Run) (end : End) (w : World) → IsOk (finish id r reads run end w).reply
 finish_is_taken id r reads run DoneEnd w = commit_is_taken id r reads run w
@@ -713,25 +713,25 @@ start_refuses program level w = refl
 
 -- ---- the step, with the places ----
 
-told_tells : (id : ℕ) (old : World) (r q : Runner) (after : Standing) (entries : List Entry) (slots : List Slot) (told : Told) (found : Option Runner) →
-    found ≡ Some r → Leaves id (Ok told) (workplace old.standing old.entries r) (workplace after entries q) (step_live id r) →
-    slots ≡ with_slot id (slot_after told q) (with_slot id Over old.runners) →
-    Tells (Ok (Ok (reply_in told))) old (record { standing = after; runners = slots; entries = entries }) (step_runner id found old)
-told_tells id old r q after entries slots told None is leaves put = absurd (cc)
-told_tells id old r q after entries slots told (Some other) is leaves put =
+reported_reports : (id : ℕ) (old : World) (r q : Runner) (after : Standing) (entries : List Entry) (slots : List Slot) (reported : StepOutcome) (found : Option Runner) →
+    found ≡ Some r → Leaves id (Ok reported) (workplace old.standing old.entries r) (workplace after entries q) (step_live id r) →
+    slots ≡ with_slot id (slot_after reported q) (with_slot id Over old.runners) →
+    Returns (Ok (Ok (reply_in reported))) old (record { standing = after; runners = slots; entries = entries }) (step_runner id found old)
+reported_reports id old r q after entries slots reported None is leaves put = absurd (cc)
+reported_reports id old r q after entries slots reported (Some other) is leaves put =
     let same : other ≡ r = cc in
     let stepped = leaves old.runners in (
       ap (λ (x : Runner). (step_live id x old).reply) same ∙ ap (λ (s : Stepped). s.reply) stepped,
       ap (λ (x : Runner). (step_live id x old).next) same ∙ ap (λ (s : Stepped). s.next) stepped
-          ∙ ap (λ (l : List Slot). record { standing = after; runners = l; entries = entries }) (sym (put ∙ put_there id old.runners (slot_after told q))),
+          ∙ ap (λ (l : List Slot). record { standing = after; runners = l; entries = entries }) (sym (put ∙ put_there id old.runners (slot_after reported q))),
     )
 
-ran_out_tells : (id : ℕ) (old : World) (r q : Runner) (after : Standing) (entries : List Entry) (slots : List Slot) (e : AllocError)
+ran_out_reports : (id : ℕ) (old : World) (r q : Runner) (after : Standing) (entries : List Entry) (slots : List Slot) (e : AllocError)
     (found : Option Runner) → found ≡ Some r → runner_at id old.runners ≡ Some r → workplace after entries q ≡ workplace old.standing old.entries r →
     slots ≡ with_slot id (Live q) (with_slot id Over old.runners) →
-    Tells (Err e) old (record { standing = after; runners = slots; entries = entries }) (step_runner id found old)
-ran_out_tells id old r q after entries slots e None is there leaves put = absurd (cc)
-ran_out_tells id old r q after entries slots e (Some other) is there leaves put =
+    Returns (Err e) old (record { standing = after; runners = slots; entries = entries }) (step_runner id found old)
+ran_out_reports id old r q after entries slots e None is there leaves put = absurd (cc)
+ran_out_reports id old r q after entries slots e (Some other) is there leaves put =
     let runner_is : q ≡ r = ap (λ (p : Workplace). p.runner) leaves in
     let slots_is : slots ≡ old.runners =
     put ∙ ap (λ (x : Runner). with_slot id (Live x) (with_slot id Over old.runners)) runner_is ∙ put_back id old.runners r there in (
@@ -742,10 +742,10 @@ ran_out_tells id old r q after entries slots e (Some other) is there leaves put 
     )
 
 -- the reply to the step of a runner that runs, told or not for want of memory
-pub outcome_tells : (id : ℕ) (old : World) (r q : Runner) (after : Standing) (entries : List Entry) (slots : List Slot)
-    (outcome : Result Told AllocError) (found : Option Runner) → found ≡ Some r → runner_at id old.runners ≡ Some r →
+pub outcome_reports : (id : ℕ) (old : World) (r q : Runner) (after : Standing) (entries : List Entry) (slots : List Slot)
+    (outcome : Result StepOutcome AllocError) (found : Option Runner) → found ≡ Some r → runner_at id old.runners ≡ Some r →
     Leaves id outcome (workplace old.standing old.entries r) (workplace after entries q) (step_live id r) →
     slots ≡ with_slot id (slot_left outcome q) (with_slot id Over old.runners) →
-    Tells (reply_told outcome) old (record { standing = after; runners = slots; entries = entries }) (step_runner id found old)
-outcome_tells id old r q after entries slots (Ok told) found is there leaves put = told_tells id old r q after entries slots told found is leaves put
-outcome_tells id old r q after entries slots (Err e) found is there leaves put = ran_out_tells id old r q after entries slots e found is there leaves put
+    Returns (reply_reported outcome) old (record { standing = after; runners = slots; entries = entries }) (step_runner id found old)
+outcome_reports id old r q after entries slots (Ok reported) found is there leaves put = reported_reports id old r q after entries slots reported found is leaves put
+outcome_reports id old r q after entries slots (Err e) found is there leaves put = ran_out_reports id old r q after entries slots e found is there leaves put

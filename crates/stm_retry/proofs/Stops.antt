@@ -17,14 +17,14 @@ use Rattle.stm_world.specs.declared.reply.Reply.{Reply}
 use Rattle.stm_world.specs.declared.reply.Reply.TheVariants.{Started, Prefetched, Fetched, Committed, Conflict, GaveUp, Aborted, Faulted, Ended, Advanced}
 use Rattle.stm_world.specs.declared.reply.Reply.TheVariants.{Txn as TxnDone, Granted, Kept, Revoked, Watching, Batch, Cancelled, Compacted, Lost}
 use Rattle.stm_world.specs.declared.refusal.Denied.{Denied}
-use Rattle.stm_world.specs.Told.{advance_reply}
-use Rattle.stm_world.specs.Log.{expired_told}
+use Rattle.stm_world.specs.Reported.{advance_reply}
+use Rattle.stm_world.specs.Log.{expired_reported}
 use Rattle.stm_world.specs.World.{World, step, expiries, world_after, replies_to}
 use Rattle.stm_world.specs.Sound.{after_expiries}
 use Rattle.stm_world.proofs.Calls.{advance_ended, advance_due}
 use Rattle.stm_retry.specs.declared.world.RunStop.{RunStop}
-use Rattle.stm_retry.specs.CallTells.{world_of}
-use Rattle.stm_retry.specs.Tells.{IsUnchanged, IsCutShort, WantTells, WantTellsAt, IsRunStop}
+use Rattle.stm_retry.specs.CallReturns.{world_of}
+use Rattle.stm_retry.specs.Returns.{IsUnchanged, IsCutShort, OutOfMemoryReturns, OutOfMemoryReturnsAt, IsRunStop}
 use Rattle.stm_retry.specs.Stops.{with_expired, first_with_expired, RepeatsAlike, GoesOnAlike, Stop, AreStops, ComeToTheWhole}
 use Rattle.stm_retry.specs.Stops.{StopsGoOn, WrongStops}
 
@@ -100,10 +100,10 @@ expiries-append : (before more : List Expired) → expiries (before ++ more) ≡
 expiries-append [] more = refl
 expiries-append (e ∷ es) more = ap (λ (l : List Entry). Expire e.id ∷ l) (expiries-append es more)
 
-told_behind : (moment : ℕ) (before rest : List Expired) (cause : Option Refusal) →
+reported_behind : (moment : ℕ) (before rest : List Expired) (cause : Option Refusal) →
     advance_reply moment (before ++ rest) cause ≡ with_expired before (advance_reply moment rest cause)
-told_behind moment before rest None = refl
-told_behind moment before rest (Some cause) = refl
+reported_behind moment before rest None = refl
+reported_behind moment before rest (Some cause) = refl
 
 -- the advance after some expiries
 expired_repeats : (moment : ℕ) (expired : List Expired) (old : World) (left : Standing) → old.standing.moment ≤ moment →
@@ -112,7 +112,7 @@ expired_repeats moment expired old left above come =
     let rest : StoreAdvance = advanced left moment in
     let whole : advanced old.standing moment ≡ after expired rest = advances_go_on old.standing left moment expired above come in
     record {
-      reply_is = ap (λ (a : StoreAdvance). advance_reply moment a.expired a.cause) whole ∙ told_behind moment expired rest.expired rest.cause;
+      reply_is = ap (λ (a : StoreAdvance). advance_reply moment a.expired a.cause) whole ∙ reported_behind moment expired rest.expired rest.cause;
       next_is = ap (λ (a : StoreAdvance). world_of old.runners a.leaves (old.entries ++ expiries a.expired)) whole
           ∙ ap (λ (l : List Entry). world_of old.runners rest.leaves (old.entries ++ l)) (expiries-append expired rest.expired)
           ∙ ap (λ (l : List Entry). world_of old.runners rest.leaves l) (sym (append_assoc old.entries (expiries expired) (expiries rest.expired)));
@@ -163,7 +163,7 @@ advance_repeats : (moment : ℕ) (expired : List Expired) (old new : World) → 
 advance_repeats moment expired old new above (inl same) = unchanged_repeats (Advance moment) expired old new same
 advance_repeats moment expired old new above (inr cut) = cut_repeats moment expired old new above cut
 
-events_repeat : (event : WorldEvent) (expired : List Expired) (old new : World) → WantTells event expired old new → RepeatsAlike event expired old new
+events_repeat : (event : WorldEvent) (expired : List Expired) (old new : World) → OutOfMemoryReturns event expired old new → RepeatsAlike event expired old new
 events_repeat (Start program level limit) expired old new want = unchanged_repeats (Start program level limit) expired old new want.0
 events_repeat (Step id) expired old new want = unchanged_repeats (Step id) expired old new want.0
 events_repeat (Txn txn) expired old new want = unchanged_repeats (Txn txn) expired old new want.0
@@ -181,7 +181,7 @@ events_repeat (Compact revision) expired old new want = absurd want
 
 -- a run that stopped at an event
 stopped_at : (events : List WorldEvent) (taken : ℕ) (expired : List Expired) (old new : World) →
-    WantTellsAt (slice_get events taken) expired (world_after (take taken events) old) new → GoesOnAlike events taken expired old new
+    OutOfMemoryReturnsAt (slice_get events taken) expired (world_after (take taken events) old) new → GoesOnAlike events taken expired old new
 stopped_at [] taken expired old new want = absurd want
 stopped_at (e ∷ es) zero expired old new want =
     let again : RepeatsAlike e expired old new = events_repeat e expired old new want in
@@ -209,9 +209,9 @@ runs_go_on events taken expired old new (inl before) = stopped_before events tak
 runs_go_on events taken expired old new (inr want) = stopped_at events taken expired old new want
 
 -- what a run that stopped answers
-pub answer_goes_on : {A : Type 0} (answer : Result A RunStop) (told stop : RunStop) (events : List WorldEvent) (old new : World) → answer ≡ Err told →
-    told ≡ stop → IsRunStop events stop.done stop.expired old new → IfErr answer (λ (s : RunStop). GoesOnAlike events s.done s.expired old new)
-answer_goes_on {A = A} answer told stop events old new is same stopped =
+pub answer_goes_on : {A : Type 0} (answer : Result A RunStop) (reported stop : RunStop) (events : List WorldEvent) (old new : World) → answer ≡ Err reported →
+    reported ≡ stop → IsRunStop events stop.done stop.expired old new → IfErr answer (λ (s : RunStop). GoesOnAlike events s.done s.expired old new)
+answer_goes_on {A = A} answer reported stop events old new is same stopped =
     subst (λ (r : Result A RunStop). IfErr r (λ (s : RunStop). GoesOnAlike events s.done s.expired old new)) (sym (is ∙ ap (λ (s : RunStop). Err s) same))
     (runs_go_on events stop.done stop.expired old new stopped)
 
@@ -231,19 +231,19 @@ stops_go_on = record { advances = advances_go_on; events = events_repeat; runs =
 
 -- ---- ways to go on that are none ----
 
-told_length : (moment : ℕ) (expired : List Expired) (cause : Option Refusal) → length (expired_told (advance_reply moment expired cause)) ≡ length expired
-told_length moment expired None = refl
-told_length moment expired (Some cause) = refl
+reported_length : (moment : ℕ) (expired : List Expired) (cause : Option Refusal) → length (expired_reported (advance_reply moment expired cause)) ≡ length expired
+reported_length moment expired None = refl
+reported_length moment expired (Some cause) = refl
 
 -- an advance does not tell what is left as though nothing had expired before
-twice_told : (moment : ℕ) (expired rest : List Expired) (cause : Option Refusal) → expired ≢ [] →
+twice_reported : (moment : ℕ) (expired rest : List Expired) (cause : Option Refusal) → expired ≢ [] →
     with_expired expired (advance_reply moment rest cause) ≡ advance_reply moment rest cause → ⊥
-twice_told moment [] rest cause some same = some refl
-twice_told moment (e ∷ es) rest cause some same =
+twice_reported moment [] rest cause some same = some refl
+twice_reported moment (e ∷ es) rest cause some same =
     let longer : length (e ∷ (es ++ rest)) ≡ length rest =
-    sym (told_length moment (e ∷ (es ++ rest)) cause)
-    ∙ ap (λ (r : Result Reply Denied). length (expired_told r)) (told_behind moment (e ∷ es) rest cause ∙ same)
-    ∙ told_length moment rest cause in
+    sym (reported_length moment (e ∷ (es ++ rest)) cause)
+    ∙ ap (λ (r : Result Reply Denied). length (expired_reported r)) (reported_behind moment (e ∷ es) rest cause ∙ same)
+    ∙ reported_length moment rest cause in
     omega (arith, longer, length-append es rest)
 
 advance_again : (moment : ℕ) (expired : List Expired) (old new : World) → old.standing.moment ≤ moment →
@@ -252,9 +252,9 @@ advance_again moment expired old new above (inl unchanged) some same = some unch
 advance_again moment expired old new above (inr cut) some same =
     let rest : StoreAdvance = advanced new.standing moment in
     let again : RepeatsAlike (Advance moment) expired old new = cut_repeats moment expired old new above cut in
-    twice_told moment expired rest.expired rest.cause some (sym again.reply_is ∙ same)
+    twice_reported moment expired rest.expired rest.cause some (sym again.reply_is ∙ same)
 
-event_again : (event : WorldEvent) (expired : List Expired) (old new : World) → WantTells event expired old new → expired ≢ [] →
+event_again : (event : WorldEvent) (expired : List Expired) (old new : World) → OutOfMemoryReturns event expired old new → expired ≢ [] →
     (step event old).reply ≡ (step event new).reply → ⊥
 event_again (Start program level limit) expired old new want some same = some want.0.0
 event_again (Step id) expired old new want some same = some want.0.0
@@ -276,7 +276,7 @@ rest_alike : (x : Result Reply Denied) (xs ys : List (Result Reply Denied)) → 
 rest_alike x xs ys is = cc
 
 stopped_again : (events : List WorldEvent) (taken : ℕ) (expired : List Expired) (old new : World) →
-    WantTellsAt (slice_get events taken) expired (world_after (take taken events) old) new → expired ≢ [] →
+    OutOfMemoryReturnsAt (slice_get events taken) expired (world_after (take taken events) old) new → expired ≢ [] →
     replies_to events old ≡ replies_to (take taken events) old ++ replies_to (drop taken events) new → ⊥
 stopped_again [] taken expired old new want some same = absurd want
 stopped_again (e ∷ es) zero expired old new want some same =
@@ -287,10 +287,10 @@ stopped_again (e ∷ es) (suc n) expired old new want some same =
     stopped_again es n expired next new want some
     (rest_alike (step e old).reply (replies_to es next) (replies_to (take n es) next ++ replies_to (drop n es) new) same)
 
-list_told_again : (events : List WorldEvent) (taken : ℕ) (expired : List Expired) (old new : World) → IsRunStop events taken expired old new →
+list_reported_again : (events : List WorldEvent) (taken : ℕ) (expired : List Expired) (old new : World) → IsRunStop events taken expired old new →
     expired ≢ [] → replies_to events old ≡ replies_to (take taken events) old ++ replies_to (drop taken events) new → ⊥
-list_told_again events taken expired old new (inl before) some same = some before.1.0
-list_told_again events taken expired old new (inr want) some same = stopped_again events taken expired old new want some same
+list_reported_again events taken expired old new (inl before) some same = some before.1.0
+list_reported_again events taken expired old new (inr want) some same = stopped_again events taken expired old new want some same
 
 -- what had expired is entered
 grown : (entries : List Entry) (expired : List Expired) → expired ≢ [] → entries ≡ entries ++ expiries expired → ⊥
@@ -304,7 +304,7 @@ advance_undone : (moment : ℕ) (expired : List Expired) (old new : World) → (
 advance_undone moment expired old new (inl unchanged) some same = some unchanged.0
 advance_undone moment expired old new (inr cut) some same = grown old.entries expired some (ap (λ (w : World). w.entries) (sym same ∙ cut.rest))
 
-event_undone : (event : WorldEvent) (expired : List Expired) (old new : World) → WantTells event expired old new → expired ≢ [] → new ≡ old → ⊥
+event_undone : (event : WorldEvent) (expired : List Expired) (old new : World) → OutOfMemoryReturns event expired old new → expired ≢ [] → new ≡ old → ⊥
 event_undone (Start program level limit) expired old new want some same = some want.0.0
 event_undone (Step id) expired old new want some same = some want.0.0
 event_undone (Txn txn) expired old new want some same = some want.0.0
@@ -318,7 +318,7 @@ event_undone (Poll watcher most) expired old new want some same = some want.0.0
 event_undone (Cancel watcher) expired old new want some same = some want.0.0
 event_undone (Compact revision) expired old new want some same = absurd want
 
-stopped_undone : (o : Option WorldEvent) (expired : List Expired) (before new : World) → WantTellsAt o expired before new → expired ≢ [] → new ≡ before → ⊥
+stopped_undone : (o : Option WorldEvent) (expired : List Expired) (before new : World) → OutOfMemoryReturnsAt o expired before new → expired ≢ [] → new ≡ before → ⊥
 stopped_undone None expired before new want some same = absurd want
 stopped_undone (Some event) expired before new want some same = event_undone event expired before new want some same
 
@@ -329,4 +329,4 @@ nothing_left events taken expired old new (inr want) some same =
     stopped_undone (slice_get events taken) expired (world_after (take taken events) old) new want some same
 
 pub wrong_stops : WrongStops
-wrong_stops = record { list_told_again = list_told_again; nothing_left = nothing_left }
+wrong_stops = record { list_reported_again = list_reported_again; nothing_left = nothing_left }

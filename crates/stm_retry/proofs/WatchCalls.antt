@@ -16,33 +16,33 @@ use Rattle.stm_world.specs.declared.reply.Reply.{Reply}
 use Rattle.stm_world.specs.declared.reply.Reply.TheVariants.{Lost}
 use Rattle.stm_world.specs.declared.refusal.Refusal.TheVariants.{Store}
 use Rattle.stm_world.specs.declared.refusal.Denied.{Denied}
-use Rattle.stm_world.specs.Told.{denied, reply_to, poll_reply, store_after_call, store_after_poll}
+use Rattle.stm_world.specs.Reported.{denied, reply_to, poll_reply, store_after_call, store_after_poll}
 use Rattle.stm_world.specs.World.{Slot, Stepped, step, quietly_called}
-use Rattle.stm_retry.specs.Tells.{WantTells, Tells}
-use Rattle.stm_retry.specs.CallTells.{world_of, WatchTells}
+use Rattle.stm_retry.specs.Returns.{OutOfMemoryReturns, Returns}
+use Rattle.stm_retry.specs.CallReturns.{world_of, WatchReturns}
 use Rattle.stm_world.proofs.Wants.{NeverWants}
-use Rattle.stm_retry.proofs.CallLemmas.{refusal_tells}
+use Rattle.stm_retry.proofs.CallLemmas.{refusal_reports}
 
 -- ---- what is told ----
 
 -- the world's step at an event is this call of the store, which is no entry
 abbrev pub IsWatchCall : {A : Type 0} → WorldEvent → (A → Reply) → Standing → Result (StoreStep A) StoreRefusal → Type 0
-IsWatchCall event tell s o =
-    (runners : List Slot) (es : List Entry) → step event (world_of runners s es) ≡ quietly_called (reply_to tell o) (store_after_call s o) (world_of runners s es)
+IsWatchCall event report s o =
+    (runners : List Slot) (es : List Entry) → step event (world_of runners s es) ≡ quietly_called (reply_to report o) (store_after_call s o) (world_of runners s es)
 
 -- want of memory is told of the event where the step takes it
 abbrev pub MayWant : WorldEvent → Standing → Type 0
 MayWant event s = (runners : List Slot) (es : List Entry) → IsOk (step event (world_of runners s es)).reply →
-    WantTells event [] (world_of runners s es) (world_of runners s es)
+    OutOfMemoryReturns event [] (world_of runners s es) (world_of runners s es)
 
-refused_by : {A : Type 0} (event : WorldEvent) (tell : A → Reply) (s : Standing) (o : Result (StoreStep A) StoreRefusal) (cause : StoreRefusal) →
-    IsWatchCall event tell s o → MayWant event s → NeverWants o → IsRefusalOf o cause → WatchTells event (denied (Store cause)) s s
-refused_by event tell s (Ok done) cause call want never refusal es runners =
-    refusal_tells event (record { cause = Store cause; expired = [] }) cause (world_of runners s es) (world_of runners s es)
+refused_by : {A : Type 0} (event : WorldEvent) (report : A → Reply) (s : Standing) (o : Result (StoreStep A) StoreRefusal) (cause : StoreRefusal) →
+    IsWatchCall event report s o → MayWant event s → NeverWants o → IsRefusalOf o cause → WatchReturns event (denied (Store cause)) s s
+refused_by event report s (Ok done) cause call want never refusal es runners =
+    refusal_reports event (record { cause = Store cause; expired = [] }) cause (world_of runners s es) (world_of runners s es)
     (λ e. want runners es (subst (λ (x : Stepped). IsOk x.reply) (sym (call runners es)) refl))
     (λ not. absurd (not refusal))
-refused_by event tell s (Err c) cause call want never refusal es runners =
-    refusal_tells event (record { cause = Store cause; expired = [] }) cause (world_of runners s es) (world_of runners s es)
+refused_by event report s (Err c) cause call want never refusal es runners =
+    refusal_reports event (record { cause = Store cause; expired = [] }) cause (world_of runners s es) (world_of runners s es)
     (λ e. absurd (never (sym refusal ∙ e)))
     (λ not. record {
       reply_is = ap (λ (x : Stepped). x.reply) (call runners es) ∙ ap (λ (r : StoreRefusal). denied (Store r)) (sym refusal);
@@ -50,13 +50,13 @@ refused_by event tell s (Err c) cause call want never refusal es runners =
     })
 
 -- one that was refused, by the store or for want of memory
-pub watch_refused : {A : Type 0} (event : WorldEvent) (tell : A → Reply) (s next : Standing) (o : Result (StoreStep A) StoreRefusal)
-    (reply : Result Reply Denied) (cause : StoreRefusal) → IsWatchCall event tell s o → MayWant event s → NeverWants o → IsRefusalOf o cause →
-    reply ≡ denied (Store cause) → next ≡ s → WatchTells event reply s next
-watch_refused event tell s next o reply cause call want never refusal replied same es runners =
-    subst (λ (r : Result Reply Denied). Tells event r (world_of runners s es) (world_of runners next es)) (sym replied)
-    (subst (λ (n : Standing). Tells event (denied (Store cause)) (world_of runners s es) (world_of runners n es)) (sym same)
-    (refused_by event tell s o cause call want never refusal es runners))
+pub watch_refused : {A : Type 0} (event : WorldEvent) (report : A → Reply) (s next : Standing) (o : Result (StoreStep A) StoreRefusal)
+    (reply : Result Reply Denied) (cause : StoreRefusal) → IsWatchCall event report s o → MayWant event s → NeverWants o → IsRefusalOf o cause →
+    reply ≡ denied (Store cause) → next ≡ s → WatchReturns event reply s next
+watch_refused event report s next o reply cause call want never refusal replied same es runners =
+    subst (λ (r : Result Reply Denied). Returns event r (world_of runners s es) (world_of runners next es)) (sym replied)
+    (subst (λ (n : Standing). Returns event (denied (Store cause)) (world_of runners s es) (world_of runners n es)) (sym same)
+    (refused_by event report s o cause call want never refusal es runners))
 
 -- ---- a poll that was refused ----
 
@@ -76,30 +76,30 @@ stepped_as : (s : Standing) (id most : ℕ) (o : Result (StoreStep Batch) StoreR
 stepped_as s id most o is runners es = ap (λ (x : Result (StoreStep Batch) StoreRefusal). poll_stepped s id x runners es) is
 
 -- none was there
-none_tells : (s : Standing) (id most : ℕ) → polled s id most ≡ Err NoWatcher → WatchTells (Poll id most) (denied (Store NoWatcher)) s (poll_refused s id)
-none_tells s id most is es runners =
+none_reports : (s : Standing) (id most : ℕ) → polled s id most ≡ Err NoWatcher → WatchReturns (Poll id most) (denied (Store NoWatcher)) s (poll_refused s id)
+none_reports s id most is es runners =
     let one : step (Poll id most) (world_of runners s es) ≡ poll_stepped s id (Err NoWatcher) runners es = stepped_as s id most (Err NoWatcher) is runners es in
     record { reply_is = ap (λ (x : Stepped). x.reply) one; next_is = ap (λ (x : Stepped). x.next) one }
 
 -- one was lost
-lost_tells : (s : Standing) (id most : ℕ) → polled s id most ≡ Err Compacted → WatchTells (Poll id most) (Ok (Lost id s.floor)) s (poll_refused s id)
-lost_tells s id most is es runners =
+lost_reports : (s : Standing) (id most : ℕ) → polled s id most ≡ Err Compacted → WatchReturns (Poll id most) (Ok (Lost id s.floor)) s (poll_refused s id)
+lost_reports s id most is es runners =
     let one : step (Poll id most) (world_of runners s es) ≡ poll_stepped s id (Err Compacted) runners es = stepped_as s id most (Err Compacted) is runners es in
     record { reply_is = ap (λ (x : Stepped). x.reply) one; next_is = ap (λ (x : Stepped). x.next) one }
 
 -- memory was wanting
-want_tells : (s : Standing) (id most : ℕ) (done : StoreStep Batch) → polled s id most ≡ Ok done →
-    WatchTells (Poll id most) (denied (Store OutOfMemory)) s s
-want_tells s id most done is es runners =
+out_of_memory_reports : (s : Standing) (id most : ℕ) (done : StoreStep Batch) → polled s id most ≡ Ok done →
+    WatchReturns (Poll id most) (denied (Store OutOfMemory)) s s
+out_of_memory_reports s id most done is es runners =
     let one : step (Poll id most) (world_of runners s es) ≡ poll_stepped s id (Ok done) runners es = stepped_as s id most (Ok done) is runners es in
     ((refl, refl), subst (λ (x : Stepped). IsOk x.reply) (sym one) refl)
 
 -- another reply and store that are the same
-told_alike : (event : WorldEvent) (s next next' : Standing) (reply reply' : Result Reply Denied) → reply ≡ reply' → next ≡ next' →
-    WatchTells event reply' s next' → WatchTells event reply s next
-told_alike event s next next' reply reply' replied same tells es runners =
-    subst (λ (r : Result Reply Denied). Tells event r (world_of runners s es) (world_of runners next es)) (sym replied)
-    (subst (λ (n : Standing). Tells event reply' (world_of runners s es) (world_of runners n es)) (sym same) (tells es runners))
+reported_alike : (event : WorldEvent) (s next next' : Standing) (reply reply' : Result Reply Denied) → reply ≡ reply' → next ≡ next' →
+    WatchReturns event reply' s next' → WatchReturns event reply s next
+reported_alike event s next next' reply reply' replied same reports es runners =
+    subst (λ (r : Result Reply Denied). Returns event r (world_of runners s es) (world_of runners next es)) (sym replied)
+    (subst (λ (n : Standing). Returns event reply' (world_of runners s es) (world_of runners n es)) (sym same) (reports es runners))
 
 not_lost_stays : (s : Standing) (id : ℕ) (w : Watching) → watcher_at id s.watchers ≡ Some w → w.lost ≡ false → poll_refused s id ≡ s
 not_lost_stays s id w found kept =
@@ -109,30 +109,30 @@ not_lost_stays s id w found kept =
 refusal_by_lost : (s next : Standing) (id most floor : ℕ) (reply : Result Reply Denied) (cause : StoreRefusal) (w : Watching) (lost : Bool) →
     watcher_at id s.watchers ≡ Some w → w.lost ≡ lost → polled s id most ≡ poll_of s id most w lost → IsRefusalOf (poll_of s id most w lost) cause →
     (cause ≡ Compacted → reply ≡ Ok (Lost id floor)) → (cause ≢ Compacted → reply ≡ denied (Store cause)) → floor ≡ s.floor → next ≡ poll_refused s id →
-    WatchTells (Poll id most) reply s next
+    WatchReturns (Poll id most) reply s next
 refusal_by_lost s next id most floor reply cause w true found is step refusal lost other floor_is left =
-    told_alike (Poll id most) s next (poll_refused s id) reply (Ok (Lost id s.floor)) (lost refusal ∙ ap (λ n. Ok (Lost id n)) floor_is) left
-    (lost_tells s id most step)
+    reported_alike (Poll id most) s next (poll_refused s id) reply (Ok (Lost id s.floor)) (lost refusal ∙ ap (λ n. Ok (Lost id n)) floor_is) left
+    (lost_reports s id most step)
 refusal_by_lost s next id most floor reply cause w false found is step refusal lost other floor_is left =
     let not : cause ≢ Compacted = λ e. let both : OutOfMemory ≡ Compacted = sym refusal ∙ e in absurd (cc) in
-    told_alike (Poll id most) s next s reply (denied (Store OutOfMemory)) (other not ∙ ap (λ (c : StoreRefusal). denied (Store c)) refusal)
-    (left ∙ not_lost_stays s id w found is) (want_tells s id most _ step)
+    reported_alike (Poll id most) s next s reply (denied (Store OutOfMemory)) (other not ∙ ap (λ (c : StoreRefusal). denied (Store c)) refusal)
+    (left ∙ not_lost_stays s id w found is) (out_of_memory_reports s id most _ step)
 
 refusal_by_place : (s next : Standing) (id most floor : ℕ) (reply : Result Reply Denied) (cause : StoreRefusal) (o : Option Watching) →
     watcher_at id s.watchers ≡ o → polled s id most ≡ poll_step s (poll_found s.history id most s.watchers o) →
     IsRefusalOf (poll_step s (poll_found s.history id most s.watchers o)) cause →
     (cause ≡ Compacted → reply ≡ Ok (Lost id floor)) → (cause ≢ Compacted → reply ≡ denied (Store cause)) → floor ≡ s.floor → next ≡ poll_refused s id →
-    WatchTells (Poll id most) reply s next
+    WatchReturns (Poll id most) reply s next
 refusal_by_place s next id most floor reply cause None found step refusal lost other floor_is left =
     let not : cause ≢ Compacted = λ e. let both : NoWatcher ≡ Compacted = sym refusal ∙ e in absurd (cc) in
-    told_alike (Poll id most) s next (poll_refused s id) reply (denied (Store NoWatcher)) (other not ∙ ap (λ (c : StoreRefusal). denied (Store c)) refusal)
-    left (none_tells s id most step)
+    reported_alike (Poll id most) s next (poll_refused s id) reply (denied (Store NoWatcher)) (other not ∙ ap (λ (c : StoreRefusal). denied (Store c)) refusal)
+    left (none_reports s id most step)
 refusal_by_place s next id most floor reply cause (Some w) found step refusal lost other floor_is left =
     refusal_by_lost s next id most floor reply cause w w.lost found refl step refusal lost other floor_is left
 
 -- a poll that was refused, by the store, since the watcher is lost, or for want of memory
-pub poll_refusal_tells : (s next : Standing) (id most floor : ℕ) (reply : Result Reply Denied) (cause : StoreRefusal) → IsRefusalOf (polled s id most) cause →
+pub poll_refusal_reports : (s next : Standing) (id most floor : ℕ) (reply : Result Reply Denied) (cause : StoreRefusal) → IsRefusalOf (polled s id most) cause →
     (cause ≡ Compacted → reply ≡ Ok (Lost id floor)) → (cause ≢ Compacted → reply ≡ denied (Store cause)) → floor ≡ s.floor → next ≡ poll_refused s id →
-    WatchTells (Poll id most) reply s next
-poll_refusal_tells s next id most floor reply cause refusal lost other floor_is left =
+    WatchReturns (Poll id most) reply s next
+poll_refusal_reports s next id most floor reply cause refusal lost other floor_is left =
     refusal_by_place s next id most floor reply cause (watcher_at id s.watchers) refl refl refusal lost other floor_is left

@@ -20,11 +20,11 @@ use Rattle.stm_entries.specs.declared.entry.Entry.TheVariants.{Expire}
 use Rattle.stm_world.specs.declared.event.WorldEvent.{WorldEvent}
 use Rattle.stm_world.specs.declared.event.WorldEvent.TheVariants.{Advance}
 use Rattle.stm_world.specs.declared.reply.Reply.TheVariants.{Advanced}
-use Rattle.stm_world.specs.Told.{advance_reply}
+use Rattle.stm_world.specs.Reported.{advance_reply}
 use Rattle.stm_world.specs.World.{World, expiries, world_after, replies_to}
 use Rattle.stm_world.specs.Sound.{after_expiries}
-use Rattle.stm_retry.specs.CallTells.{world_of}
-use Rattle.stm_retry.specs.Tells.{IsRunStop}
+use Rattle.stm_retry.specs.CallReturns.{world_of}
+use Rattle.stm_retry.specs.Returns.{IsRunStop}
 use Rattle.stm_retry.specs.Stops.{GoesOnAlike, Stop, ComeToTheWhole}
 use Rattle.stm_retry.proofs.Stops.{stops_go_on, wrong_stops}
 
@@ -187,12 +187,12 @@ is_stop = inr (
 )
 
 -- what is told where memory suffices
-both_are_told : replies_to advance world ≡ Ok (Advanced 9 (first_expired ∷ second_expired ∷ [])) ∷ []
-both_are_told = ap (λ (a : StoreAdvance). advance_reply 9 a.expired a.cause ∷ []) both_expire
+both_are_reported : replies_to advance world ≡ Ok (Advanced 9 (first_expired ∷ second_expired ∷ [])) ∷ []
+both_are_reported = ap (λ (a : StoreAdvance). advance_reply 9 a.expired a.cause ∷ []) both_expire
 
 -- the same advance, made again, goes on with the second
-second_is_told : replies_to advance cut ≡ Ok (Advanced 9 (second_expired ∷ [])) ∷ []
-second_is_told = ap (λ (a : StoreAdvance). advance_reply 9 a.expired a.cause ∷ []) rest_expires
+second_is_reported : replies_to advance cut ≡ Ok (Advanced 9 (second_expired ∷ [])) ∷ []
+second_is_reported = ap (λ (a : StoreAdvance). advance_reply 9 a.expired a.cause ∷ []) rest_expires
 
 each_is_entered_once : (world_after advance cut).entries ≡ Expire 1 ∷ Expire 2 ∷ []
 each_is_entered_once = ap (λ (a : StoreAdvance). Expire 1 ∷ expiries a.expired) rest_expires
@@ -203,7 +203,7 @@ goes_on = stops_go_on.runs advance 0 (first_expired ∷ []) world cut is_stop
 -- it does not tell both again
 not_both_again : replies_to advance cut ≡ Ok (Advanced 9 (first_expired ∷ second_expired ∷ [])) ∷ [] → ⊥
 not_both_again again =
-    wrong_stops.list_told_again advance 0 (first_expired ∷ []) world cut is_stop (λ is. absurd (cc)) (both_are_told ∙ sym again)
+    wrong_stops.list_reported_again advance 0 (first_expired ∷ []) world cut is_stop (λ is. absurd (cc)) (both_are_reported ∙ sym again)
 
 -- ---- one that is stopped twice: first when the moment is set and nothing has expired
 

@@ -38,7 +38,7 @@ use Rattle.stm_world.specs.declared.refusal.Refusal.{Refusal}
 use Rattle.stm_world.specs.declared.refusal.Refusal.TheVariants.{Store, BadLimit, NoRunner}
 use Rattle.stm_world.specs.declared.refusal.Denied.{Denied}
 use Rattle.stm_world.specs.Task.{Task}
-use Rattle.stm_world.specs.World.{World, Runner, Stepped, Over, runner_at, refused, replied, start_runner, fetch, seen_in, fail_commit, decided, commit_told, commit, finish}
+use Rattle.stm_world.specs.World.{World, Runner, Stepped, Over, runner_at, refused, replied, start_runner, fetch, seen_in, fail_commit, decided, commit_reported, commit, finish}
 use Rattle.stm_world.specs.World.{fetch_list, step_on, step_live, step_runner}
 use Rattle.stm_world.specs.World.{step, world_after, replies_to}
 use Rattle.stm_world.specs.Sound.{IsSound}
@@ -48,9 +48,9 @@ use Rattle.stm_compile.proofs.ConflictLemmas.{failed_compares_conflict}
 use Rattle.stm_world.proofs.RunnerSteps.{CommitLaws}
 use Rattle.stm_world.proofs.GoingOn.{headline_goes_on}
 use Rattle.stm_world.proofs.Sound.{step_is_sound, expiries_are_sound}
-use Rattle.stm_retry.specs.MachineTells.{Tells as MachineTells, as_reply}
-use Rattle.stm_retry.specs.Tells.{IsStep, IsUnchanged, IsCutShort, WantTells, WantTellsAt, IsRunStop, StoreRefusalTells, RefusalTells, Tells}
-use Rattle.stm_retry.specs.Tells.{is_want_of_store, is_want, ran_out, expired_of}
+use Rattle.stm_retry.specs.MachineReturns.{Returns as MachineReturns, as_reply}
+use Rattle.stm_retry.specs.Returns.{IsStep, IsUnchanged, IsCutShort, OutOfMemoryReturns, OutOfMemoryReturnsAt, IsRunStop, StoreRefusalReturns, RefusalReturns, Returns}
+use Rattle.stm_retry.specs.Returns.{is_out_of_memory_of_store, is_want, ran_out, expired_of}
 
 -- ---- steps of runners are taken ----
 
@@ -77,15 +77,15 @@ decided_plain id r reads run done None w = tt
 decided_plain id r reads run done (Some failed) w =
     fail_plain id r (seen_in (slice_get (seen_by reads (latest_writes run.writes)) failed.index)) failed.mod_rev w
 
-told_plain : (id : ℕ) (r : Runner) (reads : List ReadAnswer) (run : Run) (o : Result Done StoreRefusal) (w : World) →
-    PlainOnly (commit_told id r reads run o w).reply
-told_plain id r reads run (Ok done) w = decided_plain id r reads run done done.answer.failed w
-told_plain id r reads run (Err cause) w = tt
+reported_plain : (id : ℕ) (r : Runner) (reads : List ReadAnswer) (run : Run) (o : Result Done StoreRefusal) (w : World) →
+    PlainOnly (commit_reported id r reads run o w).reply
+reported_plain id r reads run (Ok done) w = decided_plain id r reads run done done.answer.failed w
+reported_plain id r reads run (Err cause) w = tt
 
 commit_plain : (id : ℕ) (r : Runner) (reads : List ReadAnswer) (run : Run) (w : World) → PlainOnly (commit id r reads run w).reply
 unfolding commit
 commit_plain id r reads run w =
-    told_plain id r reads run (committed (terms_of w.standing) r.task.level reads run) w
+    reported_plain id r reads run (committed (terms_of w.standing) r.task.level reads run) w
 
 finish_plain : (id : ℕ) (r : Runner) (reads : List ReadAnswer) (run : Run) (end : End) (w : World) → PlainOnly (finish id r reads run end w).reply
 finish_plain id r reads run DoneEnd w = commit_plain id r reads run w
@@ -132,32 +132,32 @@ start_plain task w = start_by (nat_eq task.limit 0) w _ tt
 
 -- ---- what is told of them ----
 
-plain_tells : (event : WorldEvent) (d : Denied) (cause : Refusal) (old new : World) → IsPlain cause → IsStep (step event old) (Err d) new →
-    RefusalTells cause event d old new
-plain_tells event d (Store cause) old new plain is = elim plain [ ]
-plain_tells event d BadLimit old new plain is = is
-plain_tells event d NoRunner old new plain is = is
+plain_reports : (event : WorldEvent) (d : Denied) (cause : Refusal) (old new : World) → IsPlain cause → IsStep (step event old) (Err d) new →
+    RefusalReturns cause event d old new
+plain_reports event d (Store cause) old new plain is = elim plain [ ]
+plain_reports event d BadLimit old new plain is = is
+plain_reports event d NoRunner old new plain is = is
 
 -- an event of a runner: what the call of the machine makes is what is told
-runner_tells : (event : WorldEvent) (outcome : Result (Result Reply Denied) AllocError) (old new : World) → PlainOnly (step event old).reply →
-    (new ≡ old → IsOk (step event old).reply → WantTells event [] old new) → MachineTells outcome old new (step event old) →
-    Tells event (as_reply outcome) old new
-runner_tells event (Ok (Ok reply)) old new plain want made = record { reply_is = made.0; next_is = made.1 }
-runner_tells event (Ok (Err d)) old new plain want made =
-    plain_tells event d d.cause old new (subst PlainOnly made.0 plain) (record { reply_is = made.0; next_is = made.1 })
-runner_tells event (Err e) old new plain want made = want made.0 made.1
+runner_reports : (event : WorldEvent) (outcome : Result (Result Reply Denied) AllocError) (old new : World) → PlainOnly (step event old).reply →
+    (new ≡ old → IsOk (step event old).reply → OutOfMemoryReturns event [] old new) → MachineReturns outcome old new (step event old) →
+    Returns event (as_reply outcome) old new
+runner_reports event (Ok (Ok reply)) old new plain want made = record { reply_is = made.0; next_is = made.1 }
+runner_reports event (Ok (Err d)) old new plain want made =
+    plain_reports event d d.cause old new (subst PlainOnly made.0 plain) (record { reply_is = made.0; next_is = made.1 })
+runner_reports event (Err e) old new plain want made = want made.0 made.1
 
-pub start_tells : (program : ProgramTree) (level : Level) (limit : ℕ) (outcome : Result (Result Reply Denied) AllocError) (old new : World) →
-    MachineTells outcome old new (start_runner (record { program = program; level = level; limit = limit }) old) →
-    Tells (Start program level limit) (as_reply outcome) old new
-start_tells program level limit outcome old new made =
-    runner_tells (Start program level limit) outcome old new (start_plain (record { program = program; level = level; limit = limit }) old)
+pub start_reports : (program : ProgramTree) (level : Level) (limit : ℕ) (outcome : Result (Result Reply Denied) AllocError) (old new : World) →
+    MachineReturns outcome old new (start_runner (record { program = program; level = level; limit = limit }) old) →
+    Returns (Start program level limit) (as_reply outcome) old new
+start_reports program level limit outcome old new made =
+    runner_reports (Start program level limit) outcome old new (start_plain (record { program = program; level = level; limit = limit }) old)
     (λ same taken. ((refl, same), taken)) made
 
-pub step_tells : (id : ℕ) (outcome : Result (Result Reply Denied) AllocError) (old new : World) →
-    MachineTells outcome old new (step_runner id (runner_at id old.runners) old) → Tells (Step id) (as_reply outcome) old new
-step_tells id outcome old new made =
-    runner_tells (Step id) outcome old new (step_plain id (runner_at id old.runners) old) (λ same taken. ((refl, same), taken)) made
+pub step_reports : (id : ℕ) (outcome : Result (Result Reply Denied) AllocError) (old new : World) →
+    MachineReturns outcome old new (step_runner id (runner_at id old.runners) old) → Returns (Step id) (as_reply outcome) old new
+step_reports id outcome old new made =
+    runner_reports (Step id) outcome old new (step_plain id (runner_at id old.runners) old) (λ same taken. ((refl, same), taken)) made
 
 -- ---- a world stays sound ----
 
@@ -173,7 +173,7 @@ advance_sound : (moment : ℕ) (expired : List Expired) (old new : World) → Is
 advance_sound moment expired old new sound (inl same) = unchanged_sound expired old new sound same
 advance_sound moment expired old new sound (inr cut) = cut_sound moment expired old new sound cut
 
-want_sound : (event : WorldEvent) (expired : List Expired) (old new : World) → IsSound old → WantTells event expired old new → IsSound new
+want_sound : (event : WorldEvent) (expired : List Expired) (old new : World) → IsSound old → OutOfMemoryReturns event expired old new → IsSound new
 want_sound (Start program level limit) expired old new sound want = unchanged_sound expired old new sound want.0
 want_sound (Step id) expired old new sound want = unchanged_sound expired old new sound want.0
 want_sound (Txn txn) expired old new sound want = unchanged_sound expired old new sound want.0
@@ -191,37 +191,37 @@ is_step_sound : (event : WorldEvent) (reply : Result Reply Denied) (old new : Wo
 is_step_sound event reply old new sound is = subst IsSound is.next_is (step_is_sound event old sound)
 
 -- what is told of a refusal, by whether it is want of memory
-store_cases : (cause : StoreRefusal) (event : WorldEvent) (d : Denied) (old new : World) → StoreRefusalTells cause event d old new →
-    ((is_want_of_store cause ≡ true) × WantTells event d.expired old new) ⊎ ((is_want_of_store cause ≡ false) × IsStep (step event old) (Err d) new)
-store_cases OutOfMemory event d old new told = inl (refl, told)
-store_cases EmptyKey event d old new told = inr (refl, told)
-store_cases FutureRevision event d old new told = inr (refl, told)
-store_cases Compacted event d old new told = inr (refl, told)
-store_cases RevisionsUsedUp event d old new told = inr (refl, told)
-store_cases LeaseExists event d old new told = inr (refl, told)
-store_cases TtlOutOfRange event d old new told = inr (refl, told)
-store_cases LeaseIdOutOfRange event d old new told = inr (refl, told)
-store_cases LeaseNotFound event d old new told = inr (refl, told)
-store_cases NoWatcher event d old new told = inr (refl, told)
-store_cases TooManyOps event d old new told = inr (refl, told)
-store_cases DuplicateKey event d old new told = inr (refl, told)
-store_cases TimeGoesBack event d old new told = inr (refl, told)
+store_cases : (cause : StoreRefusal) (event : WorldEvent) (d : Denied) (old new : World) → StoreRefusalReturns cause event d old new →
+    ((is_out_of_memory_of_store cause ≡ true) × OutOfMemoryReturns event d.expired old new) ⊎ ((is_out_of_memory_of_store cause ≡ false) × IsStep (step event old) (Err d) new)
+store_cases OutOfMemory event d old new reported = inl (refl, reported)
+store_cases EmptyKey event d old new reported = inr (refl, reported)
+store_cases FutureRevision event d old new reported = inr (refl, reported)
+store_cases Compacted event d old new reported = inr (refl, reported)
+store_cases RevisionsUsedUp event d old new reported = inr (refl, reported)
+store_cases LeaseExists event d old new reported = inr (refl, reported)
+store_cases TtlOutOfRange event d old new reported = inr (refl, reported)
+store_cases LeaseIdOutOfRange event d old new reported = inr (refl, reported)
+store_cases LeaseNotFound event d old new reported = inr (refl, reported)
+store_cases NoWatcher event d old new reported = inr (refl, reported)
+store_cases TooManyOps event d old new reported = inr (refl, reported)
+store_cases DuplicateKey event d old new reported = inr (refl, reported)
+store_cases TimeGoesBack event d old new reported = inr (refl, reported)
 
-pub refusal_cases : (cause : Refusal) (event : WorldEvent) (d : Denied) (old new : World) → RefusalTells cause event d old new →
-    ((is_want cause ≡ true) × WantTells event d.expired old new) ⊎ ((is_want cause ≡ false) × IsStep (step event old) (Err d) new)
-refusal_cases (Store cause) event d old new told = store_cases cause event d old new told
-refusal_cases BadLimit event d old new told = inr (refl, told)
-refusal_cases NoRunner event d old new told = inr (refl, told)
+pub refusal_cases : (cause : Refusal) (event : WorldEvent) (d : Denied) (old new : World) → RefusalReturns cause event d old new →
+    ((is_want cause ≡ true) × OutOfMemoryReturns event d.expired old new) ⊎ ((is_want cause ≡ false) × IsStep (step event old) (Err d) new)
+refusal_cases (Store cause) event d old new reported = store_cases cause event d old new reported
+refusal_cases BadLimit event d old new reported = inr (refl, reported)
+refusal_cases NoRunner event d old new reported = inr (refl, reported)
 
 refused_sound : (event : WorldEvent) (d : Denied) (old new : World) → IsSound old →
-    (((is_want d.cause ≡ true) × WantTells event d.expired old new) ⊎ ((is_want d.cause ≡ false) × IsStep (step event old) (Err d) new)) → IsSound new
+    (((is_want d.cause ≡ true) × OutOfMemoryReturns event d.expired old new) ⊎ ((is_want d.cause ≡ false) × IsStep (step event old) (Err d) new)) → IsSound new
 refused_sound event d old new sound (inl want) = want_sound event d.expired old new sound want.1
 refused_sound event d old new sound (inr is) = is_step_sound event (Err d) old new sound is.1
 
 -- whatever is told of an event, the world stays sound
-pub tells_sound : (event : WorldEvent) (reply : Result Reply Denied) (old new : World) → IsSound old → Tells event reply old new → IsSound new
-tells_sound event (Ok reply) old new sound told = is_step_sound event (Ok reply) old new sound told
-tells_sound event (Err d) old new sound told = refused_sound event d old new sound (refusal_cases d.cause event d old new told)
+pub reports_sound : (event : WorldEvent) (reply : Result Reply Denied) (old new : World) → IsSound old → Returns event reply old new → IsSound new
+reports_sound event (Ok reply) old new sound reported = is_step_sound event (Ok reply) old new sound reported
+reports_sound event (Err d) old new sound reported = refused_sound event d old new sound (refusal_cases d.cause event d old new reported)
 
 pub started_sound : (task : Task) (result : Result ℕ AllocError) (old new : World) → IsSound old → OnOk result (new ≡ (start_runner task old).next) →
     OnErr result (new ≡ old) → IsSound new
@@ -231,20 +231,20 @@ started_sound task (Err e) old new sound ok err = subst IsSound (sym err) sound
 -- ---- a run of events ----
 
 taken_by : (event : WorldEvent) (d : Denied) (old new : World) → is_want d.cause ≡ false →
-    (((is_want d.cause ≡ true) × WantTells event d.expired old new) ⊎ ((is_want d.cause ≡ false) × IsStep (step event old) (Err d) new)) →
+    (((is_want d.cause ≡ true) × OutOfMemoryReturns event d.expired old new) ⊎ ((is_want d.cause ≡ false) × IsStep (step event old) (Err d) new)) →
     IsStep (step event old) (Err d) new
 taken_by event d old new not (inl want) = absurd (cc)
 taken_by event d old new not (inr is) = is.1
 
 -- an event that memory sufficed for is taken
-pub taken : (event : WorldEvent) (reply : Result Reply Denied) (old new : World) → ran_out reply ≡ false → Tells event reply old new →
+pub taken : (event : WorldEvent) (reply : Result Reply Denied) (old new : World) → ran_out reply ≡ false → Returns event reply old new →
     IsStep (step event old) reply new
-taken event (Ok reply) old new not told = told
-taken event (Err d) old new not told = taken_by event d old new not (refusal_cases d.cause event d old new told)
+taken event (Ok reply) old new not reported = reported
+taken event (Err d) old new not reported = taken_by event d old new not (refusal_cases d.cause event d old new reported)
 
 wanted_by : (event : WorldEvent) (d : Denied) (old new : World) → is_want d.cause ≡ true →
-    (((is_want d.cause ≡ true) × WantTells event d.expired old new) ⊎ ((is_want d.cause ≡ false) × IsStep (step event old) (Err d) new)) →
-    WantTells event d.expired old new
+    (((is_want d.cause ≡ true) × OutOfMemoryReturns event d.expired old new) ⊎ ((is_want d.cause ≡ false) × IsStep (step event old) (Err d) new)) →
+    OutOfMemoryReturns event d.expired old new
 wanted_by event d old new want (inl is) = is.1
 wanted_by event d old new want (inr not) = absurd (cc)
 
@@ -278,18 +278,18 @@ reached_step events i e w next start reply within is s reached =
     ∙ sym (ap (λ (l : List WorldEvent). world_after l start) (take_more events i e within ∙ ap (λ (x : WorldEvent). take i events ++ x ∷ []) (sym is)))
 
 -- a run that stops at an event
-want_of : (event : WorldEvent) (reply : Result Reply Denied) (old new : World) → ran_out reply ≡ true → Tells event reply old new →
-    WantTells event (expired_of reply) old new
-want_of event (Ok reply) old new want told = absurd (cc)
-want_of event (Err d) old new want told = wanted_by event d old new want (refusal_cases d.cause event d old new told)
+want_of : (event : WorldEvent) (reply : Result Reply Denied) (old new : World) → ran_out reply ≡ true → Returns event reply old new →
+    OutOfMemoryReturns event (expired_of reply) old new
+want_of event (Ok reply) old new want reported = absurd (cc)
+want_of event (Err d) old new want reported = wanted_by event d old new want (refusal_cases d.cause event d old new reported)
 
 pub stops_at : (events : List WorldEvent) (i : ℕ) (e : WorldEvent) (w new start : World) (reply : Result Reply Denied) →
-    i < length events → e ≡ get_or events i e → w ≡ world_after (take i events) start → ran_out reply ≡ true → Tells e reply w new →
+    i < length events → e ≡ get_or events i e → w ≡ world_after (take i events) start → ran_out reply ≡ true → Returns e reply w new →
     IsRunStop events i (expired_of reply) start new
-stops_at events i e w new start reply within is reached want told =
-    inr (subst (λ (o : Option WorldEvent). WantTellsAt o (expired_of reply) (world_after (take i events) start) new)
+stops_at events i e w new start reply within is reached want reported =
+    inr (subst (λ (o : Option WorldEvent). OutOfMemoryReturnsAt o (expired_of reply) (world_after (take i events) start) new)
     (sym (slice_get-get_or events i e within ∙ ap (λ (x : WorldEvent). Some x) (sym is)))
-    (subst (λ (x : World). WantTells e (expired_of reply) x new) reached (want_of e reply w new want told)))
+    (subst (λ (x : World). OutOfMemoryReturns e (expired_of reply) x new) reached (want_of e reply w new want reported)))
 
 -- a run from a world of which the headline holds
 pub run_holds : (start : Setup) (before events : List WorldEvent) (earlier : List (Result Reply Denied)) (old new : World) (replies : List (Result Reply Denied)) →
@@ -303,8 +303,8 @@ run_holds start before events earlier old new replies replied reached holds =
 
 -- one event, where memory was had
 pub step_holds : (start : Setup) (before : List WorldEvent) (earlier : List (Result Reply Denied)) (event : WorldEvent) (reply : Result Reply Denied)
-    (old new : World) → ran_out reply ≡ false → Tells event reply old new → Holds start before earlier old →
+    (old new : World) → ran_out reply ≡ false → Returns event reply old new → Holds start before earlier old →
     Holds start (before ++ event ∷ []) (earlier ++ reply ∷ []) new
-step_holds start before earlier event reply old new had told holds =
-    let s : IsStep (step event old) reply new = taken event reply old new had told in
+step_holds start before earlier event reply old new had reported holds =
+    let s : IsStep (step event old) reply new = taken event reply old new had reported in
     run_holds start before (event ∷ []) earlier old new (reply ∷ []) (ap (λ (r : Result Reply Denied). r ∷ []) (sym s.reply_is)) (sym s.next_is) holds

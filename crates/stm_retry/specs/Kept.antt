@@ -14,10 +14,10 @@ use Rattle.stm_world.specs.declared.event.WorldEvent.TheVariants.{Compact}
 use Rattle.stm_world.specs.declared.reply.Reply.{Reply}
 use Rattle.stm_world.specs.declared.reply.Reply.TheVariants.{Compacted}
 use Rattle.stm_world.specs.declared.refusal.Denied.{Denied}
-use Rattle.stm_world.specs.Told.{reply_to, store_after_call}
+use Rattle.stm_world.specs.Reported.{reply_to, store_after_call}
 use Rattle.stm_world.specs.World.{World, Runner, Stepped, runner_at, quietly_called}
 use Rattle.stm_world.specs.Sound.{IsSound}
-use Rattle.stm_retry.specs.Tells.{IsStep, Tells}
+use Rattle.stm_retry.specs.Returns.{IsStep, Returns}
 
 -- the store over the whole history: the one to which the entries lead from the revision at which the store opened
 abbrev pub whole_store : ℕ → List Entry → Standing → Standing
@@ -45,9 +45,9 @@ compact_kept revision w =
     quietly_called (reply_to (λ _. Compacted revision) o) (store_after_call w.standing o) w
 
 -- The reply and the next world are the step's, unless memory ran out; but a compaction drops something.
-abbrev pub KeptTells : WorldEvent → Result Reply Denied → World → World → Type 0
-KeptTells (Compact revision) reply old new = IsStep (compact_kept revision old) reply new
-KeptTells event reply old new = Tells event reply old new
+abbrev pub KeptReturns : WorldEvent → Result Reply Denied → World → World → Type 0
+KeptReturns (Compact revision) reply old new = IsStep (compact_kept revision old) reply new
+KeptReturns event reply old new = Returns event reply old new
 
 -- the revision that the next fetch of each runner names is reached
 abbrev pub BasesAreReached : World → Type 0

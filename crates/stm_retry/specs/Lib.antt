@@ -1,9 +1,9 @@
 pub mod Codes
-pub mod Tells
+pub mod Returns
 pub mod Stops
-pub mod CallTells
-pub mod MachineTells
+pub mod CallReturns
+pub mod MachineReturns
 pub mod Kept
 pub mod RunnerView
-pub mod RunnerTells
+pub mod RunnerReturns
 pub use Rattle.stm_calls.specs.StateOf

@@ -9,7 +9,7 @@ use Rattle.stm_world.specs.declared.reply.Reply.{Reply}
 use Rattle.stm_world.specs.declared.reply.Reply.TheVariants.{Advanced}
 use Rattle.stm_world.specs.declared.refusal.Denied.{Denied}
 use Rattle.stm_world.specs.World.{World, step, world_after, replies_to}
-use Rattle.stm_retry.specs.Tells.{IsStep, WantTells, IsRunStop}
+use Rattle.stm_retry.specs.Returns.{IsStep, OutOfMemoryReturns, IsRunStop}
 
 -- a reply with leases in front that had expired before: an advance tells them first, also where it is refused
 abbrev pub with_expired : List Expired → Result Reply Denied → Result Reply Denied
@@ -58,14 +58,14 @@ world_left [] w = w
 world_left (s ∷ stops) w = world_left stops s.left
 
 -- the replies to all events, where those behind the last stop are run to the end
-abbrev pub told_in_all : List Stop → List WorldEvent → World → List (Result Reply Denied)
-told_in_all [] events w = replies_to events w
-told_in_all (s ∷ stops) events w =
-    replies_to (take s.done events) w ++ first_with_expired s.expired (told_in_all stops (drop s.done events) s.left)
+abbrev pub reported_in_all : List Stop → List WorldEvent → World → List (Result Reply Denied)
+reported_in_all [] events w = replies_to events w
+reported_in_all (s ∷ stops) events w =
+    replies_to (take s.done events) w ++ first_with_expired s.expired (reported_in_all stops (drop s.done events) s.left)
 
 -- Behind all these stops the replies are those of a run that was never stopped, and so is the world after it.
 pub record ComeToTheWhole (stops : List Stop) (events : List WorldEvent) (w : World) : Type 0 where
-  pub replies : replies_to events w ≡ told_in_all stops events w
+  pub replies : replies_to events w ≡ reported_in_all stops events w
   pub world : world_after events w ≡ world_after (events_left stops events) (world_left stops w)
 
 -- ---- the laws ----
@@ -75,7 +75,7 @@ pub record StopsGoOn : Type 0 where
   -- an advance that was cut after any of its expiries: the same advance expires the rest, and comes to the same store and cause
   pub advances : (s left : Standing) (moment : ℕ) (expired : List Expired) → s.moment ≤ moment → HasCome (at_moment s moment) expired left
       → advanced s moment ≡ after expired (advanced left moment)
-  pub events : (event : WorldEvent) (expired : List Expired) (old new : World) → WantTells event expired old new
+  pub events : (event : WorldEvent) (expired : List Expired) (old new : World) → OutOfMemoryReturns event expired old new
       → RepeatsAlike event expired old new
   pub runs : (events : List WorldEvent) (taken : ℕ) (expired : List Expired) (old new : World) → IsRunStop events taken expired old new
       → GoesOnAlike events taken expired old new
@@ -84,7 +84,7 @@ pub record StopsGoOn : Type 0 where
 -- Ways to go on behind an advance that had expired some leases when it was stopped, which are none.
 pub record WrongStops : Type 0 where
   -- the advance tells its whole list again
-  pub list_told_again : (events : List WorldEvent) (taken : ℕ) (expired : List Expired) (old new : World) → IsRunStop events taken expired old new
+  pub list_reported_again : (events : List WorldEvent) (taken : ℕ) (expired : List Expired) (old new : World) → IsRunStop events taken expired old new
       → expired ≢ [] → replies_to events old ≡ replies_to (take taken events) old ++ replies_to (drop taken events) new → ⊥
   -- the world is as it was before the advance
   pub nothing_left : (events : List WorldEvent) (taken : ℕ) (expired : List Expired) (old new : World) → IsRunStop events taken expired old new

@@ -12,8 +12,8 @@ mod runner;
 mod runner_steps;
 mod shared_runner;
 mod slots;
+mod step_outcome;
 mod store_calls;
-mod told;
 mod watch_calls;
 mod world;
 

@@ -3,8 +3,8 @@ ghost use Rattle.std.specs.Prelude.{◌≡◌, ◌≤◌, [], IfOk};
 ghost use Rattle.stm_history.specs.declared.revisions.TheConstants.{HIGHEST_REVISION};
 ghost use Rattle.stm_outcome.specs.Terms.{most_operations};
 ghost use Rattle.stm_world.specs.World.{opened};
-ghost use Rattle.stm_retry.specs.MachineTells.{as_reply};
-ghost use Rattle.stm_retry.specs.Kept.{KeptTells, BasesAreReached};
+ghost use Rattle.stm_retry.specs.MachineReturns.{as_reply};
+ghost use Rattle.stm_retry.specs.Kept.{KeptReturns, BasesAreReached};
 
 use crate::slots::Slot;
 use crate::store_calls::{advance, grant, keep, make_txn, revoke};
@@ -78,7 +78,7 @@ impl Machine {
     /// Takes one event.
     pub(crate) fn step(&mut self, alloc: Global, event: &WorldEvent) -> Result<Reply, Denied>
         requires { BasesAreReached self.old }
-        ensures { KeptTells event.now result self.old self.new }
+        ensures { KeptReturns event.now result self.old self.new }
     {
         match event {
             WorldEvent::Start {

@@ -10,22 +10,22 @@ ghost use Rattle.stm_outcome.specs.Commits.{AreNamed as KeysAreNamed};
 ghost use Rattle.stm_compile.specs.Levels.{is_serializable};
 ghost use Rattle.stm_attempt.specs.Known.{HaveDistinctKeys};
 ghost use Rattle.stm_attempt.specs.Fetches.{ShowOneRevision, at_of};
-ghost use Rattle.stm_calls.specs.Fetched.{fetch_told, fetch_all_told};
+ghost use Rattle.stm_calls.specs.Fetched.{fetch_reported, fetch_all_reported};
 ghost use Rattle.stm_entries.specs.declared.entry.Entry.TheVariants.{Program as ProgramEntry};
 ghost use Rattle.stm_world.specs.declared.reply.Reply.TheVariants.{Prefetched, Fetched, Started, Committed, Ended};
-ghost use Rattle.stm_world.specs.Task.{answers_told};
+ghost use Rattle.stm_world.specs.Task.{answers_reported};
 ghost use Rattle.stm_world.specs.World.{Runner as LiveRunner, start_runner, step_runner, step_live, commit as commit_of, runner_at};
-ghost use Rattle.stm_retry.specs.declared.told.Told.TheVariants.{GoesOn, Ends};
-ghost use Rattle.stm_retry.specs.MachineTells.{Tells};
+ghost use Rattle.stm_retry.specs.declared.step_outcome.StepOutcome.TheVariants.{GoesOn, Ends};
+ghost use Rattle.stm_retry.specs.MachineReturns.{Returns};
 ghost use Rattle.stm_retry.specs.RunnerView.{task_of, AreNamed, with_answer, with_answers, begun_again};
-ghost use Rattle.stm_retry.specs.RunnerTells.{workplace, Leaves, TellsEnd, IsReady, told_of_fetch, after_told_fetch, key_read, told_of_list, after_told_list, told_of_failure, may_go_on, reply_in, reply_told, slot_left};
+ghost use Rattle.stm_retry.specs.RunnerReturns.{workplace, Leaves, ReturnsEnd, IsReady, reported_of_fetch, after_reported_fetch, key_read, reported_of_list, after_reported_list, reported_of_failure, may_go_on, reply_in, reply_reported, slot_left};
 
 use crate::entries::entry_of;
 use crate::machine::{Machine, denied};
 use crate::runner::Runner;
 use crate::shared_runner::SharedRunner;
 use crate::slots::{Slot, put_slot, take_runner};
-use crate::told::Told;
+use crate::step_outcome::StepOutcome;
 use std::alloc::{AllocError, Global};
 use stm_attempt::{Next, Ready};
 use stm_calls::{Copies, Sent, copies_of};
@@ -51,10 +51,10 @@ fn take_answer(
     runner: &mut Runner,
     key: Text,
     answer: ReadAnswer,
-) -> Result<Told, AllocError>
+) -> Result<StepOutcome, AllocError>
     requires asked { runner.old.awaits ≡ Some answer.key }
     requires in_range { ReadFits answer }
-    ensures told { IfOk result (λ told. told ≡ GoesOn (Fetched id key (mod_of answer.kv) answer.of_rev answer.revision)) }
+    ensures reported { IfOk result (λ reported. reported ≡ GoesOn (Fetched id key (mod_of answer.kv) answer.of_rev answer.revision)) }
     ensures ok { OnOk result (runner.new.runner ≡ with_answer answer runner.old.runner) }
     ensures err { OnErr result (runner.new.runner ≡ runner.old.runner) }
 {
@@ -62,7 +62,7 @@ fn take_answer(
     let of_rev = answer.of_rev;
     let revision = answer.revision;
     runner.supply(answer)?;
-    Ok(Told::GoesOn(Reply::Fetched {
+    Ok(StepOutcome::GoesOn(Reply::Fetched {
         runner: id,
         key,
         mod_rev,
@@ -79,12 +79,12 @@ fn fetch(
     runner: &mut Runner,
     key: Text,
     at: u64,
-) -> Result<Told, AllocError>
+) -> Result<StepOutcome, AllocError>
     requires asked { runner.old.awaits ≡ Some key }
     requires named { 0 < length key }
     requires reached { at ≤ now store.old.standing.history }
-    ensures told { IfOk result (λ told. told ≡ told_of_fetch id key (fetch_told store.old.standing key at)) }
-    ensures ok { OnOk result (runner.new.runner ≡ after_told_fetch (fetch_told store.old.standing key at) runner.old.runner) }
+    ensures reported { IfOk result (λ reported. reported ≡ reported_of_fetch id key (fetch_reported store.old.standing key at)) }
+    ensures ok { OnOk result (runner.new.runner ≡ after_reported_fetch (fetch_reported store.old.standing key at) runner.old.runner) }
     ensures err { OnErr result (runner.new.runner ≡ runner.old.runner) }
     ensures store { store.new.standing ≡ store.old.standing }
 {
@@ -96,7 +96,7 @@ fn fetch(
 }
 
 /// What is told of the answer to a key of a list.
-fn read_told(answer: &ReadAnswer) -> Result<KeyRead, AllocError>
+fn read_reported(answer: &ReadAnswer) -> Result<KeyRead, AllocError>
     ensures { IfOk result (λ read. read ≡ key_read answer.now) }
 {
     let key = answer.key.clone()?;
@@ -105,12 +105,12 @@ fn read_told(answer: &ReadAnswer) -> Result<KeyRead, AllocError>
 }
 
 /// What is told of the answers to a list, in their order.
-fn reads_told(alloc: Global, answers: &[ReadAnswer]) -> Result<Sequence<KeyRead>, AllocError>
+fn reads_reported(alloc: Global, answers: &[ReadAnswer]) -> Result<Sequence<KeyRead>, AllocError>
     ensures { IfOk result (λ reads. reads ≡ map key_read answers.now) }
 {
     let mut reads = Sequence::new(alloc);
     for answer in answers {
-        reads.push(read_told(answer)?)?;
+        reads.push(read_reported(answer)?)?;
     }
     Ok(reads)
 }
@@ -122,17 +122,17 @@ fn take_answers(
     runner: &mut Runner,
     revision: u64,
     answers: Vec<ReadAnswer>,
-) -> Result<Told, AllocError>
+) -> Result<StepOutcome, AllocError>
     requires asked { runner.old.awaits_list ≡ Some (map (λ (a : Answer). a.key) answers.items) }
     requires in_range { All ReadFits answers.items }
     requires one_revision { ShowOneRevision answers.items }
-    ensures told { IfOk result (λ told. told ≡ GoesOn (Prefetched id revision (map key_read answers.items))) }
+    ensures reported { IfOk result (λ reported. reported ≡ GoesOn (Prefetched id revision (map key_read answers.items))) }
     ensures ok { OnOk result (runner.new.runner ≡ with_answers answers.items runner.old.runner) }
     ensures err { OnErr result (runner.new.runner ≡ runner.old.runner) }
 {
-    let reads = reads_told(alloc, answers.as_slice())?;
+    let reads = reads_reported(alloc, answers.as_slice())?;
     runner.supply_all(answers)?;
-    Ok(Told::GoesOn(Reply::Prefetched {
+    Ok(StepOutcome::GoesOn(Reply::Prefetched {
         runner: id,
         revision,
         reads,
@@ -147,11 +147,11 @@ fn fetch_list(
     id: u64,
     runner: &mut Runner,
     keys: &[Text],
-) -> Result<Told, AllocError>
+) -> Result<StepOutcome, AllocError>
     requires asked { runner.old.awaits_list ≡ Some keys.now }
     requires named { KeysAreNamed keys.now }
-    ensures told { IfOk result (λ told. told ≡ told_of_list id (now store.old.standing.history) (fetch_all_told store.old.standing keys.now)) }
-    ensures ok { OnOk result (runner.new.runner ≡ after_told_list (fetch_all_told store.old.standing keys.now) runner.old.runner) }
+    ensures reported { IfOk result (λ reported. reported ≡ reported_of_list id (now store.old.standing.history) (fetch_all_reported store.old.standing keys.now)) }
+    ensures ok { OnOk result (runner.new.runner ≡ after_reported_list (fetch_all_reported store.old.standing keys.now) runner.old.runner) }
     ensures err { OnErr result (runner.new.runner ≡ runner.old.runner) }
     ensures store { store.new.standing ≡ store.old.standing }
 {
@@ -165,7 +165,7 @@ fn fetch_list(
 /// The reply of an end other than a run's last statement.
 fn reply_to_end(id: u64, end: End) -> Reply
     requires { end ≢ Done }
-    ensures { TellsEnd id end result }
+    ensures { ReturnsEnd id end result }
 {
     match end {
         End::Done => unreachable!(),
@@ -177,7 +177,7 @@ fn reply_to_end(id: u64, end: End) -> Reply
 /// The reply of a run that came to its end with nothing to commit.
 fn reply_at_end(id: u64, run: Run) -> Reply
     requires { run.end ≢ Done }
-    ensures { TellsEnd id run.end result }
+    ensures { ReturnsEnd id run.end result }
 {
     reply_to_end(id, run.end)
 }
@@ -191,26 +191,26 @@ fn fail_commit(
     seen: u64,
     now: u64,
     answers: Sequence<ReadAnswer>,
-) -> Result<Told, AllocError>
+) -> Result<StepOutcome, AllocError>
     requires named { AreNamed answers }
     requires distinct { HaveDistinctKeys answers }
     requires in_range { All ReadFits answers }
     requires one_revision { ShowOneRevision answers }
     requires only_serializable { is_serializable runner.old.runner.task.level ≡ false → answers ≡ [] }
-    ensures told { IfOk result (λ told. told ≡ told_of_failure id runner.old.runner key seen now) }
+    ensures reported { IfOk result (λ reported. reported ≡ reported_of_failure id runner.old.runner key seen now) }
     ensures again { OnOk result (may_go_on runner.old.runner ≡ true → runner.new.runner ≡ begun_again answers runner.old.runner) }
     ensures err { OnErr result (runner.new.runner ≡ runner.old.runner) }
 {
     if runner.may_begin_again() {
         runner.begin_again(alloc, answers)?;
-        return Ok(Told::GoesOn(Reply::Conflict {
+        return Ok(StepOutcome::GoesOn(Reply::Conflict {
             runner: id,
             key,
             seen,
             now,
         }));
     }
-    Ok(Told::Ends(Reply::GaveUp {
+    Ok(StepOutcome::Ends(Reply::GaveUp {
         runner: id,
         attempts: runner.attempts(),
         key,
@@ -220,21 +220,21 @@ fn fail_commit(
 }
 
 /// What a fetch or a commit that the store refused comes to: the end of the run, unless memory ran out.
-fn end_refused(id: u64, cause: StoreRefusal) -> Result<Told, AllocError>
-    ensures told { IfOk result (λ told. told ≡ Ends (Ended id cause)) }
+fn end_refused(id: u64, cause: StoreRefusal) -> Result<StepOutcome, AllocError>
+    ensures reported { IfOk result (λ reported. reported ≡ Ends (Ended id cause)) }
     ensures refused { OnOk result (cause ≢ OutOfMemory) }
 {
     if cause == StoreRefusal::OutOfMemory {
         return Err(AllocError);
     }
-    Ok(Told::Ends(Reply::Ended { runner: id, cause }))
+    Ok(StepOutcome::Ends(Reply::Ended { runner: id, cause }))
 }
 
 /// Takes what a commit that succeeds takes of memory: the copies that are told of it, and room for its entry.
 fn prepare(alloc: Global, entries: &mut Vec<Entry>, ready: &Ready) -> Result<Copies, AllocError>
     ensures output { IfOk result (λ copies. copies.output ≡ ready.now.output) }
     ensures trace { IfOk result (λ copies. copies.trace ≡ ready.now.trace) }
-    ensures answers { IfOk result (λ copies. copies.answers ≡ answers_told ready.now.level ready.now.answers) }
+    ensures answers { IfOk result (λ copies. copies.answers ≡ answers_reported ready.now.level ready.now.answers) }
     ensures room { OnOk result (vec_len entries.new < vec_capacity entries.new) }
     ensures same { entries.new.items ≡ entries.old.items }
 {
@@ -269,14 +269,14 @@ fn end_committed(
     ready: Ready,
     copies: Copies,
     revision: u64,
-) -> Told
+) -> StepOutcome
     requires { vec_len entries.old < vec_capacity entries.old }
-    ensures told { result ≡ Ends (Committed id revision attempts copies.output copies.trace copies.answers) }
+    ensures reported { result ≡ Ends (Committed id revision attempts copies.output copies.trace copies.answers) }
     ensures entered { entries.new.items ≡ entries.old.items ++
-        ProgramEntry ready.program ready.level (answers_told ready.level ready.answers) ready.output ready.trace revision ∷ [] }
+        ProgramEntry ready.program ready.level (answers_reported ready.level ready.answers) ready.output ready.trace revision ∷ [] }
 {
     entries.push_reserved(entry_of(alloc, ready, revision));
-    Told::Ends(reply_committed(id, revision, attempts, copies))
+    StepOutcome::Ends(reply_committed(id, revision, attempts, copies))
 }
 
 /// Sends the commit of a run that is done.
@@ -289,7 +289,7 @@ fn commit(
     id: u64,
     runner: &mut Runner,
     ready: Ready,
-) -> Result<Told, AllocError>
+) -> Result<StepOutcome, AllocError>
     requires named { AreNamed ready.answers }
     requires is_ready { (run : ARun) × IsReady runner.old.runner run ready }
     ensures { (run : ARun) → IsReady runner.old.runner run ready → Leaves id result
@@ -333,7 +333,7 @@ pub(crate) fn step_live(
     entries: &mut Vec<Entry>,
     id: u64,
     runner: &mut Runner,
-) -> Result<Told, AllocError>
+) -> Result<StepOutcome, AllocError>
     requires { at_of runner.old.runner.task.level runner.old.runner.known.reads ≤ now store.old.standing.history }
     ensures { Leaves id result (workplace store.old.standing entries.old.items runner.old.runner)
         (workplace store.new.standing entries.new.items runner.new.runner) (step_live id runner.old.runner) }
@@ -341,27 +341,27 @@ pub(crate) fn step_live(
     let next = runner.advance()?;
     match next {
         Next::FetchAll { keys, .. } => {
-            let told = fetch_list(alloc, store, id, runner, keys.as_slice())?;
-            Ok(told)
+            let reported = fetch_list(alloc, store, id, runner, keys.as_slice())?;
+            Ok(reported)
         }
         Next::Fetch { key, at } => {
-            let told = fetch(alloc, store, id, runner, key, at)?;
-            Ok(told)
+            let reported = fetch(alloc, store, id, runner, key, at)?;
+            Ok(reported)
         }
         Next::Ready(ready) => {
-            let told = commit(alloc, store, entries, id, runner, ready)?;
-            Ok(told)
+            let reported = commit(alloc, store, entries, id, runner, ready)?;
+            Ok(reported)
         }
-        Next::Aborted(run) => Ok(Told::Ends(reply_at_end(id, run))),
-        Next::Faulted(run) => Ok(Told::Ends(reply_at_end(id, run))),
+        Next::Aborted(run) => Ok(StepOutcome::Ends(reply_at_end(id, run))),
+        Next::Faulted(run) => Ok(StepOutcome::Ends(reply_at_end(id, run))),
     }
 }
 
 /// What stands at a runner's place after its step.
-fn slot_after(told: &Result<Told, AllocError>, runner: SharedRunner) -> Slot
-    ensures { result ≡ slot_left told.now runner.runner }
+fn slot_after(reported: &Result<StepOutcome, AllocError>, runner: SharedRunner) -> Slot
+    ensures { result ≡ slot_left reported.now runner.runner }
 {
-    if matches!(told, Ok(Told::Ends(_))) {
+    if matches!(reported, Ok(StepOutcome::Ends(_))) {
         drop(runner);
         Slot::over()
     } else {
@@ -370,21 +370,21 @@ fn slot_after(told: &Result<Told, AllocError>, runner: SharedRunner) -> Slot
 }
 
 /// The reply that was told.
-fn reply_in(told: Told) -> Reply
-    ensures { result ≡ reply_in told }
+fn reply_in(reported: StepOutcome) -> Reply
+    ensures { result ≡ reply_in reported }
 {
-    match told {
-        Told::GoesOn(reply) => reply,
-        Told::Ends(reply) => reply,
+    match reported {
+        StepOutcome::GoesOn(reply) => reply,
+        StepOutcome::Ends(reply) => reply,
     }
 }
 
 /// The reply to a step of a runner, where memory did not run out.
-fn reply_of(outcome: Result<Told, AllocError>) -> Result<Result<Reply, Denied>, AllocError>
-    ensures { result ≡ reply_told outcome }
+fn reply_of(outcome: Result<StepOutcome, AllocError>) -> Result<Result<Reply, Denied>, AllocError>
+    ensures { result ≡ reply_reported outcome }
 {
     match outcome {
-        Ok(told) => Ok(Ok(reply_in(told))),
+        Ok(reported) => Ok(Ok(reply_in(reported))),
         Err(error) => Err(error),
     }
 }
@@ -420,7 +420,7 @@ impl Machine {
         level: Level,
         limit: u32,
     ) -> Result<Result<Reply, Denied>, AllocError>
-        ensures { Tells result self.old self.new (start_runner (task_of program.now level limit) self.old) }
+        ensures { Returns result self.old self.new (start_runner (task_of program.now level limit) self.old) }
     {
         if limit == 0 {
             return Ok(Err(denied(alloc, Refusal::BadLimit)));
@@ -440,14 +440,14 @@ impl Machine {
         id: u64,
     ) -> Result<Result<Reply, Denied>, AllocError>
         requires { (r : LiveRunner) → runner_at id self.old.runners ≡ Some r → at_of r.task.level r.known.reads ≤ now self.old.standing.history }
-        ensures { Tells result self.old self.new (step_runner id (runner_at id self.old.runners) self.old) }
+        ensures { Returns result self.old self.new (step_runner id (runner_at id self.old.runners) self.old) }
     {
         let Some(mut runner) = take_runner(&mut self.runners, id) else {
             return Ok(Err(denied(alloc, Refusal::NoRunner)));
         };
-        let told = runner.step(alloc, &mut self.store, &mut self.entries, id);
-        let slot = slot_after(&told, runner);
+        let reported = runner.step(alloc, &mut self.store, &mut self.entries, id);
+        let slot = slot_after(&reported, runner);
         put_slot(&mut self.runners, id, slot);
-        reply_of(told)
+        reply_of(reported)
     }
 }

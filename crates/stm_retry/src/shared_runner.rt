@@ -3,11 +3,11 @@ ghost use Rattle.std.specs.Prelude.{◌≡◌, ◌≤◌, IfOk};
 ghost use Rattle.stm_history.specs.History.{now};
 ghost use Rattle.stm_attempt.specs.Fetches.{at_of};
 ghost use Rattle.stm_world.specs.World.{step_live};
-ghost use Rattle.stm_retry.specs.RunnerTells.{workplace, Leaves};
+ghost use Rattle.stm_retry.specs.RunnerReturns.{workplace, Leaves};
 
 use crate::runner::Runner;
 use crate::runner_steps::step_live;
-use crate::told::Told;
+use crate::step_outcome::StepOutcome;
 use std::alloc::{AllocError, Global};
 use std::marker::Model;
 use std::sync::Arc;
@@ -50,7 +50,7 @@ impl SharedRunner {
         store: &mut Store,
         entries: &mut Vec<Entry>,
         id: u64,
-    ) -> Result<Told, AllocError>
+    ) -> Result<StepOutcome, AllocError>
         requires { at_of self.old.runner.task.level self.old.runner.known.reads ≤ now store.old.standing.history }
         ensures { Leaves id result (workplace store.old.standing entries.old.items self.old.runner)
             (workplace store.new.standing entries.new.items self.new.runner) (step_live id self.old.runner) }

@@ -8,9 +8,9 @@ ghost use Rattle.stm_txn.specs.Standing.{kept_alive, refusal_of};
 ghost use Rattle.stm_entries.specs.declared.entry.Entry.TheVariants.{Foreign};
 ghost use Rattle.stm_world.specs.declared.event.WorldEvent.TheVariants.{Txn as TxnEvent, Grant as GrantEvent, Keep as KeepEvent, Revoke as RevokeEvent, Advance as AdvanceEvent};
 ghost use Rattle.stm_world.specs.declared.refusal.Refusal.TheVariants.{Store as OfStore};
-ghost use Rattle.stm_world.specs.Told.{denied as denied_for};
+ghost use Rattle.stm_world.specs.Reported.{denied as denied_for};
 ghost use Rattle.stm_world.specs.World.{expiries};
-ghost use Rattle.stm_retry.specs.CallTells.{CallTells, or_want};
+ghost use Rattle.stm_retry.specs.CallReturns.{CallReturns, or_out_of_memory};
 
 use crate::machine::denied;
 use std::alloc::{AllocError, Global};
@@ -26,8 +26,8 @@ pub(crate) fn refuse(alloc: Global, cause: StoreRefusal) -> Result<Reply, Denied
 }
 
 /// The refusal of a call for which room could not be made: want of memory, where the store had taken it.
-fn refuse_or_want(alloc: Global, cause: Option<StoreRefusal>) -> Result<Reply, Denied>
-    ensures { result ≡ denied_for (OfStore (or_want cause)) }
+fn refuse_or_out_of_memory(alloc: Global, cause: Option<StoreRefusal>) -> Result<Reply, Denied>
+    ensures { result ≡ denied_for (OfStore (or_out_of_memory cause)) }
 {
     match cause {
         Some(cause) => refuse(alloc, cause),
@@ -72,10 +72,10 @@ pub(crate) fn make_txn(
     entries: &mut Vec<Entry>,
     txn: &Txn,
 ) -> Result<Reply, Denied>
-    ensures { CallTells (TxnEvent txn.now) result store.old.standing entries.old.items store.new.standing entries.new.items }
+    ensures { CallReturns (TxnEvent txn.now) result store.old.standing entries.old.items store.new.standing entries.new.items }
 {
     let Ok(copy) = prepare_txn(store, entries, txn) else {
-        return refuse_or_want(alloc, store.txn_refusal(txn));
+        return refuse_or_out_of_memory(alloc, store.txn_refusal(txn));
     };
     match store.txn(txn) {
         Ok(answer) => {
@@ -97,10 +97,10 @@ pub(crate) fn grant(
     id: u64,
     ttl: u64,
 ) -> Result<Reply, Denied>
-    ensures { CallTells (GrantEvent id ttl) result store.old.standing entries.old.items store.new.standing entries.new.items }
+    ensures { CallReturns (GrantEvent id ttl) result store.old.standing entries.old.items store.new.standing entries.new.items }
 {
     if entries.reserve(1).is_err() {
-        return refuse_or_want(alloc, store.grant_refusal(id, ttl));
+        return refuse_or_out_of_memory(alloc, store.grant_refusal(id, ttl));
     }
     let at = store.moment();
     match store.grant(id, ttl) {
@@ -130,10 +130,10 @@ pub(crate) fn keep(
     entries: &mut Vec<Entry>,
     id: u64,
 ) -> Result<Reply, Denied>
-    ensures { CallTells (KeepEvent id) result store.old.standing entries.old.items store.new.standing entries.new.items }
+    ensures { CallReturns (KeepEvent id) result store.old.standing entries.old.items store.new.standing entries.new.items }
 {
     if entries.reserve(1).is_err() {
-        return refuse_or_want(alloc, keep_refusal(store, id));
+        return refuse_or_out_of_memory(alloc, keep_refusal(store, id));
     }
     let at = store.moment();
     match store.keep_alive(id) {
@@ -152,10 +152,10 @@ pub(crate) fn revoke(
     entries: &mut Vec<Entry>,
     id: u64,
 ) -> Result<Reply, Denied>
-    ensures { CallTells (RevokeEvent id) result store.old.standing entries.old.items store.new.standing entries.new.items }
+    ensures { CallReturns (RevokeEvent id) result store.old.standing entries.old.items store.new.standing entries.new.items }
 {
     if entries.reserve(1).is_err() {
-        return refuse_or_want(alloc, store.revoke_refusal(id));
+        return refuse_or_out_of_memory(alloc, store.revoke_refusal(id));
     }
     match store.revoke(id) {
         Ok(revision) => {
@@ -183,7 +183,7 @@ pub(crate) fn advance(
     entries: &mut Vec<Entry>,
     moment: u64,
 ) -> Result<Reply, Denied>
-    ensures { CallTells (AdvanceEvent moment) result store.old.standing entries.old.items store.new.standing entries.new.items }
+    ensures { CallReturns (AdvanceEvent moment) result store.old.standing entries.old.items store.new.standing entries.new.items }
 {
     if moment < store.moment() {
         return refuse(alloc, StoreRefusal::TimeGoesBack);

@@ -4,10 +4,10 @@ ghost use Rattle.stm_outcome.specs.declared.refusal.Refusal.TheVariants.{Compact
 ghost use Rattle.stm_txn.specs.Standing.{compacted};
 ghost use Rattle.stm_world.specs.declared.reply.Reply.TheVariants.{Compacted as CompactedReply, Lost as LostReply};
 ghost use Rattle.stm_world.specs.declared.refusal.Refusal.TheVariants.{Store as OfStore};
-ghost use Rattle.stm_world.specs.Told.{denied as denied_for, reply_to, store_after_call};
+ghost use Rattle.stm_world.specs.Reported.{denied as denied_for, reply_to, store_after_call};
 ghost use Rattle.stm_world.specs.declared.event.WorldEvent.TheVariants.{WatchKey as WatchKeyEvent, WatchRange as WatchRangeEvent};
 ghost use Rattle.stm_world.specs.declared.event.WorldEvent.TheVariants.{Poll as PollEvent, Cancel as CancelEvent};
-ghost use Rattle.stm_retry.specs.CallTells.{WatchTells};
+ghost use Rattle.stm_retry.specs.CallReturns.{WatchReturns};
 
 use crate::store_calls::refuse;
 use std::alloc::Global;
@@ -21,7 +21,7 @@ pub(crate) fn watch_key(
     key: &str,
     from: u64,
 ) -> Result<Reply, Denied>
-    ensures { WatchTells (WatchKeyEvent key.now from) result store.old.standing store.new.standing }
+    ensures { WatchReturns (WatchKeyEvent key.now from) result store.old.standing store.new.standing }
 {
     match store.watch_key(key, from) {
         Ok(watcher) => Ok(Reply::Watching { watcher }),
@@ -37,7 +37,7 @@ pub(crate) fn watch_range(
     end: &str,
     from: u64,
 ) -> Result<Reply, Denied>
-    ensures { WatchTells (WatchRangeEvent first.now end.now from) result store.old.standing store.new.standing }
+    ensures { WatchReturns (WatchRangeEvent first.now end.now from) result store.old.standing store.new.standing }
 {
     match store.watch_range(first, end, from) {
         Ok(watcher) => Ok(Reply::Watching { watcher }),
@@ -68,7 +68,7 @@ pub(crate) fn poll(
     watcher: u64,
     most: u64,
 ) -> Result<Reply, Denied>
-    ensures { WatchTells (PollEvent watcher most) result store.old.standing store.new.standing }
+    ensures { WatchReturns (PollEvent watcher most) result store.old.standing store.new.standing }
 {
     match store.poll(watcher, most) {
         Ok(batch) => Ok(Reply::Batch {
@@ -82,7 +82,7 @@ pub(crate) fn poll(
 
 /// Gives a watcher up.
 pub(crate) fn cancel(alloc: Global, store: &mut Store, watcher: u64) -> Result<Reply, Denied>
-    ensures { WatchTells (CancelEvent watcher) result store.old.standing store.new.standing }
+    ensures { WatchReturns (CancelEvent watcher) result store.old.standing store.new.standing }
 {
     match store.cancel(watcher) {
         Ok(()) => Ok(Reply::Cancelled { watcher }),
@@ -92,7 +92,7 @@ pub(crate) fn cancel(alloc: Global, store: &mut Store, watcher: u64) -> Result<R
 
 /// Compacts the store at a revision: what is below it is dropped.
 pub(crate) fn compact(alloc: Global, store: &mut Store, revision: u64) -> Result<Reply, Denied>
-    ensures told { result ≡ reply_to (λ _. CompactedReply revision) (compacted store.old.standing revision) }
+    ensures reported { result ≡ reply_to (λ _. CompactedReply revision) (compacted store.old.standing revision) }
     ensures store { store.new.standing ≡ store_after_call store.old.standing (compacted store.old.standing revision) }
 {
     match store.compact(revision) {

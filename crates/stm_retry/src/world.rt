@@ -19,7 +19,7 @@ ghost use Rattle.stm_world.specs.Headline.{Holds};
 ghost use Rattle.stm_world.specs.ReadsNow.{ReadsAreNow};
 ghost use Rattle.stm_world.specs.Sound.{IsSound};
 ghost use Rattle.stm_world.specs.World.{opened, runner_at, start_runner, world_after, replies_to};
-ghost use Rattle.stm_retry.specs.Tells.{Tells, ran_out, expired_of, IsRunStop};
+ghost use Rattle.stm_retry.specs.Returns.{Returns, ran_out, expired_of, IsRunStop};
 ghost use Rattle.stm_retry.specs.Stops.{GoesOnAlike};
 ghost use Rattle.stm_retry.specs.Kept.{whole_store};
 
@@ -184,7 +184,7 @@ impl World {
     /// Where the headline holds of what the world was asked and has replied so far, it holds with this event and its reply
     /// behind, unless that is want of memory.
     pub fn step(&mut self, event: &WorldEvent) -> Result<Reply, Denied>
-        ensures told { Tells event.now result self.old self.new }
+        ensures reported { Returns event.now result self.old self.new }
         ensures reads { ReadsAreNow event.now self.old }
         ensures headline { ran_out result ≡ false → (start : Setup) (before : List WorldEvent) (earlier : List (Result Reply Denied))
             → Holds start before earlier self.old → Holds start (before ++ event.now ∷ []) (earlier ++ result ∷ []) self.new }

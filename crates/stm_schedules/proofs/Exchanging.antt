@@ -29,14 +29,14 @@ use Rattle.stm_world.specs.declared.reply.Reply.{Reply}
 use Rattle.stm_world.specs.declared.reply.Reply.TheVariants.{Prefetched, Fetched, Committed, Conflict, GaveUp, Aborted, Faulted, Ended}
 use Rattle.stm_world.specs.declared.refusal.Denied.{Denied}
 use Rattle.stm_world.specs.declared.refusal.Refusal.TheVariants.{NoRunner}
-use Rattle.stm_world.specs.Told.{denied}
-use Rattle.stm_world.specs.Task.{answer_at, modified_now, after_list, after_fetch, after_conflict, answers_told}
+use Rattle.stm_world.specs.Reported.{denied}
+use Rattle.stm_world.specs.Task.{answer_at, modified_now, after_list, after_fetch, after_conflict, answers_reported}
 use Rattle.stm_world.specs.World.{World, Runner, Slot, Over, Live, Stepped, runner_at, with_slot, replied, fetch, fetch_list, entry_of, seen_in, decided}
-use Rattle.stm_world.specs.World.{commit_told, commit, finish, step_on, step_live, step_runner, step}
+use Rattle.stm_world.specs.World.{commit_reported, commit, finish, step_on, step_live, step_runner, step}
 use Rattle.stm_world.proofs.Slots.{runner_there, runner_other}
 use Rattle.stm_schedules.specs.declared.outcome.RunnerEnd.{RunnerEnd}
 use Rattle.stm_schedules.specs.declared.outcome.RunnerEnd.TheVariants.{Committed as CommittedEnd, GaveUp as GaveUpEnd, Aborted as AbortedRun, Faulted as FaultedRun, Ended as EndedEnd}
-use Rattle.stm_schedules.specs.Outcomes.{Ends, with_end, after_told, IsKnown}
+use Rattle.stm_schedules.specs.Outcomes.{Ends, with_end, after_reported, IsKnown}
 use Rattle.stm_schedules.specs.Exchange.{after_step, IsQuiet, is_committed, is_quiet, Exchange, QuietStepsExchange}
 
 abbrev pub world : Standing → List Slot → List Entry → World
@@ -69,8 +69,8 @@ pub record Touches (id : ℕ) (s : Standing) (f : World → Stepped) : Type 0 wh
   pub slot : Option Slot
   pub end : Option RunnerEnd
   pub is : (slots : List Slot) (entries : List Entry) → f (world s slots entries) ≡ stepped reply (world s (put id slot slots) entries)
-  pub told : is_committed reply ≡ false
-  pub known : (ends : Ends) → after_told reply ends ≡ put_end id end ends
+  pub reported : is_committed reply ≡ false
+  pub known : (ends : Ends) → after_reported reply ends ≡ put_end id end ends
   pub fits : IsKnownChange slot end
 
 -- it enters something, and its one reply tells a commit
@@ -79,10 +79,10 @@ pub record Enters (id : ℕ) (s : Standing) (f : World → Stepped) : Type 0 whe
   pub reply : Result Reply Denied
   pub end : RunnerEnd
   pub is : (slots : List Slot) (entries : List Entry) → (f (world s slots entries)).next.entries ≡ entries ++ entry ∷ []
-  pub tells : (slots : List Slot) (entries : List Entry) → (f (world s slots entries)).reply ≡ reply
-  pub told : is_committed reply ≡ true
+  pub reports : (slots : List Slot) (entries : List Entry) → (f (world s slots entries)).reply ≡ reply
+  pub reported : is_committed reply ≡ true
   pub over : (slots : List Slot) (entries : List Entry) → (f (world s slots entries)).next.runners ≡ with_slot id Over slots
-  pub known : (ends : Ends) → after_told reply ends ≡ with_end id end ends
+  pub known : (ends : Ends) → after_reported reply ends ≡ with_end id end ends
 
 abbrev pub Does : ℕ → Standing → (World → Stepped) → Type 0
 Does id s f = Touches id s f ⊎ Enters id s f
@@ -95,7 +95,7 @@ does_alike id s f g same does = elim does [
     slot = t.slot;
     end = t.end;
     is = λ slots entries. same slots entries ∙ t.is slots entries;
-    told = t.told;
+    reported = t.reported;
     known = t.known;
     fits = t.fits;
   })
@@ -104,8 +104,8 @@ does_alike id s f g same does = elim does [
     reply = e.reply;
     end = e.end;
     is = λ slots entries. ap (λ (x : Stepped). x.next.entries) (same slots entries) ∙ e.is slots entries;
-    tells = λ slots entries. ap (λ (x : Stepped). x.reply) (same slots entries) ∙ e.tells slots entries;
-    told = e.told;
+    reports = λ slots entries. ap (λ (x : Stepped). x.reply) (same slots entries) ∙ e.reports slots entries;
+    reported = e.reported;
     over = λ slots entries. ap (λ (x : Stepped). x.next.runners) (same slots entries) ∙ e.over slots entries;
     known = e.known;
   })
@@ -118,7 +118,7 @@ fetch_touches id r key of_rev s = record {
   slot = Some (Live (record r { known = after_fetch r.task (answer_at s.history key of_rev) r.known }));
   end = None;
   is = λ slots entries. refl;
-  told = refl;
+  reported = refl;
   known = λ ends. refl;
   fits = tt;
 }
@@ -132,7 +132,7 @@ failed_by id r seen now_modified s true = record {
   slot = Some (Live (record { task = r.task; failures = r.failures + 1; known = after_conflict r.task s.history r.known }));
   end = None;
   is = λ slots entries. refl;
-  told = refl;
+  reported = refl;
   known = λ ends. refl;
   fits = tt;
 }
@@ -141,7 +141,7 @@ failed_by id r seen now_modified s false = record {
   slot = Some Over;
   end = Some (GaveUpEnd seen.key);
   is = λ slots entries. refl;
-  told = refl;
+  reported = refl;
   known = λ ends. refl;
   fits = tt;
 }
@@ -150,26 +150,26 @@ decided_does : (id : ℕ) (r : Runner) (reads : List ReadAnswer) (run : Run) (do
     Does id s (decided id r reads run done o)
 decided_does id r reads run done None s = inr (record {
   entry = entry_of r.task reads run (now done.history);
-  reply = Ok (Committed id (now done.history) (r.failures + 1) run.output run.trace (answers_told r.task.level reads));
+  reply = Ok (Committed id (now done.history) (r.failures + 1) run.output run.trace (answers_reported r.task.level reads));
   end = CommittedEnd run.output;
   is = λ slots entries. refl;
-  tells = λ slots entries. refl;
-  told = refl;
+  reports = λ slots entries. refl;
+  reported = refl;
   over = λ slots entries. refl;
   known = λ ends. refl;
 })
 decided_does id r reads run done (Some failed) s =
     inl (failed_by id r (seen_in (slice_get (seen_by reads (latest_writes run.writes)) failed.index)) failed.mod_rev s (nat_lt (r.failures + 1) r.task.limit))
 
-told_does : (id : ℕ) (r : Runner) (reads : List ReadAnswer) (run : Run) (o : Result Done StoreRefusal) (s : Standing) →
-    Does id s (commit_told id r reads run o)
-told_does id r reads run (Ok done) s = decided_does id r reads run done done.answer.failed s
-told_does id r reads run (Err cause) s = inl (record {
+reported_does : (id : ℕ) (r : Runner) (reads : List ReadAnswer) (run : Run) (o : Result Done StoreRefusal) (s : Standing) →
+    Does id s (commit_reported id r reads run o)
+reported_does id r reads run (Ok done) s = decided_does id r reads run done done.answer.failed s
+reported_does id r reads run (Err cause) s = inl (record {
   reply = Ok (Ended id cause);
   slot = Some Over;
   end = Some (EndedEnd cause);
   is = λ slots entries. refl;
-  told = refl;
+  reported = refl;
   known = λ ends. refl;
   fits = tt;
 })
@@ -177,8 +177,8 @@ told_does id r reads run (Err cause) s = inl (record {
 commit_does : (id : ℕ) (r : Runner) (reads : List ReadAnswer) (run : Run) (s : Standing) → Does id s (commit id r reads run)
 unfolding commit
 commit_does id r reads run s =
-    does_alike id s (commit_told id r reads run (committed (terms_of s) r.task.level reads run)) (commit id r reads run)
-    (λ slots entries. refl) (told_does id r reads run (committed (terms_of s) r.task.level reads run) s)
+    does_alike id s (commit_reported id r reads run (committed (terms_of s) r.task.level reads run)) (commit id r reads run)
+    (λ slots entries. refl) (reported_does id r reads run (committed (terms_of s) r.task.level reads run) s)
 
 finish_does : (id : ℕ) (r : Runner) (reads : List ReadAnswer) (run : Run) (end : End) (s : Standing) → Does id s (finish id r reads run end)
 finish_does id r reads run DoneEnd s = commit_does id r reads run s
@@ -187,7 +187,7 @@ finish_does id r reads run (AbortedEnd text) s = inl (record {
   slot = Some Over;
   end = Some (AbortedRun text);
   is = λ slots entries. refl;
-  told = refl;
+  reported = refl;
   known = λ ends. refl;
   fits = tt;
 })
@@ -196,7 +196,7 @@ finish_does id r reads run (FaultedEnd fault) s = inl (record {
   slot = Some Over;
   end = Some (FaultedRun fault);
   is = λ slots entries. refl;
-  told = refl;
+  reported = refl;
   known = λ ends. refl;
   fits = tt;
 })
@@ -212,7 +212,7 @@ fetch_if_touches id r key base s true = record {
   slot = Some Over;
   end = Some (EndedEnd CompactedRefusal);
   is = λ slots entries. refl;
-  told = refl;
+  reported = refl;
   known = λ ends. refl;
   fits = tt;
 }
@@ -241,7 +241,7 @@ list_touches_by id r s true = record {
   slot = Some Over;
   end = Some (EndedEnd TooManyOpsRefusal);
   is = λ slots entries. refl;
-  told = refl;
+  reported = refl;
   known = λ ends. refl;
   fits = tt;
 }
@@ -250,7 +250,7 @@ list_touches_by id r s false = record {
   slot = Some (Live (record r { known = after_list r.task s.history r.known }));
   end = None;
   is = λ slots entries. refl;
-  told = refl;
+  reported = refl;
   known = λ ends. refl;
   fits = tt;
 }
@@ -274,7 +274,7 @@ live_does id r s = does_by id r s (is_due r.task.program.prefetch r.known.reads)
 
 pub runner_does : (id : ℕ) (o : Option Runner) (s : Standing) → Does id s (step_runner id o)
 runner_does id None s =
-    inl (record { reply = denied NoRunner; slot = None; end = None; is = λ slots entries. refl; told = refl; known = λ ends. refl; fits = tt })
+    inl (record { reply = denied NoRunner; slot = None; end = None; is = λ slots entries. refl; reported = refl; known = λ ends. refl; fits = tt })
 runner_does id (Some r) s = live_does id r s
 
 -- ---- a quiet step
@@ -302,7 +302,7 @@ not_longer entries entry same =
 quiet_by : (id : ℕ) (o : Option Runner) (s : Standing) (slots : List Slot) (entries : List Entry) → runner_at id slots ≡ o →
     (step_runner id o (world s slots entries)).next.entries ≡ entries → Quiet id s (step_runner id o)
 quiet_by id None s slots entries is quiet = record {
-  touch = record { reply = denied NoRunner; slot = None; end = None; is = λ slots entries. refl; told = refl; known = λ ends. refl; fits = tt };
+  touch = record { reply = denied NoRunner; slot = None; end = None; is = λ slots entries. refl; reported = refl; known = λ ends. refl; fits = tt };
   place = tt;
   end_place = tt;
 }
@@ -327,13 +327,13 @@ quiet_not false is = refl
 pub quiet_is : (id : ℕ) (w : World) → is_quiet id w ≡ true → IsQuiet id w
 quiet_is id w is = elim (runner_does id (runner_at id w.runners) w.standing) [
   | inl t ↦ ap (λ (x : Stepped). x.next.entries) (t.is w.runners w.entries)
-  | inr e ↦ let one : is_committed (step (Step id) w).reply ≡ true = ap is_committed (e.tells w.runners w.entries) ∙ e.told in
+  | inr e ↦ let one : is_committed (step (Step id) w).reply ≡ true = ap is_committed (e.reports w.runners w.entries) ∙ e.reported in
       let none : is_committed (step (Step id) w).reply ≡ false = quiet_not (is_committed (step (Step id) w).reply) is in absurd (cc)
 ]
 
-pub quiet_is_told : (id : ℕ) (w : World) → IsQuiet id w → is_quiet id w ≡ true
-quiet_is_told id w quiet = elim (runner_does id (runner_at id w.runners) w.standing) [
-  | inl t ↦ ap not (ap (λ (x : Stepped). is_committed x.reply) (t.is w.runners w.entries) ∙ t.told)
+pub quiet_is_reported : (id : ℕ) (w : World) → IsQuiet id w → is_quiet id w ≡ true
+quiet_is_reported id w quiet = elim (runner_does id (runner_at id w.runners) w.standing) [
+  | inl t ↦ ap not (ap (λ (x : Stepped). is_committed x.reply) (t.is w.runners w.entries) ∙ t.reported)
   | inr e ↦ absurd (not_longer w.entries e.entry (sym (e.is w.runners w.entries) ∙ quiet))
 ]
 
@@ -399,7 +399,7 @@ stays i j w ne quiet_i quiet_j =
 
 pub quiet_steps_exchange : QuietStepsExchange
 quiet_steps_exchange = record {
-  told = λ id w. (quiet_is id w, quiet_is_told id w);
+  reported = λ id w. (quiet_is id w, quiet_is_reported id w);
   exchange = exchange;
   stays = stays;
 }
@@ -416,7 +416,7 @@ reply_alone : (j : ℕ) (o : Option Runner) (s : Standing) (slots more : List Sl
     (step_runner j o (world s more entries)).reply ≡ (step_runner j o (world s slots entries)).reply
 reply_alone j o s slots more entries = elim (runner_does j o s) [
   | inl t ↦ ap (λ (x : Stepped). x.reply) (t.is more entries) ∙ sym (ap (λ (x : Stepped). x.reply) (t.is slots entries))
-  | inr e ↦ e.tells more entries ∙ sym (e.tells slots entries)
+  | inr e ↦ e.reports more entries ∙ sym (e.reports slots entries)
 ]
 
 -- its step is told the same reply, a commit too
@@ -428,17 +428,17 @@ same_reply i j w ne quiet =
 
 -- what is known of the ends is the same in either order
 pub same_ends : (i j : ℕ) (w : World) (ends : Ends) → i ≢ j → IsQuiet i w → IsQuiet j w →
-    after_told (step (Step j) (after_step i w)).reply (after_told (step (Step i) w).reply ends)
-    ≡ after_told (step (Step i) (after_step j w)).reply (after_told (step (Step j) w).reply ends)
+    after_reported (step (Step j) (after_step i w)).reply (after_reported (step (Step i) w).reply ends)
+    ≡ after_reported (step (Step i) (after_step j w)).reply (after_reported (step (Step j) w).reply ends)
 same_ends i j w ends ne quiet_i quiet_j =
     let a = quiet_step i w quiet_i in
     let b = quiet_step j w quiet_j in
-    let told_i = ap (λ (x : Stepped). x.reply) (a.touch.is w.runners w.entries) in
-    let told_j = ap (λ (x : Stepped). x.reply) (b.touch.is w.runners w.entries) in
-    ap (λ (r : Result Reply Denied). after_told r (after_told (step (Step i) w).reply ends)) (same_reply i j w ne quiet_i ∙ told_j)
-    ∙ ap (λ (r : Result Reply Denied). after_told b.touch.reply (after_told r ends)) told_i
-    ∙ ap (after_told b.touch.reply) (a.touch.known ends) ∙ b.touch.known (put_end i a.touch.end ends)
+    let reported_i = ap (λ (x : Stepped). x.reply) (a.touch.is w.runners w.entries) in
+    let reported_j = ap (λ (x : Stepped). x.reply) (b.touch.is w.runners w.entries) in
+    ap (λ (r : Result Reply Denied). after_reported r (after_reported (step (Step i) w).reply ends)) (same_reply i j w ne quiet_i ∙ reported_j)
+    ∙ ap (λ (r : Result Reply Denied). after_reported b.touch.reply (after_reported r ends)) reported_i
+    ∙ ap (after_reported b.touch.reply) (a.touch.known ends) ∙ b.touch.known (put_end i a.touch.end ends)
     ∙ either_end_first i j a.touch.end b.touch.end ends ne a.end_place b.end_place
-    ∙ sym (a.touch.known (put_end j b.touch.end ends)) ∙ sym (ap (after_told a.touch.reply) (b.touch.known ends))
-    ∙ sym (ap (λ (r : Result Reply Denied). after_told a.touch.reply (after_told r ends)) told_j)
-    ∙ sym (ap (λ (r : Result Reply Denied). after_told r (after_told (step (Step j) w).reply ends)) (same_reply j i w (other_way i j ne) quiet_j ∙ told_i))
+    ∙ sym (a.touch.known (put_end j b.touch.end ends)) ∙ sym (ap (after_reported a.touch.reply) (b.touch.known ends))
+    ∙ sym (ap (λ (r : Result Reply Denied). after_reported a.touch.reply (after_reported r ends)) reported_j)
+    ∙ sym (ap (λ (r : Result Reply Denied). after_reported r (after_reported (step (Step j) w).reply ends)) (same_reply j i w (other_way i j ne) quiet_j ∙ reported_i))

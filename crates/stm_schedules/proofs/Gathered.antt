@@ -10,7 +10,7 @@ use Rattle.stm_schedules.specs.declared.moves.Move.{Move}
 use Rattle.stm_schedules.specs.declared.outcome.Outcome.{Outcome}
 use Rattle.stm_schedules.specs.Places.{Place, moves, event_of, left_after, moved}
 use Rattle.stm_schedules.specs.Schedules.{place_after, events_along}
-use Rattle.stm_schedules.specs.Outcomes.{Ends, after_told, after_replies, ends_moved, ends_after, shown, outcome_after, Comes, IsOutcomeWithin}
+use Rattle.stm_schedules.specs.Outcomes.{Ends, after_reported, after_replies, ends_moved, ends_after, shown, outcome_after, Comes, IsOutcomeWithin}
 use Rattle.stm_schedules.specs.Outcomes.{outcome_if_whole, outcomes_at, outcomes_up_to, OutcomesAreThose}
 use Rattle.stm_schedules.proofs.Members.{IsAmong, among, contained, in_first, in_second, in_either, gathered_from, is_gathered}
 
@@ -18,13 +18,13 @@ use Rattle.stm_schedules.proofs.Members.{IsAmong, among, contained, in_first, in
 
 replies_joined : (first second : List (Result Reply Denied)) (ends : Ends) → after_replies (first ++ second) ends ≡ after_replies second (after_replies first ends)
 replies_joined [] second ends = refl
-replies_joined (told ∷ first) second ends = replies_joined first second (after_told told ends)
+replies_joined (reported ∷ first) second ends = replies_joined first second (after_reported reported ends)
 
 pub ends_go_along : (m : Move) (schedule : List Move) (p : Place) (ends : Ends) →
     ends_after (m ∷ schedule) p ends ≡ ends_after schedule (moved m p) (ends_moved m p ends)
 ends_go_along m schedule p ends =
     let rest = events_along schedule (left_after m p.others) in
-    ap (λ (told : List (Result Reply Denied)). after_replies told ends) (runs_go_on.replies (event_of m p.others) rest p.world)
+    ap (λ (reported : List (Result Reply Denied)). after_replies reported ends) (runs_go_on.replies (event_of m p.others) rest p.world)
     ∙ replies_joined (replies_to (event_of m p.others) p.world) (replies_to rest (moved m p).world) ends
 
 pub goes_along : (m : Move) (schedule : List Move) (p : Place) (ends : Ends) →

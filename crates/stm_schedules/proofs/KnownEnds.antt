@@ -15,18 +15,18 @@ use Rattle.stm_world.specs.declared.reply.Reply.{Reply}
 use Rattle.stm_world.specs.declared.reply.Reply.TheVariants.{Started, Txn as TxnDone, Granted, Kept, Revoked, Watching, Cancelled, Compacted}
 use Rattle.stm_world.specs.declared.refusal.Denied.{Denied}
 use Rattle.stm_world.specs.declared.refusal.Refusal.TheVariants.{BadLimit}
-use Rattle.stm_world.specs.Told.{reply_to, advance_reply}
+use Rattle.stm_world.specs.Reported.{reply_to, advance_reply}
 use Rattle.stm_world.specs.World.{World, Runner, Slot, Over, Live, Stepped, live_in, runner_at, with_slot, refused, begin, start_runner, step_runner, step, world_after, replies_to, opened}
 use Rattle.stm_world.specs.Task.{Task}
 use Rattle.stm_world.proofs.Slots.{other_number}
-use Rattle.stm_world.proofs.WatchCalls.{poll_told}
+use Rattle.stm_world.proofs.WatchCalls.{poll_reported}
 use Rattle.stm_schedules.specs.declared.moves.Move.{Move}
 use Rattle.stm_schedules.specs.declared.moves.Move.TheVariants.{Step as StepOf}
 use Rattle.stm_schedules.specs.declared.outcome.RunnerEnd.{RunnerEnd}
 use Rattle.stm_schedules.specs.Places.{Place, moves}
 use Rattle.stm_schedules.specs.Schedules.{place_after, events_along}
 use Rattle.stm_schedules.specs.Scenarios.{up_to_last_start, begun}
-use Rattle.stm_schedules.specs.Outcomes.{Ends, after_reply, after_told, after_replies, ends_begun, ends_after, known_ends, IsKnown, AreKnown, EndsAreKnown}
+use Rattle.stm_schedules.specs.Outcomes.{Ends, after_reply, after_reported, after_replies, ends_begun, ends_after, known_ends, IsKnown, AreKnown, EndsAreKnown}
 use Rattle.stm_schedules.proofs.Members.{IsAmong}
 use Rattle.stm_schedules.proofs.MoveLemmas.{step_is_move}
 use Rattle.stm_schedules.proofs.Runs.{world_along}
@@ -78,7 +78,7 @@ known_put id slots ends r (Some (Live now)) (Some end) runs fits known = absurd 
 
 -- after a step that came to this, what is known of the ends is known of the runners
 abbrev StaysKnown : Ends → Stepped → Type 0
-StaysKnown ends x = AreKnown x.next.runners (after_told x.reply ends)
+StaysKnown ends x = AreKnown x.next.runners (after_reported x.reply ends)
 
 touched : (id : ℕ) (r : Runner) (w : World) (ends : Ends) → runner_at id w.runners ≡ Some r → AreKnown w.runners ends →
     Touches id w.standing (step_runner id (Some r)) → StaysKnown ends (step_runner id (Some r) w)
@@ -89,8 +89,8 @@ touched id r w ends runs known t =
 entered : (id : ℕ) (r : Runner) (w : World) (ends : Ends) → AreKnown w.runners ends → Enters id w.standing (step_runner id (Some r)) →
     StaysKnown ends (step_runner id (Some r) w)
 entered id r w ends known e =
-    subst (λ (slots : List Slot). AreKnown slots (after_told (step_runner id (Some r) w).reply ends)) (sym (e.over w.runners w.entries))
-    (subst (λ (told : Result Reply Denied). AreKnown (with_slot id Over w.runners) (after_told told ends)) (sym (e.tells w.runners w.entries))
+    subst (λ (slots : List Slot). AreKnown slots (after_reported (step_runner id (Some r) w).reply ends)) (sym (e.over w.runners w.entries))
+    (subst (λ (reported : Result Reply Denied). AreKnown (with_slot id Over w.runners) (after_reported reported ends)) (sym (e.reports w.runners w.entries))
     (subst (λ (es : Ends). AreKnown (with_slot id Over w.runners) es) (sym (e.known ends)) (known_set w.runners ends (id - 1) Over (Some e.end) tt known)))
 
 known_step : (id : ℕ) (o : Option Runner) (w : World) (ends : Ends) → runner_at id w.runners ≡ o → AreKnown w.runners ends → StaysKnown ends (step_runner id o w)
@@ -115,18 +115,18 @@ unfolding start_runner
 known_start task w ends known = known_start_by (nat_eq task.limit 0) task w ends known
 
 -- a call of the store tells of no runner
-call_told : {A : Type 0} (tell : A → Reply) (o : Result (StoreStep A) StoreRefusal) (ends : Ends) → ((x : A) → after_reply (tell x) ends ≡ ends) →
-    after_told (reply_to tell o) ends ≡ ends
-call_told tell (Ok done) ends each = each done.answer
-call_told tell (Err cause) ends each = refl
+call_reported : {A : Type 0} (report : A → Reply) (o : Result (StoreStep A) StoreRefusal) (ends : Ends) → ((x : A) → after_reply (report x) ends ≡ ends) →
+    after_reported (reply_to report o) ends ≡ ends
+call_reported report (Ok done) ends each = each done.answer
+call_reported report (Err cause) ends each = refl
 
-advance_told : (moment : ℕ) (expired : List Expired) (cause : Option StoreRefusal) (ends : Ends) → after_told (advance_reply moment expired cause) ends ≡ ends
-advance_told moment expired None ends = refl
-advance_told moment expired (Some cause) ends = refl
+advance_reported : (moment : ℕ) (expired : List Expired) (cause : Option StoreRefusal) (ends : Ends) → after_reported (advance_reply moment expired cause) ends ≡ ends
+advance_reported moment expired None ends = refl
+advance_reported moment expired (Some cause) ends = refl
 
-by_call : {A : Type 0} (tell : A → Reply) (o : Result (StoreStep A) StoreRefusal) (w : World) (ends : Ends) → ((x : A) → after_reply (tell x) ends ≡ ends) →
-    AreKnown w.runners ends → AreKnown w.runners (after_told (reply_to tell o) ends)
-by_call tell o w ends each known = subst (λ (es : Ends). AreKnown w.runners es) (sym (call_told tell o ends each)) known
+by_call : {A : Type 0} (report : A → Reply) (o : Result (StoreStep A) StoreRefusal) (w : World) (ends : Ends) → ((x : A) → after_reply (report x) ends ≡ ends) →
+    AreKnown w.runners ends → AreKnown w.runners (after_reported (reply_to report o) ends)
+by_call report o w ends each known = subst (λ (es : Ends). AreKnown w.runners es) (sym (call_reported report o ends each)) known
 
 known_event : (e : WorldEvent) (w : World) (ends : Ends) → AreKnown w.runners ends → StaysKnown ends (step e w)
 known_event (Start program level limit) w ends known = known_start (record { program = program; level = level; limit = limit }) w ends known
@@ -137,18 +137,18 @@ known_event (Keep id) w ends known = by_call (λ _. Kept id) (kept_alive w.stand
 known_event (Revoke id) w ends known = by_call (Revoked id) (revoked w.standing id) w ends (λ x. refl) known
 known_event (Advance moment) w ends known =
     let done = advanced w.standing moment in
-    subst (λ (es : Ends). AreKnown w.runners es) (sym (advance_told moment done.expired done.cause ends)) known
+    subst (λ (es : Ends). AreKnown w.runners es) (sym (advance_reported moment done.expired done.cause ends)) known
 known_event (WatchKey key from) w ends known = by_call Watching (watched w.standing (Key key) from) w ends (λ x. refl) known
 known_event (WatchRange first end from) w ends known = by_call Watching (watched w.standing (Range first end) from) w ends (λ x. refl) known
 known_event (Poll watcher most) w ends known =
-    poll_told (λ (told : Result Reply Denied). AreKnown w.runners (after_told told ends)) w.standing watcher most (λ batch. known) known known
+    poll_reported (λ (reported : Result Reply Denied). AreKnown w.runners (after_reported reported ends)) w.standing watcher most (λ batch. known) known known
 known_event (Cancel watcher) w ends known = by_call (λ _. Cancelled watcher) (cancelled w.standing watcher) w ends (λ x. refl) known
 known_event (Compact revision) w ends known = by_call (λ _. Compacted revision) (raised w.standing revision) w ends (λ x. refl) known
 
 known_run : (events : List WorldEvent) (w : World) (ends : Ends) → AreKnown w.runners ends →
     AreKnown (world_after events w).runners (after_replies (replies_to events w) ends)
 known_run [] w ends known = known
-known_run (e ∷ es) w ends known = known_run es (step e w).next (after_told (step e w).reply ends) (known_event e w ends known)
+known_run (e ∷ es) w ends known = known_run es (step e w).next (after_reported (step e w).reply ends) (known_event e w ends known)
 
 along : (start : Setup) (events : List WorldEvent) (schedule : List Move) →
     AreKnown (place_after schedule (begun start events)).world.runners (ends_after schedule (begun start events) (ends_begun start events))

@@ -32,6 +32,6 @@ pub record Exchange (i j : ℕ) (w : World) : Type 0 where
 
 -- Two quiet steps of different runners can be exchanged, and stay quiet; that a step is quiet is told by its reply.
 pub record QuietStepsExchange : Type 0 where
-  pub told : (id : ℕ) (w : World) → (is_quiet id w ≡ true) ↔ IsQuiet id w
+  pub reported : (id : ℕ) (w : World) → (is_quiet id w ≡ true) ↔ IsQuiet id w
   pub exchange : (i j : ℕ) (w : World) → i ≢ j → IsQuiet i w → IsQuiet j w → Exchange i j w
   pub stays : (i j : ℕ) (w : World) → i ≢ j → IsQuiet i w → IsQuiet j w → IsQuiet j (after_step i w)

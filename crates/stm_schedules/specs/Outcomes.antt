@@ -41,13 +41,13 @@ after_reply (reply.Ended id cause) ends = with_end id (Ended cause) ends
 after_reply other ends = ends
 
 -- nothing more is known after a refusal
-abbrev pub after_told : Result Reply Denied → Ends → Ends
-after_told (Ok told) ends = after_reply told ends
-after_told (Err refusal) ends = ends
+abbrev pub after_reported : Result Reply Denied → Ends → Ends
+after_reported (Ok reported) ends = after_reply reported ends
+after_reported (Err refusal) ends = ends
 
 abbrev pub after_replies : List (Result Reply Denied) → Ends → Ends
 after_replies [] ends = ends
-after_replies (told ∷ more) ends = after_replies more (after_told told ends)
+after_replies (reported ∷ more) ends = after_replies more (after_reported reported ends)
 
 -- what is known of the ends where the schedules of a scenario begin
 abbrev pub ends_begun : Setup → List WorldEvent → Ends

@@ -1,5 +1,5 @@
 pub use Rattle.stm_steps.specs.Meaning
 pub mod Sites
-pub mod Tells
+pub mod Returns
 pub mod Found
 pub mod Laws

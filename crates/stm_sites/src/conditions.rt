@@ -2,7 +2,7 @@
 ghost use Rattle.stm_steps.specs.Meaning.{holds};
 ghost use Rattle.stm_program.specs.Syntax.{Equal, Less};
 ghost use Rattle.stm_sites.specs.Sites.{condition_site, inside};
-ghost use Rattle.stm_sites.specs.Tells.{Tells, StopsAt};
+ghost use Rattle.stm_sites.specs.Returns.{Returns, StopsAt};
 
 use crate::expressions::part_value;
 use crate::halt::{Halt, on_two, within};
@@ -20,7 +20,7 @@ fn is_equal<L: Lookup>(
     left: &Expr,
     right: &Expr,
 ) -> Result<bool, Halt>
-    ensures told { Tells result session.new (holds (L.answers lookup.now) (Equal left.now right.now) session.old) }
+    ensures reported { Returns result session.new (holds (L.answers lookup.now) (Equal left.now right.now) session.old) }
     ensures site { StopsAt result (condition_site (L.answers lookup.now) (Equal left.now right.now) session.old) }
 {
     let left = part_value(alloc, lookup, session, 1, left)?;
@@ -47,7 +47,7 @@ fn is_less<L: Lookup>(
     left: &Expr,
     right: &Expr,
 ) -> Result<bool, Halt>
-    ensures told { Tells result session.new (holds (L.answers lookup.now) (Less left.now right.now) session.old) }
+    ensures reported { Returns result session.new (holds (L.answers lookup.now) (Less left.now right.now) session.old) }
     ensures site { StopsAt result (condition_site (L.answers lookup.now) (Less left.now right.now) session.old) }
 {
     let left = part_value(alloc, lookup, session, 1, left)?;
@@ -74,7 +74,7 @@ pub(crate) fn part_met<L: Lookup>(
     index: usize,
     condition: &Cond,
 ) -> Result<bool, Halt>
-    ensures told { Tells result session.new (holds (L.answers lookup.now) condition.now session.old) }
+    ensures reported { Returns result session.new (holds (L.answers lookup.now) condition.now session.old) }
     ensures site { StopsAt result (inside index (condition_site (L.answers lookup.now) condition.now session.old)) }
 {
     let met = is_met(alloc, lookup, session, condition);
@@ -91,7 +91,7 @@ fn is_met<L: Lookup>(
     session: &mut Session,
     condition: &Cond,
 ) -> Result<bool, Halt>
-    ensures told { Tells result session.new (holds (L.answers lookup.now) condition.now session.old) }
+    ensures reported { Returns result session.new (holds (L.answers lookup.now) condition.now session.old) }
     ensures site { StopsAt result (condition_site (L.answers lookup.now) condition.now session.old) }
 {
     match &condition.node {

@@ -10,7 +10,7 @@ ghost use Rattle.stm_steps.specs.declared.value.Value.TheVariants.{Text as OfTex
 ghost use Rattle.stm_steps.specs.Session.{Session as Progress};
 ghost use Rattle.stm_sites.specs.Sites.{expression_site, here, inside};
 ghost use Rattle.stm_sites.specs.declared.site.Node.TheVariants.{OfNumber, OfText};
-ghost use Rattle.stm_sites.specs.Tells.{Tells, StopsAt, StopsBy, Computes, CopiesValue};
+ghost use Rattle.stm_sites.specs.Returns.{Returns, StopsAt, StopsBy, Computes, CopiesValue};
 
 use crate::halt::{Halt, fault_on_one, on_one, on_two, stop_on_one, within};
 use crate::site::Node;
@@ -33,7 +33,7 @@ fn found_or_halt(
     key: &Text,
     value: &Value,
 ) -> Result<Value, Halt>
-    ensures told { (s : Progress) → Tells result s (found_or_wanted key.now found s) }
+    ensures reported { (s : Progress) → Returns result s (found_or_wanted key.now found s) }
     ensures site { StopsAt result (here OfText (value.now ∷ [])) }
 {
     match found {
@@ -49,7 +49,7 @@ fn got<L: Lookup>(
     session: &mut Session,
     key: &Value,
 ) -> Result<Value, Halt>
-    ensures told { Tells result session.new (and_then (given (key_in key.now) session.old) (get_key (L.answers lookup.now))) }
+    ensures reported { Returns result session.new (and_then (given (key_in key.now) session.old) (get_key (L.answers lookup.now))) }
     ensures site { StopsAt result (here OfText (key.now ∷ [])) }
 {
     match wanted_key(key) {
@@ -68,7 +68,7 @@ fn revision_of<L: Lookup>(
     session: &mut Session,
     key: &Value,
 ) -> Result<Value, Halt>
-    ensures told { Tells result session.new (and_then (given (key_in key.now) session.old) (rev_key (L.answers lookup.now))) }
+    ensures reported { Returns result session.new (and_then (given (key_in key.now) session.old) (rev_key (L.answers lookup.now))) }
     ensures site { StopsAt result (here OfText (key.now ∷ [])) }
 {
     match wanted_key(key) {
@@ -121,7 +121,7 @@ pub(crate) fn part_value<L: Lookup>(
     index: usize,
     expression: &Expr,
 ) -> Result<Value, Halt>
-    ensures told { Tells result session.new (evaluate (L.answers lookup.now) expression.now session.old) }
+    ensures reported { Returns result session.new (evaluate (L.answers lookup.now) expression.now session.old) }
     ensures site { StopsAt result (inside index (expression_site (L.answers lookup.now) expression.now session.old)) }
 {
     let value = value_of(alloc, lookup, session, expression);
@@ -140,7 +140,7 @@ fn combined<L: Lookup>(
     left: &Expr,
     right: &Expr,
 ) -> Result<Value, Halt>
-    ensures told { Tells result session.new (evaluate (L.answers lookup.now) (Arithmetic operator left.now right.now) session.old) }
+    ensures reported { Returns result session.new (evaluate (L.answers lookup.now) (Arithmetic operator left.now right.now) session.old) }
     ensures site { StopsAt result (expression_site (L.answers lookup.now) (Arithmetic operator left.now right.now) session.old) }
 {
     let left = part_value(alloc, lookup, session, 1, left)?;
@@ -168,7 +168,7 @@ fn joined<L: Lookup>(
     left: &Expr,
     right: &Expr,
 ) -> Result<Value, Halt>
-    ensures told { Tells result session.new (evaluate (L.answers lookup.now) (Cat left.now right.now) session.old) }
+    ensures reported { Returns result session.new (evaluate (L.answers lookup.now) (Cat left.now right.now) session.old) }
     ensures site { StopsAt result (expression_site (L.answers lookup.now) (Cat left.now right.now) session.old) }
 {
     let left = part_value(alloc, lookup, session, 1, left)?;
@@ -194,7 +194,7 @@ fn value_at<L: Lookup>(
     session: &mut Session,
     key: &Expr,
 ) -> Result<Value, Halt>
-    ensures told { Tells result session.new (evaluate (L.answers lookup.now) (Get key.now) session.old) }
+    ensures reported { Returns result session.new (evaluate (L.answers lookup.now) (Get key.now) session.old) }
     ensures site { StopsAt result (expression_site (L.answers lookup.now) (Get key.now) session.old) }
 {
     let key = part_value(alloc, lookup, session, 1, key)?;
@@ -212,7 +212,7 @@ fn revision_at<L: Lookup>(
     session: &mut Session,
     key: &Expr,
 ) -> Result<Value, Halt>
-    ensures told { Tells result session.new (evaluate (L.answers lookup.now) (Rev key.now) session.old) }
+    ensures reported { Returns result session.new (evaluate (L.answers lookup.now) (Rev key.now) session.old) }
     ensures site { StopsAt result (expression_site (L.answers lookup.now) (Rev key.now) session.old) }
 {
     let key = part_value(alloc, lookup, session, 1, key)?;
@@ -230,7 +230,7 @@ fn text_at<L: Lookup>(
     session: &mut Session,
     number: &Expr,
 ) -> Result<Value, Halt>
-    ensures told { Tells result session.new (evaluate (L.answers lookup.now) (TextOf number.now) session.old) }
+    ensures reported { Returns result session.new (evaluate (L.answers lookup.now) (TextOf number.now) session.old) }
     ensures site { StopsAt result (expression_site (L.answers lookup.now) (TextOf number.now) session.old) }
 {
     let number = part_value(alloc, lookup, session, 1, number)?;
@@ -248,7 +248,7 @@ fn number_at<L: Lookup>(
     session: &mut Session,
     text: &Expr,
 ) -> Result<Value, Halt>
-    ensures told { Tells result session.new (evaluate (L.answers lookup.now) (NumOf text.now) session.old) }
+    ensures reported { Returns result session.new (evaluate (L.answers lookup.now) (NumOf text.now) session.old) }
     ensures site { StopsAt result (expression_site (L.answers lookup.now) (NumOf text.now) session.old) }
 {
     let text = part_value(alloc, lookup, session, 1, text)?;
@@ -266,7 +266,7 @@ fn value_of<L: Lookup>(
     session: &mut Session,
     expression: &Expr,
 ) -> Result<Value, Halt>
-    ensures told { Tells result session.new (evaluate (L.answers lookup.now) expression.now session.old) }
+    ensures reported { Returns result session.new (evaluate (L.answers lookup.now) expression.now session.old) }
     ensures site { StopsAt result (expression_site (L.answers lookup.now) expression.now session.old) }
 {
     match &expression.node {

@@ -1,8 +1,8 @@
 //! What stops an evaluation, and where.
 ghost use Rattle.std.specs.Prelude.{◌≡◌, ◌⊎◌, [], ◌∷◌};
 ghost use Rattle.stm_steps.specs.declared.stop.Stop.TheVariants.{Faulted};
-ghost use Rattle.stm_sites.specs.declared.halt.Halt.TheVariants.{OutOfMemory as WantOfMemory, Stopped};
-ghost use Rattle.stm_sites.specs.Tells.{Wraps, Computes, StopsBy, stop_inside};
+ghost use Rattle.stm_sites.specs.declared.halt.Halt.TheVariants.{OutOfMemory as OutOfMemoryHere, Stopped};
+ghost use Rattle.stm_sites.specs.Returns.{Wraps, Computes, StopsBy, stop_inside};
 
 use crate::site::{Node, Site};
 use std::alloc::{AllocError, Global};
@@ -38,7 +38,7 @@ impl From<AllocError> for Halt {
 
 /// A stop of the part at an index of a node, as the node's. Where the place takes memory and that is refused, it is want of memory.
 fn stopped_within(index: usize, at: StopAt) -> Halt
-    ensures { (result ≡ WantOfMemory) ⊎ (result ≡ Stopped (stop_inside index at)) }
+    ensures { (result ≡ OutOfMemoryHere) ⊎ (result ≡ Stopped (stop_inside index at)) }
 {
     match at.site.within(index) {
         Ok(site) => Halt::Stopped(StopAt {

@@ -10,7 +10,7 @@ ghost use Rattle.stm_steps.specs.Values.{del_of, put_of, text_in, turns_of};
 ghost use Rattle.stm_steps.specs.declared.stop.Stop.TheVariants.{Aborted};
 ghost use Rattle.stm_sites.specs.Sites.{statement_site, block_site, turns_site, here, inside};
 ghost use Rattle.stm_sites.specs.declared.site.Node.TheVariants.{Loop, OfNumber, OfText};
-ghost use Rattle.stm_sites.specs.Tells.{Tells, StopsAt, StopsBy, Computes};
+ghost use Rattle.stm_sites.specs.Returns.{Returns, StopsAt, StopsBy, Computes};
 
 use crate::conditions::part_met;
 use crate::expressions::part_value;
@@ -29,7 +29,7 @@ fn set_variable<L: Lookup>(
     variable: Variable,
     value: &Expr,
 ) -> Result<(), Halt>
-    ensures told { Tells result session.new (run_statement (L.answers lookup.now) (tree.Set variable value.now) session.old) }
+    ensures reported { Returns result session.new (run_statement (L.answers lookup.now) (tree.Set variable value.now) session.old) }
     ensures site { StopsAt result (statement_site (L.answers lookup.now) (tree.Set variable value.now) session.old) }
 {
     let value = part_value(alloc, lookup, session, 2, value)?;
@@ -63,7 +63,7 @@ fn put_key<L: Lookup>(
     value: &Expr,
     lease: u64,
 ) -> Result<(), Halt>
-    ensures told { Tells result session.new (run_statement (L.answers lookup.now) (tree.Put key.now value.now lease) session.old) }
+    ensures reported { Returns result session.new (run_statement (L.answers lookup.now) (tree.Put key.now value.now lease) session.old) }
     ensures site { StopsAt result (statement_site (L.answers lookup.now) (tree.Put key.now value.now lease) session.old) }
 {
     let key = part_value(alloc, lookup, session, 1, key)?;
@@ -88,7 +88,7 @@ fn delete_key<L: Lookup>(
     session: &mut Session,
     key: &Expr,
 ) -> Result<(), Halt>
-    ensures told { Tells result session.new (run_statement (L.answers lookup.now) (tree.Del key.now) session.old) }
+    ensures reported { Returns result session.new (run_statement (L.answers lookup.now) (tree.Del key.now) session.old) }
     ensures site { StopsAt result (statement_site (L.answers lookup.now) (tree.Del key.now) session.old) }
 {
     let key = part_value(alloc, lookup, session, 1, key)?;
@@ -105,7 +105,7 @@ fn emit_value<L: Lookup>(
     session: &mut Session,
     value: &Expr,
 ) -> Result<(), Halt>
-    ensures told { Tells result session.new (run_statement (L.answers lookup.now) (tree.Emit value.now) session.old) }
+    ensures reported { Returns result session.new (run_statement (L.answers lookup.now) (tree.Emit value.now) session.old) }
     ensures site { StopsAt result (statement_site (L.answers lookup.now) (tree.Emit value.now) session.old) }
 {
     let value = part_value(alloc, lookup, session, 1, value)?;
@@ -122,7 +122,7 @@ fn abort_at(alloc: Global, text: &Text, value: &Value) -> Result<(), Halt>
 
 /// The end of a run with a value, which has to be a text.
 fn abort_by(alloc: Global, value: &Value) -> Result<(), Halt>
-    ensures told { (s : Progress) → Tells result s (and_then (given (text_in value.now) s) aborts) }
+    ensures reported { (s : Progress) → Returns result s (and_then (given (text_in value.now) s) aborts) }
     ensures site { StopsAt result (here OfText (value.now ∷ [])) }
 {
     match wanted_text(value) {
@@ -139,7 +139,7 @@ fn abort_with<L: Lookup>(
     session: &mut Session,
     text: &Expr,
 ) -> Result<(), Halt>
-    ensures told { Tells result session.new (run_statement (L.answers lookup.now) (tree.Abort text.now) session.old) }
+    ensures reported { Returns result session.new (run_statement (L.answers lookup.now) (tree.Abort text.now) session.old) }
     ensures site { StopsAt result (statement_site (L.answers lookup.now) (tree.Abort text.now) session.old) }
 {
     let value = part_value(alloc, lookup, session, 1, text)?;
@@ -165,7 +165,7 @@ fn begin_turn(
     turn: u64,
 ) -> Result<(), Halt>
     requires { turn ≤ HIGHEST_NUMBER }
-    ensures told { Tells result session.new (begin_turn variable turn session.old) }
+    ensures reported { Returns result session.new (begin_turn variable turn session.old) }
     ensures site { StopsAt result (here OfNumber []) }
 {
     match session.begin_turn(variable, turn) {
@@ -183,7 +183,7 @@ fn run_one<L: Lookup>(
     session: &mut Session,
     statement: &Stmt,
 ) -> Result<(), Halt>
-    ensures told { Tells result session.new (run_statement (L.answers lookup.now) statement.now session.old) }
+    ensures reported { Returns result session.new (run_statement (L.answers lookup.now) statement.now session.old) }
     ensures site { StopsAt result (statement_site (L.answers lookup.now) statement.now session.old) }
 {
     match &statement.node {
@@ -212,7 +212,7 @@ fn run_choice<L: Lookup>(
     then_block: &Block,
     else_block: &Block,
 ) -> Result<(), Halt>
-    ensures told { Tells result session.new (run_statement (L.answers lookup.now) (tree.If condition.now then_block.now else_block.now) session.old) }
+    ensures reported { Returns result session.new (run_statement (L.answers lookup.now) (tree.If condition.now then_block.now else_block.now) session.old) }
     ensures site { StopsAt result (statement_site (L.answers lookup.now) (tree.If condition.now then_block.now else_block.now) session.old) }
 {
     if part_met(alloc, lookup, session, 1, condition)? {
@@ -233,7 +233,7 @@ fn run_loop<L: Lookup>(
     limit: u64,
     body: &Block,
 ) -> Result<(), Halt>
-    ensures told { Tells result session.new (run_statement (L.answers lookup.now) (tree.For variable count.now limit body.now) session.old) }
+    ensures reported { Returns result session.new (run_statement (L.answers lookup.now) (tree.For variable count.now limit body.now) session.old) }
     ensures site { StopsAt result (statement_site (L.answers lookup.now) (tree.For variable count.now limit body.now) session.old) }
 {
     let count = part_value(alloc, lookup, session, 2, count)?;
@@ -254,7 +254,7 @@ fn run_turns<L: Lookup>(
     body: &Block,
 ) -> Result<(), Halt>
     requires { count ≤ HIGHEST_NUMBER }
-    ensures told { Tells result session.new (repeat variable (run_block (L.answers lookup.now) body.now) count 0 session.old) }
+    ensures reported { Returns result session.new (repeat variable (run_block (L.answers lookup.now) body.now) count 0 session.old) }
     ensures site { StopsAt result (turns_site variable (run_block (L.answers lookup.now) body.now) (block_site (L.answers lookup.now) 0 body.now) count 0 session.old) }
 {
     for turn in 0..count {
@@ -273,7 +273,7 @@ fn run_part<L: Lookup>(
     index: usize,
     block: &Block,
 ) -> Result<(), Halt>
-    ensures told { Tells result session.new (run_block (L.answers lookup.now) block.now session.old) }
+    ensures reported { Returns result session.new (run_block (L.answers lookup.now) block.now session.old) }
     ensures site { StopsAt result (inside index (block_site (L.answers lookup.now) 0 block.now session.old)) }
 {
     let statements: &Vec<Stmt> = &block.statements;
@@ -291,7 +291,7 @@ fn run_at<L: Lookup>(
     index: usize,
     statement: &Stmt,
 ) -> Result<(), Halt>
-    ensures told { Tells result session.new (run_statement (L.answers lookup.now) statement.now session.old) }
+    ensures reported { Returns result session.new (run_statement (L.answers lookup.now) statement.now session.old) }
     ensures site { StopsAt result (inside index (statement_site (L.answers lookup.now) statement.now session.old)) }
 {
     let ran = run_one(alloc, lookup, session, statement);
@@ -308,7 +308,7 @@ pub(crate) fn run_all<L: Lookup>(
     session: &mut Session,
     statements: &[Stmt],
 ) -> Result<(), Halt>
-    ensures told { Tells result session.new (run_block (L.answers lookup.now) (block_of statements.now) session.old) }
+    ensures reported { Returns result session.new (run_block (L.answers lookup.now) (block_of statements.now) session.old) }
     ensures site { StopsAt result (block_site (L.answers lookup.now) 0 (block_of statements.now) session.old) }
 {
     for (index, statement) in statements.iter().enumerate() {

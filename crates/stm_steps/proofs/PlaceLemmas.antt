@@ -54,10 +54,10 @@ write_after false ws w place within = earlier_write ws w place within
 -- the place of the added write is that of its key's last one, and the other keys keep theirs
 pub place_added : (ws : List Write) (w : Write) (places after : List ℕ → Option ℕ) → AreLastPlaces ws places →
     ((key : List ℕ) → after key ≡ update bytes_eq places (key_of w) (Some (length ws)) key) → AreLastPlaces (ws ++ w ∷ []) after
-place_added ws w places after kept told = record {
-  within = λ key i at. within_after (bytes_eq (key_of w) key) ws w (places key) (kept.within key) i (sym (told key) ∙ at);
+place_added ws w places after kept reported = record {
+  within = λ key i at. within_after (bytes_eq (key_of w) key) ws w (places key) (kept.within key) i (sym (reported key) ∙ at);
   last = λ key.
-      ap (λ place. write_at (ws ++ w ∷ []) place) (told key)
+      ap (λ place. write_at (ws ++ w ∷ []) place) (reported key)
       ∙ write_after (bytes_eq (key_of w) key) ws w (places key) (kept.within key)
       ∙ ap (λ found. cond (bytes_eq (key_of w) key) (Some w) found) (kept.last key)
       ∙ sym (last_write-more key ws w);

@@ -8,7 +8,7 @@ use Rattle.stm_world.specs.declared.event.WorldEvent.{WorldEvent}
 use Rattle.stm_json.specs.declared.read_error.ReadError.{ReadError}
 use Rattle.stm_json.specs.declared.read_error.ReadError.TheVariants as error
 use Rattle.stm_json.specs.Outcome.{Outcome, within}
-use Rattle.stm_json.specs.Tells.{TellsFault}
+use Rattle.stm_json.specs.Returns.{ReturnsFault}
 use Rattle.stm_texts.specs.Reading.{event_after, events_from}
 
 pub goes_on : (first : ℕ) (front : List WorldEvent) (vs : List Value) (i : ℕ) (v : Value) (e : WorldEvent) (total : Outcome (List WorldEvent))
@@ -25,8 +25,8 @@ goes_on first front vs i v e total lt at is so_far =
     sym one ∙ so_far
 
 pub ends : (e : ReadError) (first : ℕ) (front : List WorldEvent) (vs : List Value) (i : ℕ) (v : Value) (total : Outcome (List WorldEvent))
-    → i < length vs → v ≡ get_or vs i v → TellsFault e (within (first + i) (event_after i (view v)))
-    → with_front front (events_from first i (items_view (drop i vs))) ≡ total → TellsFault e total
+    → i < length vs → v ≡ get_or vs i v → ReturnsFault e (within (first + i) (event_after i (view v)))
+    → with_front front (events_from first i (items_view (drop i vs))) ≡ total → ReturnsFault e total
 unfolding events_from
 ends error.OutOfMemory first front vs i v total lt at is so_far = tt
 ends (error.Bad f) first front vs i v total lt at is so_far =

@@ -36,7 +36,7 @@ pub scenario_in-front : (all : List ℕ) → scenario_in (take MOST_READ all) �
 scenario_in-front = of_front scenario_in scenario_in-long
 
 -- what is so of the scenario in the bytes that were read is so of that in the input
-pub told_at : (bytes : List ℕ) (known : Option (List ℕ)) (P : Outcome Scenario → Type 0) →
+pub pending_of_revision : (bytes : List ℕ) (known : Option (List ℕ)) (P : Outcome Scenario → Type 0) →
     IfSome known (λ all. bytes ≡ take MOST_READ all) → P (scenario_in bytes) → IfSome known (λ all. P (scenario_in all))
-told_at bytes None P read holds = tt
-told_at bytes (Some all) P read holds = subst P (ap scenario_in read ∙ scenario_in-front all) holds
+pending_of_revision bytes None P read holds = tt
+pending_of_revision bytes (Some all) P read holds = subst P (ap scenario_in read ∙ scenario_in-front all) holds

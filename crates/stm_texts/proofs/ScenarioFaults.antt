@@ -16,7 +16,7 @@ use Rattle.stm_json.specs.Faults.{Sort, WordOf, NumberIn, By, first_of, wrong, a
 use Rattle.stm_txn_json.specs.FirstFault.{txn_sorts}
 use Rattle.stm_json.specs.Parts.{on_text, same}
 use Rattle.stm_txn_json.specs.Reading.{txn_of}
-use Rattle.stm_json.proofs.FaultLemmas.{fault_of, wrong_is, part_then, inside_of, made, number_faulted, number_up_faulted, number_told}
+use Rattle.stm_json.proofs.FaultLemmas.{fault_of, wrong_is, part_then, inside_of, made, number_faulted, number_up_faulted, number_reported}
 use Rattle.stm_txn_json.proofs.TxnFaults.{txn_faulted}
 use Rattle.stm_world.specs.declared.event.WorldEvent.{WorldEvent}
 use Rattle.stm_world.specs.declared.event.WorldEvent.TheVariants.{Start, Step, Txn, Grant, Keep, Revoke, Advance, Compact}
@@ -47,27 +47,27 @@ level_tested p false false true committed = refl
 level_tested p false false false true = refl
 level_tested p false false false false = wrong_is {A = Level} p Shape (bad Shape) refl
 
-level_told : (p : List ℕ) (o : Option (List ℕ)) → first_of (word_faults level_words p o) ≡ fault_of p (on_text level_named o)
+level_reported : (p : List ℕ) (o : Option (List ℕ)) → first_of (word_faults level_words p o) ≡ fault_of p (on_text level_named o)
 unfolding level_named
-level_told p (Some w) =
+level_reported p (Some w) =
     level_tested p (same w (codes "SerializableSnapshot")) (same w (codes "Serializable")) (same w (codes "RepeatableReads")) (same w (codes "ReadCommitted"))
-level_told p None = wrong_is {A = Level} p Shape (bad Shape) refl
+level_reported p None = wrong_is {A = Level} p Shape (bad Shape) refl
 
 level_faulted : (p : List ℕ) (d : Data) → first_of (faults_by (WordOf level_words) p d) ≡ fault_of p (level_of d)
 unfolding level_of
-level_faulted p d = level_told p (as_str d)
+level_faulted p d = level_reported p (as_str d)
 
-program_told_by : {P : Type 0} (reading : Outcome P) → fault_of_program reading ≡ fault_of [] reading
-program_told_by (Ok x) = refl
-program_told_by (Err f) = refl
+program_reported_by : {P : Type 0} (reading : Outcome P) → fault_of_program reading ≡ fault_of [] reading
+program_reported_by (Ok x) = refl
+program_reported_by (Err f) = refl
 
-placed_is : {P : Type 0} (p : List ℕ) (reading : Outcome P) (told : Option BadInput) → told ≡ fault_of [] reading
-    → first_of (placed p told) ≡ fault_of p reading
-placed_is p (Ok x) told e = rw e refl
-placed_is p (Err f) told e = rw e refl
+placed_is : {P : Type 0} (p : List ℕ) (reading : Outcome P) (reported : Option BadInput) → reported ≡ fault_of [] reading
+    → first_of (placed p reported) ≡ fault_of p reading
+placed_is p (Ok x) reported e = rw e refl
+placed_is p (Err f) reported e = rw e refl
 
 program_faulted : (p : List ℕ) (d : Data) → first_of (program_faults p d) ≡ fault_of p (program_of d)
-program_faulted p d = placed_is p (program_of d) (program_fault d) (program_fault-is d ∙ program_told_by (program_of d))
+program_faulted p d = placed_is p (program_of d) (program_fault d) (program_fault-is d ∙ program_reported_by (program_of d))
 
 -- ---- events
 
@@ -95,13 +95,13 @@ grant_faulted : (p : List ℕ) (ds : Items) → first_of (sorted_faults p (Some 
 grant_faulted p no_items = wrong_is p Shape (grant_of None) refl
 grant_faulted p (item a no_items) = wrong_is p Shape (grant_of None) refl
 grant_faulted p (item a (item b no_items)) =
-    part_then p 1 (number_up_to HIGHEST_NUMBER a) _ (faults_by any_number (at p 1) a) _ (number_told (at p 1) a) (λ (id : ℕ).
-    part_then p 2 (number_up_to HIGHEST_NUMBER b) (λ ttl. Ok (Grant id ttl)) (faults_by any_number (at p 2) b) [] (number_told (at p 2) b) (λ ttl. refl))
+    part_then p 1 (number_up_to HIGHEST_NUMBER a) _ (faults_by any_number (at p 1) a) _ (number_reported (at p 1) a) (λ (id : ℕ).
+    part_then p 2 (number_up_to HIGHEST_NUMBER b) (λ ttl. Ok (Grant id ttl)) (faults_by any_number (at p 2) b) [] (number_reported (at p 2) b) (λ ttl. refl))
 grant_faulted p (item a (item b (item c ds))) = wrong_is p Shape (grant_of None) refl
 
 number_alone-faulted : (p : List ℕ) (ds : Items) → first_of (sorted_faults p (Some numbered_sorts) ds) ≡ fault_of p (number_alone (one_of ds))
 number_alone-faulted p no_items = wrong_is p Shape (number_alone None) refl
-number_alone-faulted p (item a no_items) = inside_of p 1 (number_up_to HIGHEST_NUMBER a) (faults_by any_number (at p 1) a) (number_told (at p 1) a)
+number_alone-faulted p (item a no_items) = inside_of p 1 (number_up_to HIGHEST_NUMBER a) (faults_by any_number (at p 1) a) (number_reported (at p 1) a)
 number_alone-faulted p (item a (item b ds)) = wrong_is p Shape (number_alone None) refl
 
 -- an event made of the one number behind its word

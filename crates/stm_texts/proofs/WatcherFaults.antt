@@ -7,7 +7,7 @@ use Rattle.stm_json.specs.Outcome.{bad}
 use Rattle.stm_json.specs.Elements.{one_of, two_of, three_of, number_up_to}
 use Rattle.stm_json.specs.Faults.{Sort, AnyText, first_of, at, faults_by, sorted_faults, any_number}
 use Rattle.stm_json.specs.Parts.{text_of, same}
-use Rattle.stm_json.proofs.FaultLemmas.{fault_of, wrong_is, part_then, text_faulted, number_told}
+use Rattle.stm_json.proofs.FaultLemmas.{fault_of, wrong_is, part_then, text_faulted, number_reported}
 use Rattle.stm_world.specs.declared.event.WorldEvent.{WorldEvent}
 use Rattle.stm_world.specs.declared.event.WorldEvent.TheVariants.{WatchKey, WatchRange, Poll, Cancel}
 use Rattle.stm_texts.specs.Reading.{watch_key_of, watch_range_of, poll_of, cancel_of, watcher_event}
@@ -30,7 +30,7 @@ watch_key_faulted p (item a no_items) = wrong_is p Shape (watch_key_of None) ref
 watch_key_faulted p (item a (item b no_items)) =
     part_then p 1 (text_of a) _ (faults_by AnyText (at p 1) a) _ (text_faulted (at p 1) a) (λ (key : List ℕ).
     part_then p 2 (number_up_to HIGHEST_NUMBER b) (λ from. Ok (WatchKey key from)) (faults_by any_number (at p 2) b) []
-    (number_told (at p 2) b) (λ from. refl))
+    (number_reported (at p 2) b) (λ from. refl))
 watch_key_faulted p (item a (item b (item c ds))) = wrong_is p Shape (watch_key_of None) refl
 
 watch_range_faulted : (p : List ℕ) (ds : Items) → first_of (sorted_faults p (Some watch_range_sorts) ds) ≡ fault_of p (watch_range_of (three_of ds))
@@ -41,22 +41,22 @@ watch_range_faulted p (item a (item b (item c no_items))) =
     part_then p 1 (text_of a) _ (faults_by AnyText (at p 1) a) _ (text_faulted (at p 1) a) (λ (first : List ℕ).
     part_then p 2 (text_of b) _ (faults_by AnyText (at p 2) b) _ (text_faulted (at p 2) b) (λ (end : List ℕ).
     part_then p 3 (number_up_to HIGHEST_NUMBER c) (λ from. Ok (WatchRange first end from)) (faults_by any_number (at p 3) c) []
-    (number_told (at p 3) c) (λ from. refl)))
+    (number_reported (at p 3) c) (λ from. refl)))
 watch_range_faulted p (item a (item b (item c (item d ds)))) = wrong_is p Shape (watch_range_of None) refl
 
 poll_faulted : (p : List ℕ) (ds : Items) → first_of (sorted_faults p (Some poll_sorts) ds) ≡ fault_of p (poll_of (two_of ds))
 poll_faulted p no_items = wrong_is p Shape (poll_of None) refl
 poll_faulted p (item a no_items) = wrong_is p Shape (poll_of None) refl
 poll_faulted p (item a (item b no_items)) =
-    part_then p 1 (number_up_to HIGHEST_NUMBER a) _ (faults_by any_number (at p 1) a) _ (number_told (at p 1) a) (λ (watcher : ℕ).
+    part_then p 1 (number_up_to HIGHEST_NUMBER a) _ (faults_by any_number (at p 1) a) _ (number_reported (at p 1) a) (λ (watcher : ℕ).
     part_then p 2 (number_up_to HIGHEST_NUMBER b) (λ most. Ok (Poll watcher most)) (faults_by any_number (at p 2) b) []
-    (number_told (at p 2) b) (λ most. refl))
+    (number_reported (at p 2) b) (λ most. refl))
 poll_faulted p (item a (item b (item c ds))) = wrong_is p Shape (poll_of None) refl
 
 cancel_faulted : (p : List ℕ) (ds : Items) → first_of (sorted_faults p (Some cancel_sorts) ds) ≡ fault_of p (cancel_of (one_of ds))
 cancel_faulted p no_items = wrong_is p Shape (cancel_of None) refl
 cancel_faulted p (item a no_items) =
-    part_then p 1 (number_up_to HIGHEST_NUMBER a) (λ watcher. Ok (Cancel watcher)) (faults_by any_number (at p 1) a) [] (number_told (at p 1) a)
+    part_then p 1 (number_up_to HIGHEST_NUMBER a) (λ watcher. Ok (Cancel watcher)) (faults_by any_number (at p 1) a) [] (number_reported (at p 1) a)
     (λ watcher. refl)
 cancel_faulted p (item a (item b ds)) = wrong_is p Shape (cancel_of None) refl
 

@@ -6,4 +6,4 @@ pub mod Writing
 pub mod Laws
 pub use Rattle.stm_json.specs.CauseNames
 pub use Rattle.stm_json.specs.Outcome
-pub use Rattle.stm_json.specs.Tells
+pub use Rattle.stm_json.specs.Returns

@@ -5,7 +5,7 @@ ghost use Rattle.stm_texts.specs.Reading.{level_named, level_of, start_of, grant
 ghost use Rattle.stm_texts.specs.Reading.{txn_event, event_of, event_after, events_from};
 ghost use Rattle.stm_json.specs.Elements.{number_up_to, one_of, two_of, three_of};
 ghost use Rattle.stm_json.specs.Outcome.{within as within_list};
-ghost use Rattle.stm_json.specs.Tells.{Tells};
+ghost use Rattle.stm_json.specs.Returns.{Returns};
 
 use crate::watchers::watcher_event;
 use serde_json::Value;
@@ -26,7 +26,7 @@ const HIGHEST_LIMIT: u64 = 4294967295;
 /// The level of a word.
 #[tactic(auto, unfolding(crate::specs::Reading::level_named))]
 fn level_word(alloc: Global, word: &str) -> Result<Level, ReadError>
-    ensures { Tells (λ l. l) result (level_named word.now) }
+    ensures { Returns (λ l. l) result (level_named word.now) }
 {
     if word == "SerializableSnapshot" {
         Ok(Level::SerializableSnapshot)
@@ -43,7 +43,7 @@ fn level_word(alloc: Global, word: &str) -> Result<Level, ReadError>
 
 #[tactic(auto, unfolding(crate::specs::Reading::level_of))]
 fn level(alloc: Global, value: &Value) -> Result<Level, ReadError>
-    ensures { Tells (λ l. l) result (level_of (view value.now)) }
+    ensures { Returns (λ l. l) result (level_of (view value.now)) }
 {
     match value.as_str() {
         Some(word) => level_word(alloc, word),
@@ -53,14 +53,14 @@ fn level(alloc: Global, value: &Value) -> Result<Level, ReadError>
 
 /// How many commits a run may send.
 fn limit(alloc: Global, value: &Value) -> Result<u32, ReadError>
-    ensures { Tells (λ n. n) result (number_up_to HIGHEST_LIMIT (view value.now)) }
+    ensures { Returns (λ n. n) result (number_up_to HIGHEST_LIMIT (view value.now)) }
 {
     let limit = number_within(alloc, HIGHEST_LIMIT, value)?;
     Ok(limit as u32)
 }
 
 fn start(alloc: Global, elements: &[Value]) -> Result<WorldEvent, ReadError>
-    ensures { Tells (λ e. e) result (start_of (three_of (items_view elements.now))) }
+    ensures { Returns (λ e. e) result (start_of (three_of (items_view elements.now))) }
 {
     let Some((first, second, third)) = three(elements) else {
         return Err(fault(alloc, Cause::Shape));
@@ -76,7 +76,7 @@ fn start(alloc: Global, elements: &[Value]) -> Result<WorldEvent, ReadError>
 }
 
 fn grant(alloc: Global, elements: &[Value]) -> Result<WorldEvent, ReadError>
-    ensures { Tells (λ e. e) result (grant_of (two_of (items_view elements.now))) }
+    ensures { Returns (λ e. e) result (grant_of (two_of (items_view elements.now))) }
 {
     let Some((first, second)) = two(elements) else {
         return Err(fault(alloc, Cause::Shape));
@@ -88,7 +88,7 @@ fn grant(alloc: Global, elements: &[Value]) -> Result<WorldEvent, ReadError>
 
 /// The one number behind the word of an event.
 fn one_number(alloc: Global, elements: &[Value]) -> Result<u64, ReadError>
-    ensures { Tells (λ n. n) result (number_alone (one_of (items_view elements.now))) }
+    ensures { Returns (λ n. n) result (number_alone (one_of (items_view elements.now))) }
 {
     let Some(first) = one(elements) else {
         return Err(fault(alloc, Cause::Shape));
@@ -97,42 +97,42 @@ fn one_number(alloc: Global, elements: &[Value]) -> Result<u64, ReadError>
 }
 
 fn step(alloc: Global, elements: &[Value]) -> Result<WorldEvent, ReadError>
-    ensures { Tells (λ e. e) result (step_of (one_of (items_view elements.now))) }
+    ensures { Returns (λ e. e) result (step_of (one_of (items_view elements.now))) }
 {
     let runner = one_number(alloc, elements)?;
     Ok(WorldEvent::Step { runner })
 }
 
 fn keep(alloc: Global, elements: &[Value]) -> Result<WorldEvent, ReadError>
-    ensures { Tells (λ e. e) result (keep_of (one_of (items_view elements.now))) }
+    ensures { Returns (λ e. e) result (keep_of (one_of (items_view elements.now))) }
 {
     let id = one_number(alloc, elements)?;
     Ok(WorldEvent::Keep { id })
 }
 
 fn revoke(alloc: Global, elements: &[Value]) -> Result<WorldEvent, ReadError>
-    ensures { Tells (λ e. e) result (revoke_of (one_of (items_view elements.now))) }
+    ensures { Returns (λ e. e) result (revoke_of (one_of (items_view elements.now))) }
 {
     let id = one_number(alloc, elements)?;
     Ok(WorldEvent::Revoke { id })
 }
 
 fn advance(alloc: Global, elements: &[Value]) -> Result<WorldEvent, ReadError>
-    ensures { Tells (λ e. e) result (advance_of (one_of (items_view elements.now))) }
+    ensures { Returns (λ e. e) result (advance_of (one_of (items_view elements.now))) }
 {
     let now = one_number(alloc, elements)?;
     Ok(WorldEvent::Advance { now })
 }
 
 fn compact(alloc: Global, elements: &[Value]) -> Result<WorldEvent, ReadError>
-    ensures { Tells (λ e. e) result (compact_of (one_of (items_view elements.now))) }
+    ensures { Returns (λ e. e) result (compact_of (one_of (items_view elements.now))) }
 {
     let revision = one_number(alloc, elements)?;
     Ok(WorldEvent::Compact { revision })
 }
 
 fn txn(alloc: Global, value: &Value) -> Result<WorldEvent, ReadError>
-    ensures { Tells (λ e. e) result (txn_event (view value.now)) }
+    ensures { Returns (λ e. e) result (txn_event (view value.now)) }
 {
     let txn = read_txn(alloc, value)?;
     Ok(WorldEvent::Txn { txn })
@@ -141,7 +141,7 @@ fn txn(alloc: Global, value: &Value) -> Result<WorldEvent, ReadError>
 /// An event.
 #[tactic(auto, unfolding(crate::specs::Reading::event_of))]
 fn event(alloc: Global, value: &Value) -> Result<WorldEvent, ReadError>
-    ensures { Tells (λ e. e) result (event_of (view value.now)) }
+    ensures { Returns (λ e. e) result (event_of (view value.now)) }
 {
     let Some((word, elements)) = worded_array(value) else {
         return Err(fault(alloc, Cause::Shape));
@@ -170,7 +170,7 @@ fn event(alloc: Global, value: &Value) -> Result<WorldEvent, ReadError>
 /// An event that so many others stand before.
 #[tactic(auto, unfolding(crate::specs::Reading::event_after))]
 fn event_behind(alloc: Global, before: usize, value: &Value) -> Result<WorldEvent, ReadError>
-    ensures { Tells (λ e. e) result (event_after before (view value.now)) }
+    ensures { Returns (λ e. e) result (event_after before (view value.now)) }
 {
     if before < MOST_EVENTS {
         event(alloc, value)
@@ -187,7 +187,7 @@ fn event_at(
     value: &Value,
 ) -> Result<WorldEvent, ReadError>
     requires { first + before < 2 ^ 64 }
-    ensures { Tells (λ e. e) result (within_list (first + before) (event_after before (view value.now))) }
+    ensures { Returns (λ e. e) result (within_list (first + before) (event_after before (view value.now))) }
 {
     within(alloc, first + before, event_behind(alloc, before, value))
 }
@@ -199,7 +199,7 @@ pub(crate) fn events(
     values: &[Value],
 ) -> Result<Vec<WorldEvent>, ReadError>
     requires { first + length values.now < 2 ^ 64 }
-    ensures { Tells (λ v. v.items) result (events_from first 0 (items_view values.now)) }
+    ensures { Returns (λ v. v.items) result (events_from first 0 (items_view values.now)) }
 {
     let mut events = Vec::new(alloc);
     for (before, value) in values.iter().enumerate() {

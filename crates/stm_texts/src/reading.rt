@@ -5,7 +5,7 @@ ghost use Rattle.stm_json.specs.Elements.{worded, number_in};
 ghost use Rattle.stm_json.specs.Outcome.{within as within_outcome};
 ghost use Rattle.stm_outcome.specs.Terms.{most_operations};
 ghost use Rattle.stm_texts.specs.Opens.{IsOpening};
-ghost use Rattle.stm_json.specs.Tells.{Tells};
+ghost use Rattle.stm_json.specs.Returns.{Returns};
 ghost use Rattle.stm_texts.specs.FirstFault.{first_fault};
 ghost use Rattle.stm_json.specs.Faults.{IsFirstFault};
 ghost use Rattle.stm_texts.specs.Grammar.{SpellsScenario};
@@ -35,7 +35,7 @@ fn beginning(value: &Value) -> Option<&[Value]>
 
 /// The revision that a store opens at, which stands at index 1.
 fn opening_revision(alloc: Global, value: &Value) -> Result<u64, ReadError>
-    ensures value { Tells (λ n. n) result (within_outcome 1 (number_in 1 HIGHEST_REVISION (view value.now))) }
+    ensures value { Returns (λ n. n) result (within_outcome 1 (number_in 1 HIGHEST_REVISION (view value.now))) }
     ensures range { IfOk result (λ n. (1 ≤ n) × (n ≤ HIGHEST_REVISION)) }
 {
     let number = number_between(alloc, 1, HIGHEST_REVISION, value);
@@ -45,7 +45,7 @@ fn opening_revision(alloc: Global, value: &Value) -> Result<u64, ReadError>
 
 /// The most operations that it takes, which stand at index 2.
 fn opening_operations(alloc: Global, value: &Value) -> Result<usize, ReadError>
-    ensures value { Tells (λ n. n) result (within_outcome 2 (number_in 1 most_operations (view value.now))) }
+    ensures value { Returns (λ n. n) result (within_outcome 2 (number_in 1 most_operations (view value.now))) }
     ensures range { IfOk result (λ n. (1 ≤ n) × (n ≤ most_operations)) }
 {
     let number = number_between(alloc, 1, MOST_OPERATIONS as u64, value);
@@ -55,7 +55,7 @@ fn opening_operations(alloc: Global, value: &Value) -> Result<usize, ReadError>
 
 /// What the store opens with: a revision, or a revision and a limit.
 fn opening(alloc: Global, elements: &[Value]) -> Result<Opening, ReadError>
-    ensures value { Tells (λ o. o) result (opening_of (items_view elements.now)) }
+    ensures value { Returns (λ o. o) result (opening_of (items_view elements.now)) }
     ensures range { IfOk result (λ o. IsOpening (Some o)) }
 {
     if let Some(revision) = one(elements) {
@@ -79,7 +79,7 @@ fn opening(alloc: Global, elements: &[Value]) -> Result<Opening, ReadError>
 /// The scenario that a value spells.
 #[tactic(auto, unfolding(crate::specs::Reading::scenario_of))]
 fn scenario(alloc: Global, value: &Value) -> Result<Scenario, ReadError>
-    ensures value { Tells (λ s. s) result (scenario_of (view value.now)) }
+    ensures value { Returns (λ s. s) result (scenario_of (view value.now)) }
     ensures opening { IfOk result (λ s. IsOpening s.opening) }
 {
     let Some(elements) = value.as_array() else {
@@ -113,7 +113,7 @@ fn scenario(alloc: Global, value: &Value) -> Result<Scenario, ReadError>
 /// The scenario that bytes spell, or their first fault.
 #[tactic(auto, unfolding(crate::specs::Reading::scenario_in))]
 fn scenario_of_bytes(alloc: Global, bytes: &[u8]) -> Result<Scenario, ReadError>
-    ensures value { Tells (λ s. s) result (scenario_in bytes.now) }
+    ensures value { Returns (λ s. s) result (scenario_in bytes.now) }
     ensures opening { IfOk result (λ s. IsOpening s.opening) }
 {
     if bytes.len() > MOST_BYTES {
@@ -139,11 +139,11 @@ fn scenario_of_bytes(alloc: Global, bytes: &[u8]) -> Result<Scenario, ReadError>
 /// long, whatever they are; then bytes that are not JSON; then the first fault in reading order, a value
 /// before its elements. Or it fails as `OutOfMemory`, where a growth was refused.
 pub fn read_scenario(alloc: Global, bytes: &[u8]) -> Result<Scenario, ReadError>
-    ensures exact { Tells (λ s. s) result (scenario_in bytes.now) }
+    ensures exact { Returns (λ s. s) result (scenario_in bytes.now) }
     // What is read is spelled so.
     ensures spelled { IfOk result (SpellsScenario bytes.now) }
     // A scenario that is spelled so is read.
-    ensures accepts { (s : _) → SpellsScenario bytes.now s → Tells (λ t. t) result (OkOf s) }
+    ensures accepts { (s : _) → SpellsScenario bytes.now s → Returns (λ t. t) result (OkOf s) }
     // Which fault it is.
     ensures faults { MatchResult result (λ s. first_fault bytes.now ≡ None) (IsFirstFault (first_fault bytes.now)) }
     ensures opening { IfOk result (λ s. IsOpening s.opening) }

@@ -1,7 +1,7 @@
 //! Reading the events of watchers.
 ghost use Rattle.serde_json.specs.View.{items_view};
 ghost use Rattle.stm_json.specs.Elements.{one_of, two_of, three_of};
-ghost use Rattle.stm_json.specs.Tells.{Tells};
+ghost use Rattle.stm_json.specs.Returns.{Returns};
 ghost use Rattle.stm_texts.specs.Reading.{watch_key_of, watch_range_of, poll_of, cancel_of, watcher_event as event_of_watcher};
 
 use serde_json::Value;
@@ -10,7 +10,7 @@ use stm_json::{Cause, ReadError, fault, number_part, one, text_part, three, two}
 use stm_world::WorldEvent;
 
 fn watch_key(alloc: Global, elements: &[Value]) -> Result<WorldEvent, ReadError>
-    ensures { Tells (λ e. e) result (watch_key_of (two_of (items_view elements.now))) }
+    ensures { Returns (λ e. e) result (watch_key_of (two_of (items_view elements.now))) }
 {
     let Some((first, second)) = two(elements) else {
         return Err(fault(alloc, Cause::Shape));
@@ -21,7 +21,7 @@ fn watch_key(alloc: Global, elements: &[Value]) -> Result<WorldEvent, ReadError>
 }
 
 fn watch_range(alloc: Global, elements: &[Value]) -> Result<WorldEvent, ReadError>
-    ensures { Tells (λ e. e) result (watch_range_of (three_of (items_view elements.now))) }
+    ensures { Returns (λ e. e) result (watch_range_of (three_of (items_view elements.now))) }
 {
     let Some((first, second, third)) = three(elements) else {
         return Err(fault(alloc, Cause::Shape));
@@ -33,7 +33,7 @@ fn watch_range(alloc: Global, elements: &[Value]) -> Result<WorldEvent, ReadErro
 }
 
 fn poll(alloc: Global, elements: &[Value]) -> Result<WorldEvent, ReadError>
-    ensures { Tells (λ e. e) result (poll_of (two_of (items_view elements.now))) }
+    ensures { Returns (λ e. e) result (poll_of (two_of (items_view elements.now))) }
 {
     let Some((first, second)) = two(elements) else {
         return Err(fault(alloc, Cause::Shape));
@@ -44,7 +44,7 @@ fn poll(alloc: Global, elements: &[Value]) -> Result<WorldEvent, ReadError>
 }
 
 fn cancel(alloc: Global, elements: &[Value]) -> Result<WorldEvent, ReadError>
-    ensures { Tells (λ e. e) result (cancel_of (one_of (items_view elements.now))) }
+    ensures { Returns (λ e. e) result (cancel_of (one_of (items_view elements.now))) }
 {
     let Some(first) = one(elements) else {
         return Err(fault(alloc, Cause::Shape));
@@ -60,7 +60,7 @@ pub(crate) fn watcher_event(
     word: &str,
     elements: &[Value],
 ) -> Result<WorldEvent, ReadError>
-    ensures { Tells (λ e. e) result (event_of_watcher word.now (items_view elements.now)) }
+    ensures { Returns (λ e. e) result (event_of_watcher word.now (items_view elements.now)) }
 {
     if word == "watch_key" {
         watch_key(alloc, elements)

@@ -7,11 +7,11 @@ use Rattle.stm_devices.specs.declared.transfer.TheConstants.{MOST_READ}
 use Rattle.stm_json.specs.declared.read_error.ReadError.{ReadError}
 use Rattle.stm_json.specs.declared.read_error.ReadError.TheVariants as error
 use Rattle.stm_json.specs.Outcome.{Outcome as Reading}
-use Rattle.stm_json.specs.Tells.{TellsFault}
+use Rattle.stm_json.specs.Returns.{ReturnsFault}
 use Rattle.stm_texts.specs.declared.scenario.Scenario.{Scenario}
 use Rattle.stm_world.specs.declared.event.WorldEvent.{WorldEvent}
 use Rattle.stm_devices.specs.Ends.{Devices}
-use Rattle.stm_texts.proofs.Fronts.{told_at}
+use Rattle.stm_texts.proofs.Fronts.{pending_of_revision}
 use Rattle.stm_txn.specs.Standing.{Standing}
 use Rattle.stm_hall.specs.HallState.{HallState, made_over}
 use Rattle.stm_job.specs.declared.job.Job.{Job}
@@ -27,7 +27,7 @@ use Rattle.stm_jobs.specs.StoreAfter.{store_after}
 use Rattle.stm_threading.specs.declared.shown.Printing.{Printing}
 use Rattle.stm_threading.specs.declared.shown.Shown.{Shown}
 use Rattle.stm_threading.specs.Running.{IsTextOf, IsOfRun, IsPrintedOfJobs, IsBrokenOffFor, IsBrokenOff, IsBrokenOffOf, IsPrintedOf}
-use Rattle.stm_threading.specs.Running.{fault_told, fault_read, judged, Answers, Writes, Does}
+use Rattle.stm_threading.specs.Running.{fault_reported, fault_read, judged, Answers, Writes, Does}
 use Rattle.stm_txn.specs.Standing.{Setup}
 
 -- what follows of two things that hold of a value holds of it
@@ -53,23 +53,23 @@ is_of_run shown start calls jobs text standing ends attempts committed before af
 -- a run from the hall over this store that was broken off is told by its cause
 pub broken_off : (start : Setup) (calls : List WorldEvent) (jobs : List Job) (fault : JobsFault) (cause : FaultCause) (standing : Standing) (ends : List JobEnd)
     (before after : HallState) → standing ≡ store_after start calls → before ≡ made_over standing
-    → BrokeOff before jobs cause ends after → fault ≡ fault_told cause → IsBrokenOff start calls jobs fault
-broken_off start calls jobs fault cause standing ends before after stands made broke told =
-    subst (λ (f : JobsFault). IsBrokenOff start calls jobs f) (sym told)
+    → BrokeOff before jobs cause ends after → fault ≡ fault_reported cause → IsBrokenOff start calls jobs fault
+broken_off start calls jobs fault cause standing ends before after stands made broke reported =
+    subst (λ (f : JobsFault). IsBrokenOff start calls jobs f) (sym reported)
     (by_cause cause (record {
       ends = ends;
       after = after;
       broke = subst (λ (hall : HallState). BrokeOff hall jobs cause ends after) (made ∙ ap made_over stands) broke;
     }))
   where
-    by_cause : (c : FaultCause) → IsBrokenOffFor start calls jobs c → IsBrokenOff start calls jobs (fault_told c)
+    by_cause : (c : FaultCause) → IsBrokenOffFor start calls jobs c → IsBrokenOff start calls jobs (fault_reported c)
     by_cause NoMemory broken = tt
     by_cause NoThread broken = broken
     by_cause (AtFault job) broken = broken
 
 -- one that was not is told as want of memory
 pub no_room : (start : Setup) (calls : List WorldEvent) (jobs : List Job) (fault : JobsFault) → fault ≡ OutOfMemory → IsBrokenOff start calls jobs fault
-no_room start calls jobs fault told = subst (λ (f : JobsFault). IsBrokenOff start calls jobs f) (sym told) tt
+no_room start calls jobs fault reported = subst (λ (f : JobsFault). IsBrokenOff start calls jobs f) (sym reported) tt
 
 -- ---- what is answered
 
@@ -117,18 +117,18 @@ module _ (printing : Printing) where
   answers_of s sorted start calls jobs (Err Write) is_accepted opens called are_its printed broken = absurd broken
 
   -- of one that was not accepted, and of an input that is none: its first fault
-  of_fault : (reading : Reading Scenario) (e : ReadError) → TellsFault e (judged reading) → Answers printing reading (Err (fault_read e))
-  of_fault reading error.OutOfMemory told = tt
-  of_fault reading (error.Bad fault) told = told
+  of_fault : (reading : Reading Scenario) (e : ReadError) → ReturnsFault e (judged reading) → Answers printing reading (Err (fault_read e))
+  of_fault reading error.OutOfMemory reported = tt
+  of_fault reading (error.Bad fault) reported = reported
 
-  pub answers_fault : (reading : Reading Scenario) (e : ReadError) (result : Result Printed JobsFault) → TellsFault e (judged reading)
+  pub answers_fault : (reading : Reading Scenario) (e : ReadError) (result : Result Printed JobsFault) → ReturnsFault e (judged reading)
       → result ≡ Err (fault_read e) → Answers printing reading result
-  answers_fault reading e result told is = subst (λ (r : Result Printed JobsFault). Answers printing reading r) (sym is) (of_fault reading e told)
+  answers_fault reading e result reported is = subst (λ (r : Result Printed JobsFault). Answers printing reading r) (sym is) (of_fault reading e reported)
 
 -- the fault of reading is that of what was read
-pub judged_unread : (reading : Reading Scenario) (e : ReadError) → TellsFault e reading → TellsFault e (judged reading)
-judged_unread reading error.OutOfMemory told = tt
-judged_unread reading (error.Bad fault) told = ap judged told
+pub judged_unread : (reading : Reading Scenario) (e : ReadError) → ReturnsFault e reading → ReturnsFault e (judged reading)
+judged_unread reading error.OutOfMemory reported = tt
+judged_unread reading (error.Bad fault) reported = ap judged reported
 
 -- ---- the devices
 
@@ -136,17 +136,17 @@ judged_unread reading (error.Bad fault) told = ap judged told
 pub does_of : (printing : Printing) (d : Devices) (bytes : List ℕ) (result : Result (List JobEnd) JobsFault) → IfSome d.input (λ all. bytes ≡ take MOST_READ all)
     → d.source_failed ≡ false → Writes printing bytes d.before d.after d.sink_failed result → Does printing d result
 does_of printing d bytes (Ok ends) read works did =
-    (works, did.0, told_at bytes d.input (λ outcome. (text : List ℕ) × IsPrintedOf printing outcome ends text × Appends d.before d.after text) read (did.1, did.2, did.3))
-does_of printing d bytes (Err (Bad fault)) read works did = ((works, did.0, did.1), told_at bytes d.input (λ outcome. judged outcome ≡ Err fault) read did.2)
+    (works, did.0, pending_of_revision bytes d.input (λ outcome. (text : List ℕ) × IsPrintedOf printing outcome ends text × Appends d.before d.after text) read (did.1, did.2, did.3))
+does_of printing d bytes (Err (Bad fault)) read works did = ((works, did.0, did.1), pending_of_revision bytes d.input (λ outcome. judged outcome ≡ Err fault) read did.2)
 does_of printing d bytes (Err Read) read works did = absurd did
 does_of printing d bytes (Err Write) read works did = (
   works,
   did.0,
-  told_at bytes d.input (λ outcome. (text : List ℕ) × (ends : List JobEnd) × IsPrintedOf printing outcome ends text × WritesFront d.before d.after text) read
+  pending_of_revision bytes d.input (λ outcome. (text : List ℕ) × (ends : List JobEnd) × IsPrintedOf printing outcome ends text × WritesFront d.before d.after text) read
       (did.1, did.2, did.3, did.4),
 )
 does_of printing d bytes (Err OutOfMemory) read works did = (works, did.0, did.1)
 does_of printing d bytes (Err Spawn) read works did =
-    ((works, did.0, did.1), told_at bytes d.input (λ outcome. IsBrokenOffOf outcome NoThread) read did.2)
+    ((works, did.0, did.1), pending_of_revision bytes d.input (λ outcome. IsBrokenOffOf outcome NoThread) read did.2)
 does_of printing d bytes (Err (Audit job)) read works did =
-    ((works, did.0, did.1), told_at bytes d.input (λ outcome. IsBrokenOffOf outcome (AtFault job)) read did.2)
+    ((works, did.0, did.1), pending_of_revision bytes d.input (λ outcome. IsBrokenOffOf outcome (AtFault job)) read did.2)

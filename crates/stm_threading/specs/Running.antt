@@ -87,10 +87,10 @@ IsBrokenOff start calls jobs Read = ⊥
 IsBrokenOff start calls jobs Write = ⊥
 
 -- what is told of a run that was broken off, by its cause
-abbrev pub fault_told : FaultCause → JobsFault
-fault_told NoMemory = OutOfMemory
-fault_told NoThread = Spawn
-fault_told (AtFault job) = Audit job
+abbrev pub fault_reported : FaultCause → JobsFault
+fault_reported NoMemory = OutOfMemory
+fault_reported NoThread = Spawn
+fault_reported (AtFault job) = Audit job
 
 -- what is told of an input that could not be read as a scenario of jobs
 abbrev pub fault_read : ReadError → JobsFault

@@ -6,7 +6,7 @@ use Rattle.stm_texts.specs.Reading.{scenario_in}
 use Rattle.stm_job.specs.declared.job_end.JobEnd.{JobEnd}
 use Rattle.stm_job.specs.declared.job_end.JobEnd.TheVariants.{Faulted}
 use Rattle.stm_faulted_runs.specs.Lines.{OrNothing}
-use Rattle.stm_faulted_runs.specs.Jobs.{ToldJob, ExplainsJobs}
+use Rattle.stm_faulted_runs.specs.Jobs.{ReportedJob, ExplainsJobs}
 use Rattle.stm_threading.specs.declared.running.JobsFault.{JobsFault}
 use Rattle.stm_threading.specs.declared.running.JobsFault.TheVariants.{OutOfMemory, Bad, Read, Write, Spawn, Audit}
 use Rattle.stm_threading.specs.declared.shown.Printing.{Printing}
@@ -44,11 +44,11 @@ SaysBy false before after failed fault status = SaysOf before after failed fault
 SaysBy true before after failed fault status = SaysMoreOf before after failed fault status
 
 -- the jobs that came to a fault, of those that ended so, of which the first has this number
-abbrev pub faulted_job : ℕ → JobEnd → List ToldJob
+abbrev pub faulted_job : ℕ → JobEnd → List ReportedJob
 faulted_job job (Faulted fault reads) = record { job = job; fault = fault; reads = reads } ∷ []
 faulted_job job other = []
 
-abbrev pub faulted_jobs : ℕ → List JobEnd → List ToldJob
+abbrev pub faulted_jobs : ℕ → List JobEnd → List ReportedJob
 faulted_jobs job [] = []
 faulted_jobs job (end ∷ ends) = faulted_job job end ++ faulted_jobs (suc job) ends
 

@@ -2,7 +2,7 @@
 ghost use Rattle.std.specs.Prelude.{◌≡◌, ◌++◌, false, map, IfOk, OnOk, string_bytes};
 ghost use Rattle.stm_texts.specs.Reading.{scenario_in};
 ghost use Rattle.stm_faulted_runs.specs.Lines.{OrNothing};
-ghost use Rattle.stm_faulted_runs.specs.Jobs.{told_job, ExplainsJobs};
+ghost use Rattle.stm_faulted_runs.specs.Jobs.{reported_job, ExplainsJobs};
 ghost use Rattle.stm_threading.specs.Threading.{faulted_job, faulted_jobs, SaysJobs, SaysOfEnds};
 
 use std::alloc::{AllocError, Global};
@@ -18,7 +18,7 @@ fn push_faulted<'a>(
     job: u64,
     end: &'a JobEnd,
 ) -> Result<(), AllocError>
-    ensures { OnOk result (map told_job jobs.new.items ≡ map told_job jobs.old.items ++ faulted_job job end.now) }
+    ensures { OnOk result (map reported_job jobs.new.items ≡ map reported_job jobs.old.items ++ faulted_job job end.now) }
 {
     match end {
         JobEnd::Faulted { fault, reads } => {
@@ -33,7 +33,7 @@ fn push_faulted<'a>(
 
 /// The jobs that came to a fault, of those that ended so.
 fn faulted_jobs<'a>(alloc: Global, ends: &'a [JobEnd]) -> Result<Vec<FaultedJob<'a>>, AllocError>
-    ensures { IfOk result (λ jobs. map told_job jobs.items ≡ faulted_jobs 0 ends.now) }
+    ensures { IfOk result (λ jobs. map reported_job jobs.items ≡ faulted_jobs 0 ends.now) }
 {
     let mut jobs = Vec::new(alloc);
     for (index, end) in ends.iter().enumerate() {
@@ -71,7 +71,7 @@ fn jobs_of_input<S>(alloc: Global, input: &Kept<'_, S>, ends: &[JobEnd]) -> Stri
 }
 
 /// Explains the jobs of an input that came to a fault, of those that ended so, and gives the status of a good end.
-fn tell_jobs<S, E: Sink>(alloc: Global, input: &Kept<'_, S>, ends: &[JobEnd], err: &mut E) -> u8
+fn report_jobs<S, E: Sink>(alloc: Global, input: &Kept<'_, S>, ends: &[JobEnd], err: &mut E) -> u8
     requires { E.failed err.old ≡ false }
     ensures status { result ≡ 0 }
     ensures says { SaysJobs input.now.name.now input.now.bytes.items ends.now (E.held err.old) (E.held err.new) (E.failed err.new) }
@@ -82,7 +82,7 @@ fn tell_jobs<S, E: Sink>(alloc: Global, input: &Kept<'_, S>, ends: &[JobEnd], er
 }
 
 /// The same, where jobs are to be explained; else nothing is said.
-pub(crate) fn tell_ends<S, E: Sink>(
+pub(crate) fn report_ends<S, E: Sink>(
     alloc: Global,
     explain: bool,
     input: &Kept<'_, S>,
@@ -96,5 +96,5 @@ pub(crate) fn tell_ends<S, E: Sink>(
     if !explain {
         return 0;
     }
-    tell_jobs(alloc, input, ends, err)
+    report_jobs(alloc, input, ends, err)
 }

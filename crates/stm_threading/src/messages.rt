@@ -68,7 +68,7 @@ fn write_with<E: Sink>(err: &mut E, fault: &JobsFault, more: &str) -> Result<(),
 }
 
 /// Says what went wrong, and gives the status. Takes no memory.
-pub(crate) fn tell<E: Sink>(err: &mut E, fault: &JobsFault) -> u8
+pub(crate) fn report<E: Sink>(err: &mut E, fault: &JobsFault) -> u8
     requires { E.failed err.old ≡ false }
     ensures { SaysOf (E.held err.old) (E.held err.new) (E.failed err.new) fault.now result }
 {
@@ -87,7 +87,7 @@ fn explanation<S>(alloc: Global, input: &Kept<'_, S>, fault: &JobsFault) -> Stri
 }
 
 /// Says what went wrong and more behind it, and gives the status.
-fn tell_with<E: Sink>(err: &mut E, fault: &JobsFault, more: &str) -> u8
+fn report_with<E: Sink>(err: &mut E, fault: &JobsFault, more: &str) -> u8
     requires works { E.failed err.old ≡ false }
     requires explains { IsExplained more.now }
     ensures { SaysMoreOf (E.held err.old) (E.held err.new) (E.failed err.new) fault.now result }
@@ -97,7 +97,7 @@ fn tell_with<E: Sink>(err: &mut E, fault: &JobsFault, more: &str) -> u8
 }
 
 /// Says what went wrong with the jobs of an input, explains it where it is to be explained, and gives the status.
-pub(crate) fn tell_by<S, E: Sink>(
+pub(crate) fn report_by<S, E: Sink>(
     alloc: Global,
     explain: bool,
     input: &Kept<'_, S>,
@@ -108,8 +108,8 @@ pub(crate) fn tell_by<S, E: Sink>(
     ensures { SaysBy explain (E.held err.old) (E.held err.new) (E.failed err.new) fault.now result }
 {
     if !explain {
-        return tell(err, fault);
+        return report(err, fault);
     }
     let more = explanation(alloc, input, fault);
-    tell_with(err, fault, more.as_str())
+    report_with(err, fault, more.as_str())
 }

@@ -10,7 +10,7 @@ ghost use Rattle.stm_workers.specs.declared.run.TheConstants.{MOST_WORKERS};
 ghost use Rattle.std.specs.Map.{values_of};
 ghost use Rattle.stm_threading.specs.declared.shown.Printing.TheVariants.{Outcomes as OfRuns};
 ghost use Rattle.stm_jobs.specs.StoreAfter.{store_after};
-ghost use Rattle.stm_threading.specs.Running.{AreCounted, HasCounted, IsOfRun, IsPrintedOfJobs, IsTextOf, IsBrokenOff, fault_told, Answers, Writes, Does};
+ghost use Rattle.stm_threading.specs.Running.{AreCounted, HasCounted, IsOfRun, IsPrintedOfJobs, IsTextOf, IsBrokenOff, fault_reported, Answers, Writes, Does};
 
 use crate::shown::{Printing, Shown};
 use std::alloc::{AllocError, Global};
@@ -78,7 +78,7 @@ impl From<ReadError> for JobsFault {
 
 /// The fault of a run that was broken off.
 fn fault_of(cause: FaultCause) -> JobsFault
-    ensures { result ≡ fault_told cause }
+    ensures { result ≡ fault_reported cause }
 {
     match cause {
         FaultCause::OutOfMemory => JobsFault::OutOfMemory,
@@ -89,7 +89,7 @@ fn fault_of(cause: FaultCause) -> JobsFault
 
 /// The fault of a run that was broken off: its cause. Its hall is let go.
 fn fault_of_run(broken: RunFault) -> JobsFault
-    ensures { result ≡ fault_told broken.cause }
+    ensures { result ≡ fault_reported broken.cause }
 {
     let cause = broken.cause;
     drop(broken);

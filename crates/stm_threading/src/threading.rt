@@ -5,8 +5,8 @@ ghost use Rattle.stm_workers.specs.declared.run.TheConstants.{MOST_WORKERS};
 ghost use Rattle.stm_threading.specs.declared.shown.Printing.TheVariants.{Values};
 ghost use Rattle.stm_threading.specs.Threading.{Ends};
 
-use crate::faults::tell_ends;
-use crate::messages::{tell, tell_by};
+use crate::faults::report_ends;
+use crate::messages::{report, report_by};
 use crate::running::run_jobs;
 use crate::shown::Printing;
 use std::alloc::Global;
@@ -58,7 +58,7 @@ pub fn threads_to<R: Threads + Wait + Sync, S: Source, W: Sink, E: Sink>(
 {
     match run_jobs(rt, alloc, input, workers, Printing::Values, out) {
         Ok(_) => 0,
-        Err(fault) => tell(err, &fault),
+        Err(fault) => report(err, &fault),
     }
 }
 
@@ -90,7 +90,7 @@ pub fn threads_as_to<R: Threads + Wait + Sync, S: Source, W: Sink, E: Sink>(
     ensures bounded { S.reads input.new.source ≤ S.reads input.old.source + MOST_READ }
 {
     match run_jobs(rt, alloc, input, options.workers, options.printing, out) {
-        Ok(ends) => tell_ends(alloc, options.explain, input, ends.as_slice(), err),
-        Err(fault) => tell_by(alloc, options.explain, input, &fault, err),
+        Ok(ends) => report_ends(alloc, options.explain, input, ends.as_slice(), err),
+        Err(fault) => report_by(alloc, options.explain, input, &fault, err),
     }
 }

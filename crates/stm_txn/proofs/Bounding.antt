@@ -20,7 +20,7 @@ use Rattle.stm_outcome.specs.declared.txn.Op.TheVariants.{Get, Put, Del}
 use Rattle.stm_outcome.specs.declared.refusal.Refusal.TheVariants.{LeaseNotFound}
 use Rattle.stm_outcome.specs.Branches.{op_refusal, branch_refusal, deletion_of}
 use Rattle.stm_outcome.specs.LookUps.{copy, with_copied}
-use Rattle.stm_txn.specs.Leasing.{hangs_of, HangOnLive, with_hang}
+use Rattle.stm_txn.specs.Leasing.{attached_of, AttachedToLive, with_attach}
 use Rattle.stm_txn.specs.Standing.{Standing, terms_of}
 use Rattle.stm_outcome.specs.Numbers.{LeaseFits, ChangeFits, ChangesFit, RevisionsFit, OpeningFits, LeasesFit}
 use Rattle.stm_outcome.proofs.Widening.{both_none}
@@ -41,18 +41,18 @@ live_fits live id fits found = live_case live id (finmap.get live id) fits refl 
 
 -- a change that hangs its key on a live lease, or on none
 named_fits : (live : Live) (key : List ℕ) (lease : ℕ) (zero_lease : Bool) (rest : List (List ℕ × ℕ)) → AreInRange live → nat_eq lease 0 ≡ zero_lease →
-    HangOnLive live (with_hang key (cond zero_lease None (Some lease)) rest) → (lease ≤ HIGHEST_NUMBER) × HangOnLive live rest
-named_fits live key lease true rest fits is hang =
+    AttachedToLive live (with_attach key (cond zero_lease None (Some lease)) rest) → (lease ≤ HIGHEST_NUMBER) × AttachedToLive live rest
+named_fits live key lease true rest fits is attach =
     let zero : lease ≡ 0 = eqb-true lease 0 is in
-    (omega (arith, zero), hang)
-named_fits live key lease false rest fits is hang = (live_fits live lease fits hang.0, hang.1)
+    (omega (arith, zero), attach)
+named_fits live key lease false rest fits is attach = (live_fits live lease fits attach.0, attach.1)
 
-pub hung_fit : (live : Live) (cs : List Change) → AreInRange live → HangOnLive live (hangs_of cs) → ChangesFit cs
-hung_fit live [] fits hang = tt
-hung_fit live (PutChange key value lease ∷ cs) fits hang =
-    let parts : (lease ≤ HIGHEST_NUMBER) × HangOnLive live (hangs_of cs) = named_fits live key lease (nat_eq lease 0) (hangs_of cs) fits refl hang in
-    (parts.0, hung_fit live cs fits parts.1)
-hung_fit live (DelChange key ∷ cs) fits hang = (tt, hung_fit live cs fits hang)
+pub attached_fit : (live : Live) (cs : List Change) → AreInRange live → AttachedToLive live (attached_of cs) → ChangesFit cs
+attached_fit live [] fits attach = tt
+attached_fit live (PutChange key value lease ∷ cs) fits attach =
+    let parts : (lease ≤ HIGHEST_NUMBER) × AttachedToLive live (attached_of cs) = named_fits live key lease (nat_eq lease 0) (attached_of cs) fits refl attach in
+    (parts.0, attached_fit live cs fits parts.1)
+attached_fit live (DelChange key ∷ cs) fits attach = (tt, attached_fit live cs fits attach)
 
 pub fits-push : (cs : List Change) (c : Change) → ChangesFit cs → ChangeFits c → ChangesFit (cs ++ c ∷ [])
 fits-push [] c before one = (one, tt)

@@ -12,7 +12,7 @@ use Rattle.stm_watch.specs.Places.{WatchersView, watchings}
 use Rattle.stm_watch.specs.Calls.{StandFor, compacted as compacted_watchers}
 use Rattle.stm_outcome.specs.declared.refusal.Refusal.{Refusal}
 use Rattle.stm_outcome.specs.declared.refusal.Refusal.TheVariants.{FutureRevision, Compacted}
-use Rattle.stm_txn.specs.Leasing.{hanging}
+use Rattle.stm_txn.specs.Leasing.{attaching}
 use Rattle.stm_txn.specs.Standing.{Standing, Step, compaction_refusal, with_floor, kept, floor_step, raised, compacted}
 use Rattle.stm_txn.proofs.Bounding.{cut_fits}
 use Rattle.stm_txn.proofs.Copied.{AreParts, store_of}
@@ -42,14 +42,14 @@ compacted_refused s revision cause is = ap (λ o. floor_step o (kept (with_floor
 
 -- what is refused where something holds does not hold where the answer is another
 pub not_so : {T E P : Type 0} (x : T) (e : E) → ((let done : Result T E = Ok x in done) ≡ Err e) ↔ P → P → ⊥
-not_so x e tells holds = let never = tells.1 holds in absurd (cc)
+not_so x e reports holds = let never = reports.1 holds in absurd (cc)
 
 pub above_floor : {T E : Type 0} (x : T) (e : E) (floor revision : ℕ) → ((let done : Result T E = Ok x in done) ≡ Err e) ↔ (revision ≤ floor) → floor < revision
-above_floor x e floor revision tells = elim (cases_lt floor revision) [ inl less ↦ less | inr more ↦ absurd (not_so x e tells more) ]
+above_floor x e floor revision reports = elim (cases_lt floor revision) [ inl less ↦ less | inr more ↦ absurd (not_so x e reports more) ]
 
 pub has_come : {T E : Type 0} (x : T) (e : E) (counter revision : ℕ) → ((let done : Result T E = Ok x in done) ≡ Err e) ↔ (counter < revision)
     → revision ≤ counter
-has_come x e counter revision tells = elim (cases_lt counter revision) [ inl less ↦ absurd (not_so x e tells less) | inr more ↦ more ]
+has_come x e counter revision reports = elim (cases_lt counter revision) [ inl less ↦ absurd (not_so x e reports less) | inr more ↦ more ]
 
 -- ---- it rises
 
@@ -61,8 +61,8 @@ module _ (limit : ℕ) (keys next : Contents) (leases : Leases) (moment : ℕ) (
   abbrev old : Standing
   old = (store_of limit keys leases moment watchers).standing
 
-  pub raised_told : next ≡ keys_with_floor revision keys → raised old revision ≡ done (store_of limit next leases moment after).standing
-  raised_told is =
+  pub raised_reported : next ≡ keys_with_floor revision keys → raised old revision ≡ done (store_of limit next leases moment after).standing
+  raised_reported is =
       ap (λ o. floor_step o (with_floor old revision)) (not_refused old revision above reached)
       ∙ ap (λ (ws : List (Option Watching)). done (record {
         history = keys.history;
@@ -74,8 +74,8 @@ module _ (limit : ℕ) (keys next : Contents) (leases : Leases) (moment : ℕ) (
       })) (sym lost)
       ∙ ap (λ (k : Contents). done (store_of limit k leases moment after).standing) (sym is)
 
-  pub compacted_told : next ≡ compacted_at revision keys → compacted old revision ≡ done (store_of limit next leases moment after).standing
-  compacted_told is =
+  pub compacted_reported : next ≡ compacted_at revision keys → compacted old revision ≡ done (store_of limit next leases moment after).standing
+  compacted_reported is =
       ap (λ o. floor_step o (kept (with_floor old revision))) (not_refused old revision above reached)
       ∙ ap (λ (ws : List (Option Watching)). done (record {
         history = cut (revision - 1) keys.history;
@@ -97,7 +97,7 @@ module _ (keys next : Contents) (leases : Leases) (watchers after : WatchersView
   compacted_parts is stand =
       let within : revision - 1 ≤ now keys.history = omega (arith, reached) in
       subst (λ (k : Contents). AreParts k leases after) (sym is) (
-        (λ key. parts.0 key ∙ ap hanging (sym (cut_keeps_keys_now keys.history (revision - 1) within key))),
+        (λ key. parts.0 key ∙ ap attaching (sym (cut_keeps_keys_now keys.history (revision - 1) within key))),
         cut_fits keys.history (revision - 1) parts.1,
         stand,
         at,

@@ -5,14 +5,14 @@ use Rattle.stm_keys.specs.Keys.{Contents}
 use Rattle.stm_leases.specs.Leases.{Leases, lease_of}
 use Rattle.stm_watch.specs.Places.{WatchersView, watchings}
 use Rattle.stm_watch.specs.Calls.{StandFor}
-use Rattle.stm_txn.specs.Leasing.{HangAsStored}
+use Rattle.stm_txn.specs.Leasing.{AttachedAsStored}
 use Rattle.stm_outcome.specs.Numbers.{LeasesFit}
 use Rattle.stm_txn.specs.Store.{StoreView}
 
 -- what a store keeps true of its parts
 abbrev pub AreParts : Contents → Leases → WatchersView → Type 0
 AreParts keys leases watchers =
-    HangAsStored (lease_of leases) keys.history × LeasesFit keys.history × StandFor keys.history watchers × (watchers.floor ≡ keys.floor)
+    AttachedAsStored (lease_of leases) keys.history × LeasesFit keys.history × StandFor keys.history watchers × (watchers.floor ≡ keys.floor)
     × (keys.floor ≤ now keys.history)
 
 -- what contracts see of its parts

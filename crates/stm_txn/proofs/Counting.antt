@@ -80,8 +80,8 @@ step_higher s more (Ok done) is = is
 step_higher s more (Err refusal) is = tt
 
 -- what is told of it is one revision more, or none
-pub told_revision : (s : Standing) (txn : Txn) (told : Bool) → told ≡ would_change s.history txn →
-    IfOk (transacted s txn) (λ step. now step.next.history ≡ now s.history + cond told 1 0)
-told_revision s txn told is =
+pub reported_revision : (s : Standing) (txn : Txn) (reported : Bool) → reported ≡ would_change s.history txn →
+    IfOk (transacted s txn) (λ step. now step.next.history ≡ now s.history + cond reported 1 0)
+reported_revision s txn reported is =
     subst (λ (b : Bool). IfOk (transacted s txn) (λ step. now step.next.history ≡ now s.history + cond b 1 0)) (sym is)
     (step_higher s (cond (would_change s.history txn) 1 0) (outcome (terms_of s) txn) (outcome_higher (terms_of s) txn))

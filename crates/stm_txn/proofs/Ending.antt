@@ -30,7 +30,7 @@ use Rattle.stm_leases.proofs.Tables.{test_number}
 use Rattle.stm_outcome.specs.declared.advance.Expired.{Expired}
 use Rattle.stm_outcome.specs.declared.refusal.Refusal.{Refusal}
 use Rattle.stm_outcome.specs.declared.refusal.Refusal.TheVariants.{RevisionsUsedUp}
-use Rattle.stm_txn.specs.Leasing.{hanging, hung_after, hangs_of, lease_now}
+use Rattle.stm_txn.specs.Leasing.{attaching, attached_after, attached_of, lease_now}
 use Rattle.stm_txn.specs.LeaseKeys.{keys_of_lease, deletions_of}
 use Rattle.stm_outcome.specs.Outcome.{with_changes, is_used_up}
 use Rattle.stm_txn.specs.Standing.{Standing, IsRefusalOf, without_lease, ended, Advance, after, expired_in, expire_up_to, expire_all, IsCutShort}
@@ -56,17 +56,17 @@ pub renewed_attached : (r : Result (Unit {0}) LeaseNotFound) (old new : Leases) 
 renewed_attached r old new id at found ok err = renewed_case r old new id at (finmap.get old.live id) refl found ok err
 
 -- keys hang as they are stored once their leases moved with a revision's changes
-hung_by_change : (n : ℕ) (o : Option Change) (s : Option KeyState) → hung_after o (hanging s) ≡ hanging (after_change n o s)
-hung_by_change n None s = refl
-hung_by_change n (Some (Put key value lease)) None = refl
-hung_by_change n (Some (Put key value lease)) (Some s) = refl
-hung_by_change n (Some (Del key)) s = refl
+attached_by_change : (n : ℕ) (o : Option Change) (s : Option KeyState) → attached_after o (attaching s) ≡ attaching (after_change n o s)
+attached_by_change n None s = refl
+attached_by_change n (Some (Put key value lease)) None = refl
+attached_by_change n (Some (Put key value lease)) (Some s) = refl
+attached_by_change n (Some (Del key)) s = refl
 
-pub still_stored : (h : History) (cs : List Change) (key : List ℕ) (before after : Option ℕ) → before ≡ hanging (key_now h key) →
-    after ≡ hung_after (change_of key cs) before → after ≡ hanging (key_now (add_revision h cs) key)
+pub still_stored : (h : History) (cs : List Change) (key : List ℕ) (before after : Option ℕ) → before ≡ attaching (key_now h key) →
+    after ≡ attached_after (change_of key cs) before → after ≡ attaching (key_now (add_revision h cs) key)
 still_stored h cs key before after was is =
-    is ∙ ap (hung_after (change_of key cs)) was ∙ hung_by_change _ (change_of key cs) (key_now h key)
-    ∙ sym (ap hanging (one_more_revision h cs key))
+    is ∙ ap (attached_after (change_of key cs)) was ∙ attached_by_change _ (change_of key cs) (key_now h key)
+    ∙ sym (ap attaching (one_more_revision h cs key))
 
 -- ascending texts are distinct
 less_apart : (a b : List ℕ) → slice_cmp nat_cmp a b ≡ Less → bytes_eq b a ≡ false
@@ -85,28 +85,28 @@ pub deletions_are_distinct : (h : History) (id : ℕ) → HasDistinctKeys (delet
 deletions_are_distinct h id = distinct_deletions (keys_of_lease h id) (are_keys h id).ascending
 
 -- a key that hangs on a lease is present
-hanging_present : (s : Option KeyState) (id : ℕ) → hanging s ≡ Some id → IsSome s
-hanging_present None id is = cc
-hanging_present (Some s) id is = refl
+attaching_present : (s : Option KeyState) (id : ℕ) → attaching s ≡ Some id → IsSome s
+attaching_present None id is = cc
+attaching_present (Some s) id is = refl
 
 present_deletions : (h : History) (id : ℕ) (keys : List (List ℕ)) → ((key : List ℕ) → Contains keys key → lease_now h key ≡ Some id)
     → DeletePresent h (map Del keys)
-present_deletions h id [] hang = tt
-present_deletions h id (k ∷ ks) hang = (
-  hanging_present (key_now h k) id (hang k (0, omega arith, refl)),
-  present_deletions h id ks (λ key has. hang key (suc has.0, omega (arith, has.1), has.2)),
+present_deletions h id [] attach = tt
+present_deletions h id (k ∷ ks) attach = (
+  attaching_present (key_now h k) id (attach k (0, omega arith, refl)),
+  present_deletions h id ks (λ key has. attach key (suc has.0, omega (arith, has.1), has.2)),
 )
 
 pub deletions_are_present : (h : History) (id : ℕ) → DeletePresent h (deletions_of h id)
 deletions_are_present h id = present_deletions h id (keys_of_lease h id) (λ key has. ((are_keys h id).each key).0 has)
 
 -- deletions hang nothing
-no_hangs : (keys : List (List ℕ)) → hangs_of (map Del keys) ≡ []
-no_hangs [] = refl
-no_hangs (k ∷ ks) = no_hangs ks
+no_attaches : (keys : List (List ℕ)) → attached_of (map Del keys) ≡ []
+no_attaches [] = refl
+no_attaches (k ∷ ks) = no_attaches ks
 
-pub hangs_of-deletions : (h : History) (id : ℕ) → hangs_of (deletions_of h id) ≡ []
-hangs_of-deletions h id = no_hangs (keys_of_lease h id)
+pub attached_of-deletions : (h : History) (id : ℕ) → attached_of (deletions_of h id) ≡ []
+attached_of-deletions h id = no_attaches (keys_of_lease h id)
 
 -- a deleted key is among those of the deletions
 deleted_key : (keys : List (List ℕ)) (key : List ℕ) (k : ℕ) → change_of key (map Del keys) ≡ None → k < length keys → get_or keys k key ≡ key → ⊥
@@ -132,13 +132,13 @@ deletion_case (x ∷ xs) key n s =
 -- once its keys are deleted, no key hangs on a lease
 gone_case : (h : History) (id : ℕ) (keys : List (List ℕ)) (key : List ℕ) (n : ℕ) → AreKeysOf (lease_now h) id keys →
     (change_of key (map Del keys) ≡ None) ⊎ (after_change n (change_of key (map Del keys)) (key_now h key) ≡ None) →
-    hanging (after_change n (change_of key (map Del keys)) (key_now h key)) ≡ Some id → ⊥
+    attaching (after_change n (change_of key (map Del keys)) (key_now h key)) ≡ Some id → ⊥
 gone_case h id keys key n are (inl none) is =
-    let before : hanging (key_now h key) ≡ Some id = sym (ap (λ o. hanging (after_change n o (key_now h key))) none) ∙ is in
+    let before : attaching (key_now h key) ≡ Some id = sym (ap (λ o. attaching (after_change n o (key_now h key))) none) ∙ is in
     let has : Contains keys key = (are.each key).1 before in
     deleted_key keys key has.0 none has.1 has.2
 gone_case h id keys key n are (inr none) is =
-    let nothing : None ≡ Some id = sym (ap hanging none) ∙ is in absurd (cc)
+    let nothing : None ≡ Some id = sym (ap attaching none) ∙ is in absurd (cc)
 
 gone_from : (h : History) (id : ℕ) (keys : List (List ℕ)) (key : List ℕ) → AreKeysOf (lease_now h) id keys →
     lease_now (with_changes h (map Del keys)) key ≡ Some id → ⊥
@@ -146,7 +146,7 @@ gone_from h id [] key are is = let has : Contains [] key = (are.each key).1 is i
 gone_from h id (k ∷ ks) key are is =
     gone_case h id (k ∷ ks) key (now (add_revision h (map Del (k ∷ ks)))) are
     (deletion_case (k ∷ ks) key (now (add_revision h (map Del (k ∷ ks)))) (key_now h key))
-    (sym (ap hanging (one_more_revision h (map Del (k ∷ ks)) key)) ∙ is)
+    (sym (ap attaching (one_more_revision h (map Del (k ∷ ks)) key)) ∙ is)
 
 pub gone : (h : History) (id : ℕ) (key : List ℕ) → lease_now (with_changes h (deletions_of h id)) key ≡ Some id → ⊥
 gone h id key is = gone_from h id (keys_of_lease h id) key (are_keys h id) is
@@ -158,18 +158,18 @@ not_true false never = refl
 
 stuck_case : (h : History) (id : ℕ) (has : Bool) (keys : List (List ℕ)) → AreKeysOf (lease_now h) id keys → IsTrue has ↔ HasKeys (lease_now h) id →
     (nat_eq (now h) HIGHEST_REVISION && has) ≡ is_used_up h (map Del keys)
-stuck_case h id has [] are tells =
-    let none : has ≡ false = not_true has (λ is. let key : HasKeys (lease_now h) id = tells.0 is in
+stuck_case h id has [] are reports =
+    let none : has ≡ false = not_true has (λ is. let key : HasKeys (lease_now h) id = reports.0 is in
     let found : Contains [] key.0 = (are.each key.0).1 key.1 in absurd (omega (arith, found.1))) in
     ap (λ b. nat_eq (now h) HIGHEST_REVISION && b) none ∙ none_used (nat_eq (now h) HIGHEST_REVISION)
-stuck_case h id has (k ∷ ks) are tells =
+stuck_case h id has (k ∷ ks) are reports =
     let first : Contains (k ∷ ks) k = (0, omega arith, refl) in
-    let some : has ≡ true = tells.1 (k, (are.each k).0 first) in
+    let some : has ≡ true = reports.1 (k, (are.each k).0 first) in
     ap (λ b. nat_eq (now h) HIGHEST_REVISION && b) some ∙ all_used (nat_eq (now h) HIGHEST_REVISION)
 
 pub stuck : (h : History) (id : ℕ) (has : Bool) → IsTrue has ↔ HasKeys (lease_now h) id →
     (nat_eq (now h) HIGHEST_REVISION && has) ≡ is_used_up h (deletions_of h id)
-stuck h id has tells = stuck_case h id has (keys_of_lease h id) (are_keys h id) tells
+stuck h id has reports = stuck_case h id has (keys_of_lease h id) (are_keys h id) reports
 
 ended_case : (used : Bool) (taken next : Standing) → cond used (Err RevisionsUsedUp) (Ok taken) ≡ Ok next → taken ≡ next
 ended_case true taken next is = cc

@@ -111,7 +111,7 @@ failed_fits : (h : History) (cs : List Compare) (failed : Option FailedCompare) 
 failed_fits h cs None bounded is = tt
 failed_fits h cs (Some f) bounded is =
     let at : FailsAt (key_now h) cs f = failed_has_its_place (key_now h) cs f is in
-    let told : f.mod_rev ≡ mod_of (key_now h at.compare.key) = at.told in
+    let reported : f.mod_rev ≡ mod_of (key_now h at.compare.key) = at.reported in
     let reached : mod_of (key_now h at.compare.key) ≤ now h = mod_is_reached h.opening at.compare.key h.revisions in
     omega arith
 

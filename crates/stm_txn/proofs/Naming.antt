@@ -20,7 +20,7 @@ use Rattle.stm_history.proofs.HistoryLaws.{one_more}
 use Rattle.stm_leases.specs.Leases.{Leases, lease_of}
 use Rattle.stm_leases.specs.AttachedKeys.{is_on, keys_on, IsAscending, AreKeysOf}
 use Rattle.stm_leases.proofs.KeyLaws.{keys_on_are_keys, one_list_of_keys, ascending_is_unique}
-use Rattle.stm_txn.specs.Leasing.{hanging, HangAsStored, lease_now}
+use Rattle.stm_txn.specs.Leasing.{attaching, AttachedAsStored, lease_now}
 use Rattle.stm_txn.specs.PresentKeys.{keys_present, PresentKeysAreListed}
 use Rattle.stm_txn.specs.LeaseKeys.{with_key, in_order, keys_named, keys_of_lease}
 use Rattle.stm_outcome.proofs.Branching.{same_text}
@@ -163,9 +163,9 @@ present_after opening key (changes ∷ older) present =
 present_named : (h : History) (key : List ℕ) → is_some (key_now h key) ≡ true → IsAmong key (keys_named h)
 present_named h key present = present_after h.opening key h.revisions present
 
-hanging_present : (s : Option KeyState) (id : ℕ) → hanging s ≡ Some id → is_some s ≡ true
-hanging_present None id is = cc
-hanging_present (Some s) id is = refl
+attaching_present : (s : Option KeyState) (id : ℕ) → attaching s ≡ Some id → is_some s ≡ true
+attaching_present None id is = cc
+attaching_present (Some s) id is = refl
 
 -- which keys pass the test of a lease
 on_case : (id : ℕ) (o : Option ℕ) → (is_on id o ≡ true) ↔ (o ≡ Some id)
@@ -212,7 +212,7 @@ are_keys h id = record {
     (λ has. (on_case id (lease_now h key)).0 (passed test key (keys_named h) (at_place (keys_of_lease h id) key has.0 has.1 has.2)).1),
     (λ is. place_of (keys_of_lease h id) key
         (passes test key (keys_named h) ((on_case id (lease_now h key)).1 is)
-        (present_named h key (hanging_present (key_now h key) id is)))),
+        (present_named h key (attaching_present (key_now h key) id is)))),
   );
 }
   where
@@ -220,7 +220,7 @@ are_keys h id = record {
     test key = is_on id (lease_now h key)
 
 -- the keys on a lease's list are these
-pub is_the_list : (s : Leases) (h : History) (id : ℕ) (keys : List (List ℕ)) → keys ≡ keys_on s.attached id → HangAsStored (lease_of s) h →
+pub is_the_list : (s : Leases) (h : History) (id : ℕ) (keys : List (List ℕ)) → keys ≡ keys_on s.attached id → AttachedAsStored (lease_of s) h →
     keys ≡ keys_of_lease h id
 is_the_list s h id keys is kept =
     let on : AreKeysOf (lease_of s) id (keys_on s.attached id) = keys_on_are_keys s.attached id in

@@ -10,12 +10,12 @@ use Rattle.stm_history.specs.History.{History, number_of_last, now, key_now, sta
 use Rattle.stm_history.proofs.HistoryLaws.{numbers_stay_small, last_revision_is_now}
 use Rattle.stm_keys.specs.declared.event.Event.{Event}
 use Rattle.stm_keys.specs.Events.{event_of, events_above, key_of_event}
-use Rattle.stm_watch.specs.declared.told.Told.{Told}
+use Rattle.stm_watch.specs.declared.pending_revision.PendingRevision.{PendingRevision}
 use Rattle.stm_watch.specs.declared.watched.Watched.{Watched}
 use Rattle.stm_watch.specs.Watching.{Watching}
 use Rattle.stm_watch.specs.declared.watchers.Batch.{Batch}
 use Rattle.stm_watch.specs.Keys.{is_watched}
-use Rattle.stm_watch.specs.Pending.{matching, told_at, told_above, pending, events_told, batch_of, after_poll}
+use Rattle.stm_watch.specs.Pending.{matching, pending_of_revision, pending_above, pending, pending_events, batch_of, after_poll}
 use Rattle.stm_watch.specs.Calls.{watcher_at, poll_found, Step as WatchStep}
 use Rattle.stm_watch.specs.declared.refusal.PollRefusal.{PollRefusal}
 use Rattle.stm_watch.specs.declared.refusal.PollRefusal.TheVariants.{Compacted as LostToPoll}
@@ -61,33 +61,33 @@ matching_fit watched (e ∷ es) fits =
 
 -- ---- what is told
 
-abbrev AllToldFit : List Told → Type 0
-AllToldFit [] = Unit {0}
-AllToldFit (t ∷ ts) = EventsFit t.events × AllToldFit ts
+abbrev AllReportedFit : List PendingRevision → Type 0
+AllReportedFit [] = Unit {0}
+AllReportedFit (t ∷ ts) = EventsFit t.events × AllReportedFit ts
 
-told_at_fits : (number : ℕ) (es : List Event) → EventsFit es → AllToldFit (told_at number es)
-told_at_fits number [] fits = tt
-told_at_fits number (e ∷ es) fits = (fits, tt)
+reported_at_fits : (number : ℕ) (es : List Event) → EventsFit es → AllReportedFit (pending_of_revision number es)
+reported_at_fits number [] fits = tt
+reported_at_fits number (e ∷ es) fits = (fits, tt)
 
-told_append : (ts us : List Told) → AllToldFit ts → AllToldFit us → AllToldFit (ts ++ us)
-told_append [] us first second = second
-told_append (t ∷ ts) us first second = (first.0, told_append ts us first.1 second)
+reported_append : (ts us : List PendingRevision) → AllReportedFit ts → AllReportedFit us → AllReportedFit (ts ++ us)
+reported_append [] us first second = second
+reported_append (t ∷ ts) us first second = (first.0, reported_append ts us first.1 second)
 
-told_fit : (opening : Opening) (seen : ℕ) (watched : Watched) (revisions : List (List Change)) → number_of_last opening revisions ≤ HIGHEST_REVISION
-    → RevisionsFit revisions → AllToldFit (told_above opening seen watched revisions)
-told_fit opening seen watched [] bounded fits = tt
-told_fit opening seen watched (changes ∷ older) bounded fits =
+reported_fit : (opening : Opening) (seen : ℕ) (watched : Watched) (revisions : List (List Change)) → number_of_last opening revisions ≤ HIGHEST_REVISION
+    → RevisionsFit revisions → AllReportedFit (pending_above opening seen watched revisions)
+reported_fit opening seen watched [] bounded fits = tt
+reported_fit opening seen watched (changes ∷ older) bounded fits =
     let number = number_of_last opening (changes ∷ older) in
-    let here = told_at number (matching watched (events_above opening changes older)) in
-    told_append (told_above opening seen watched older) (cond (nat_lt seen number) here [])
-    (told_fit opening seen watched older (omega arith) fits.1)
-    (elim (nat_lt seen number) as (λ b. AllToldFit (cond b here [])) [
-      | true ↦ told_at_fits number (matching watched (events_above opening changes older))
+    let here = pending_of_revision number (matching watched (events_above opening changes older)) in
+    reported_append (pending_above opening seen watched older) (cond (nat_lt seen number) here [])
+    (reported_fit opening seen watched older (omega arith) fits.1)
+    (elim (nat_lt seen number) as (λ b. AllReportedFit (cond b here [])) [
+      | true ↦ reported_at_fits number (matching watched (events_above opening changes older))
           (matching_fit watched (events_above opening changes older) (above_fit opening changes older bounded fits.0))
       | false ↦ tt
     ])
 
-taken_fit : (most : ℕ) (ts : List Told) → AllToldFit ts → AllToldFit (take most ts)
+taken_fit : (most : ℕ) (ts : List PendingRevision) → AllReportedFit ts → AllReportedFit (take most ts)
 taken_fit zero ts fits = tt
 taken_fit (suc most) [] fits = tt
 taken_fit (suc most) (t ∷ ts) fits = (fits.0, taken_fit most ts fits.1)
@@ -96,9 +96,9 @@ events_append : (es fs : List Event) → EventsFit es → EventsFit fs → Event
 events_append [] fs first second = second
 events_append (e ∷ es) fs first second = (first.0, events_append es fs first.1 second)
 
-all_events_fit : (ts : List Told) → AllToldFit ts → EventsFit (events_told ts)
+all_events_fit : (ts : List PendingRevision) → AllReportedFit ts → EventsFit (pending_events ts)
 all_events_fit [] fits = tt
-all_events_fit (t ∷ ts) fits = events_append t.events (events_told ts) fits.0 (all_events_fit ts fits.1)
+all_events_fit (t ∷ ts) fits = events_append t.events (pending_events ts) fits.0 (all_events_fit ts fits.1)
 
 -- ---- a batch
 
@@ -108,7 +108,7 @@ found_fits s next id most b None bounded fits is = absurd (cc)
 found_fits s next id most b (Some w) bounded fits is =
     subst (λ (x : Batch). EventsFit x.events) (answered w.lost is)
     (all_events_fit (take most (pending s.history w)) (taken_fit most (pending s.history w)
-    (told_fit s.history.opening w.seen w.watched s.history.revisions bounded fits.1)))
+    (reported_fit s.history.opening w.seen w.watched s.history.revisions bounded fits.1)))
   where
     given : Result (WatchStep Batch) PollRefusal
     given = Ok (record { answer = batch_of most s.history w; next = slice_set s.watchers (id - 1) (Some (after_poll most s.history w)) })

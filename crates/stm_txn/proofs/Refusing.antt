@@ -16,10 +16,10 @@ use Rattle.stm_txn.proofs.Limits.{same_copied}
 use Rattle.stm_txn.proofs.Transacting.{as_run}
 
 -- a transaction with no fault of the whole at a limit is refused as the branch that its compares pick, which no limit refuses
-pub chosen_refused : (limit floor : ℕ) (h : History) (live : Live) (txn : Txn) (failed : Option FailedCompare) (ops : List Op) (told : Option Refusal) →
+pub chosen_refused : (limit floor : ℕ) (h : History) (live : Live) (txn : Txn) (failed : Option FailedCompare) (ops : List Op) (reported : Option Refusal) →
     fault_of limit txn ≡ None → first_failed (key_now h) 0 txn.compares ≡ failed → chosen failed txn ≡ ops →
-    told ≡ refusal_of (outcome_copied (terms_above floor h live) failed ops) → told ≡ refusal_of (outcome (terms_at limit floor h live) txn)
-chosen_refused limit floor h live txn failed ops told whole first branch is =
+    reported ≡ refusal_of (outcome_copied (terms_above floor h live) failed ops) → reported ≡ refusal_of (outcome (terms_at limit floor h live) txn)
+chosen_refused limit floor h live txn failed ops reported whole first branch is =
     let s : Standing = record { history = h; floor = floor; limit = limit; live = live; moment = 0; watchers = [] } in
     is
     ∙ ap refusal_of (same_copied most_operations limit floor h live failed ops)

@@ -20,7 +20,7 @@ use Rattle.stm_outcome.specs.Branches.{deletion_of, is_readable, are_readable, o
 use Rattle.stm_outcome.specs.LookUps.{copy, with_copied, changes_copied}
 use Rattle.stm_outcome.specs.Branches.{branch_refusal}
 use Rattle.stm_leases.specs.Live.{Live}
-use Rattle.stm_txn.specs.Leasing.{hung_by, with_hang, hangs_of, HangOnLive}
+use Rattle.stm_txn.specs.Leasing.{attached_by, with_attach, attached_of, AttachedToLive}
 use Rattle.stm_outcome.specs.Terms.{Terms, is_below_floor}
 use Rattle.stm_txn.specs.Standing.{Standing, terms_of}
 use Rattle.stm_outcome.proofs.Widening.{both_none, reached_case}
@@ -39,23 +39,23 @@ all_readable terms (op ∷ ops) none =
     ap (λ b. b && are_readable (now terms.history) ops) (one_readable terms op parts.0) ∙ all_readable terms ops parts.1
 
 -- one more change at the end hangs its key after the others
-with_hang-append : (key : List ℕ) (to : Option ℕ) (xs ys : List (List ℕ × ℕ)) → with_hang key to xs ++ ys ≡ with_hang key to (xs ++ ys)
-with_hang-append key None xs ys = refl
-with_hang-append key (Some id) xs ys = refl
+with_attach-append : (key : List ℕ) (to : Option ℕ) (xs ys : List (List ℕ × ℕ)) → with_attach key to xs ++ ys ≡ with_attach key to (xs ++ ys)
+with_attach-append key None xs ys = refl
+with_attach-append key (Some id) xs ys = refl
 
-hangs_of-push : (cs : List Change) (c : Change) → hangs_of (cs ++ c ∷ []) ≡ hangs_of cs ++ with_hang (key_of c) (hung_by c) []
-hangs_of-push [] c = refl
-hangs_of-push (d ∷ ds) c =
-    ap (with_hang (key_of d) (hung_by d)) (hangs_of-push ds c)
-    ∙ sym (with_hang-append (key_of d) (hung_by d) (hangs_of ds) (with_hang (key_of c) (hung_by c) []))
+attached_of-push : (cs : List Change) (c : Change) → attached_of (cs ++ c ∷ []) ≡ attached_of cs ++ with_attach (key_of c) (attached_by c) []
+attached_of-push [] c = refl
+attached_of-push (d ∷ ds) c =
+    ap (with_attach (key_of d) (attached_by d)) (attached_of-push ds c)
+    ∙ sym (with_attach-append (key_of d) (attached_by d) (attached_of ds) (with_attach (key_of c) (attached_by c) []))
 
-live-append : (live : Live) (xs ys : List (List ℕ × ℕ)) → HangOnLive live xs → HangOnLive live ys → HangOnLive live (xs ++ ys)
+live-append : (live : Live) (xs ys : List (List ℕ × ℕ)) → AttachedToLive live xs → AttachedToLive live ys → AttachedToLive live (xs ++ ys)
 live-append live [] ys on_xs on_ys = on_ys
 live-append live (x ∷ xs) ys on_xs on_ys = (on_xs.0, live-append live xs ys on_xs.1 on_ys)
 
 named_case : (live : Live) (key : List ℕ) (lease : ℕ) (zero_lease : Bool) →
     cond (zero_lease || finmap.contains_key live lease) None (Some LeaseNotFound) ≡ None →
-    HangOnLive live (with_hang key (cond zero_lease None (Some lease)) [])
+    AttachedToLive live (with_attach key (cond zero_lease None (Some lease)) [])
 named_case live key lease true none = tt
 named_case live key lease false none = (found_case (finmap.contains_key live lease) none, tt)
   where
@@ -63,15 +63,15 @@ named_case live key lease false none = (found_case (finmap.contains_key live lea
     found_case true none = refl
     found_case false none = cc
 
-live_push : (live : Live) (cs : List Change) (c : Change) → HangOnLive live (hangs_of cs) → HangOnLive live (with_hang (key_of c) (hung_by c) []) →
-    HangOnLive live (hangs_of (cs ++ c ∷ []))
+live_push : (live : Live) (cs : List Change) (c : Change) → AttachedToLive live (attached_of cs) → AttachedToLive live (with_attach (key_of c) (attached_by c) []) →
+    AttachedToLive live (attached_of (cs ++ c ∷ []))
 live_push live cs c before one =
-    let P : List (List ℕ × ℕ) → Type 0 = HangOnLive live in
-    subst P (sym (hangs_of-push cs c)) (live-append live (hangs_of cs) (with_hang (key_of c) (hung_by c) []) before one)
+    let P : List (List ℕ × ℕ) → Type 0 = AttachedToLive live in
+    subst P (sym (attached_of-push cs c)) (live-append live (attached_of cs) (with_attach (key_of c) (attached_by c) []) before one)
 
 -- what a branch hangs, it hangs on live leases
-live_after : (s : Standing) (done : List Change) (ops : List Op) → branch_refusal (terms_of s) ops ≡ None → HangOnLive s.live (hangs_of done) →
-    HangOnLive s.live (hangs_of (changes_copied s.history done ops))
+live_after : (s : Standing) (done : List Change) (ops : List Op) → branch_refusal (terms_of s) ops ≡ None → AttachedToLive s.live (attached_of done) →
+    AttachedToLive s.live (attached_of (changes_copied s.history done ops))
 live_after s done [] none before = before
 live_after s done (Get key rev ∷ ops) none before =
     live_after s done ops (both_none (op_refusal (terms_of s) (Get key rev)) (branch_refusal (terms_of s) ops) none).1 before
@@ -81,14 +81,14 @@ live_after s done (Put key value lease ∷ ops) none before =
     live_after s (done ++ PutChange key value lease ∷ []) ops parts.1
     (live_push s.live done (PutChange key value lease) before (named_case s.live key lease (nat_eq lease 0) parts.0))
 live_after s done (Del key ∷ ops) none before =
-    elim (copy s.history done key) as (λ o. HangOnLive s.live (hangs_of (changes_copied s.history (with_copied done (deletion_of key o)) ops))) [
+    elim (copy s.history done key) as (λ o. AttachedToLive s.live (attached_of (changes_copied s.history (with_copied done (deletion_of key o)) ops))) [
       | None ↦ live_after s done ops none before
       | Some state ↦ live_after s (done ++ DelChange key ∷ []) ops none (live_push s.live done (DelChange key) before tt)
     ]
 
-pub hangs_live : (s : Standing) (ops : List Op) → branch_refusal (terms_of s) ops ≡ None →
-    HangOnLive s.live (hangs_of (changes_copied s.history [] ops))
-hangs_live s ops none = live_after s [] ops none tt
+pub attaches_live : (s : Standing) (ops : List Op) → branch_refusal (terms_of s) ops ≡ None →
+    AttachedToLive s.live (attached_of (changes_copied s.history [] ops))
+attaches_live s ops none = live_after s [] ops none tt
 
 -- nothing is used up below the highest revision, or without changes
 pub none_used : (b : Bool) → (b && false) ≡ false

@@ -8,11 +8,11 @@ use Rattle.stm_watch.specs.Places.{WatchersView}
 use Rattle.stm_watch.specs.Calls.{StandFor}
 use Rattle.stm_txn.proofs.Moving.{last_changes}
 
-pub told_of_it : (next : History) (revision : ℕ) (events : List Event) (before after : WatchersView) →
+pub reported_of_it : (next : History) (revision : ℕ) (events : List Event) (before after : WatchersView) →
     ((h : History) → StandFor h before → revision ≡ now h + 1 → StandFor (add_revision h (map change_of_event events)) after) →
     revision ≡ now next → events ≡ events_of next (now next) →
     (h : History) (changes : List Change) → next ≡ add_revision h changes → StandFor h before → StandFor next after
-told_of_it next revision events before after stand counter last h changes is before_it =
+reported_of_it next revision events before after stand counter last h changes is before_it =
     let shown : map change_of_event events ≡ changes =
     ap (map change_of_event) last ∙ ap (λ (x : History). map change_of_event (events_of x (now x))) is ∙ last_changes h changes in
     let numbered : revision ≡ now h + 1 = counter ∙ ap now is ∙ omega arith in

@@ -13,7 +13,7 @@ use Rattle.stm_outcome.specs.Compares.{first_failed}
 use Rattle.stm_outcome.specs.Checks.{has_clash, fault_of}
 use Rattle.stm_outcome.specs.Outcome.{Done, chosen, branch_outcome, outcome}
 use Rattle.stm_outcome.specs.declared.answer.TxnAnswer.{TxnAnswer}
-use Rattle.stm_txn.specs.Standing.{Standing, Step, IsRefusalOf, Tells, with_history, step_of, transacted, terms_of}
+use Rattle.stm_txn.specs.Standing.{Standing, Step, IsRefusalOf, Returns, with_history, step_of, transacted, terms_of}
 use Rattle.std.specs.Prelude.{IfOk, IfErr}
 use Rattle.std.specs.Prelude.{IfSome}
 use Rattle.stm_outcome.proofs.Folding.{by_look_up}
@@ -46,10 +46,10 @@ placed s next txn a is =
     (sym (ap (λ (x : TxnAnswer). x.failed) found.2) ∙ answered_failed (terms_of s) txn found.0 found.1)
 
 -- what holds of each answer that is defined holds of a result that tells it
-pub of_answer : {P : TxnAnswer → Type 0} (s next : Standing) (txn : Txn) (r : Result TxnAnswer Refusal) → Tells (transacted s txn) r next →
+pub of_answer : {P : TxnAnswer → Type 0} (s next : Standing) (txn : Txn) (r : Result TxnAnswer Refusal) → Returns (transacted s txn) r next →
     ((a : TxnAnswer) → transacted s txn ≡ Ok record { answer = a; next = next } → P a) → IfOk r P
-of_answer s next txn (Ok a) tells each = each a tells
-of_answer s next txn (Err cause) tells each = tt
+of_answer s next txn (Ok a) reports each = each a reports
+of_answer s next txn (Err cause) reports each = tt
 
 -- a transaction, by its branch as it is run
 refusal_of : (s : Standing) (outcome_of : Result Done Refusal) (refusal : Refusal) → IsRefusalOf outcome_of refusal → IsRefusalOf (step_of s outcome_of) refusal
@@ -82,7 +82,7 @@ pub came : (s next : Standing) (txn : Txn) (failed : Option FailedCompare) (ops 
     fault_of (terms_of s).limit txn ≡ None → first_failed (key_now s.history) 0 txn.compares ≡ failed → chosen failed txn ≡ ops →
     IfOk r (λ a. outcome_copied (terms_of s) failed ops ≡ Ok record { answer = a; history = next.history }) →
     IfErr r (IsRefusalOf (outcome_copied (terms_of s) failed ops)) → next.floor ≡ s.floor → next.limit ≡ s.limit → next.live ≡ s.live
-    → next.moment ≡ s.moment → next.watchers ≡ s.watchers → Tells (transacted s txn) r next
+    → next.moment ≡ s.moment → next.watchers ≡ s.watchers → Returns (transacted s txn) r next
 came s next txn failed ops (Ok a) whole first branch ok refused floor limit live moment watchers =
     ap (step_of s) (as_run s txn failed ops whole first branch ∙ ok)
     ∙ ap (answered a) (same_but_history s next floor limit live moment watchers)

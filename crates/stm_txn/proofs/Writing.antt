@@ -11,12 +11,12 @@ use Rattle.stm_outcome.specs.declared.refusal.Refusal.TheVariants.{LeaseNotFound
 use Rattle.stm_outcome.specs.Branches.{branch_refusal}
 use Rattle.stm_outcome.specs.Commits.{is_on_dead_lease, effective}
 use Rattle.stm_outcome.specs.Effect.{op_of}
-use Rattle.stm_txn.specs.Leasing.{hangs_of, HangOnLive}
-use Rattle.stm_txn.specs.Standing.{Standing, Step, IsRefusalOf, Tells, write_step, written, made, terms_of}
+use Rattle.stm_txn.specs.Leasing.{attached_of, AttachedToLive}
+use Rattle.stm_txn.specs.Standing.{Standing, Step, IsRefusalOf, Returns, write_step, written, made, terms_of}
 use Rattle.stm_outcome.specs.Terms.{Terms}
 use Rattle.stm_outcome.proofs.Applying.{branch_applies, writes_apart, dead_refusal}
 use Rattle.stm_outcome.proofs.Branching.{changes_are_distinct, effect_copied}
-use Rattle.stm_txn.proofs.Running.{hangs_live, deletes_present}
+use Rattle.stm_txn.proofs.Running.{attaches_live, deletes_present}
 
 -- ---- what a revision of the writes wants
 
@@ -29,10 +29,10 @@ none_refused : (terms : Terms) (ws : List Change) → list_any (is_on_dead_lease
 none_refused terms ws alive = dead_refusal terms ws ∙ ap (λ (b : Bool). cond b (Some LeaseNotFound) None) alive
 
 pub effective_live : (s : Standing) (ws : List Change) → HasDistinctKeys ws → list_any (is_on_dead_lease (is_live_in s.live)) ws ≡ false →
-    HangOnLive s.live (hangs_of (effective s.history ws))
+    AttachedToLive s.live (attached_of (effective s.history ws))
 effective_live s ws distinct alive =
-    subst (λ (cs : List Change). HangOnLive s.live (hangs_of cs)) (effect_copied s.history ws distinct)
-    (hangs_live s (map op_of ws) (none_refused (terms_of s) ws alive))
+    subst (λ (cs : List Change). AttachedToLive s.live (attached_of cs)) (effect_copied s.history ws distinct)
+    (attaches_live s (map op_of ws) (none_refused (terms_of s) ws alive))
 
 pub effective_present : (h : History) (ws : List Change) → HasDistinctKeys ws → DeletePresent h (effective h ws)
 effective_present h ws distinct =
@@ -44,6 +44,6 @@ as_made : (s : Standing) (ws : List Change) → HasDistinctKeys ws → written s
 as_made s ws distinct = ap (write_step s) (branch_applies (terms_of s) ws distinct)
 
 pub come : (s next : Standing) (ws : List Change) (r : Result ℕ Refusal) → HasDistinctKeys ws →
-    IfOk r (λ revision. made s ws ≡ Ok record { answer = revision; next = next }) → IfErr r (IsRefusalOf (made s ws)) → Tells (written s ws) r next
+    IfOk r (λ revision. made s ws ≡ Ok record { answer = revision; next = next }) → IfErr r (IsRefusalOf (made s ws)) → Returns (written s ws) r next
 come s next ws (Ok revision) distinct ok refused = as_made s ws distinct ∙ ok
 come s next ws (Err e) distinct ok refused = subst (λ (o : Result (Step ℕ) Refusal). IsRefusalOf o e) (sym (as_made s ws distinct)) refused

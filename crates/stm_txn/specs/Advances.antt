@@ -29,5 +29,5 @@ abbrev pub AdvanceExpires : Type 0
 AdvanceExpires = (start : Standing) (moment : ℕ) → start.moment ≤ moment → Expires start moment
 
 -- The keys of a lease are those that hang on it, ascending by bytes.
-abbrev pub KeysOfLeaseHang : Type 0
-KeysOfLeaseHang = (h : History) (id : ℕ) → AreKeysOf (lease_now h) id (keys_of_lease h id)
+abbrev pub KeysOfLeaseAreAttached : Type 0
+KeysOfLeaseAreAttached = (h : History) (id : ℕ) → AreKeysOf (lease_now h) id (keys_of_lease h id)

@@ -12,10 +12,10 @@ grant_refusal_of TtlOutOfRange = TtlRefusal
 grant_refusal_of LeaseExists = ExistsRefusal
 grant_refusal_of OutOfMemory = MemoryRefusal
 
-abbrev pub grant_told : Result (Unit {0}) GrantError → Result (Unit {0}) Refusal
-grant_told (Ok done) = Ok done
-grant_told (Err cause) = Err (grant_refusal_of cause)
+abbrev pub grant_reported : Result (Unit {0}) GrantError → Result (Unit {0}) Refusal
+grant_reported (Ok done) = Ok done
+grant_reported (Err cause) = Err (grant_refusal_of cause)
 
-abbrev pub told_refusal : Option GrantError → Option Refusal
-told_refusal None = None
-told_refusal (Some cause) = Some (grant_refusal_of cause)
+abbrev pub reported_refusal : Option GrantError → Option Refusal
+reported_refusal None = None
+reported_refusal (Some cause) = Some (grant_refusal_of cause)

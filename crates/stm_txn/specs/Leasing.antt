@@ -14,39 +14,39 @@ abbrev pub lease_named : ℕ → Option ℕ
 lease_named lease = if nat_eq lease 0 then None else Some lease
 
 -- the lease that a key hangs on, by its state
-abbrev pub hanging : Option KeyState → Option ℕ
-hanging None = None
-hanging (Some s) = lease_named s.lease
+abbrev pub attaching : Option KeyState → Option ℕ
+attaching None = None
+attaching (Some s) = lease_named s.lease
 
 -- the lists of keys are those of the state: each key hangs where its state says
-abbrev pub HangAsStored : (List ℕ → Option ℕ) → History → Type 0
-HangAsStored lease_of h = (key : List ℕ) → lease_of key ≡ hanging (key_now h key)
+abbrev pub AttachedAsStored : (List ℕ → Option ℕ) → History → Type 0
+AttachedAsStored lease_of h = (key : List ℕ) → lease_of key ≡ attaching (key_now h key)
 
 -- the lease that a key hangs on now
 abbrev pub lease_now : History → List ℕ → Option ℕ
-lease_now h key = hanging (key_now h key)
+lease_now h key = attaching (key_now h key)
 
 -- where a change leaves its key hanging
-abbrev pub hung_by : Change → Option ℕ
-hung_by (Put key value lease) = lease_named lease
-hung_by (Del key) = None
+abbrev pub attached_by : Change → Option ℕ
+attached_by (Put key value lease) = lease_named lease
+attached_by (Del key) = None
 
 -- where a change of a key, or none, leaves the key hanging
-abbrev pub hung_after : Option Change → Option ℕ → Option ℕ
-hung_after None before = before
-hung_after (Some c) before = hung_by c
+abbrev pub attached_after : Option Change → Option ℕ → Option ℕ
+attached_after None before = before
+attached_after (Some c) before = attached_by c
 
 -- one more key with its lease, where it has one
-abbrev pub with_hang : List ℕ → Option ℕ → List (List ℕ × ℕ) → List (List ℕ × ℕ)
-with_hang key None rest = rest
-with_hang key (Some id) rest = (key, id) ∷ rest
+abbrev pub with_attach : List ℕ → Option ℕ → List (List ℕ × ℕ) → List (List ℕ × ℕ)
+with_attach key None rest = rest
+with_attach key (Some id) rest = (key, id) ∷ rest
 
 -- the keys that changes hang on a lease, with the lease of each, in the order of the changes
-abbrev pub hangs_of : List Change → List (List ℕ × ℕ)
-hangs_of [] = []
-hangs_of (c ∷ cs) = with_hang (key_of c) (hung_by c) (hangs_of cs)
+abbrev pub attached_of : List Change → List (List ℕ × ℕ)
+attached_of [] = []
+attached_of (c ∷ cs) = with_attach (key_of c) (attached_by c) (attached_of cs)
 
 -- each of these leases is live
-abbrev pub HangOnLive : Live → List (List ℕ × ℕ) → Type 0
-HangOnLive live [] = Unit {0}
-HangOnLive live (hang ∷ rest) = (finmap.contains_key live hang.1 ≡ true) × HangOnLive live rest
+abbrev pub AttachedToLive : Live → List (List ℕ × ℕ) → Type 0
+AttachedToLive live [] = Unit {0}
+AttachedToLive live (attach ∷ rest) = (finmap.contains_key live attach.1 ≡ true) × AttachedToLive live rest

@@ -4,6 +4,6 @@ pub mod PresentKeys
 pub mod Moves
 pub mod Grants
 pub mod Standing
-pub mod WatchTold
+pub mod WatchReported
 pub mod Advances
 pub mod Store

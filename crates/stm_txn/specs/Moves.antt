@@ -12,19 +12,19 @@ detached_all (c ∷ cs) key before = detached_all cs key (if bytes_eq (key_of c)
 
 -- where a key hangs once one key is hung on a lease
 abbrev pub attached_one : List ℕ × ℕ → List ℕ → Option ℕ → Option ℕ
-attached_one hang key before = if bytes_eq hang.0 key then Some hang.1 else before
+attached_one attach key before = if bytes_eq attach.0 key then Some attach.1 else before
 
 abbrev pub attached_all : List (List ℕ × ℕ) → List ℕ → Option ℕ → Option ℕ
 attached_all [] key before = before
-attached_all (hang ∷ rest) key before = attached_all rest key (attached_one hang key before)
+attached_all (attach ∷ rest) key before = attached_all rest key (attached_one attach key before)
 
 -- a key is not among those that are to hang
 abbrev pub IsLoose : List ℕ → List (List ℕ × ℕ) → Type 0
 IsLoose key [] = Unit {0}
-IsLoose key (hang ∷ rest) = (bytes_eq key hang.0 ≡ false) × IsLoose key rest
+IsLoose key (attach ∷ rest) = (bytes_eq key attach.0 ≡ false) × IsLoose key rest
 
 -- the keys are distinct and hang on no lease, and their leases are live
-abbrev pub CanHang : (List ℕ → Option ℕ) → Live → List (List ℕ × ℕ) → Type 0
-CanHang lease_of live [] = Unit {0}
-CanHang lease_of live (hang ∷ rest) =
-    (lease_of hang.0 ≡ None) × (finmap.contains_key live hang.1 ≡ true) × IsLoose hang.0 rest × CanHang lease_of live rest
+abbrev pub CanAttach : (List ℕ → Option ℕ) → Live → List (List ℕ × ℕ) → Type 0
+CanAttach lease_of live [] = Unit {0}
+CanAttach lease_of live (attach ∷ rest) =
+    (lease_of attach.0 ≡ None) × (finmap.contains_key live attach.1 ≡ true) × IsLoose attach.0 rest × CanAttach lease_of live rest

@@ -82,9 +82,9 @@ IsRefusalOf (Ok done) refusal = refusal ≡ OutOfMemory
 IsRefusalOf (Err cause) refusal = refusal ≡ cause
 
 -- A call comes to what its definition says, its answer and the store after it, unless memory was wanting.
-abbrev pub Tells : {A : Type 0} → Result (Step A) Refusal → Result A Refusal → Standing → Type 0
-Tells defined (Ok answer) next = defined ≡ Ok record { answer = answer; next = next }
-Tells defined (Err refusal) next = IsRefusalOf defined refusal
+abbrev pub Returns : {A : Type 0} → Result (Step A) Refusal → Result A Refusal → Standing → Type 0
+Returns defined (Ok answer) next = defined ≡ Ok record { answer = answer; next = next }
+Returns defined (Err refusal) next = IsRefusalOf defined refusal
 
 -- why a call is refused, if it is
 abbrev pub refusal_of : {A : Type 0} → Result A Refusal → Option Refusal
@@ -96,9 +96,9 @@ abbrev pub with_history : Standing → History → Standing
 with_history s h = record s { history = h }
 
 -- a call that takes no memory comes to exactly this
-abbrev pub told : {A : Type 0} → Result A Refusal → Standing → Result (Step A) Refusal
-told (Ok answer) next = Ok record { answer = answer; next = next }
-told (Err refusal) next = Err refusal
+abbrev pub reported : {A : Type 0} → Result A Refusal → Standing → Result (Step A) Refusal
+reported (Ok answer) next = Ok record { answer = answer; next = next }
+reported (Err refusal) next = Err refusal
 
 -- a transaction, which leaves leases, moment and watchers
 abbrev pub step_of : Standing → Result Done Refusal → Result (Step TxnAnswer) Refusal

@@ -1,10 +1,10 @@
 //! The laws of stores. Each function does nothing: its contract is the law.
-ghost use Rattle.stm_txn.specs.Advances.{KeysOfLeaseHang, AdvanceExpires};
+ghost use Rattle.stm_txn.specs.Advances.{KeysOfLeaseAreAttached, AdvanceExpires};
 ghost use Rattle.stm_txn.specs.PresentKeys.{PresentKeysAreListed};
 
 /// The keys of a lease, as they are computed from the history, are those that hang on it, ascending by bytes.
-pub fn keys_of_lease_hang()
-    ensures { KeysOfLeaseHang }
+pub fn keys_of_lease_are_attached()
+    ensures { KeysOfLeaseAreAttached }
 {}
 
 /// An advance that does not go back ends due leases one after another, each the first that is due, until none

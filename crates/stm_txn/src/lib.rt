@@ -5,8 +5,8 @@
 //! types are passed on.
 #![tactic(auto)]
 
+mod attach;
 mod branch;
-mod hang;
 pub mod laws;
 mod refuse;
 mod refused;
@@ -19,5 +19,5 @@ pub use stm_outcome::{
     AdvanceRefused, Compare, Expired, FailedCompare, MOST_OPERATIONS, Op, OpAnswer, Order, Refusal,
     ShortList, Target, Txn, TxnAnswer,
 };
-pub use stm_watch::{Batch, Told, Watched};
+pub use stm_watch::{Batch, PendingRevision, Watched};
 pub use store::Store;

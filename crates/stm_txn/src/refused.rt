@@ -6,7 +6,7 @@ ghost use Rattle.stm_outcome.specs.declared.answer.FailedCompare.{FailedCompare 
 ghost use Rattle.stm_outcome.specs.Checks.{fault_of, has_clash};
 ghost use Rattle.stm_outcome.specs.LookUps.{outcome_copied};
 ghost use Rattle.stm_outcome.specs.Outcome.{outcome};
-ghost use Rattle.stm_txn.specs.Grants.{told_refusal};
+ghost use Rattle.stm_txn.specs.Grants.{reported_refusal};
 ghost use Rattle.stm_txn.specs.Standing.{refusal_of};
 
 use crate::refuse::find_refusal;
@@ -67,7 +67,7 @@ fn is_ttl(ttl: u64) -> bool
 
 /// Why a grant would be refused.
 pub(crate) fn find_grant_refusal(leases: &Leases, id: u64, ttl: u64) -> Option<Refusal>
-    ensures { result ≡ told_refusal (grant_refusal leases.now.live id ttl) }
+    ensures { result ≡ reported_refusal (grant_refusal leases.now.live id ttl) }
 {
     if !is_id(id) {
         Some(Refusal::LeaseIdOutOfRange)

@@ -16,11 +16,11 @@ ghost use Rattle.stm_outcome.specs.Branches.{branch_refusal};
 ghost use Rattle.stm_outcome.specs.Terms.{most_operations};
 ghost use Rattle.stm_outcome.specs.LookUps.{changes_copied, answers_copied, outcome_copied};
 ghost use Rattle.stm_outcome.specs.Outcome.{is_used_up, chosen, would_change};
-ghost use Rattle.stm_txn.specs.Grants.{grant_refusal_of, grant_told};
-ghost use Rattle.stm_txn.specs.WatchTold.{watch_told, poll_told};
+ghost use Rattle.stm_txn.specs.Grants.{grant_refusal_of, grant_reported};
+ghost use Rattle.stm_txn.specs.WatchReported.{watch_reported, poll_reported};
 
+use crate::attach::{move_keys, prepare_attaches};
 use crate::branch::{makes_changes, run_branch};
-use crate::hang::{move_keys, prepare_hangs};
 use crate::refuse::find_refusal;
 use crate::refused::{find_grant_refusal, find_txn_refusal};
 use crate::writes::{any_names_dead_lease, are_used_up, only_effective};
@@ -69,7 +69,7 @@ impl Model for Store {
     ghost use Rattle.stm_history.specs.History.{now};
     ghost use Rattle.stm_watch.specs.Places.{watchings};
     ghost use Rattle.stm_watch.specs.Calls.{StandFor};
-    ghost use Rattle.stm_txn.specs.Leasing.{HangAsStored};
+    ghost use Rattle.stm_txn.specs.Leasing.{AttachedAsStored};
     ghost use Rattle.stm_outcome.specs.Numbers.{LeasesFit};
     ghost use Rattle.stm_txn.specs.Store.{StoreView, store_code};
     ghost use Rattle.stm_keys.specs.contracts.keys.Keys as key_store;
@@ -90,7 +90,7 @@ impl Model for Store {
       present = s.keys.present;
     } };
 
-    ghost invariant = { λ s. HangAsStored (lease_of s.leases) s.keys.history × LeasesFit s.keys.history × StandFor s.keys.history s.watchers
+    ghost invariant = { λ s. AttachedAsStored (lease_of s.leases) s.keys.history × LeasesFit s.keys.history × StandFor s.keys.history s.watchers
         × (s.watchers.floor ≡ s.keys.floor) × (s.keys.floor ≤ now s.keys.history) };
 }
 
@@ -132,8 +132,8 @@ fn cause_of(error: GrantError) -> Refusal
     }
 }
 
-fn told_grant(granted: Result<(), GrantError>) -> Result<(), Refusal>
-    ensures { result ≡ grant_told granted }
+fn reported_grant(granted: Result<(), GrantError>) -> Result<(), Refusal>
+    ensures { result ≡ grant_reported granted }
 {
     match granted {
         Ok(()) => Ok(()),
@@ -142,8 +142,8 @@ fn told_grant(granted: Result<(), GrantError>) -> Result<(), Refusal>
 }
 
 /// What a watch answers.
-fn told_watch(watched: Result<u64, WatchRefusal>) -> Result<u64, Refusal>
-    ensures { result ≡ watch_told watched }
+fn reported_watch(watched: Result<u64, WatchRefusal>) -> Result<u64, Refusal>
+    ensures { result ≡ watch_reported watched }
 {
     match watched {
         Ok(id) => Ok(id),
@@ -153,8 +153,8 @@ fn told_watch(watched: Result<u64, WatchRefusal>) -> Result<u64, Refusal>
 }
 
 /// What a poll answers.
-fn told_poll(polled: Result<Batch, PollRefusal>) -> Result<Batch, Refusal>
-    ensures { result ≡ poll_told polled }
+fn reported_poll(polled: Result<Batch, PollRefusal>) -> Result<Batch, Refusal>
+    ensures { result ≡ poll_reported polled }
 {
     match polled {
         Ok(batch) => Ok(batch),
@@ -165,7 +165,7 @@ fn told_poll(polled: Result<Batch, PollRefusal>) -> Result<Batch, Refusal>
 }
 
 /// Tells the watchers of the last revision. Those that stood for the history before it stand for it then.
-fn tell_watchers(watchers: &mut Watchers, keys: &Keys)
+fn notify_watchers(watchers: &mut Watchers, keys: &Keys)
     requires { watchers.old.floor ≤ now keys.now.history }
     ensures same { watchings watchers.new ≡ watchings watchers.old }
     ensures floor { watchers.new.floor ≡ watchers.old.floor }
@@ -189,11 +189,11 @@ fn deletions(alloc: Global, keys: Vec<String>) -> Result<Vec<Change>, AllocError
 
 impl Store {
     ghost use Rattle.stm_outcome.specs.Checks.{has_clash, fault_of};
-    ghost use Rattle.stm_txn.specs.Leasing.{hangs_of, HangOnLive, lease_now};
+    ghost use Rattle.stm_txn.specs.Leasing.{attached_of, AttachedToLive, lease_now};
     ghost use Rattle.stm_txn.specs.LeaseKeys.{deletions_of};
     ghost use Rattle.stm_outcome.specs.Outcome.{with_changes, answer_of};
     ghost use Rattle.stm_outcome.specs.Numbers.{AnswerFits, StatesFit, ExpiredFits, AllExpiredFit, EventsFit};
-    ghost use Rattle.stm_txn.specs.Standing.{opening, at_revision, IsRefusalOf, Tells, refusal_of, transacted, made, written, granted, kept_alive, told, ended, revoked};
+    ghost use Rattle.stm_txn.specs.Standing.{opening, at_revision, IsRefusalOf, Returns, refusal_of, transacted, made, written, granted, kept_alive, reported, ended, revoked};
     ghost use Rattle.stm_txn.specs.Standing.{terms_of, watched, polled, poll_refused, cancelled, raised, compacted};
     ghost use Rattle.stm_watch.specs.declared.watched.Watched.TheVariants.{Key, Range};
     ghost use Rattle.stm_watch.specs.Calls.{IsNextPending};
@@ -308,7 +308,7 @@ impl Store {
     pub fn is_live(&self, id: u64) -> bool
         ensures live { result ≡ is_live_in self.now.standing.live id }
         ensures in_range { AreInRange self.now.standing.live }
-        ensures hang_on_live { (key : List ℕ) (lease : ℕ) → lease_now self.now.standing.history key ≡ Some lease → is_live_in self.now.standing.live lease ≡ true }
+        ensures attach_on_live { (key : List ℕ) (lease : ℕ) → lease_now self.now.standing.history key ≡ Some lease → is_live_in self.now.standing.live lease ≡ true }
     {
         self.leases.is_live(id)
     }
@@ -317,7 +317,7 @@ impl Store {
     fn change(&mut self, changes: Vec<Change>) -> Result<(), Refusal>
         requires revision { IsRevision changes.items }
         requires room { now self.old.standing.history < HIGHEST_REVISION }
-        requires live { HangOnLive self.old.standing.live (hangs_of changes.items) }
+        requires live { AttachedToLive self.old.standing.live (attached_of changes.items) }
         requires present { DeletePresent self.old.standing.history changes.items }
         ensures ok { OnOk result (self.new.standing.history ≡ add_revision self.old.standing.history changes.items) }
         ensures floor { self.new.standing.floor ≡ self.old.standing.floor }
@@ -329,15 +329,15 @@ impl Store {
         ensures err { OnErr result (self.new ≡ self.old) }
     {
         let _ids_are_in_range = self.leases.is_live(0);
-        let hangs = prepare_hangs(self.alloc, changes.as_slice())?;
-        self.leases.reserve_attach(hangs.len())?;
+        let attaches = prepare_attaches(self.alloc, changes.as_slice())?;
+        self.leases.reserve_attach(attaches.len())?;
         match self.keys.apply(changes) {
             Ok(_) => {}
             Err(ApplyRefusal::OutOfMemory) => return Err(Refusal::OutOfMemory),
             Err(ApplyRefusal::RevisionsUsedUp) => unreachable!(),
         }
-        tell_watchers(&mut self.watchers, &self.keys);
-        move_keys(&mut self.leases, self.keys.last_events(), hangs);
+        notify_watchers(&mut self.watchers, &self.keys);
+        move_keys(&mut self.leases, self.keys.last_events(), attaches);
         Ok(())
     }
 
@@ -345,7 +345,7 @@ impl Store {
     fn commit(&mut self, changes: Vec<Change>) -> Result<(), Refusal>
         requires distinct { HasDistinctKeys changes.items }
         requires room { is_used_up self.old.standing.history changes.items ≡ false }
-        requires live { HangOnLive self.old.standing.live (hangs_of changes.items) }
+        requires live { AttachedToLive self.old.standing.live (attached_of changes.items) }
         requires present { DeletePresent self.old.standing.history changes.items }
         ensures ok { OnOk result (self.new.standing.history ≡ with_changes self.old.standing.history changes.items) }
         ensures floor { self.new.standing.floor ≡ self.old.standing.floor }
@@ -423,7 +423,7 @@ impl Store {
     /// Runs the branch that the compares pick, of a transaction that is right as a whole.
     fn run_chosen(&mut self, txn: &Txn) -> Result<TxnAnswer, Refusal>
         requires { fault_of (terms_of self.old.standing).limit txn.now ≡ None }
-        ensures step { Tells (transacted self.old.standing txn.now) result self.new.standing }
+        ensures step { Returns (transacted self.old.standing txn.now) result self.new.standing }
         ensures err { OnErr result (self.new ≡ self.old) }
     {
         let failed = find_failed(txn.compares.as_slice(), &self.keys);
@@ -432,7 +432,7 @@ impl Store {
 
     /// Looks at the whole transaction, then runs it.
     fn transact(&mut self, txn: &Txn) -> Result<TxnAnswer, Refusal>
-        ensures step { Tells (transacted self.old.standing txn.now) result self.new.standing }
+        ensures step { Returns (transacted self.old.standing txn.now) result self.new.standing }
         ensures err { OnErr result (self.new ≡ self.old) }
     {
         match find_fault(txn, self.limit.count()) {
@@ -453,7 +453,7 @@ impl Store {
     /// The place of a failed compare is below their number, and the store's numbers in an answer are at most
     /// `HIGHEST_NUMBER`.
     pub fn txn(&mut self, txn: &Txn) -> Result<TxnAnswer, Refusal>
-        ensures step { Tells (transacted self.old.standing txn.now) result self.new.standing }
+        ensures step { Returns (transacted self.old.standing txn.now) result self.new.standing }
         ensures place { IfOk result (λ answer. IfSome answer.failed (λ failed. failed.index < length txn.now.compares)) }
         ensures numbers { IfOk result AnswerFits }
         ensures err { OnErr result (self.new ≡ self.old) }
@@ -490,7 +490,7 @@ impl Store {
     /// (etcd's API reference, "Transaction"; that there is no bound of their number is this call's own.)
     pub fn write(&mut self, writes: Vec<Change>) -> Result<u64, Refusal>
         requires { HasDistinctKeys writes.items }
-        ensures step { Tells (written self.old.standing writes.items) result self.new.standing }
+        ensures step { Returns (written self.old.standing writes.items) result self.new.standing }
         ensures err { OnErr result (self.new ≡ self.old) }
     {
         self.make(writes)
@@ -502,18 +502,18 @@ impl Store {
     /// `OutOfMemory` that holds, and then changes nothing. (etcd's API reference, "Lease"; the order of the
     /// refusals is this store's own.)
     pub fn grant(&mut self, id: u64, ttl: u64) -> Result<(), Refusal>
-        ensures step { Tells (granted self.old.standing id ttl) result self.new.standing }
+        ensures step { Returns (granted self.old.standing id ttl) result self.new.standing }
         ensures log { OnOk result ((log : List LogItem) → StandsFor self.old.standing.live log → StandsFor self.new.standing.live (Grant id ttl self.old.standing.moment ∷ log)) }
         ensures present { self.new.present ≡ self.old.present }
         ensures err { OnErr result (self.new ≡ self.old) }
     {
         let granted = self.leases.grant(id, ttl, self.moment);
-        told_grant(granted)
+        reported_grant(granted)
     }
 
     /// Renews a live lease at the store's moment, also one that is due. `LeaseNotFound` changes nothing.
     pub fn keep_alive(&mut self, id: u64) -> Result<(), Refusal>
-        ensures step { kept_alive self.old.standing id ≡ told result self.new.standing }
+        ensures step { kept_alive self.old.standing id ≡ reported result self.new.standing }
         ensures log { OnOk result ((log : List LogItem) → StandsFor self.old.standing.live log → StandsFor self.new.standing.live (Renew id self.old.standing.moment ∷ log)) }
         ensures present { self.new.present ≡ self.old.present }
         ensures err { OnErr result (self.new ≡ self.old) }
@@ -567,7 +567,7 @@ impl Store {
     /// `HIGHEST_REVISION`, and `OutOfMemory` that holds, and then changes nothing. (etcd's API reference,
     /// "Lease"; that the keys go in one revision, ascending by bytes, is this store's own.)
     pub fn revoke(&mut self, id: u64) -> Result<u64, Refusal>
-        ensures step { Tells (revoked self.old.standing id) result self.new.standing }
+        ensures step { Returns (revoked self.old.standing id) result self.new.standing }
         ensures log { OnOk result ((log : List LogItem) → StandsFor self.old.standing.live log → StandsFor self.new.standing.live (Revoke id ∷ log)) }
         ensures numbers { IfOk result (λ revision. revision ≤ HIGHEST_NUMBER) }
         ensures err { OnErr result (self.new ≡ self.old) }
@@ -668,29 +668,29 @@ impl Store {
     /// It is refused for the first of `EmptyKey` and `OutOfMemory` that holds, and then changes nothing, and takes no
     /// number. (etcd's API reference, "Watch": `key` and `start_revision` of a `WatchCreateRequest`.)
     pub fn watch_key(&mut self, key: &str, from: u64) -> Result<u64, Refusal>
-        ensures step { Tells (watched self.old.standing (Key key.now) from) result self.new.standing }
+        ensures step { Returns (watched self.old.standing (Key key.now) from) result self.new.standing }
         ensures present { self.new.present ≡ self.old.present }
         ensures err { OnErr result (self.new ≡ self.old) }
     {
         let watched = self.watchers.watch_key(key, from, &self.keys);
-        told_watch(watched)
+        reported_watch(watched)
     }
 
     /// Watches the keys from `first` on that are below `end`, by bytes, as `watch_key` watches one. An `end` that is
     /// not above `first` leaves none. `EmptyKey` is answered where `first` is empty.
     pub fn watch_range(&mut self, first: &str, end: &str, from: u64) -> Result<u64, Refusal>
-        ensures step { Tells (watched self.old.standing (Range first.now end.now) from) result self.new.standing }
+        ensures step { Returns (watched self.old.standing (Range first.now end.now) from) result self.new.standing }
         ensures present { self.new.present ≡ self.old.present }
         ensures err { OnErr result (self.new ≡ self.old) }
     {
         let watched = self.watchers.watch_range(first, end, from, &self.keys);
-        told_watch(watched)
+        reported_watch(watched)
     }
 
     /// Cancels a watcher. It takes no memory. `NoWatcher` is answered where there is none with this number, or it was
     /// cancelled, and changes nothing.
     pub fn cancel(&mut self, id: u64) -> Result<(), Refusal>
-        ensures step { cancelled self.old.standing id ≡ told result self.new.standing }
+        ensures step { cancelled self.old.standing id ≡ reported result self.new.standing }
         ensures present { self.new.present ≡ self.old.present }
         ensures err { OnErr result (self.new ≡ self.old) }
     {
@@ -710,12 +710,12 @@ impl Store {
 
     /// A poll, without the bounds of its numbers.
     fn take_batch(&mut self, id: u64, most: u64) -> Result<Batch, Refusal>
-        ensures step { Tells (polled self.old.standing id most) result self.new.standing }
+        ensures step { Returns (polled self.old.standing id most) result self.new.standing }
         ensures present { self.new.present ≡ self.old.present }
         ensures refused { OnErr result (self.new.standing ≡ poll_refused self.old.standing id) }
     {
         let polled = self.watchers.poll(id, &self.keys, most);
-        told_poll(polled)
+        reported_poll(polled)
     }
 
     /// Gives a watcher the pending events of at most so many revisions, and whole revisions only, and notes how far it
@@ -726,7 +726,7 @@ impl Store {
     /// changes nothing: a poll that wanted memory gives the same batch later. (etcd's API reference, "Watch":
     /// `compact_revision` of a `WatchResponse`.)
     pub fn poll(&mut self, id: u64, most: u64) -> Result<Batch, Refusal>
-        ensures step { Tells (polled self.old.standing id most) result self.new.standing }
+        ensures step { Returns (polled self.old.standing id most) result self.new.standing }
         ensures present { self.new.present ≡ self.old.present }
         ensures numbers { IfOk result (λ batch. EventsFit batch.events) }
         ensures refused { OnErr result (self.new.standing ≡ poll_refused self.old.standing id) }
@@ -743,7 +743,7 @@ impl Store {
     /// `Compacted` is answered where the revision is not above the floor, `FutureRevision` where it is above the counter,
     /// and nothing changes then. It takes no memory. (etcd's API reference, "Compact".)
     pub fn compact(&mut self, revision: u64) -> Result<(), Refusal>
-        ensures step { compacted self.old.standing revision ≡ told result self.new.standing }
+        ensures step { compacted self.old.standing revision ≡ reported result self.new.standing }
         ensures present { self.new.present ≡ self.old.present }
         ensures err { OnErr result (self.new ≡ self.old) }
     {
@@ -760,7 +760,7 @@ impl Store {
     /// Makes a revision the floor as `compact` does, with its refusals and its lost watchers, but drops nothing: the keys
     /// at every revision are still there for `Keys::look_back`.
     pub fn raise_floor(&mut self, revision: u64) -> Result<(), Refusal>
-        ensures step { raised self.old.standing revision ≡ told result self.new.standing }
+        ensures step { raised self.old.standing revision ≡ reported result self.new.standing }
         ensures present { self.new.present ≡ self.old.present }
         ensures err { OnErr result (self.new ≡ self.old) }
     {

@@ -22,7 +22,7 @@ use Rattle.stm_txn_json.specs.Reading.{compares_of, operations_of, txn_parts, tx
 use Rattle.stm_json.specs.Faults.{Sort, AnyText, WordOf, wrong, at, word_faults, faults_by, sorted_faults, worded_faults, list_faults, first_of}
 use Rattle.stm_json.specs.Faults.{any_number}
 use Rattle.stm_txn_json.specs.FirstFault.{order_words, compare_table, operation_table, txn_sorts, txn_faults, first_fault}
-use Rattle.stm_json.proofs.FaultLemmas.{fault_of, wrong_is, part_then, made, text_faulted, list_faulted, number_told}
+use Rattle.stm_json.proofs.FaultLemmas.{fault_of, wrong_is, part_then, made, text_faulted, list_faulted, number_reported}
 
 -- ---- compares
 
@@ -35,14 +35,14 @@ order_tested p false false true below = refl
 order_tested p false false false true = refl
 order_tested p false false false false = wrong_is {A = Order} p Shape (bad Shape) refl
 
-order_told : (p : List ℕ) (o : Option (List ℕ)) → first_of (word_faults order_words p o) ≡ fault_of p (on_text order_named o)
+order_reported : (p : List ℕ) (o : Option (List ℕ)) → first_of (word_faults order_words p o) ≡ fault_of p (on_text order_named o)
 unfolding order_named
-order_told p (Some w) = order_tested p (same w (codes "=")) (same w (codes "!=")) (same w (codes ">")) (same w (codes "<"))
-order_told p None = wrong_is {A = Order} p Shape (bad Shape) refl
+order_reported p (Some w) = order_tested p (same w (codes "=")) (same w (codes "!=")) (same w (codes ">")) (same w (codes "<"))
+order_reported p None = wrong_is {A = Order} p Shape (bad Shape) refl
 
 order_faulted : (p : List ℕ) (d : Data) → first_of (faults_by (WordOf order_words) p d) ≡ fault_of p (order_of d)
 unfolding order_of
-order_faulted p d = order_told p (as_str d)
+order_faulted p d = order_reported p (as_str d)
 
 -- the sort of the compare's side
 abbrev side_sort : TargetWord → Sort
@@ -53,10 +53,10 @@ side_sort word.Lease = any_number
 side_sort word.Value = AnyText
 
 target_faulted : (p : List ℕ) (w : TargetWord) (d : Data) → first_of (faults_by (side_sort w) p d) ≡ fault_of p (target_of w d)
-target_faulted p word.Version d = made p (number_up_to HIGHEST_NUMBER d) Version (faults_by any_number p d) (number_told p d)
-target_faulted p word.Create d = made p (number_up_to HIGHEST_NUMBER d) Create (faults_by any_number p d) (number_told p d)
-target_faulted p word.Mod d = made p (number_up_to HIGHEST_NUMBER d) Mod (faults_by any_number p d) (number_told p d)
-target_faulted p word.Lease d = made p (number_up_to HIGHEST_NUMBER d) Lease (faults_by any_number p d) (number_told p d)
+target_faulted p word.Version d = made p (number_up_to HIGHEST_NUMBER d) Version (faults_by any_number p d) (number_reported p d)
+target_faulted p word.Create d = made p (number_up_to HIGHEST_NUMBER d) Create (faults_by any_number p d) (number_reported p d)
+target_faulted p word.Mod d = made p (number_up_to HIGHEST_NUMBER d) Mod (faults_by any_number p d) (number_reported p d)
+target_faulted p word.Lease d = made p (number_up_to HIGHEST_NUMBER d) Lease (faults_by any_number p d) (number_reported p d)
 target_faulted p word.Value d = made p (text_of d) Value (faults_by AnyText p d) (text_faulted p d)
 
 abbrev compare_sorts : TargetWord → List Sort
@@ -87,11 +87,11 @@ compare_tested p ds false false false true value = compare_faulted p word.Lease 
 compare_tested p ds false false false false true = compare_faulted p word.Value ds
 compare_tested p ds false false false false false = wrong_is {A = Compare} p Shape (bad Shape) refl
 
-compare_told : (p : List ℕ) (d : Data) → first_of (worded_faults compare_table p d) ≡ fault_of p (compare_of d)
+compare_reported : (p : List ℕ) (d : Data) → first_of (worded_faults compare_table p d) ≡ fault_of p (compare_of d)
 unfolding compare_of target_named
-compare_told p (array (item (string w) ds)) =
+compare_reported p (array (item (string w) ds)) =
     compare_tested p ds (same w (codes "version")) (same w (codes "create")) (same w (codes "mod")) (same w (codes "lease")) (same w (codes "value"))
-compare_told p _ = wrong_is {A = Compare} p Shape (bad Shape) refl
+compare_reported p _ = wrong_is {A = Compare} p Shape (bad Shape) refl
 
 -- ---- operations
 
@@ -109,7 +109,7 @@ get_faulted p no_items = wrong_is p Shape (get_of None) refl
 get_faulted p (item a no_items) = wrong_is p Shape (get_of None) refl
 get_faulted p (item a (item b no_items)) =
     part_then p 1 (text_of a) _ (faults_by AnyText (at p 1) a) _ (text_faulted (at p 1) a) (λ (key : List ℕ).
-    part_then p 2 (number_up_to HIGHEST_NUMBER b) (λ rev. Ok (Get key rev)) (faults_by any_number (at p 2) b) [] (number_told (at p 2) b) (λ rev. refl))
+    part_then p 2 (number_up_to HIGHEST_NUMBER b) (λ rev. Ok (Get key rev)) (faults_by any_number (at p 2) b) [] (number_reported (at p 2) b) (λ rev. refl))
 get_faulted p (item a (item b (item c ds))) = wrong_is p Shape (get_of None) refl
 
 put_faulted : (p : List ℕ) (ds : Items) → first_of (sorted_faults p (Some put_sorts) ds) ≡ fault_of p (put_of (three_of ds))
@@ -120,7 +120,7 @@ put_faulted p (item a (item b (item c no_items))) =
     part_then p 1 (text_of a) _ (faults_by AnyText (at p 1) a) _ (text_faulted (at p 1) a) (λ (key : List ℕ).
     part_then p 2 (text_of b) _ (faults_by AnyText (at p 2) b) _ (text_faulted (at p 2) b) (λ (value : List ℕ).
     part_then p 3 (number_up_to HIGHEST_NUMBER c) (λ lease. Ok (Put key value lease)) (faults_by any_number (at p 3) c) []
-    (number_told (at p 3) c) (λ lease. refl)))
+    (number_reported (at p 3) c) (λ lease. refl)))
 put_faulted p (item a (item b (item c (item d ds)))) = wrong_is p Shape (put_of None) refl
 
 del_faulted : (p : List ℕ) (ds : Items) → first_of (sorted_faults p (Some del_sorts) ds) ≡ fault_of p (del_of (one_of ds))
@@ -137,20 +137,20 @@ operation_tested p ds false true dels = put_faulted p ds
 operation_tested p ds false false true = del_faulted p ds
 operation_tested p ds false false false = wrong_is {A = Op} p Shape (bad Shape) refl
 
-operation_told : (p : List ℕ) (d : Data) → first_of (worded_faults operation_table p d) ≡ fault_of p (operation_of d)
+operation_reported : (p : List ℕ) (d : Data) → first_of (worded_faults operation_table p d) ≡ fault_of p (operation_of d)
 unfolding operation_of
-operation_told p (array (item (string w) ds)) = operation_tested p ds (same w (codes "get")) (same w (codes "put")) (same w (codes "del"))
-operation_told p _ = wrong_is {A = Op} p Shape (bad Shape) refl
+operation_reported p (array (item (string w) ds)) = operation_tested p ds (same w (codes "get")) (same w (codes "put")) (same w (codes "del"))
+operation_reported p _ = wrong_is {A = Op} p Shape (bad Shape) refl
 
 -- ---- transactions
 
 compares_faulted : (p : List ℕ) (d : Data) → first_of (list_faults compare_table p d) ≡ fault_of p (compares_of d)
 unfolding compares_of
-compares_faulted p d = list_faulted compare_table compare_of compare_told p d
+compares_faulted p d = list_faulted compare_table compare_of compare_reported p d
 
 operations_faulted : (p : List ℕ) (d : Data) → first_of (list_faults operation_table p d) ≡ fault_of p (operations_of d)
 unfolding operations_of
-operations_faulted p d = list_faulted operation_table operation_of operation_told p d
+operations_faulted p d = list_faulted operation_table operation_of operation_reported p d
 
 lists_faulted : (p : List ℕ) (ds : Items) → first_of (sorted_faults p (Some txn_sorts) ds) ≡ fault_of p (txn_parts (three_of ds))
 lists_faulted p no_items = wrong_is p Shape (txn_parts None) refl

@@ -3,4 +3,4 @@ pub mod Reading
 pub mod Grammar
 pub mod FirstFault
 pub use Rattle.stm_json.specs.Outcome
-pub use Rattle.stm_json.specs.Tells
+pub use Rattle.stm_json.specs.Returns

@@ -2,7 +2,7 @@
 ghost use Rattle.serde_json.specs.View.{view, items_view};
 ghost use Rattle.stm_json.specs.Elements.{three_of};
 ghost use Rattle.stm_json.specs.Outcome.{within as within_list};
-ghost use Rattle.stm_json.specs.Tells.{Tells};
+ghost use Rattle.stm_json.specs.Returns.{Returns};
 ghost use Rattle.stm_json.specs.Parts.{each_from};
 ghost use Rattle.stm_txn_json.specs.Reading.{order_of, target_of, compare_parts as compare_parts_of, compare_of, compares_of};
 
@@ -17,7 +17,7 @@ use stm_outcome::{Compare, Order, ShortList, Target};
 
 #[tactic(auto, unfolding(crate::specs::Reading::order_of))]
 fn order(alloc: Global, value: &Value) -> Result<Order, ReadError>
-    ensures { Tells (λ o. o) result (order_of (view value.now)) }
+    ensures { Returns (λ o. o) result (order_of (view value.now)) }
 {
     match value.as_str() {
         Some(word) => order_word(alloc, word),
@@ -27,7 +27,7 @@ fn order(alloc: Global, value: &Value) -> Result<Order, ReadError>
 
 /// What a compare looks at, with the compare's side.
 fn target(alloc: Global, word: TargetWord, value: &Value) -> Result<Target, ReadError>
-    ensures { Tells (λ t. t) result (target_of word (view value.now)) }
+    ensures { Returns (λ t. t) result (target_of word (view value.now)) }
 {
     match word {
         TargetWord::Version => Ok(Target::Version(number_within(alloc, HIGHEST_NUMBER, value)?)),
@@ -40,7 +40,7 @@ fn target(alloc: Global, word: TargetWord, value: &Value) -> Result<Target, Read
 
 /// The compare of a word, from the elements behind it.
 fn compare_parts(alloc: Global, word: TargetWord, elements: &[Value]) -> Result<Compare, ReadError>
-    ensures { Tells (λ c. c) result (compare_parts_of word (three_of (items_view elements.now))) }
+    ensures { Returns (λ c. c) result (compare_parts_of word (three_of (items_view elements.now))) }
 {
     let Some((first, second, third)) = three(elements) else {
         return Err(fault(alloc, Cause::Shape));
@@ -53,7 +53,7 @@ fn compare_parts(alloc: Global, word: TargetWord, elements: &[Value]) -> Result<
 
 #[tactic(auto, unfolding(crate::specs::Reading::compare_of))]
 fn compare(alloc: Global, value: &Value) -> Result<Compare, ReadError>
-    ensures { Tells (λ c. c) result (compare_of (view value.now)) }
+    ensures { Returns (λ c. c) result (compare_of (view value.now)) }
 {
     let Some((word, elements)) = worded_array(value) else {
         return Err(fault(alloc, Cause::Shape));
@@ -64,13 +64,13 @@ fn compare(alloc: Global, value: &Value) -> Result<Compare, ReadError>
 
 /// A compare that is an element of a list. A fault's place is that in the list.
 fn compare_at(alloc: Global, index: usize, value: &Value) -> Result<Compare, ReadError>
-    ensures { Tells (λ c. c) result (within_list index (compare_of (view value.now))) }
+    ensures { Returns (λ c. c) result (within_list index (compare_of (view value.now))) }
 {
     within(alloc, index, compare(alloc, value))
 }
 
 fn each_compare(alloc: Global, values: &[Value]) -> Result<Vec<Compare>, ReadError>
-    ensures { Tells (λ v. v.items) result (each_from compare_of 0 (items_view values.now)) }
+    ensures { Returns (λ v. v.items) result (each_from compare_of 0 (items_view values.now)) }
 {
     let mut compares = Vec::new(alloc);
     for (index, value) in values.iter().enumerate() {
@@ -83,7 +83,7 @@ fn each_compare(alloc: Global, values: &[Value]) -> Result<Vec<Compare>, ReadErr
 /// A list of compares.
 #[tactic(auto, unfolding(crate::specs::Reading::compares_of))]
 pub(crate) fn compares(alloc: Global, value: &Value) -> Result<ShortList<Compare>, ReadError>
-    ensures { Tells (λ cs. cs) result (compares_of (view value.now)) }
+    ensures { Returns (λ cs. cs) result (compares_of (view value.now)) }
 {
     match value.as_array() {
         Some(values) => {

@@ -2,7 +2,7 @@
 ghost use Rattle.serde_json.specs.View.{view, items_view};
 ghost use Rattle.stm_json.specs.Elements.{one_of, two_of, three_of};
 ghost use Rattle.stm_json.specs.Outcome.{within as within_list};
-ghost use Rattle.stm_json.specs.Tells.{Tells};
+ghost use Rattle.stm_json.specs.Returns.{Returns};
 ghost use Rattle.stm_json.specs.Parts.{each_from};
 ghost use Rattle.stm_txn_json.specs.Reading.{get_of, put_of, del_of, operation_of, operations_of};
 
@@ -14,7 +14,7 @@ use stm_json::{
 use stm_outcome::{Op, ShortList};
 
 fn get(alloc: Global, elements: &[Value]) -> Result<Op, ReadError>
-    ensures { Tells (λ o. o) result (get_of (two_of (items_view elements.now))) }
+    ensures { Returns (λ o. o) result (get_of (two_of (items_view elements.now))) }
 {
     let Some((first, second)) = two(elements) else {
         return Err(fault(alloc, Cause::Shape));
@@ -25,7 +25,7 @@ fn get(alloc: Global, elements: &[Value]) -> Result<Op, ReadError>
 }
 
 fn put(alloc: Global, elements: &[Value]) -> Result<Op, ReadError>
-    ensures { Tells (λ o. o) result (put_of (three_of (items_view elements.now))) }
+    ensures { Returns (λ o. o) result (put_of (three_of (items_view elements.now))) }
 {
     let Some((first, second, third)) = three(elements) else {
         return Err(fault(alloc, Cause::Shape));
@@ -37,7 +37,7 @@ fn put(alloc: Global, elements: &[Value]) -> Result<Op, ReadError>
 }
 
 fn del(alloc: Global, elements: &[Value]) -> Result<Op, ReadError>
-    ensures { Tells (λ o. o) result (del_of (one_of (items_view elements.now))) }
+    ensures { Returns (λ o. o) result (del_of (one_of (items_view elements.now))) }
 {
     let Some(first) = one(elements) else {
         return Err(fault(alloc, Cause::Shape));
@@ -48,7 +48,7 @@ fn del(alloc: Global, elements: &[Value]) -> Result<Op, ReadError>
 
 #[tactic(auto, unfolding(crate::specs::Reading::operation_of))]
 fn operation(alloc: Global, value: &Value) -> Result<Op, ReadError>
-    ensures { Tells (λ o. o) result (operation_of (view value.now)) }
+    ensures { Returns (λ o. o) result (operation_of (view value.now)) }
 {
     let Some((word, elements)) = worded_array(value) else {
         return Err(fault(alloc, Cause::Shape));
@@ -66,13 +66,13 @@ fn operation(alloc: Global, value: &Value) -> Result<Op, ReadError>
 
 /// An operation that is an element of a list. A fault's place is that in the list.
 fn operation_at(alloc: Global, index: usize, value: &Value) -> Result<Op, ReadError>
-    ensures { Tells (λ o. o) result (within_list index (operation_of (view value.now))) }
+    ensures { Returns (λ o. o) result (within_list index (operation_of (view value.now))) }
 {
     within(alloc, index, operation(alloc, value))
 }
 
 fn each_operation(alloc: Global, values: &[Value]) -> Result<Vec<Op>, ReadError>
-    ensures { Tells (λ v. v.items) result (each_from operation_of 0 (items_view values.now)) }
+    ensures { Returns (λ v. v.items) result (each_from operation_of 0 (items_view values.now)) }
 {
     let mut operations = Vec::new(alloc);
     for (index, value) in values.iter().enumerate() {
@@ -85,7 +85,7 @@ fn each_operation(alloc: Global, values: &[Value]) -> Result<Vec<Op>, ReadError>
 /// A list of operations.
 #[tactic(auto, unfolding(crate::specs::Reading::operations_of))]
 pub(crate) fn operations(alloc: Global, value: &Value) -> Result<ShortList<Op>, ReadError>
-    ensures { Tells (λ os. os) result (operations_of (view value.now)) }
+    ensures { Returns (λ os. os) result (operations_of (view value.now)) }
 {
     match value.as_array() {
         Some(values) => {

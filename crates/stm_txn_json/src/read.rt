@@ -2,7 +2,7 @@
 ghost use Rattle.std.specs.Prelude.{◌≡◌, Ok as OkOf, None, IfOk, MatchResult};
 ghost use Rattle.serde_json.specs.View.{view, items_view};
 ghost use Rattle.stm_json.specs.Elements.{three_of};
-ghost use Rattle.stm_json.specs.Tells.{Tells};
+ghost use Rattle.stm_json.specs.Returns.{Returns};
 ghost use Rattle.stm_txn_json.specs.FirstFault.{first_fault};
 ghost use Rattle.stm_json.specs.Faults.{IsFirstFault};
 ghost use Rattle.stm_txn_json.specs.Grammar.{SpellsTxn};
@@ -17,7 +17,7 @@ use stm_outcome::Txn;
 
 /// A transaction, from the elements behind its word.
 fn txn_parts(alloc: Global, elements: &[Value]) -> Result<Txn, ReadError>
-    ensures { Tells (λ t. t) result (txn_parts_of (three_of (items_view elements.now))) }
+    ensures { Returns (λ t. t) result (txn_parts_of (three_of (items_view elements.now))) }
 {
     let Some((first, second, third)) = three(elements) else {
         return Err(fault(alloc, Cause::Shape));
@@ -34,7 +34,7 @@ fn txn_parts(alloc: Global, elements: &[Value]) -> Result<Txn, ReadError>
 
 #[tactic(auto, unfolding(crate::specs::Reading::txn_of))]
 fn txn(alloc: Global, value: &Value) -> Result<Txn, ReadError>
-    ensures { Tells (λ t. t) result (txn_of (view value.now)) }
+    ensures { Returns (λ t. t) result (txn_of (view value.now)) }
 {
     let Some((word, elements)) = worded_array(value) else {
         return Err(fault(alloc, Cause::Shape));
@@ -60,11 +60,11 @@ fn txn(alloc: Global, value: &Value) -> Result<Txn, ReadError>
 /// whole number outside its range. `OutOfMemory` may come in place of any other answer, where a growth was
 /// refused.
 pub fn read_txn(alloc: Global, value: &Value) -> Result<Txn, ReadError>
-    ensures exact { Tells (λ t. t) result (txn_of (view value.now)) }
+    ensures exact { Returns (λ t. t) result (txn_of (view value.now)) }
     // What is read is spelled so.
     ensures spelled { IfOk result (SpellsTxn (view value.now)) }
     // A transaction that is spelled so is read.
-    ensures accepts { (t : _) → SpellsTxn (view value.now) t → Tells (λ x. x) result (OkOf t) }
+    ensures accepts { (t : _) → SpellsTxn (view value.now) t → Returns (λ x. x) result (OkOf t) }
     // Which fault it is.
     ensures faults { MatchResult result (λ t. first_fault (view value.now) ≡ None) (IsFirstFault (first_fault (view value.now))) }
 {

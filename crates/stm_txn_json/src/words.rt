@@ -1,5 +1,5 @@
 //! The words that compares are spelled with.
-ghost use Rattle.stm_json.specs.Tells.{Tells};
+ghost use Rattle.stm_json.specs.Returns.{Returns};
 ghost use Rattle.stm_txn_json.specs.Words.{order_named, target_named};
 
 use std::alloc::Global;
@@ -24,7 +24,7 @@ pub enum TargetWord {
 /// What a compare that begins with a word looks at.
 #[tactic(auto, unfolding(crate::specs::Words::target_named))]
 pub(crate) fn target_word(alloc: Global, word: &str) -> Result<TargetWord, ReadError>
-    ensures { Tells (λ t. t) result (target_named word.now) }
+    ensures { Returns (λ t. t) result (target_named word.now) }
 {
     if word == "version" {
         Ok(TargetWord::Version)
@@ -44,7 +44,7 @@ pub(crate) fn target_word(alloc: Global, word: &str) -> Result<TargetWord, ReadE
 /// The order of a word.
 #[tactic(auto, unfolding(crate::specs::Words::order_named))]
 pub(crate) fn order_word(alloc: Global, word: &str) -> Result<Order, ReadError>
-    ensures { Tells (λ o. o) result (order_named word.now) }
+    ensures { Returns (λ o. o) result (order_named word.now) }
 {
     if word == "=" {
         Ok(Order::Equal)

@@ -8,35 +8,35 @@ use Rattle.std.proofs.lemmas.Bool.{le-leb, lt-leb}
 use Rattle.std.proofs.lemmas.Grind.{flat_map-append}
 use Rattle.stm_history.specs.History.{History, now}
 use Rattle.stm_keys.specs.declared.event.Event.{Event}
-use Rattle.stm_watch.specs.declared.told.Told.{Told}
+use Rattle.stm_watch.specs.declared.pending_revision.PendingRevision.{PendingRevision}
 use Rattle.stm_watch.specs.Watching.{Watching}
 use Rattle.stm_watch.specs.declared.watchers.Batch.{Batch}
-use Rattle.stm_watch.specs.Pending.{told_above, pending, first_told, first_pending, events_told, last_told, batch_of, after_poll}
-use Rattle.stm_watch.proofs.Telling.{nothing_above}
+use Rattle.stm_watch.specs.Pending.{pending_above, pending, number_of_first, first_pending, pending_events, last_number, batch_of, after_poll}
+use Rattle.stm_watch.proofs.Notifying.{nothing_above}
 
 -- so many of these revisions are given with their events, up to one of them, and the rest is what is told above that
-abbrev pub AreGiven : List Told → (ℕ → List Told) → ℕ → ℕ → List Event → ℕ → Type 0
+abbrev pub AreGiven : List PendingRevision → (ℕ → List PendingRevision) → ℕ → ℕ → List Event → ℕ → Type 0
 AreGiven all above seen count events upto =
-    (given : List Told) × (length given ≡ count) × (events ≡ events_told given) × (upto ≡ last_told seen given) × (all ≡ given ++ above upto)
+    (given : List PendingRevision) × (length given ≡ count) × (events ≡ pending_events given) × (upto ≡ last_number seen given) × (all ≡ given ++ above upto)
 
-events_one_more : (given : List Told) (t : Told) → events_told (given ++ t ∷ []) ≡ events_told given ++ t.events
+events_one_more : (given : List PendingRevision) (t : PendingRevision) → pending_events (given ++ t ∷ []) ≡ pending_events given ++ t.events
 events_one_more given t =
-    flat_map-append (λ (t : Told). t.events) given (t ∷ []) ∙ ap (λ (es : List Event). events_told given ++ es) (append-nil t.events)
+    flat_map-append (λ (t : PendingRevision). t.events) given (t ∷ []) ∙ ap (λ (es : List Event). pending_events given ++ es) (append-nil t.events)
 
-last_one_more : (seen : ℕ) (given : List Told) (t : Told) → last_told seen (given ++ t ∷ []) ≡ t.number
+last_one_more : (seen : ℕ) (given : List PendingRevision) (t : PendingRevision) → last_number seen (given ++ t ∷ []) ≡ t.number
 last_one_more seen [] t = refl
 last_one_more seen (g ∷ given) t = last_one_more g.number given t
 
-pub one_more : (all : List Told) (above : ℕ → List Told) (seen count upto : ℕ) (events more : List Event) (t : Told) →
+pub one_more : (all : List PendingRevision) (above : ℕ → List PendingRevision) (seen count upto : ℕ) (events more : List Event) (t : PendingRevision) →
     AreGiven all above seen count events upto → above upto ≡ t ∷ above t.number → more ≡ events ++ t.events
     → AreGiven all above seen (count + 1) more t.number
 one_more all above seen count upto events more t so_far next joined =
-    let given : List Told = so_far.0 in (
+    let given : List PendingRevision = so_far.0 in (
       given ++ t ∷ [],
       length-append given (t ∷ []) ∙ ap (λ (n : ℕ). n + 1) so_far.1,
       joined ∙ ap (λ (es : List Event). es ++ t.events) so_far.2 ∙ sym (events_one_more given t),
       sym (last_one_more seen given t),
-      so_far.4 ∙ ap (λ (ts : List Told). given ++ ts) next ∙ sym (append_assoc given (t ∷ []) (above t.number)),
+      so_far.4 ∙ ap (λ (ts : List PendingRevision). given ++ ts) next ∙ sym (append_assoc given (t ∷ []) (above t.number)),
     )
 
 -- ---- the batch that is made of what is pending
@@ -44,88 +44,88 @@ one_more all above seen count upto events more t so_far next joined =
 abbrev pub batch : List Event → ℕ → Batch
 batch events upto = record { events = events; upto = upto }
 
-abbrev made : ℕ → ℕ → ℕ → List Told → Batch
-made most seen counter ts = batch (events_told (take most ts)) (cond (nat_le (length ts) most) (max seen counter) (last_told seen (take most ts)))
+abbrev made : ℕ → ℕ → ℕ → List PendingRevision → Batch
+made most seen counter ts = batch (pending_events (take most ts)) (cond (nat_le (length ts) most) (max seen counter) (last_number seen (take most ts)))
 
-made_whole : (most seen counter : ℕ) (given : List Told) → length given ≤ most →
-    made most seen counter given ≡ batch (events_told given) (max seen counter)
+made_whole : (most seen counter : ℕ) (given : List PendingRevision) → length given ≤ most →
+    made most seen counter given ≡ batch (pending_events given) (max seen counter)
 made_whole most seen counter given long =
-    ap (λ (ts : List Told). batch (events_told ts) (cond (nat_le (length given) most) (max seen counter) (last_told seen ts)))
+    ap (λ (ts : List PendingRevision). batch (pending_events ts) (cond (nat_le (length given) most) (max seen counter) (last_number seen ts)))
     (take_all most given long)
-    ∙ ap (λ (b : Bool). batch (events_told given) (cond b (max seen counter) (last_told seen given)))
+    ∙ ap (λ (b : Bool). batch (pending_events given) (cond b (max seen counter) (last_number seen given)))
     (le-leb (length given) most long)
 
 -- what is told above a revision of a history
-abbrev pub above_of : History → Watching → ℕ → List Told
-above_of h w upto = told_above h.opening upto w.watched h.revisions
+abbrev pub above_of : History → Watching → ℕ → List PendingRevision
+above_of h w upto = pending_above h.opening upto w.watched h.revisions
 
 whole_batch : (most : ℕ) (h : History) (w : Watching) (count : ℕ) (events : List Event) (upto : ℕ) →
     AreGiven (pending h w) (above_of h w) w.seen count events upto → count ≤ most → above_of h w upto ≡ []
     → batch_of most h w ≡ batch events (max w.seen (now h))
 whole_batch most h w count events upto so_far room none =
-    let given : List Told = so_far.0 in
-    let all : pending h w ≡ given = so_far.4 ∙ ap (λ (ts : List Told). given ++ ts) none ∙ append-nil given in
+    let given : List PendingRevision = so_far.0 in
+    let all : pending h w ≡ given = so_far.4 ∙ ap (λ (ts : List PendingRevision). given ++ ts) none ∙ append-nil given in
     let long : length given ≤ most = omega (arith, so_far.1) in
     ap (made most w.seen (now h)) all
     ∙ made_whole most w.seen (now h) given long
     ∙ ap (λ (es : List Event). batch (es) (max w.seen (now h))) (sym so_far.2)
 
-take_front : (given rest : List Told) (n : ℕ) → length given ≡ n → take n (given ++ rest) ≡ given
+take_front : (given rest : List PendingRevision) (n : ℕ) → length given ≡ n → take n (given ++ rest) ≡ given
 take_front given rest n long = ap (λ (m : ℕ). take m (given ++ rest)) (sym long) ∙ by_given given
   where
-    by_given : (ts : List Told) → take (length ts) (ts ++ rest) ≡ ts
+    by_given : (ts : List PendingRevision) → take (length ts) (ts ++ rest) ≡ ts
     by_given [] = refl
-    by_given (t ∷ ts) = ap (λ (us : List Told). t ∷ us) (by_given ts)
+    by_given (t ∷ ts) = ap (λ (us : List PendingRevision). t ∷ us) (by_given ts)
 
-made_part : (most seen counter : ℕ) (given : List Told) (t : Told) (rest : List Told) → length given ≡ most →
-    made most seen counter (given ++ t ∷ rest) ≡ batch (events_told given) (last_told seen given)
+made_part : (most seen counter : ℕ) (given : List PendingRevision) (t : PendingRevision) (rest : List PendingRevision) → length given ≡ most →
+    made most seen counter (given ++ t ∷ rest) ≡ batch (pending_events given) (last_number seen given)
 made_part most seen counter given t rest long =
-    ap (λ (ts : List Told). batch (events_told ts) (cond (nat_le (length (given ++ t ∷ rest)) most) (max seen counter) (last_told seen ts)))
+    ap (λ (ts : List PendingRevision). batch (pending_events ts) (cond (nat_le (length (given ++ t ∷ rest)) most) (max seen counter) (last_number seen ts)))
     (take_front given (t ∷ rest) most long)
-    ∙ ap (λ (b : Bool). batch (events_told given) (cond b (max seen counter) (last_told seen given)))
+    ∙ ap (λ (b : Bool). batch (pending_events given) (cond b (max seen counter) (last_number seen given)))
     (lt-leb (length (given ++ t ∷ rest)) most (omega (arith, long, length-append given (t ∷ rest))))
 
-part_batch : (most : ℕ) (h : History) (w : Watching) (count : ℕ) (events : List Event) (upto : ℕ) (t : Told) (rest : List Told) →
+part_batch : (most : ℕ) (h : History) (w : Watching) (count : ℕ) (events : List Event) (upto : ℕ) (t : PendingRevision) (rest : List PendingRevision) →
     AreGiven (pending h w) (above_of h w) w.seen count events upto → count ≡ most → above_of h w upto ≡ t ∷ rest
     → batch_of most h w ≡ batch events upto
 part_batch most h w count events upto t rest so_far full some =
-    let given : List Told = so_far.0 in
-    let all : pending h w ≡ given ++ t ∷ rest = so_far.4 ∙ ap (λ (ts : List Told). given ++ ts) some in
+    let given : List PendingRevision = so_far.0 in
+    let all : pending h w ≡ given ++ t ∷ rest = so_far.4 ∙ ap (λ (ts : List PendingRevision). given ++ ts) some in
     ap (made most w.seen (now h)) all
     ∙ made_part most w.seen (now h) given t rest (so_far.1 ∙ full)
-    ∙ ap (λ (es : List Event). batch es (last_told w.seen given)) (sym so_far.2)
+    ∙ ap (λ (es : List Event). batch es (last_number w.seen given)) (sym so_far.2)
     ∙ ap (batch events) (sym so_far.3)
 
 -- ---- the batch, and what is pending after it
 
-none_told : (ts : List Told) → None ≡ first_told ts → ts ≡ []
-none_told [] none = refl
-none_told (t ∷ ts) none = absurd (cc)
+none_reported : (ts : List PendingRevision) → None ≡ number_of_first ts → ts ≡ []
+none_reported [] none = refl
+none_reported (t ∷ ts) none = absurd (cc)
 
 pub none_is : (o : Option ℕ) → is_some o ≡ false → o ≡ None
 none_is None none = refl
 none_is (Some n) none = absurd (cc)
 
-some_told : (ts : List Told) (number : ℕ) → Some number ≡ first_told ts → (t : Told) × (rest : List Told) × (ts ≡ t ∷ rest)
-some_told [] number some = absurd (cc)
-some_told (t ∷ ts) number some = (t, ts, refl)
+some_reported : (ts : List PendingRevision) (number : ℕ) → Some number ≡ number_of_first ts → (t : PendingRevision) × (rest : List PendingRevision) × (ts ≡ t ∷ rest)
+some_reported [] number some = absurd (cc)
+some_reported (t ∷ ts) number some = (t, ts, refl)
 
 module _ (most : ℕ) (h : History) (w : Watching) (count : ℕ) (events : List Event) (upto : ℕ)
     (so_far : AreGiven (pending h w) (above_of h w) w.seen count events upto) (room : count ≤ most) where
   -- the batch has all
-  pub all_given : None ≡ first_told (above_of h w upto) → batch events (max w.seen (now h)) ≡ batch_of most h w
-  all_given none = sym (whole_batch most h w count events upto so_far room (none_told (above_of h w upto) none))
+  pub all_given : None ≡ number_of_first (above_of h w upto) → batch events (max w.seen (now h)) ≡ batch_of most h w
+  all_given none = sym (whole_batch most h w count events upto so_far room (none_reported (above_of h w upto) none))
 
-  pub none_after : None ≡ first_told (above_of h w upto) → None ≡ first_pending h (after_poll most h w)
+  pub none_after : None ≡ number_of_first (above_of h w upto) → None ≡ first_pending h (after_poll most h w)
   none_after none =
-      sym (ap first_told (nothing_above h.opening (max w.seen (now h)) w.watched h.revisions (le-max_right w.seen (now h))))
-      ∙ ap (λ (b : Batch). first_told (above_of h w b.upto)) (all_given none)
+      sym (ap number_of_first (nothing_above h.opening (max w.seen (now h)) w.watched h.revisions (le-max_right w.seen (now h))))
+      ∙ ap (λ (b : Batch). number_of_first (above_of h w b.upto)) (all_given none)
 
   -- more is pending
-  pub part_given : most ≤ count → (number : ℕ) → Some number ≡ first_told (above_of h w upto) → batch events upto ≡ batch_of most h w
+  pub part_given : most ≤ count → (number : ℕ) → Some number ≡ number_of_first (above_of h w upto) → batch events upto ≡ batch_of most h w
   part_given full number some =
-      let more = some_told (above_of h w upto) number some in
+      let more = some_reported (above_of h w upto) number some in
       sym (part_batch most h w count events upto more.0 more.1 so_far (omega (arith, room, full)) more.2)
 
-  pub next_after : most ≤ count → (number : ℕ) → Some number ≡ first_told (above_of h w upto) → Some number ≡ first_pending h (after_poll most h w)
-  next_after full number some = some ∙ ap (λ (b : Batch). first_told (above_of h w b.upto)) (part_given full number some)
+  pub next_after : most ≤ count → (number : ℕ) → Some number ≡ number_of_first (above_of h w upto) → Some number ≡ first_pending h (after_poll most h w)
+  next_after full number some = some ∙ ap (λ (b : Batch). number_of_first (above_of h w b.upto)) (part_given full number some)

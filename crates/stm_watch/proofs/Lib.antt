@@ -1,5 +1,5 @@
-pub mod Telling
-pub mod CutTelling
+pub mod Notifying
+pub mod CutNotifying
 pub mod Giving
 pub mod Standing
 pub mod Losing

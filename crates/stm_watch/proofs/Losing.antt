@@ -5,16 +5,16 @@ use Rattle.std.specs.Prelude.{nat_lt}
 use Rattle.std.proofs.lemmas.Bool.{cases_Bool, lt-ltb, le-ltb, ltb-true, ltb-false}
 use Rattle.stm_history.specs.History.{History, now}
 use Rattle.stm_history.specs.Cut.{cut}
-use Rattle.stm_watch.specs.declared.told.Told.{Told}
+use Rattle.stm_watch.specs.declared.pending_revision.PendingRevision.{PendingRevision}
 use Rattle.stm_watch.specs.declared.watched.Watched.{Watched}
 use Rattle.stm_watch.specs.declared.watched.Watcher.{Watcher}
 use Rattle.stm_watch.specs.Watching.{Watching}
 use Rattle.stm_watch.specs.Places.{is_lost, watching_of}
-use Rattle.stm_watch.specs.Pending.{watching_from, first_told, first_pending}
+use Rattle.stm_watch.specs.Pending.{watching_from, number_of_first, first_pending}
 use Rattle.stm_watch.specs.Calls.{Stands, StandAll, compacted, compacted_one}
 use Rattle.stm_watch.specs.Slots.{awaiting}
-use Rattle.stm_watch.proofs.Telling.{nothing_above}
-use Rattle.stm_watch.proofs.CutTelling.{seen_not_lost, followed_cut}
+use Rattle.stm_watch.proofs.Notifying.{nothing_above}
+use Rattle.stm_watch.proofs.CutNotifying.{seen_not_lost, followed_cut}
 use Rattle.stm_watch.proofs.Standing.{seen_at}
 
 -- ---- a new watcher
@@ -26,7 +26,7 @@ watching watched seen lost = record { watched = watched; seen = seen; lost = los
 pub now_watching : (h : History) (floor : ℕ) (watched : Watched) (from : ℕ) → from ≡ 0
     → watching_of floor (awaiting h watched (now h)) ≡ watching_from h floor watched from
 now_watching h floor watched from is =
-    ap (λ (ts : List Told). watching watched (now h) (is_lost floor (first_told ts))) (nothing_above h.opening (now h) watched h.revisions (omega arith))
+    ap (λ (ts : List PendingRevision). watching watched (now h) (is_lost floor (number_of_first ts))) (nothing_above h.opening (now h) watched h.revisions (omega arith))
     ∙ ap (watching_from h floor watched) (sym is)
 
 module _ (h : History) (floor : ℕ) (watched : Watched) (from : ℕ) (positive : 0 < from) where
@@ -93,7 +93,7 @@ cut_stands : (h : History) (revision : ℕ) (o : Option Watcher) → revision �
 cut_stands h revision None reached stands = tt
 cut_stands h revision (Some w) reached stands = λ still.
     stands still
-    ∙ sym (ap first_told (followed_cut h revision w.seen w.watched reached (ap (is_lost revision) (sym (stands still)) ∙ still)))
+    ∙ sym (ap number_of_first (followed_cut h revision w.seen w.watched reached (ap (is_lost revision) (sym (stands still)) ∙ still)))
 
 -- those that are left stand for the history without what is below the floor
 pub cut_stand : (h : History) (revision : ℕ) (ws : List (Option Watcher)) → revision ≤ now h → StandAll h revision ws

@@ -18,7 +18,7 @@ use Rattle.stm_watch.specs.Kept.{watched_of}
 use Rattle.stm_watch.specs.Pending.{first_pending, batch_of, after_poll}
 use Rattle.stm_watch.specs.Slots.{IsFollowed, IsPolled, SlotPolls, PlacePolls, followed, standing}
 use Rattle.stm_watch.proofs.At.{within}
-use Rattle.stm_watch.proofs.CutTelling.{polled_not_lost}
+use Rattle.stm_watch.proofs.CutNotifying.{polled_not_lost}
 use Rattle.stm_watch.proofs.Standing.{seen_at, watchings_set, watching_at, stands_at, stand_set}
 
 -- ---- a poll at one of several places
@@ -111,8 +111,8 @@ seen_by floor id ws = by_test (nat_eq id 0)
 -- the watcher that stands there, and whether it is lost
 pub lost_is : (floor : ℕ) (o : Option Watcher) (result : Bool) → IfSome o (λ (w : Watcher). result ≡ is_lost floor w.first) → IsSome o
     → (w : Watcher) × (o ≡ Some w) × (is_lost floor w.first ≡ result)
-lost_is floor None result told some = absurd (cc)
-lost_is floor (Some w) result told some = (w, refl, sym told)
+lost_is floor None result reported some = absurd (cc)
+lost_is floor (Some w) result reported some = (w, refl, sym reported)
 
 -- the watchers as a refused poll leaves them
 pub refused_same : (id : ℕ) (v : WatchersView) → is_one_lost (watcher_at id (watchings v)) ≡ false → view_refused id v ≡ v

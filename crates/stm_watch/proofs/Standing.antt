@@ -11,13 +11,13 @@ use Rattle.stm_history.specs.declared.change.Change.{Change}
 use Rattle.stm_history.specs.History.{History, now, add_revision}
 use Rattle.stm_watch.specs.Watching.{Watching}
 use Rattle.stm_watch.specs.Places.{WatchersView, is_lost, watching_of, watchings}
-use Rattle.stm_watch.specs.declared.told.Told.{Told}
+use Rattle.stm_watch.specs.declared.pending_revision.PendingRevision.{PendingRevision}
 use Rattle.stm_watch.specs.declared.watched.Watcher.{Watcher}
 use Rattle.stm_watch.specs.Keys.{is_any_watched}
 use Rattle.stm_watch.specs.Touch.{touch, first_with}
-use Rattle.stm_watch.specs.Pending.{pending, first_told, is_some_told}
+use Rattle.stm_watch.specs.Pending.{pending, number_of_first, is_any_pending}
 use Rattle.stm_watch.specs.Calls.{watcher_at, Stands, StandAll, StandFor, is_ready, is_ready_at, IsNextReady, is_pending_for, IsNextPending}
-use Rattle.stm_watch.proofs.Telling.{first_after, some_first}
+use Rattle.stm_watch.proofs.Notifying.{first_after, some_first}
 
 -- the watchers at these places, as the rules see them
 abbrev pub seen_at : ℕ → List (Option Watcher) → List (Option Watching)
@@ -92,11 +92,11 @@ stands_at h floor (w ∷ ws) zero stand = stand.0
 stands_at h floor (w ∷ ws) (suc i) stand = stands_at h floor ws i stand.1
 
 -- a watcher is ready where it is lost, or something is pending
-ready_case : (floor : ℕ) (ts : List Told) (o : Option ℕ) → (is_lost floor o ≡ false → o ≡ first_told ts) → (is_lost floor o || is_some_told ts) ≡ is_some o
+ready_case : (floor : ℕ) (ts : List PendingRevision) (o : Option ℕ) → (is_lost floor o ≡ false → o ≡ number_of_first ts) → (is_lost floor o || is_any_pending ts) ≡ is_some o
 ready_case floor ts None stands = sym (ap is_some (stands refl) ∙ some_first ts)
 ready_case floor ts (Some number) stands = elim (cases_Bool (nat_lt number floor)) [
-  | inl lost ↦ ap (λ b. b || is_some_told ts) lost
-  | inr not ↦ ap (λ b. b || is_some_told ts) not ∙ sym (ap is_some (stands not) ∙ some_first ts)
+  | inl lost ↦ ap (λ b. b || is_any_pending ts) lost
+  | inr not ↦ ap (λ b. b || is_any_pending ts) not ∙ sym (ap is_some (stands not) ∙ some_first ts)
 ]
 
 ready_is_pending : (h : History) (floor : ℕ) (o : Option Watcher) → Stands h floor o → is_pending_for h (option_map (watching_of floor) o) ≡ is_ready o

@@ -66,16 +66,16 @@ abbrev pub compacted : History → ℕ → List (Option Watching) → List (Opti
 compacted h floor ws = map (option_map (compacted_one h floor)) ws
 
 -- A call comes to what its definition says, unless memory was wanting.
-abbrev pub WatchTells : Result (Step ℕ) WatchRefusal → Result ℕ WatchRefusal → List (Option Watching) → Type 0
-WatchTells defined (Ok id) next = defined ≡ Ok (record { answer = id; next = next })
-WatchTells defined (Err EmptyKey) next = defined ≡ Err EmptyKey
-WatchTells defined (Err OutOfMemory) next = IsOk defined
+abbrev pub WatchReturns : Result (Step ℕ) WatchRefusal → Result ℕ WatchRefusal → List (Option Watching) → Type 0
+WatchReturns defined (Ok id) next = defined ≡ Ok (record { answer = id; next = next })
+WatchReturns defined (Err EmptyKey) next = defined ≡ Err EmptyKey
+WatchReturns defined (Err OutOfMemory) next = IsOk defined
 
-abbrev pub PollTells : Result (Step Batch) PollRefusal → Result Batch PollRefusal → List (Option Watching) → Type 0
-PollTells defined (Ok batch) next = defined ≡ Ok (record { answer = batch; next = next })
-PollTells defined (Err NoWatcher) next = defined ≡ Err NoWatcher
-PollTells defined (Err Compacted) next = defined ≡ Err Compacted
-PollTells defined (Err PollOutOfMemory) next = IsOk defined
+abbrev pub PollReturns : Result (Step Batch) PollRefusal → Result Batch PollRefusal → List (Option Watching) → Type 0
+PollReturns defined (Ok batch) next = defined ≡ Ok (record { answer = batch; next = next })
+PollReturns defined (Err NoWatcher) next = defined ≡ Err NoWatcher
+PollReturns defined (Err Compacted) next = defined ≡ Err Compacted
+PollReturns defined (Err PollOutOfMemory) next = IsOk defined
 
 -- the kept watchers once a poll was refused
 abbrev pub view_refused : ℕ → WatchersView → WatchersView

@@ -13,7 +13,7 @@ use Rattle.stm_keys.specs.declared.event.Event.{Event}
 use Rattle.stm_keys.specs.Events.{events_above, key_of_event}
 use Rattle.stm_watch.specs.declared.watched.Watched.{Watched}
 use Rattle.stm_watch.specs.Watching.{Watching}
-use Rattle.stm_watch.specs.declared.told.Told.{Told}
+use Rattle.stm_watch.specs.declared.pending_revision.PendingRevision.{PendingRevision}
 use Rattle.stm_watch.specs.declared.watchers.Batch.{Batch}
 use Rattle.stm_watch.specs.Keys.{is_watched}
 
@@ -29,56 +29,56 @@ abbrev pub matching : Watched → List Event → List Event
 matching watched events = filter (λ e. is_watched watched (key_of_event e)) events
 
 -- a revision is told where it has events that match
-abbrev pub told_at : ℕ → List Event → List Told
-told_at number [] = []
-told_at number (e ∷ es) = record { number = number; events = e ∷ es } ∷ []
+abbrev pub pending_of_revision : ℕ → List Event → List PendingRevision
+pending_of_revision number [] = []
+pending_of_revision number (e ∷ es) = record { number = number; events = e ∷ es } ∷ []
 
 -- the revisions above one that are told, the oldest first
-abbrev pub told_above : Opening → ℕ → Watched → List (List Change) → List Told
-told_above opening seen watched [] = []
-told_above opening seen watched (changes ∷ older) =
+abbrev pub pending_above : Opening → ℕ → Watched → List (List Change) → List PendingRevision
+pending_above opening seen watched [] = []
+pending_above opening seen watched (changes ∷ older) =
     let number = number_of_last opening (changes ∷ older) in
-    told_above opening seen watched older
-    ++ (if nat_lt seen number then told_at number (matching watched (events_above opening changes older)) else [])
+    pending_above opening seen watched older
+    ++ (if nat_lt seen number then pending_of_revision number (matching watched (events_above opening changes older)) else [])
 
 -- what is pending: the history's events that match, of the revisions that were not seen
-abbrev pub pending : History → Watching → List Told
-pending h w = told_above h.opening w.seen w.watched h.revisions
+abbrev pub pending : History → Watching → List PendingRevision
+pending h w = pending_above h.opening w.seen w.watched h.revisions
 
 -- the number of the first of these revisions
-abbrev pub first_told : List Told → Option ℕ
-first_told [] = None
-first_told (t ∷ ts) = Some t.number
+abbrev pub number_of_first : List PendingRevision → Option ℕ
+number_of_first [] = None
+number_of_first (t ∷ ts) = Some t.number
 
 -- the first revision of which something is pending
 abbrev pub first_pending : History → Watching → Option ℕ
-first_pending h w = first_told (pending h w)
+first_pending h w = number_of_first (pending h w)
 
-abbrev pub is_some_told : List Told → Bool
-is_some_told [] = false
-is_some_told (t ∷ ts) = true
+abbrev pub is_any_pending : List PendingRevision → Bool
+is_any_pending [] = false
+is_any_pending (t ∷ ts) = true
 
 abbrev pub is_pending : History → Watching → Bool
-is_pending h w = is_some_told (pending h w)
+is_pending h w = is_any_pending (pending h w)
 
 -- ---- a poll
 
-abbrev pub events_told : List Told → List Event
-events_told ts = flat_map (λ (t : Told). t.events) ts
+abbrev pub pending_events : List PendingRevision → List Event
+pending_events ts = flat_map (λ (t : PendingRevision). t.events) ts
 
 -- the last of these revisions, or else the one that was seen
-abbrev pub last_told : ℕ → List Told → ℕ
-last_told seen [] = seen
-last_told seen (t ∷ ts) = last_told t.number ts
+abbrev pub last_number : ℕ → List PendingRevision → ℕ
+last_number seen [] = seen
+last_number seen (t ∷ ts) = last_number t.number ts
 
 -- The batch has the pending events of at most so many revisions. It tells up to the counter where it has all of them, and else up to
 -- the last revision that it has.
 abbrev pub batch_of : ℕ → History → Watching → Batch
 batch_of most h w =
-    let told = take most (pending h w) in
+    let reported = take most (pending h w) in
     record {
-      events = events_told told;
-      upto = if nat_le (length (pending h w)) most then max w.seen (now h) else last_told w.seen told;
+      events = pending_events reported;
+      upto = if nat_le (length (pending h w)) most then max w.seen (now h) else last_number w.seen reported;
     }
 
 abbrev pub after_poll : ℕ → History → Watching → Watching

@@ -2,8 +2,8 @@
 use Rattle.std.specs.Prelude.{ℕ, Option}
 use Rattle.stm_history.specs.History.{History}
 use Rattle.stm_watch.specs.declared.watched.Watched.{Watched}
-use Rattle.stm_watch.specs.Pending.{told_above, first_told}
+use Rattle.stm_watch.specs.Pending.{pending_above, number_of_first}
 
 -- the first revision above one of which a watcher is told
 abbrev pub first_above : History → Watched → ℕ → Option ℕ
-first_above h watched above = first_told (told_above h.opening above watched h.revisions)
+first_above h watched above = number_of_first (pending_above h.opening above watched h.revisions)

@@ -4,7 +4,7 @@ ghost use Rattle.stm_history.specs.History.{now};
 ghost use Rattle.stm_watch.specs.Pending.{batch_of, after_poll, first_pending};
 ghost use Rattle.stm_watch.specs.Slots.{IsFollowed, followed};
 
-use crate::told::{copy_matching, next_number};
+use crate::pending_revision::{copy_matching, next_number};
 use crate::watched::Watcher;
 use crate::watchers::Batch;
 use std::alloc::{AllocError, Global};
@@ -35,7 +35,7 @@ impl Gathered {
 }
 
 /// Up to which revision a watcher has been told once nothing is pending.
-fn told_all(keys: &Keys, watcher: &Watcher) -> u64
+fn reported_all(keys: &Keys, watcher: &Watcher) -> u64
     ensures { result ≡ max watcher.now.seen (now keys.now.history) }
 {
     watcher.seen.max(keys.revision())
@@ -59,16 +59,16 @@ pub(crate) fn gather(
     let mut count = 0;
     while count < most {
         let Some(number) = next else {
-            return Ok(Gathered::all(events, told_all(keys, watcher)));
+            return Ok(Gathered::all(events, reported_all(keys, watcher)));
         };
-        let mut told = copy_matching(alloc, &watcher.watched, keys.events_at(number))?;
-        events.append(&mut told)?;
+        let mut reported = copy_matching(alloc, &watcher.watched, keys.events_at(number))?;
+        events.append(&mut reported)?;
         upto = number;
         next = next_number(keys, &watcher.watched, number);
         count += 1;
     }
     if next.is_none() {
-        return Ok(Gathered::all(events, told_all(keys, watcher)));
+        return Ok(Gathered::all(events, reported_all(keys, watcher)));
     }
     let events = Sequence::of(events);
     Ok(Gathered {

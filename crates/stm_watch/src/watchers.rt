@@ -6,11 +6,11 @@ ghost use Rattle.stm_keys.specs.Events.{change_of_event};
 ghost use Rattle.stm_watch.specs.Pending.{watching_from};
 ghost use Rattle.stm_watch.specs.Places.{is_lost, no_watchers, watching_of, watchings};
 ghost use Rattle.stm_watch.specs.Slots.{awaiting};
-ghost use Rattle.stm_watch.specs.Calls.{watch, poll, cancelled, compacted, view_refused, after_refused, WatchTells, PollTells, watcher_at, Stands, StandFor, IsNextReady, IsNextPending};
+ghost use Rattle.stm_watch.specs.Calls.{watch, poll, cancelled, compacted, view_refused, after_refused, WatchReturns, PollReturns, watcher_at, Stands, StandFor, IsNextReady, IsNextPending};
 
+use crate::pending_revision::next_number;
 use crate::refusal::{NoWatcher, PollRefusal, WatchRefusal};
 use crate::table::Table;
-use crate::told::next_number;
 use crate::watched::{Watched, Watcher};
 use std::alloc::{AllocError, Global};
 use std::marker::Model;
@@ -120,7 +120,7 @@ impl Watchers {
     /// The watchers stand for the history of these keys, and do so after the call. A refusal changes nothing.
     pub fn watch_key(&mut self, key: &str, from: u64, keys: &Keys) -> Result<u64, WatchRefusal>
         requires { StandFor keys.now.history self.old }
-        ensures answer { WatchTells (watch keys.now.history self.old.floor (Key key.now) from (watchings self.old)) result (watchings self.new) }
+        ensures answer { WatchReturns (watch keys.now.history self.old.floor (Key key.now) from (watchings self.old)) result (watchings self.new) }
         ensures stand { StandFor keys.now.history self.new }
         ensures floor { self.new.floor ≡ self.old.floor }
         ensures err { OnErr result (self.new ≡ self.old) }
@@ -143,7 +143,7 @@ impl Watchers {
         keys: &Keys,
     ) -> Result<u64, WatchRefusal>
         requires { StandFor keys.now.history self.old }
-        ensures answer { WatchTells (watch keys.now.history self.old.floor (Range first.now end.now) from (watchings self.old)) result (watchings self.new) }
+        ensures answer { WatchReturns (watch keys.now.history self.old.floor (Range first.now end.now) from (watchings self.old)) result (watchings self.new) }
         ensures stand { StandFor keys.now.history self.new }
         ensures floor { self.new.floor ≡ self.old.floor }
         ensures err { OnErr result (self.new ≡ self.old) }
@@ -226,7 +226,7 @@ impl Watchers {
     /// gives the same batch later.
     pub fn poll(&mut self, id: u64, keys: &Keys, most: u64) -> Result<Batch, PollRefusal>
         requires { StandFor keys.now.history self.old }
-        ensures answer { PollTells (poll keys.now.history id most (watchings self.old)) result (watchings self.new) }
+        ensures answer { PollReturns (poll keys.now.history id most (watchings self.old)) result (watchings self.new) }
         ensures stand { StandFor keys.now.history self.new }
         ensures floor { self.new.floor ≡ self.old.floor }
         ensures err { OnErr result (self.new ≡ view_refused id self.old) }

@@ -80,8 +80,8 @@ shown_by s seen key at answer came =
 pub read_shows : (handed : HallState) (seen : ℕ) (key : List ℕ) (at : ℕ) (read : ReadAnswer) →
     AnswersInSomeHall handed seen (fetch_of key at) (Ok (one_read read)) →
     (read.key ≡ key) × (read.of_rev ≡ shown_at at read.revision)
-read_shows handed seen key at read told =
-    let shows : ShowsKey key at (one_read read) = shown_by told.0.standing seen key at (one_read read) told.2 in
+read_shows handed seen key at read reported =
+    let shows : ShowsKey key at (one_read read) = shown_by reported.0.standing seen key at (one_read read) reported.2 in
     let both : GetAnswer read ∷ [] ≡ GetAnswer shows.read ∷ [] = shows.only in
     let same : read ≡ shows.read = cc (both) in
     (ap (λ (a : ReadAnswer). a.key) same ∙ shows.key_is, ap (λ (a : ReadAnswer). a.of_rev) same ∙ shows.shows)

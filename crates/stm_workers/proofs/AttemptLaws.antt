@@ -12,7 +12,7 @@ use Rattle.stm_job.specs.declared.job_end.JobEnd.TheVariants.{Committed as Commi
 use Rattle.stm_job.specs.declared.job_end.JobEnd.TheVariants.{GaveUp}
 use Rattle.stm_workers.specs.declared.stop.Stop.{Stop}
 use Rattle.stm_workers.specs.declared.stop.Stop.TheVariants.{OutOfMemory, Aborted, Faulted, Refused}
-use Rattle.stm_workers.specs.Attempts.{job_end_told, end_after, HasCome, HasSomeRun}
+use Rattle.stm_workers.specs.Attempts.{job_end_reported, end_after, HasCome, HasSomeRun}
 use Rattle.stm_workers.specs.Calls.{committed_by}
 use Rattle.stm_workers.specs.Codes.{numbers_set}
 use Rattle.stm_workers.specs.Laws.{IfGaveUp, AreAttemptsOf, AttemptsAreCounted}
@@ -27,19 +27,19 @@ at_most_all handed job seen end after made more (inr came) = let n = came.within
 
 -- a verdict by which a job gives up counts no commit
 no_commit : (verdict : Verdict) (key : List ℕ) → GaveUp key ≡ end_after verdict → committed_by verdict ≡ 0
-no_commit (Committed index revision) key told = absurd (cc)
-no_commit (Failed failed seen modified answers) key told = refl
+no_commit (Committed index revision) key reported = absurd (cc)
+no_commit (Failed failed seen modified answers) key reported = refl
 
 -- and no stop is a giving up
-no_stop : (stop : Stop) (key : List ℕ) → job_end_told stop ≡ Some (GaveUp key) → ⊥
-no_stop OutOfMemory key told = absurd (cc)
-no_stop (Aborted text reads) key told = absurd (cc)
-no_stop (Faulted fault reads) key told = absurd (cc)
-no_stop (Refused refusal) key told = absurd (cc)
+no_stop : (stop : Stop) (key : List ℕ) → job_end_reported stop ≡ Some (GaveUp key) → ⊥
+no_stop OutOfMemory key reported = absurd (cc)
+no_stop (Aborted text reads) key reported = absurd (cc)
+no_stop (Faulted fault reads) key reported = absurd (cc)
+no_stop (Refused refusal) key reported = absurd (cc)
 
 all_made : (handed : HallState) (job : Job) (seen : ℕ) (key : List ℕ) (after made : ℕ) → HasCome handed job seen (GaveUp key) after made → made ≡ job.limit
-all_made handed job seen key after made (inl came) = came.then_is.last (no_commit came.then_is.verdict key came.then_is.told)
-all_made handed job seen key after made (inr came) = absurd (no_stop came.then_is.stop key came.then_is.told)
+all_made handed job seen key after made (inl came) = came.then_is.last (no_commit came.then_is.verdict key came.then_is.reported)
+all_made handed job seen key after made (inr came) = absurd (no_stop came.then_is.stop key came.then_is.reported)
 
 if_gave_up : (handed : HallState) (job : Job) (end : JobEnd) (made : ℕ) → HasSomeRun handed job end made → IfGaveUp end (made ≡ job.limit)
 if_gave_up handed job (CommittedJob index revision) made some = tt

@@ -8,7 +8,7 @@ use Rattle.stm_attempt.specs.ReadyRun.{ReadyRun}
 use Rattle.stm_hall.specs.declared.refusal.CommitRefusal.{CommitRefusal}
 use Rattle.stm_hall.specs.declared.verdict.Verdict.{Verdict}
 use Rattle.stm_hall.specs.HallState.{HallState}
-use Rattle.stm_hall.specs.Verdicts.{verdict_of, CommitTells}
+use Rattle.stm_hall.specs.Verdicts.{verdict_of, CommitReturns}
 use Rattle.stm_workers.specs.declared.attempts.AttemptOutcome.{AttemptOutcome}
 use Rattle.stm_workers.specs.declared.attempts.AttemptOutcome.TheVariants.{Ended, Again}
 use Rattle.stm_job.specs.declared.job.Job.{Job}
@@ -17,7 +17,7 @@ use Rattle.stm_workers.specs.declared.stop.Stop.{Stop}
 use Rattle.stm_workers.specs.declared.stop.Stop.TheVariants.{OutOfMemory}
 use Rattle.stm_workers.specs.Calls.{committed_by, HasKeptStore, JudgedInSomeHall}
 use Rattle.stm_workers.specs.AttemptOutcomes.{IfEnded, IfAgain}
-use Rattle.stm_workers.specs.Attempts.{JobState, state_of, job_end_told, end_after, IsUnanswered, AreUnanswered, IsTurnedAway, IsFetch, HasFetched, IsEvaluated, HasTried}
+use Rattle.stm_workers.specs.Attempts.{JobState, state_of, job_end_reported, end_after, IsUnanswered, AreUnanswered, IsTurnedAway, IsFetch, HasFetched, IsEvaluated, HasTried}
 use Rattle.stm_workers.specs.Attempts.{IsStop, HasStopped, IsNextAttempt, HasFailed, HaveFailed, HasEnded, ComesTo, EndsByVerdict}
 use Rattle.stm_workers.specs.Attempts.{EndsByStop, HasCome}
 
@@ -34,8 +34,8 @@ one_fetched handed job before between after so_far fetch = (suc so_far.0, (betwe
 -- ---- an attempt that goes no further
 
 -- what holds of a stop that is told holds of the one that was made of it
-pub told_out : {A : Type 0} (result : Result A Stop) (P : Stop → Type 0) (made given : Stop) → result ≡ Err made → made ≡ given → P given → IfErr result P
-told_out {A} result P made given is same holds = subst (λ (r : Result A Stop). IfErr r P) (sym is) (subst P (sym same) holds)
+pub reported_out : {A : Type 0} (result : Result A Stop) (P : Stop → Type 0) (made given : Stop) → result ≡ Err made → made ≡ given → P given → IfErr result P
+reported_out {A} result P made given is same holds = subst (λ (r : Result A Stop). IfErr r P) (sym is) (subst P (sym same) holds)
 
 -- the key that it wants was refused, and nothing was seen
 pub fetch_stops : (handed : HallState) (job : Job) (at : JobState) (key : List ℕ) (of_rev : ℕ) (stop : Stop) (seen : ℕ) →
@@ -57,17 +57,17 @@ list_stops handed job at keys of_rev stop seen wants (inr refused) same =
 pub stops_there : (handed : HallState) (job : Job) (before at : JobState) (stop : Stop) (seen : ℕ) → HasFetched handed job before at →
     (stop ≡ OutOfMemory) ⊎ (IsStop handed job at stop × (seen ≡ at.seen)) → HasStopped handed job before stop seen
 stops_there handed job before at stop seen fetches (inl want) = inl want
-stops_there handed job before at stop seen fetches (inr told) = inr (record { at = at; fetches = fetches; is_stop = told.0; sees = told.1 })
+stops_there handed job before at stop seen fetches (inr reported) = inr (record { at = at; fetches = fetches; is_stop = reported.0; sees = reported.1 })
 
 -- a hall's refusal of a commit, as it is handed on
 pub refused_so : (handed : HallState) (ready : ReadyRun) (before after : HallState) (result : Result Verdict CommitRefusal) (made given : CommitRefusal) → result ≡ Err made →
-    made ≡ given → HasKeptStore handed before → CommitTells (verdict_of before ready) before (Err given) after → JudgedInSomeHall handed ready result
-refused_so handed ready before after result made given is same kept told = (
+    made ≡ given → HasKeptStore handed before → CommitReturns (verdict_of before ready) before (Err given) after → JudgedInSomeHall handed ready result
+refused_so handed ready before after result made given is same kept reported = (
   before,
   after,
   kept,
-  subst (λ (r : Result Verdict CommitRefusal). CommitTells (verdict_of before ready) before r after)
-      (sym (is ∙ ap (λ (cause : CommitRefusal). Err cause) same)) told,
+  subst (λ (r : Result Verdict CommitRefusal). CommitReturns (verdict_of before ready) before r after)
+      (sym (is ∙ ap (λ (cause : CommitRefusal). Err cause) same)) reported,
 )
 
 -- what a hall answered to a commit
@@ -94,9 +94,9 @@ pub ends_by : (handed : HallState) (job : Job) (before : JobState) (is_last : Bo
     HasTried handed job before verdict seen →
     IfOk result (IfEnded (λ (end : JobEnd). (end ≡ end_after verdict) × (committed_by verdict ≡ 0 → is_last ≡ true))) →
     IfOk result (IfEnded (λ (end : JobEnd). HasEnded handed job before is_last end seen))
-ends_by handed job before is_last verdict seen (Ok (Ended end)) tried told = record { verdict = verdict; tried = tried; told = told.0; last = told.1 }
-ends_by handed job before is_last verdict seen (Ok (Again next)) tried told = tt
-ends_by handed job before is_last verdict seen (Err stop) tried told = tt
+ends_by handed job before is_last verdict seen (Ok (Ended end)) tried reported = record { verdict = verdict; tried = tried; reported = reported.0; last = reported.1 }
+ends_by handed job before is_last verdict seen (Ok (Again next)) tried reported = tt
+ends_by handed job before is_last verdict seen (Err stop) tried reported = tt
 
 pub fails_by : (handed : HallState) (job : Job) (before : JobState) (is_last : Bool) (verdict : Verdict) (seen : ℕ) (result : Result AttemptOutcome Stop) →
     HasTried handed job before verdict seen → IfOk result (IfAgain (λ (next : AttemptState). (is_last ≡ false) × IsNextAttempt job verdict next)) →
@@ -146,7 +146,7 @@ pub ends_at : (handed : HallState) (job : Job) (seen number after : ℕ) (last :
     ComesTo handed job seen number (EndsByVerdict handed job end after number)
 ends_at handed job seen number after last is_last end lost within of_last ended =
     comes_to handed job seen number last (EndsByVerdict handed job end after number) lost within
-    (record { verdict = ended.verdict; tried = ended.tried; told = ended.told; last = λ none. of_last (ended.last none) })
+    (record { verdict = ended.verdict; tried = ended.tried; reported = ended.reported; last = λ none. of_last (ended.last none) })
 
 -- it goes no further
 pub stops_at : (handed : HallState) (job : Job) (seen number after : ℕ) (last : JobState) (stop : Stop) → HasLost handed job seen number last →
@@ -156,20 +156,20 @@ stops_at handed job seen number after last stop lost within stopped =
     comes_to handed job seen number last (λ at. HasStopped handed job at stop after) lost within stopped
 
 -- which is the job's end, unless it was for want of memory
-stop_ends : (handed : HallState) (job : Job) (end : JobEnd) (after : ℕ) (last : JobState) (stop : Stop) → job_end_told stop ≡ Some end →
+stop_ends : (handed : HallState) (job : Job) (end : JobEnd) (after : ℕ) (last : JobState) (stop : Stop) → job_end_reported stop ≡ Some end →
     HasStopped handed job last stop after →
     EndsByStop handed job end after last
-stop_ends handed job end after last stop told (inl want) =
-    let none : None ≡ Some end = sym (ap job_end_told want) ∙ told in absurd (cc)
-stop_ends handed job end after last stop told (inr stopped) = record { stop = stop; stopped = stopped; told = told }
+stop_ends handed job end after last stop reported (inl want) =
+    let none : None ≡ Some end = sym (ap job_end_reported want) ∙ reported in absurd (cc)
+stop_ends handed job end after last stop reported (inr stopped) = record { stop = stop; stopped = stopped; reported = reported }
 
-pub ends_by_stop : (handed : HallState) (job : Job) (seen after attempts : ℕ) (stop : Stop) (end : JobEnd) → job_end_told stop ≡ Some end →
+pub ends_by_stop : (handed : HallState) (job : Job) (seen after attempts : ℕ) (stop : Stop) (end : JobEnd) → job_end_reported stop ≡ Some end →
     ComesTo handed job seen attempts (λ last. HasStopped handed job last stop after) → HasCome handed job seen end after attempts
-ends_by_stop handed job seen after attempts stop end told came = inr (record {
+ends_by_stop handed job seen after attempts stop end reported came = inr (record {
   failed = came.failed;
   counted = came.counted;
   within = came.within;
   last = came.last;
   failures = came.failures;
-  then_is = stop_ends handed job end after came.last stop told came.then_is;
+  then_is = stop_ends handed job end after came.last stop reported came.then_is;
 })

@@ -155,13 +155,13 @@ borne_there begun hall jobs ends place job end job_is end_is = (
   (λ at. at job end job_is end_is),
 )
 
-pub told_through : (A B : Type 0) (b : Bool) → (b ≡ true) ↔ A → A ↔ B → (b ≡ true) ↔ B
-told_through A B b first second = ((λ yes. second.0 (first.0 yes)), (λ x. first.1 (second.1 x)))
+pub reported_through : (A B : Type 0) (b : Bool) → (b ≡ true) ↔ A → A ↔ B → (b ≡ true) ↔ B
+reported_through A B b first second = ((λ yes. second.0 (first.0 yes)), (λ x. first.1 (second.1 x)))
 
 -- it is not, where a test of it fails
-pub not_told : (A : Type 0) (b : Bool) → (b ≡ true) ↔ A → b ≡ false → A → ⊥
-not_told A false test failed x = let yes : false ≡ true = test.1 x in absurd (cc)
-not_told A true test failed x = absurd (cc)
+pub not_reported : (A : Type 0) (b : Bool) → (b ≡ true) ↔ A → b ≡ false → A → ⊥
+not_reported A false test failed x = let yes : false ≡ true = test.1 x in absurd (cc)
+not_reported A true test failed x = absurd (cc)
 
 -- where all places below a number are fine, and the next one is, all below the next number are
 pub next_place : (P : ℕ → Type 0) (n : ℕ) → ((p : ℕ) → p < n → P p) → P n → (p : ℕ) → p < n + 1 → P p

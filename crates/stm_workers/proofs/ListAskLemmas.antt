@@ -46,10 +46,10 @@ shown_by_count terms keys done false few named came =
 -- a fetch that is answered, in whichever hall it was made
 pub shows_keys : (handed : HallState) (seen : ℕ) (keys : List (List ℕ)) (txn : Txn) (result : Result TxnAnswer FetchRefusal) (answer : TxnAnswer) → txn ≡ fetch_all_of keys →
     AreNamed keys → AnswersInSomeHall handed seen txn result → result ≡ Ok answer → ShowsKeys keys answer
-shows_keys handed seen keys txn result answer is named told came =
+shows_keys handed seen keys txn result answer is named reported came =
     let here : AnswersInSomeHall handed seen (fetch_all_of keys) (Ok answer) =
     subst (λ (t : Txn). AnswersInSomeHall handed seen t (Ok answer)) is
-    (subst (λ (r : Result TxnAnswer FetchRefusal). AnswersInSomeHall handed seen txn r) came told) in
+    (subst (λ (r : Result TxnAnswer FetchRefusal). AnswersInSomeHall handed seen txn r) came reported) in
     let s : Standing = here.0.standing in
     let alone = of_test (nat_lt (now s.history) seen) (Behind seen (now s.history)) (answered (outcome (terms_of s) (fetch_all_of keys))) answer here.2 in
     let d = of_answered (outcome (terms_of s) (fetch_all_of keys)) answer alone in

@@ -27,107 +27,107 @@ use Rattle.stm_workers.specs.Calls.{IsOfJob, IsRunOfJob}
 behind_by : (program : ProgramTree) (level : Level) (reads : List ReadAnswer) (next : Next) (due : Bool) → list_asked next ≡ None →
     cond due (FetchAll program.prefetch 0) (next_after program level reads (run_on program reads)) ≡ next →
     next_after program level reads (run_on program reads) ≡ next
-behind_by program level reads next true no_list told =
-    let both : Some program.prefetch ≡ None = ap list_asked told ∙ no_list in absurd (cc both)
-behind_by program level reads next false no_list told = told
+behind_by program level reads next true no_list reported =
+    let both : Some program.prefetch ≡ None = ap list_asked reported ∙ no_list in absurd (cc both)
+behind_by program level reads next false no_list reported = reported
 
 next_behind : (program : ProgramTree) (level : Level) (known : Known) (next : Next) → list_asked next ≡ None → next_of program level known ≡ next →
     next_after program level (gone_on program known) (run_on program (gone_on program known)) ≡ next
-next_behind program level known next no_list told =
-    behind_by program level (gone_on program known) next (is_due program.prefetch (gone_on program known)) no_list told
+next_behind program level known next no_list reported =
+    behind_by program level (gone_on program known) next (is_due program.prefetch (gone_on program known)) no_list reported
 
 not_due_by : (program : ProgramTree) (level : Level) (reads : List ReadAnswer) (next : Next) (due : Bool) → is_due program.prefetch reads ≡ due →
     list_asked next ≡ None → cond due (FetchAll program.prefetch 0) (next_after program level reads (run_on program reads)) ≡ next →
     is_due program.prefetch reads ≡ false
-not_due_by program level reads next true due no_list told =
-    let both : Some program.prefetch ≡ None = ap list_asked told ∙ no_list in absurd (cc both)
-not_due_by program level reads next false not no_list told = not
+not_due_by program level reads next true due no_list reported =
+    let both : Some program.prefetch ≡ None = ap list_asked reported ∙ no_list in absurd (cc both)
+not_due_by program level reads next false not no_list reported = not
 
 not_due : (program : ProgramTree) (level : Level) (known : Known) (next : Next) → list_asked next ≡ None → next_of program level known ≡ next →
     is_due program.prefetch (gone_on program known) ≡ false
-not_due program level known next no_list told =
-    not_due_by program level (gone_on program known) next (is_due program.prefetch (gone_on program known)) refl no_list told
+not_due program level known next no_list reported =
+    not_due_by program level (gone_on program known) next (is_due program.prefetch (gone_on program known)) refl no_list reported
 
 -- a run that has ended is one of an attempt that has its list
 pub aborted_has_list : (program : ProgramTree) (level : Level) (known : Known) (run : Run) → next_of program level known ≡ Aborted run →
     is_due program.prefetch (gone_on program known) ≡ false
-aborted_has_list program level known run told = not_due program level known (Aborted run) refl told
+aborted_has_list program level known run reported = not_due program level known (Aborted run) refl reported
 
 pub faulted_has_list : (program : ProgramTree) (level : Level) (known : Known) (run : Run) → next_of program level known ≡ Faulted run →
     is_due program.prefetch (gone_on program known) ≡ false
-faulted_has_list program level known run told = not_due program level known (Faulted run) refl told
+faulted_has_list program level known run reported = not_due program level known (Faulted run) refl reported
 
 aborted_at_end : (program : ProgramTree) (level : Level) (reads : List ReadAnswer) (run aborted : Run) (end : End) → run.end ≡ end →
     next_at_end program level reads run end ≡ Aborted aborted → aborted.end ≢ DoneEnd
-aborted_at_end program level reads run aborted DoneEnd ended told = absurd (cc)
-aborted_at_end program level reads run aborted (AbortedEnd text) ended told =
+aborted_at_end program level reads run aborted DoneEnd ended reported = absurd (cc)
+aborted_at_end program level reads run aborted (AbortedEnd text) ended reported =
     let same : run ≡ aborted = cc in subst (λ (r : Run). r.end ≢ DoneEnd) same (λ done. absurd (cc))
-aborted_at_end program level reads run aborted (FaultedEnd fault) ended told = absurd (cc)
+aborted_at_end program level reads run aborted (FaultedEnd fault) ended reported = absurd (cc)
 
 aborted_by : (program : ProgramTree) (level : Level) (reads : List ReadAnswer) (x : Answered) (aborted : Run) →
     next_after program level reads x ≡ Aborted aborted → aborted.end ≢ DoneEnd
-aborted_by program level reads (Wants k trace) aborted told = absurd (cc)
-aborted_by program level reads (Ended run) aborted told = aborted_at_end program level reads run aborted run.end refl told
+aborted_by program level reads (Wants k trace) aborted reported = absurd (cc)
+aborted_by program level reads (Ended run) aborted reported = aborted_at_end program level reads run aborted run.end refl reported
 
 -- a run that was aborted or has faulted is not done
 pub aborted_is_not_done : (program : ProgramTree) (level : Level) (known : Known) (run : Run) → next_of program level known ≡ Aborted run → run.end ≢ DoneEnd
-aborted_is_not_done program level known run told =
+aborted_is_not_done program level known run reported =
     let reads : List ReadAnswer = gone_on program known in
-    aborted_by program level reads (run_on program reads) run (next_behind program level known (Aborted run) refl told)
+    aborted_by program level reads (run_on program reads) run (next_behind program level known (Aborted run) refl reported)
 
 faulted_at_end : (program : ProgramTree) (level : Level) (reads : List ReadAnswer) (run faulted : Run) (end : End) → run.end ≡ end →
     next_at_end program level reads run end ≡ Faulted faulted → faulted.end ≢ DoneEnd
-faulted_at_end program level reads run faulted DoneEnd ended told = absurd (cc)
-faulted_at_end program level reads run faulted (AbortedEnd text) ended told = absurd (cc)
-faulted_at_end program level reads run faulted (FaultedEnd fault) ended told =
+faulted_at_end program level reads run faulted DoneEnd ended reported = absurd (cc)
+faulted_at_end program level reads run faulted (AbortedEnd text) ended reported = absurd (cc)
+faulted_at_end program level reads run faulted (FaultedEnd fault) ended reported =
     let same : run ≡ faulted = cc in subst (λ (r : Run). r.end ≢ DoneEnd) same (λ done. absurd (cc))
 
 faulted_by : (program : ProgramTree) (level : Level) (reads : List ReadAnswer) (x : Answered) (faulted : Run) →
     next_after program level reads x ≡ Faulted faulted → faulted.end ≢ DoneEnd
-faulted_by program level reads (Wants k trace) faulted told = absurd (cc)
-faulted_by program level reads (Ended run) faulted told = faulted_at_end program level reads run faulted run.end refl told
+faulted_by program level reads (Wants k trace) faulted reported = absurd (cc)
+faulted_by program level reads (Ended run) faulted reported = faulted_at_end program level reads run faulted run.end refl reported
 
 pub faulted_is_not_done : (program : ProgramTree) (level : Level) (known : Known) (run : Run) → next_of program level known ≡ Faulted run → run.end ≢ DoneEnd
-faulted_is_not_done program level known run told =
+faulted_is_not_done program level known run reported =
     let reads : List ReadAnswer = gone_on program known in
-    faulted_by program level reads (run_on program reads) run (next_behind program level known (Faulted run) refl told)
+    faulted_by program level reads (run_on program reads) run (next_behind program level known (Faulted run) refl reported)
 
 -- and it is the program's run on what the attempt has read
 aborted_run_at : (program : ProgramTree) (level : Level) (reads : List ReadAnswer) (run aborted : Run) (end : End) →
     next_at_end program level reads run end ≡ Aborted aborted → run ≡ aborted
-aborted_run_at program level reads run aborted DoneEnd told = absurd (cc)
-aborted_run_at program level reads run aborted (AbortedEnd text) told = cc
-aborted_run_at program level reads run aborted (FaultedEnd fault) told = absurd (cc)
+aborted_run_at program level reads run aborted DoneEnd reported = absurd (cc)
+aborted_run_at program level reads run aborted (AbortedEnd text) reported = cc
+aborted_run_at program level reads run aborted (FaultedEnd fault) reported = absurd (cc)
 
 aborted_run : (program : ProgramTree) (level : Level) (reads : List ReadAnswer) (x : Answered) (aborted : Run) →
     next_after program level reads x ≡ Aborted aborted → x ≡ Ended aborted
-aborted_run program level reads (Wants k trace) aborted told = absurd (cc)
-aborted_run program level reads (Ended run) aborted told =
-    ap (λ (r : Run). Ended r) (aborted_run_at program level reads run aborted run.end told)
+aborted_run program level reads (Wants k trace) aborted reported = absurd (cc)
+aborted_run program level reads (Ended run) aborted reported =
+    ap (λ (r : Run). Ended r) (aborted_run_at program level reads run aborted run.end reported)
 
 pub aborted_is_run : (program : ProgramTree) (level : Level) (known : Known) (run : Run) → next_of program level known ≡ Aborted run →
     run_on program (gone_on program known) ≡ Ended run
-aborted_is_run program level known run told =
+aborted_is_run program level known run reported =
     let reads : List ReadAnswer = gone_on program known in
-    aborted_run program level reads (run_on program reads) run (next_behind program level known (Aborted run) refl told)
+    aborted_run program level reads (run_on program reads) run (next_behind program level known (Aborted run) refl reported)
 
 faulted_run_at : (program : ProgramTree) (level : Level) (reads : List ReadAnswer) (run faulted : Run) (end : End) →
     next_at_end program level reads run end ≡ Faulted faulted → run ≡ faulted
-faulted_run_at program level reads run faulted DoneEnd told = absurd (cc)
-faulted_run_at program level reads run faulted (AbortedEnd text) told = absurd (cc)
-faulted_run_at program level reads run faulted (FaultedEnd fault) told = cc
+faulted_run_at program level reads run faulted DoneEnd reported = absurd (cc)
+faulted_run_at program level reads run faulted (AbortedEnd text) reported = absurd (cc)
+faulted_run_at program level reads run faulted (FaultedEnd fault) reported = cc
 
 faulted_run : (program : ProgramTree) (level : Level) (reads : List ReadAnswer) (x : Answered) (faulted : Run) →
     next_after program level reads x ≡ Faulted faulted → x ≡ Ended faulted
-faulted_run program level reads (Wants k trace) faulted told = absurd (cc)
-faulted_run program level reads (Ended run) faulted told =
-    ap (λ (r : Run). Ended r) (faulted_run_at program level reads run faulted run.end told)
+faulted_run program level reads (Wants k trace) faulted reported = absurd (cc)
+faulted_run program level reads (Ended run) faulted reported =
+    ap (λ (r : Run). Ended r) (faulted_run_at program level reads run faulted run.end reported)
 
 pub faulted_is_run : (program : ProgramTree) (level : Level) (known : Known) (run : Run) → next_of program level known ≡ Faulted run →
     run_on program (gone_on program known) ≡ Ended run
-faulted_is_run program level known run told =
+faulted_is_run program level known run reported =
     let reads : List ReadAnswer = gone_on program known in
-    faulted_run program level reads (run_on program reads) run (next_behind program level known (Faulted run) refl told)
+    faulted_run program level reads (run_on program reads) run (next_behind program level known (Faulted run) refl reported)
 
 -- ---- what is ready
 
@@ -137,22 +137,22 @@ HasBoth program level ready = (ready.program ≡ program) × (ready.level ≡ le
 
 ready_at_end : (program : ProgramTree) (level : Level) (reads : List ReadAnswer) (run : Run) (ready : ReadyRun) (end : End) →
     next_at_end program level reads run end ≡ Ready ready → HasBoth program level ready
-ready_at_end program level reads run ready DoneEnd told =
+ready_at_end program level reads run ready DoneEnd reported =
     let same : ready_run program level reads run ≡ ready = cc in subst (HasBoth program level) same (refl, refl)
-ready_at_end program level reads run ready (AbortedEnd text) told = absurd (cc)
-ready_at_end program level reads run ready (FaultedEnd fault) told = absurd (cc)
+ready_at_end program level reads run ready (AbortedEnd text) reported = absurd (cc)
+ready_at_end program level reads run ready (FaultedEnd fault) reported = absurd (cc)
 
 ready_by : (program : ProgramTree) (level : Level) (reads : List ReadAnswer) (x : Answered) (ready : ReadyRun) →
     next_after program level reads x ≡ Ready ready → HasBoth program level ready
-ready_by program level reads (Wants k trace) ready told = absurd (cc)
-ready_by program level reads (Ended run) ready told = ready_at_end program level reads run ready run.end told
+ready_by program level reads (Wants k trace) ready reported = absurd (cc)
+ready_by program level reads (Ended run) ready reported = ready_at_end program level reads run ready run.end reported
 
 pub ready_is_of : (job : Job) (attempt : AttemptState) (ready : ReadyRun) → IsOfJob job attempt →
     next_of job.program attempt.level attempt.known ≡ Ready ready → IsRunOfJob job ready
-ready_is_of job attempt ready of told =
+ready_is_of job attempt ready of reported =
     let reads : List ReadAnswer = gone_on job.program attempt.known in
     let both = ready_by job.program attempt.level reads (run_on job.program reads) ready
-    (next_behind job.program attempt.level attempt.known (Ready ready) refl told) in
+    (next_behind job.program attempt.level attempt.known (Ready ready) refl reported) in
     (both.0, both.1 ∙ of.1)
 
 -- ---- an attempt of a job
@@ -207,25 +207,25 @@ waits_for_list attempt next keys at answers asked is same = asked ∙ ap list_as
 
 no_list_at_end : (program : ProgramTree) (level : Level) (reads : List ReadAnswer) (run : Run) (end : End) (keys : List (List ℕ)) (at : ℕ) →
     next_at_end program level reads run end ≡ FetchAll keys at → ⊥
-no_list_at_end program level reads run DoneEnd keys at told = cc
-no_list_at_end program level reads run (AbortedEnd text) keys at told = cc
-no_list_at_end program level reads run (FaultedEnd fault) keys at told = cc
+no_list_at_end program level reads run DoneEnd keys at reported = cc
+no_list_at_end program level reads run (AbortedEnd text) keys at reported = cc
+no_list_at_end program level reads run (FaultedEnd fault) keys at reported = cc
 
 no_list_behind : (program : ProgramTree) (level : Level) (reads : List ReadAnswer) (x : Answered) (keys : List (List ℕ)) (at : ℕ) →
     next_after program level reads x ≡ FetchAll keys at → ⊥
-no_list_behind program level reads (Wants k trace) keys at told = cc
-no_list_behind program level reads (Ended run) keys at told = no_list_at_end program level reads run run.end keys at told
+no_list_behind program level reads (Wants k trace) keys at reported = cc
+no_list_behind program level reads (Ended run) keys at reported = no_list_at_end program level reads run run.end keys at reported
 
 listed_by : (program : ProgramTree) (level : Level) (reads : List ReadAnswer) (keys : List (List ℕ)) (at : ℕ) (due : Bool) →
     cond due (FetchAll program.prefetch 0) (next_after program level reads (run_on program reads)) ≡ FetchAll keys at → program.prefetch ≡ keys
-listed_by program level reads keys at true told = cc
-listed_by program level reads keys at false told = absurd (no_list_behind program level reads (run_on program reads) keys at told)
+listed_by program level reads keys at true reported = cc
+listed_by program level reads keys at false reported = absurd (no_list_behind program level reads (run_on program reads) keys at reported)
 
 -- its keys are the program's, and none of them is empty
 pub list_is_named : (program : ProgramTree) (level : Level) (known : Known) (keys : List (List ℕ)) (at : ℕ) → Fits program →
     next_of program level known ≡ FetchAll keys at → AreNamed keys
-list_is_named program level known keys at fits told =
-    subst AreNamed (listed_by program level (gone_on program known) keys at (is_due program.prefetch (gone_on program known)) told)
+list_is_named program level known keys at fits reported =
+    subst AreNamed (listed_by program level (gone_on program known) keys at (is_due program.prefetch (gone_on program known)) reported)
     (list_named program fits)
 
 -- what is taken out of an attempt that went on is what it has read then

@@ -49,18 +49,18 @@ no_audit : (lost : ThreadFault) (fact : ℕ → Type 0) → OnAudit (cause_of lo
 no_audit NoMemory fact = tt
 no_audit NoThread fact = tt
 
-pub given_up : (before after told : HallState) (jobs : List Job) (lost : ThreadFault) (cause : FaultCause) (ends : List JobEnd) → HasGoneOn before after →
-    HasKeptStore before after → TookCommitsOf jobs before after → told ≡ after → cause ≡ cause_of lost → BrokeOff before jobs cause ends told
-given_up before after told jobs lost cause ends gone kept takes same is =
+pub given_up : (before after reported : HallState) (jobs : List Job) (lost : ThreadFault) (cause : FaultCause) (ends : List JobEnd) → HasGoneOn before after →
+    HasKeptStore before after → TookCommitsOf jobs before after → reported ≡ after → cause ≡ cause_of lost → BrokeOff before jobs cause ends reported
+given_up before after reported jobs lost cause ends gone kept takes same is =
     subst (λ (h : HallState). BrokeOff before jobs cause ends h) (sym same)
     (broke_off before after jobs cause ends gone kept takes
     (subst (λ (c : FaultCause). OnAudit c (IsAtFault before jobs ends after)) (sym is) (no_audit lost (IsAtFault before jobs ends after))))
 
 -- or before it began
-pub broke_off_early : (before told : HallState) (jobs : List Job) (cause : FaultCause) (ends : List JobEnd) → told ≡ before → cause ≡ OutOfMemory →
-    BrokeOff before jobs cause ends told
-broke_off_early before told jobs cause ends same is =
-    subst (λ (c : FaultCause). BrokeOff before jobs c ends told) (sym is)
+pub broke_off_early : (before reported : HallState) (jobs : List Job) (cause : FaultCause) (ends : List JobEnd) → reported ≡ before → cause ≡ OutOfMemory →
+    BrokeOff before jobs cause ends reported
+broke_off_early before reported jobs cause ends same is =
+    subst (λ (c : FaultCause). BrokeOff before jobs c ends reported) (sym is)
     (subst (λ (h : HallState). BrokeOff before jobs OutOfMemory ends h) (sym same)
     (broke_off before before jobs OutOfMemory ends (has_not_gone before) (refl {a = before}) (took_nothing jobs before) tt))
 
@@ -68,16 +68,16 @@ broke_off_early before told jobs cause ends same is =
 began_there : (before after : HallState) (jobs : List Job) (ends : List JobEnd) (begun : StartPoint) (cause : FaultCause) → begun ≡ start_point before →
     OnAudit cause (λ (job : ℕ). (job < length jobs) × (length ends ≡ length jobs) × (StandsAt begun after jobs ends job → ⊥)) →
     OnAudit cause (IsAtFault before jobs ends after)
-began_there before after jobs ends begun OutOfMemory began told = tt
-began_there before after jobs ends begun Spawn began told = tt
-began_there before after jobs ends begun (Audit job) began told =
-    (told.0, told.1, subst (λ (b : StartPoint). StandsAt b after jobs ends job → ⊥) began told.2)
+began_there before after jobs ends begun OutOfMemory began reported = tt
+began_there before after jobs ends begun Spawn began reported = tt
+began_there before after jobs ends begun (Audit job) began reported =
+    (reported.0, reported.1, subst (λ (b : StartPoint). StandsAt b after jobs ends job → ⊥) began reported.2)
 
-pub fault_found : (before after told : HallState) (jobs : List Job) (ends : List JobEnd) (begun : StartPoint) (cause : FaultCause) →
-    begun ≡ start_point before → HasGoneOn before after → HasKeptStore before after → TookCommitsOf jobs before after → told ≡ after →
+pub fault_found : (before after reported : HallState) (jobs : List Job) (ends : List JobEnd) (begun : StartPoint) (cause : FaultCause) →
+    begun ≡ start_point before → HasGoneOn before after → HasKeptStore before after → TookCommitsOf jobs before after → reported ≡ after →
     OnAudit cause (λ (job : ℕ). (job < length jobs) × (length ends ≡ length jobs) × (StandsAt begun after jobs ends job → ⊥)) →
-    BrokeOff before jobs cause ends told
-fault_found before after told jobs ends begun cause began gone kept takes same fault =
+    BrokeOff before jobs cause ends reported
+fault_found before after reported jobs ends begun cause began gone kept takes same fault =
     subst (λ (h : HallState). BrokeOff before jobs cause ends h) (sym same)
     (broke_off before after jobs cause ends gone kept takes (began_there before after jobs ends begun cause began fault))
 
@@ -98,10 +98,10 @@ taken_from jobs its hall before after are same takes =
     (ap (λ (js : List Job). takes_commits_of js hall after) are ∙ ap (λ (h : HallState). takes_commits_of its h after) same ∙ takes)
 
 -- it has the commits that it had, and one for each end that is one
-pub run_commits : (hall before after : HallState) (amount told counted : ℕ) → hall ≡ before →
-    commits_in after.entries ≡ commits_in before.entries + amount → amount ≡ told → counted ≡ told →
+pub run_commits : (hall before after : HallState) (amount reported counted : ℕ) → hall ≡ before →
+    commits_in after.entries ≡ commits_in before.entries + amount → amount ≡ reported → counted ≡ reported →
     commits_in after.entries ≡ commits_in hall.entries + counted
-run_commits hall before after amount told counted same closed shared sorted =
+run_commits hall before after amount reported counted same closed shared sorted =
     closed
     ∙ ap (λ (h : HallState). commits_in h.entries + amount) (sym same)
     ∙ ap (λ (n : ℕ). commits_in hall.entries + n) (shared ∙ sym sorted)
@@ -114,23 +114,23 @@ pub all_clear : (begun : StartPoint) (hall : HallState) (jobs : List Job) (shown
 all_clear begun hall jobs shown ends same clear = subst (λ (es : List JobEnd). AllStand begun hall jobs es) same clear
 
 -- it tells a job that is at fault, of the ends that are handed back
-told_of : (begun : StartPoint) (hall : HallState) (jobs : List Job) (ends : List JobEnd) (cause : FaultCause) → length ends ≡ length jobs →
+reported_of : (begun : StartPoint) (hall : HallState) (jobs : List Job) (ends : List JobEnd) (cause : FaultCause) → length ends ≡ length jobs →
     OnAudit cause (λ (job : ℕ). (job < length jobs) × (StandsAt begun hall jobs ends job → ⊥)) →
     OnAudit cause (λ (job : ℕ). (job < length jobs) × (length ends ≡ length jobs) × (StandsAt begun hall jobs ends job → ⊥))
-told_of begun hall jobs ends OutOfMemory places fault = tt
-told_of begun hall jobs ends Spawn places fault = tt
-told_of begun hall jobs ends (Audit job) places fault = (fault.0, places, fault.1)
+reported_of begun hall jobs ends OutOfMemory places fault = tt
+reported_of begun hall jobs ends Spawn places fault = tt
+reported_of begun hall jobs ends (Audit job) places fault = (fault.0, places, fault.1)
 
-pub at_fault : (begun : StartPoint) (hall : HallState) (jobs : List Job) (shown ends given : List JobEnd) (cause told : FaultCause) → shown ≡ ends →
-    given ≡ ends → told ≡ cause → length ends ≡ length jobs →
+pub at_fault : (begun : StartPoint) (hall : HallState) (jobs : List Job) (shown ends given : List JobEnd) (cause reported : FaultCause) → shown ≡ ends →
+    given ≡ ends → reported ≡ cause → length ends ≡ length jobs →
     OnAudit cause (λ (job : ℕ). (job < length jobs) × (StandsAt begun hall jobs shown job → ⊥)) →
-    OnAudit told (λ (job : ℕ). (job < length jobs) × (length given ≡ length jobs) × (StandsAt begun hall jobs given job → ⊥))
-at_fault begun hall jobs shown ends given cause told same are is places fault =
+    OnAudit reported (λ (job : ℕ). (job < length jobs) × (length given ≡ length jobs) × (StandsAt begun hall jobs given job → ⊥))
+at_fault begun hall jobs shown ends given cause reported same are is places fault =
     let its : OnAudit cause (λ (job : ℕ). (job < length jobs) × (StandsAt begun hall jobs ends job → ⊥)) =
     subst (λ (es : List JobEnd). OnAudit cause (λ (job : ℕ). (job < length jobs) × (StandsAt begun hall jobs es job → ⊥))) same fault in
     subst (λ (c : FaultCause). OnAudit c (λ (job : ℕ). (job < length jobs) × (length given ≡ length jobs) × (StandsAt begun hall jobs given job → ⊥))) (sym is)
     (subst (λ (es : List JobEnd). OnAudit cause (λ (job : ℕ). (job < length jobs) × (length es ≡ length jobs) × (StandsAt begun hall jobs es job → ⊥))) (sym are)
-    (told_of begun hall jobs ends cause places its))
+    (reported_of begun hall jobs ends cause places its))
 
 -- ---- what was gathered, in its own words
 
@@ -139,9 +139,9 @@ pub at_ok : {A E : Type 0} (P : A → Type 0) (outcome : Result A E) (made : A) 
 at_ok {A} {E} P outcome made is holds = subst (λ (r : Result A E). IfOk r P) is holds
 
 -- the same run, told by the hall, the ends and the attempts that were gathered
-pub ran_on : (before after told : HallState) (jobs : List Job) (ends given : List JobEnd) (attempts made : List ℕ) (committed : ℕ) → told ≡ after →
-    given ≡ ends → made ≡ attempts → RanTo before jobs ends attempts committed after → RanTo before jobs given made committed told
-ran_on before after told jobs ends given attempts made committed same are were ran =
+pub ran_on : (before after reported : HallState) (jobs : List Job) (ends given : List JobEnd) (attempts made : List ℕ) (committed : ℕ) → reported ≡ after →
+    given ≡ ends → made ≡ attempts → RanTo before jobs ends attempts committed after → RanTo before jobs given made committed reported
+ran_on before after reported jobs ends given attempts made committed same are were ran =
     subst (λ (h : HallState). RanTo before jobs given made committed h) (sym same)
     (subst (λ (es : List JobEnd). RanTo before jobs es made committed after) (sym are)
     (subst (λ (ns : List ℕ). RanTo before jobs ends ns committed after) (sym were) ran))

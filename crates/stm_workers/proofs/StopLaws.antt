@@ -34,7 +34,7 @@ use Rattle.stm_job.specs.declared.job_end.JobEnd.TheVariants.{GaveUp}
 use Rattle.stm_workers.specs.declared.stop.Stop.{Stop}
 use Rattle.stm_workers.specs.declared.stop.Stop.TheVariants.{OutOfMemory, Aborted, Faulted, Refused}
 use Rattle.stm_workers.specs.Ends.{start_point, AreOfOneState, IsBorneOut}
-use Rattle.stm_workers.specs.Attempts.{JobState, end_told, reads_told, fetch_refusal_told, commit_refusal_told, job_end_told, end_after}
+use Rattle.stm_workers.specs.Attempts.{JobState, end_reported, reads_reported, fetch_refusal_reported, commit_refusal_reported, job_end_reported, end_after}
 use Rattle.stm_workers.specs.Attempts.{IsStop, HasCome, HasSomeRun}
 use Rattle.stm_workers.specs.Stops.{IsEndAlone, OnStop, StopsAreOfOneState}
 use Rattle.stm_workers.proofs.EndLaws.{there, within}
@@ -71,93 +71,93 @@ some_of {A} x y is = ap (value_or x) is
     value_or other (Some a) = a
 
 -- what tells an end tells no refusal
-no_fetch : (stop : Stop) (end : End) (cause : FetchRefusal) → end_told stop ≡ Some end → fetch_refusal_told stop ≡ Some cause → ⊥
-no_fetch OutOfMemory end cause tells told = absurd (cc)
-no_fetch (Aborted text reads) end cause tells told = absurd (cc)
-no_fetch (Faulted fault reads) end cause tells told = absurd (cc)
-no_fetch (Refused refusal) end cause tells told = absurd (cc)
+no_fetch : (stop : Stop) (end : End) (cause : FetchRefusal) → end_reported stop ≡ Some end → fetch_refusal_reported stop ≡ Some cause → ⊥
+no_fetch OutOfMemory end cause reports reported = absurd (cc)
+no_fetch (Aborted text reads) end cause reports reported = absurd (cc)
+no_fetch (Faulted fault reads) end cause reports reported = absurd (cc)
+no_fetch (Refused refusal) end cause reports reported = absurd (cc)
 
-no_commit : (stop : Stop) (end : End) (cause : CommitRefusal) → end_told stop ≡ Some end → commit_refusal_told stop ≡ Some cause → ⊥
-no_commit OutOfMemory end cause tells told = absurd (cc)
-no_commit (Aborted text reads) end cause tells told = absurd (cc)
-no_commit (Faulted fault reads) end cause tells told = absurd (cc)
-no_commit (Refused refusal) end cause tells told = absurd (cc)
+no_commit : (stop : Stop) (end : End) (cause : CommitRefusal) → end_reported stop ≡ Some end → commit_refusal_reported stop ≡ Some cause → ⊥
+no_commit OutOfMemory end cause reports reported = absurd (cc)
+no_commit (Aborted text reads) end cause reports reported = absurd (cc)
+no_commit (Faulted fault reads) end cause reports reported = absurd (cc)
+no_commit (Refused refusal) end cause reports reported = absurd (cc)
 
-by_stop : (handed : HallState) (job : Job) (at : JobState) (stop : Stop) (reads : List ReadAnswer) (end : End) → end_told stop ≡ Some end →
-    reads_told stop ≡ Some reads →
+by_stop : (handed : HallState) (job : Job) (at : JobState) (stop : Stop) (reads : List ReadAnswer) (end : End) → end_reported stop ≡ Some end →
+    reads_reported stop ≡ Some reads →
     IsStop handed job at stop → RunsTo (run_on job.program reads) end
-by_stop handed job at stop reads end tells on (inl ended) = (
+by_stop handed job at stop reads end reports on (inl ended) = (
   ended.run,
   subst (λ (rs : List ReadAnswer). run_on job.program rs ≡ EndedRun ended.run) (some_of _ _ (sym ended.reads ∙ on)) ended.is_run,
-  some_of _ _ (sym ended.told ∙ tells),
+  some_of _ _ (sym ended.reported ∙ reports),
 )
-by_stop handed job at stop reads end tells on (inr (inl (inl refused))) = absurd (no_fetch stop end refused.refused.cause tells refused.refused.told)
-by_stop handed job at stop reads end tells on (inr (inl (inr refused))) = absurd (no_fetch stop end refused.refused.cause tells refused.refused.told)
-by_stop handed job at stop reads end tells on (inr (inr refused)) = absurd (no_commit stop end refused.refused.cause tells refused.refused.told)
+by_stop handed job at stop reads end reports on (inr (inl (inl refused))) = absurd (no_fetch stop end refused.refused.cause reports refused.refused.reported)
+by_stop handed job at stop reads end reports on (inr (inl (inr refused))) = absurd (no_fetch stop end refused.refused.cause reports refused.refused.reported)
+by_stop handed job at stop reads end reports on (inr (inr refused)) = absurd (no_commit stop end refused.refused.cause reports refused.refused.reported)
 
 -- ---- the run that an end of a job tells
 
 -- what an end tells of a run
-abbrev told_end : JobEnd → Option End
-told_end (CommittedJob index revision) = None
-told_end (AbortedJob text reads) = Some (AbortedEnd text)
-told_end (FaultedJob fault reads) = Some (FaultedEnd fault)
-told_end (RefusedJob cause) = None
-told_end (GaveUp key) = None
+abbrev reported_end : JobEnd → Option End
+reported_end (CommittedJob index revision) = None
+reported_end (AbortedJob text reads) = Some (AbortedEnd text)
+reported_end (FaultedJob fault reads) = Some (FaultedEnd fault)
+reported_end (RefusedJob cause) = None
+reported_end (GaveUp key) = None
 
-abbrev told_reads : JobEnd → Option (List ReadAnswer)
-told_reads (CommittedJob index revision) = None
-told_reads (AbortedJob text reads) = Some reads
-told_reads (FaultedJob fault reads) = Some reads
-told_reads (RefusedJob cause) = None
-told_reads (GaveUp key) = None
+abbrev reported_reads : JobEnd → Option (List ReadAnswer)
+reported_reads (CommittedJob index revision) = None
+reported_reads (AbortedJob text reads) = Some reads
+reported_reads (FaultedJob fault reads) = Some reads
+reported_reads (RefusedJob cause) = None
+reported_reads (GaveUp key) = None
 
 -- a verdict tells none
-not_by_verdict : (verdict : Verdict) (end : End) → told_end (end_after verdict) ≡ Some end → ⊥
-not_by_verdict (Committed index revision) end told = absurd (cc)
-not_by_verdict (Failed key seen modified answers) end told = absurd (cc)
+not_by_verdict : (verdict : Verdict) (end : End) → reported_end (end_after verdict) ≡ Some end → ⊥
+not_by_verdict (Committed index revision) end reported = absurd (cc)
+not_by_verdict (Failed key seen modified answers) end reported = absurd (cc)
 
 -- a stop tells what its end does
-same_told : (stop : Stop) (job_end : JobEnd) → job_end_told stop ≡ Some job_end → (end_told stop ≡ told_end job_end) × (reads_told stop ≡ told_reads job_end)
-same_told OutOfMemory job_end told = absurd (cc)
-same_told (Aborted text reads) job_end told =
-    let same = some_of _ _ told in (ap told_end same, ap told_reads same)
-same_told (Faulted fault reads) job_end told =
-    let same = some_of _ _ told in (ap told_end same, ap told_reads same)
-same_told (Refused refusal) job_end told =
-    let same = some_of _ _ told in (ap told_end same, ap told_reads same)
+same_reported : (stop : Stop) (job_end : JobEnd) → job_end_reported stop ≡ Some job_end → (end_reported stop ≡ reported_end job_end) × (reads_reported stop ≡ reported_reads job_end)
+same_reported OutOfMemory job_end reported = absurd (cc)
+same_reported (Aborted text reads) job_end reported =
+    let same = some_of _ _ reported in (ap reported_end same, ap reported_reads same)
+same_reported (Faulted fault reads) job_end reported =
+    let same = some_of _ _ reported in (ap reported_end same, ap reported_reads same)
+same_reported (Refused refusal) job_end reported =
+    let same = some_of _ _ reported in (ap reported_end same, ap reported_reads same)
 
 by_come : (handed : HallState) (job : Job) (seen : ℕ) (job_end : JobEnd) (after attempts : ℕ) (end : End) (reads : List ReadAnswer) →
-    told_end job_end ≡ Some end →
-    told_reads job_end ≡ Some reads → HasCome handed job seen job_end after attempts → RunsTo (run_on job.program reads) end
-by_come handed job seen job_end after attempts end reads tells on (inl came) =
-    absurd (not_by_verdict came.then_is.verdict end (sym (ap told_end came.then_is.told) ∙ tells))
-by_come handed job seen job_end after attempts end reads tells on (inr came) =
-    let same = same_told came.then_is.stop job_end came.then_is.told in
-    by_stop handed job came.then_is.stopped.at came.then_is.stop reads end (same.0 ∙ tells) (same.1 ∙ on) came.then_is.stopped.is_stop
+    reported_end job_end ≡ Some end →
+    reported_reads job_end ≡ Some reads → HasCome handed job seen job_end after attempts → RunsTo (run_on job.program reads) end
+by_come handed job seen job_end after attempts end reads reports on (inl came) =
+    absurd (not_by_verdict came.then_is.verdict end (sym (ap reported_end came.then_is.reported) ∙ reports))
+by_come handed job seen job_end after attempts end reads reports on (inr came) =
+    let same = same_reported came.then_is.stop job_end came.then_is.reported in
+    by_stop handed job came.then_is.stopped.at came.then_is.stop reads end (same.0 ∙ reports) (same.1 ∙ on) came.then_is.stopped.is_stop
 
 -- a run that is known to be there is there: it is the one that the program has
 the_run : {A : Type 0} (x : Answered) (end : End) → ∥ A ∥₁ → (A → RunsTo x end) → RunsTo x end
 the_run {A} (Wants key trace) end some is = absurd (∥∥₁_elim some ⊥_prop (λ (a : A). none (is a).0 (is a).1))
   where
     none : (run : Run) → Wants key trace ≡ EndedRun run → ⊥
-    none run told = absurd (cc)
+    none run reported = absurd (cc)
 the_run {A} (EndedRun own) end some is = (own, refl, ∥∥₁_elim some (Coded-set ends.the_row.coded own.end end) (λ (a : A). same (is a)))
   where
     same : RunsTo (EndedRun own) end → own.end ≡ end
-    same told = let one : own ≡ told.0 = run_of own told.0 told.1 in ap (λ (r : Run). r.end) one ∙ told.2
+    same reported = let one : own ≡ reported.0 = run_of own reported.0 reported.1 in ap (λ (r : Run). r.end) one ∙ reported.2
       where
         run_or : Run → Answered → Run
         run_or other (EndedRun r) = r
         run_or other (Wants key trace) = other
 
         run_of : (x y : Run) → EndedRun x ≡ EndedRun y → x ≡ y
-        run_of x y told = ap (run_or x) told
+        run_of x y reported = ap (run_or x) reported
 
-runs_to : (handed : HallState) (job : Job) (job_end : JobEnd) (attempts : ℕ) (end : End) (reads : List ReadAnswer) → told_end job_end ≡ Some end →
-    told_reads job_end ≡ Some reads → HasSomeRun handed job job_end attempts → RunsTo (run_on job.program reads) end
-runs_to handed job job_end attempts end reads tells on some =
-    the_run (run_on job.program reads) end some (λ came. by_come handed job came.0 job_end came.1 attempts end reads tells on came.2)
+runs_to : (handed : HallState) (job : Job) (job_end : JobEnd) (attempts : ℕ) (end : End) (reads : List ReadAnswer) → reported_end job_end ≡ Some end →
+    reported_reads job_end ≡ Some reads → HasSomeRun handed job job_end attempts → RunsTo (run_on job.program reads) end
+runs_to handed job job_end attempts end reads reports on some =
+    the_run (run_on job.program reads) end some (λ came. by_come handed job came.0 job_end came.1 attempts end reads reports on came.2)
 
 -- ---- the law
 

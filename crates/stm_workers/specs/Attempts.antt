@@ -40,43 +40,43 @@ use Rattle.stm_workers.specs.Calls.{AnswersInSomeHall, JudgedInSomeHall, committ
 -- ---- what a stop tells
 
 -- the end of a run
-abbrev pub end_told : Stop → Option End
-end_told OutOfMemory = None
-end_told (Aborted text reads) = Some (AbortedEnd text)
-end_told (Faulted fault reads) = Some (FaultedEnd fault)
-end_told (Refused refusal) = None
+abbrev pub end_reported : Stop → Option End
+end_reported OutOfMemory = None
+end_reported (Aborted text reads) = Some (AbortedEnd text)
+end_reported (Faulted fault reads) = Some (FaultedEnd fault)
+end_reported (Refused refusal) = None
 
 -- and what that was on
-abbrev pub reads_told : Stop → Option (List ReadAnswer)
-reads_told OutOfMemory = None
-reads_told (Aborted text reads) = Some reads
-reads_told (Faulted fault reads) = Some reads
-reads_told (Refused refusal) = None
+abbrev pub reads_reported : Stop → Option (List ReadAnswer)
+reads_reported OutOfMemory = None
+reads_reported (Aborted text reads) = Some reads
+reads_reported (Faulted fault reads) = Some reads
+reads_reported (Refused refusal) = None
 
 -- the hall's refusal of a fetch
-abbrev pub fetch_refusal_told : Stop → Option FetchRefusal
-fetch_refusal_told OutOfMemory = Some (FetchRefused Want)
-fetch_refusal_told (Refused (Store refusal)) = Some (FetchRefused refusal.cause)
-fetch_refusal_told (Refused (Behind seen now)) = Some (FetchBehind seen now)
-fetch_refusal_told (Refused (Unvouched key)) = None
-fetch_refusal_told (Aborted text reads) = None
-fetch_refusal_told (Faulted fault reads) = None
+abbrev pub fetch_refusal_reported : Stop → Option FetchRefusal
+fetch_refusal_reported OutOfMemory = Some (FetchRefused Want)
+fetch_refusal_reported (Refused (Store refusal)) = Some (FetchRefused refusal.cause)
+fetch_refusal_reported (Refused (Behind seen now)) = Some (FetchBehind seen now)
+fetch_refusal_reported (Refused (Unvouched key)) = None
+fetch_refusal_reported (Aborted text reads) = None
+fetch_refusal_reported (Faulted fault reads) = None
 
 -- the hall's refusal of a commit
-abbrev pub commit_refusal_told : Stop → Option CommitRefusal
-commit_refusal_told OutOfMemory = Some (CommitRefused Want)
-commit_refusal_told (Refused (Store refusal)) = Some (CommitRefused refusal.cause)
-commit_refusal_told (Refused (Behind seen now)) = None
-commit_refusal_told (Refused (Unvouched key)) = Some (CommitUnvouched key)
-commit_refusal_told (Aborted text reads) = None
-commit_refusal_told (Faulted fault reads) = None
+abbrev pub commit_refusal_reported : Stop → Option CommitRefusal
+commit_refusal_reported OutOfMemory = Some (CommitRefused Want)
+commit_refusal_reported (Refused (Store refusal)) = Some (CommitRefused refusal.cause)
+commit_refusal_reported (Refused (Behind seen now)) = None
+commit_refusal_reported (Refused (Unvouched key)) = Some (CommitUnvouched key)
+commit_refusal_reported (Aborted text reads) = None
+commit_refusal_reported (Faulted fault reads) = None
 
 -- the end of a job, which want of memory is not
-abbrev pub job_end_told : Stop → Option JobEnd
-job_end_told OutOfMemory = None
-job_end_told (Aborted text reads) = Some (AbortedJob text reads)
-job_end_told (Faulted fault reads) = Some (FaultedJob fault reads)
-job_end_told (Refused refusal) = Some (RefusedJob refusal)
+abbrev pub job_end_reported : Stop → Option JobEnd
+job_end_reported OutOfMemory = None
+job_end_reported (Aborted text reads) = Some (AbortedJob text reads)
+job_end_reported (Faulted fault reads) = Some (FaultedJob fault reads)
+job_end_reported (Refused refusal) = Some (RefusedJob refusal)
 
 -- the end of a job by the verdict on its last commit
 abbrev pub end_after : Verdict → JobEnd
@@ -95,34 +95,34 @@ state_of attempt seen = record { attempt = attempt; seen = seen }
 
 -- a hall that was asked for a key at a revision, by who has seen this, answered so
 pub record IsAnswered (handed : HallState) (seen : ℕ) (key : List ℕ) (at : ℕ) (answer : ReadAnswer) : Type 0 where
-  pub told : TxnAnswer
-  pub by_hall : AnswersInSomeHall handed seen (fetch_of key at) (Ok told)
-  pub is_read : told.answers ≡ GetAnswer answer ∷ []
+  pub reported : TxnAnswer
+  pub by_hall : AnswersInSomeHall handed seen (fetch_of key at) (Ok reported)
+  pub is_read : reported.answers ≡ GetAnswer answer ∷ []
 
 -- it refused, as the stop tells
 pub record IsUnanswered (handed : HallState) (seen : ℕ) (key : List ℕ) (at : ℕ) (stop : Stop) : Type 0 where
   pub cause : FetchRefusal
   pub by_hall : AnswersInSomeHall handed seen (fetch_of key at) (Err cause)
-  pub told : fetch_refusal_told stop ≡ Some cause
+  pub reported : fetch_refusal_reported stop ≡ Some cause
 
 -- a hall that was asked for the keys of a list, by who has seen this, answered so, and carried this revision
 pub record AreAnswered (handed : HallState) (seen : ℕ) (keys : List (List ℕ)) (answers : List ReadAnswer) (revision : ℕ) : Type 0 where
-  pub told : TxnAnswer
-  pub by_hall : AnswersInSomeHall handed seen (fetch_all_of keys) (Ok told)
-  pub are_read : answers ≡ reads_in told.answers
-  pub carries : revision ≡ told.revision
+  pub reported : TxnAnswer
+  pub by_hall : AnswersInSomeHall handed seen (fetch_all_of keys) (Ok reported)
+  pub are_read : answers ≡ reads_in reported.answers
+  pub carries : revision ≡ reported.revision
 
 -- it refused, as the stop tells
 pub record AreUnanswered (handed : HallState) (seen : ℕ) (keys : List (List ℕ)) (stop : Stop) : Type 0 where
   pub cause : FetchRefusal
   pub by_hall : AnswersInSomeHall handed seen (fetch_all_of keys) (Err cause)
-  pub told : fetch_refusal_told stop ≡ Some cause
+  pub reported : fetch_refusal_reported stop ≡ Some cause
 
 -- a hall refused the commit of a ready attempt, as the stop tells
 pub record IsTurnedAway (handed : HallState) (ready : ReadyRun) (stop : Stop) : Type 0 where
   pub cause : CommitRefusal
   pub by_hall : JudgedInSomeHall handed ready (Err cause)
-  pub told : commit_refusal_told stop ≡ Some cause
+  pub reported : commit_refusal_reported stop ≡ Some cause
 
 -- A fetch of a key: the attempt wants a key at a revision; that is asked for, with exactly what was seen; and the attempt goes on with the answer, whose revision is
 -- what was seen then.
@@ -181,8 +181,8 @@ pub record IsEndOfRun (job : Job) (at : JobState) (stop : Stop) : Type 0 where
   pub run : Run
   pub has_list : is_due job.program.prefetch (gone_on job.program at.attempt.known) ≡ false
   pub is_run : run_on job.program (gone_on job.program at.attempt.known) ≡ EndedRun run
-  pub told : end_told stop ≡ Some run.end
-  pub reads : reads_told stop ≡ Some (gone_on job.program at.attempt.known)
+  pub reported : end_reported stop ≡ Some run.end
+  pub reads : reads_reported stop ≡ Some (gone_on job.program at.attempt.known)
 
 -- the key that it wants is refused
 pub record IsKeyRefused (handed : HallState) (job : Job) (at : JobState) (stop : Stop) : Type 0 where
@@ -246,7 +246,7 @@ HaveFailed handed job (suc n) before after = (between : JobState) × HaveFailed 
 pub record HasEnded (handed : HallState) (job : Job) (before : JobState) (is_last : Bool) (end : JobEnd) (seen : ℕ) : Type 0 where
   pub verdict : Verdict
   pub tried : HasTried handed job before verdict seen
-  pub told : end ≡ end_after verdict
+  pub reported : end ≡ end_after verdict
   pub last : committed_by verdict ≡ 0 → is_last ≡ true
 
 -- A job has come to an attempt with this number, from 1 on, of which this is so: that is one more than the commits of it that failed before, and at most the
@@ -263,14 +263,14 @@ pub record ComesTo (handed : HallState) (job : Job) (seen attempts : ℕ) (Then 
 pub record EndsByVerdict (handed : HallState) (job : Job) (end : JobEnd) (seen attempts : ℕ) (before : JobState) : Type 0 where
   pub verdict : Verdict
   pub tried : HasTried handed job before verdict seen
-  pub told : end ≡ end_after verdict
+  pub reported : end ≡ end_after verdict
   pub last : committed_by verdict ≡ 0 → attempts ≡ job.limit
 
 -- the end by an attempt that goes no further
 pub record EndsByStop (handed : HallState) (job : Job) (end : JobEnd) (seen : ℕ) (before : JobState) : Type 0 where
   pub stop : Stop
   pub stopped : StopsAt handed job before stop seen
-  pub told : job_end_told stop ≡ Some end
+  pub reported : job_end_reported stop ≡ Some end
 
 -- A job that was begun by who had seen the one revision has come to this end after so many attempts, and the other was seen then. It has sent at most as many
 -- commits as it may; and it gave up only where it has sent exactly so many, which all failed.

@@ -16,8 +16,8 @@ use Rattle.stm_entries.specs.declared.entry.Entry.{Entry}
 use Rattle.stm_entries.specs.declared.entry.Entry.TheVariants.{Program, Foreign, Grant, Renew, Revoke, Expire}
 use Rattle.stm_hall.specs.declared.refusal.FetchRefusal.{FetchRefusal}
 use Rattle.stm_hall.specs.declared.refusal.CommitRefusal.{CommitRefusal}
-use Rattle.stm_hall.specs.Fetching.{fetched, FetchTells}
-use Rattle.stm_hall.specs.Verdicts.{verdict_of, CommitTells}
+use Rattle.stm_hall.specs.Fetching.{fetched, FetchReturns}
+use Rattle.stm_hall.specs.Verdicts.{verdict_of, CommitReturns}
 use Rattle.stm_hall.specs.declared.verdict.Verdict.{Verdict}
 use Rattle.stm_hall.specs.declared.verdict.Verdict.TheVariants.{Committed, Failed}
 use Rattle.stm_hall.specs.HallState.{HallState, hall_of, made_over}
@@ -98,12 +98,12 @@ shown_at at revision = if nat_eq at 0 then revision else at
 
 -- What a fetch answered, in whichever hall it was made: one whose store is that of the hall handed in, but for its history.
 abbrev pub AnswersInSomeHall : HallState → ℕ → Txn → Result TxnAnswer FetchRefusal → Type 0
-AnswersInSomeHall handed seen txn result = (hall : HallState) × HasKeptStore handed hall × FetchTells (fetched hall.standing seen txn) result
+AnswersInSomeHall handed seen txn result = (hall : HallState) × HasKeptStore handed hall × FetchReturns (fetched hall.standing seen txn) result
 
 -- the verdict on a ready attempt, or its refusal, in whichever such hall it was sent
 abbrev pub JudgedInSomeHall : HallState → ReadyRun → Result Verdict CommitRefusal → Type 0
 JudgedInSomeHall handed ready result =
-    (before : HallState) × (after : HallState) × HasKeptStore handed before × CommitTells (verdict_of before ready) before result after
+    (before : HallState) × (after : HallState) × HasKeptStore handed before × CommitReturns (verdict_of before ready) before result after
 
 -- how many commits a verdict counts
 abbrev pub committed_by : Verdict → ℕ

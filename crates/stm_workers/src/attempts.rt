@@ -90,7 +90,7 @@ fn after_verdict(
     requires { CanGoOn verdict }
     ensures counted { IfOk result (IfEnded (λ end. counted_end end ≡ committed_by verdict)) }
     ensures again { IfOk result (IfAgain (λ next. IsOfJob job.now next × (committed_by verdict ≡ 0))) }
-    ensures told { IfOk result (IfEnded (λ end. (end ≡ end_after verdict) × (committed_by verdict ≡ 0 → is_last ≡ true))) }
+    ensures reported { IfOk result (IfEnded (λ end. (end ≡ end_after verdict) × (committed_by verdict ≡ 0 → is_last ≡ true))) }
     ensures next { IfOk result (IfAgain (λ next. (is_last ≡ false) × IsNextAttempt job.now verdict next)) }
     ensures stopped { OnErr result (committed_by verdict ≡ 0) }
     ensures want { IfErr result (λ stop. stop ≡ OutOfMemory) }

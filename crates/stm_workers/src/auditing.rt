@@ -231,7 +231,7 @@ fn set_mark(marks: &mut Vec<bool>, index: usize) -> bool
 /// Marks the entry that an end names, and tells whether it was marked before.
 fn mark(marks: &mut Vec<bool>, end: &JobEnd) -> bool
     requires { IfSome (entry_named end.now) (λ index. index < length marks.old.items) }
-    ensures told { result ≡ is_marked marks.old.items (entry_named end.now) }
+    ensures reported { result ≡ is_marked marks.old.items (entry_named end.now) }
     ensures marks { (index : ℕ) → index < length marks.old.items → get_or marks.new.items index false ≡ (names_entry index end.now || get_or marks.old.items index false) }
     ensures length { length marks.new.items ≡ length marks.old.items }
 {

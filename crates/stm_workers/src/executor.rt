@@ -42,8 +42,8 @@ impl<'a, R: RunOfJobs, W: Wait, G: Gate> Executor<'a, R, W, G> {
         ensures refused { IfErr result (λ stop. (stop ≡ OutOfMemory) ⊎ IsUnanswered R.before seen.old key.now at stop) }
     {
         // Under the lock: one key is looked up, and its value copied.
-        let told = self.locked.lock(self.rt).fetch(*seen, key.as_str(), at);
-        match told {
+        let reported = self.locked.lock(self.rt).fetch(*seen, key.as_str(), at);
+        match reported {
             Ok(answer) => {
                 *seen = answer.revision;
                 Ok(answer)
@@ -66,12 +66,12 @@ impl<'a, R: RunOfJobs, W: Wait, G: Gate> Executor<'a, R, W, G> {
     {
         let reading = read_all(self.alloc, keys)?;
         // Under the lock: the keys are looked up, and their values copied.
-        let told = self.locked.lock(self.rt).fetch_all(*seen, &reading);
+        let reported = self.locked.lock(self.rt).fetch_all(*seen, &reading);
         drop(reading);
-        match told {
-            Ok(told) => {
-                let revision = told.revision;
-                let answers = take_reads(self.alloc, told.answers)?;
+        match reported {
+            Ok(reported) => {
+                let revision = reported.revision;
+                let answers = take_reads(self.alloc, reported.answers)?;
                 *seen = revision;
                 Ok(answers)
             }

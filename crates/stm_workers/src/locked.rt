@@ -4,8 +4,8 @@ ghost use Rattle.stm_workers.specs.Codes.{entries_set, halls_set, histories_set,
 ghost use Rattle.std.specs.Prelude.{◌≡◌, ◌+◌, ◌<◌, ◌≤◌, true, OnErr, IfOk};
 ghost use Rattle.stm_outcome.specs.Numbers.{AnswerFits, ReadFits};
 ghost use Rattle.stm_calls.specs.Fetched.{fetch_of};
-ghost use Rattle.stm_hall.specs.Fetching.{OnlyReads, told_alone};
-ghost use Rattle.stm_hall.specs.Verdicts.{CanGoOn, CommitTells, verdict_of};
+ghost use Rattle.stm_hall.specs.Fetching.{OnlyReads, reported_alone};
+ghost use Rattle.stm_hall.specs.Verdicts.{CanGoOn, CommitReturns, verdict_of};
 ghost use Rattle.stm_workers.specs.Commits.{commits_in};
 ghost use Rattle.stm_workers.specs.Calls.{HasGoneOn, HasKeptStore, AnswersInSomeHall, JudgedInSomeHall, committed_by, is_run_of_some, takes_commits_of};
 
@@ -82,7 +82,7 @@ impl<R: RunOfJobs> Locked<R> {
 
     /// Fetches a key for a worker that has seen this revision, as the hall does.
     pub fn fetch(&self, seen: u64, key: &str, at: u64) -> Result<ReadAnswer, FetchRefusal>
-        ensures answer { AnswersInSomeHall R.before seen (fetch_of key.now at) (told_alone result) }
+        ensures answer { AnswersInSomeHall R.before seen (fetch_of key.now at) (reported_alone result) }
         ensures seen { IfOk result (λ answer. seen ≤ answer.revision) }
         ensures numbers { IfOk result ReadFits }
     {
@@ -108,7 +108,7 @@ impl<R: RunOfJobs> Locked<R> {
     ) -> Result<Verdict, CommitRefusal>
         requires part { 0 < mine.old.parts }
         requires of_a_job { is_run_of_some R.jobs prepared.program prepared.level ≡ true }
-        ensures told { CommitTells (verdict_of self.old.hall prepared) self.old.hall result self.new.hall }
+        ensures reported { CommitReturns (verdict_of self.old.hall prepared) self.old.hall result self.new.hall }
         ensures judged { JudgedInSomeHall R.before prepared result }
         ensures parts { mine.new.parts ≡ mine.old.parts }
         ensures committed { IfOk result (λ verdict. mine.new.amount ≡ mine.old.amount + committed_by verdict) }

@@ -5,7 +5,7 @@ ghost use Rattle.stm_outcome.specs.declared.refusal.Refusal.TheVariants.{OutOfMe
 ghost use Rattle.stm_hall.specs.declared.refusal.FetchRefusal.TheVariants.{Store as FetchRefused};
 ghost use Rattle.stm_hall.specs.declared.refusal.CommitRefusal.TheVariants.{Store as CommitRefused};
 ghost use Rattle.stm_job.specs.Ends.{is_committed};
-ghost use Rattle.stm_workers.specs.Attempts.{end_told, reads_told, fetch_refusal_told, commit_refusal_told, job_end_told};
+ghost use Rattle.stm_workers.specs.Attempts.{end_reported, reads_reported, fetch_refusal_reported, commit_refusal_reported, job_end_reported};
 
 use std::alloc::AllocError;
 use stm_hall::{CommitRefusal, FetchRefusal};
@@ -55,8 +55,8 @@ impl Stop {
 
     /// A call that the store refused: want of memory is told as such, and each other cause as itself.
     fn of_store(cause: Refusal) -> Stop
-        ensures fetch { fetch_refusal_told result ≡ Some (FetchRefused cause) }
-        ensures commit { commit_refusal_told result ≡ Some (CommitRefused cause) }
+        ensures fetch { fetch_refusal_reported result ≡ Some (FetchRefused cause) }
+        ensures commit { commit_refusal_reported result ≡ Some (CommitRefused cause) }
     {
         if is_want(cause) {
             return Stop::OutOfMemory;
@@ -66,7 +66,7 @@ impl Stop {
 
     /// A fetch that the hall refused.
     pub(crate) fn of_fetch(refusal: FetchRefusal) -> Stop
-        ensures { fetch_refusal_told result ≡ Some refusal }
+        ensures { fetch_refusal_reported result ≡ Some refusal }
     {
         match refusal {
             FetchRefusal::Behind { seen, now } => Stop::Refused(JobRefusal::Behind { seen, now }),
@@ -76,7 +76,7 @@ impl Stop {
 
     /// A commit that the hall refused.
     pub(crate) fn of_commit(refusal: CommitRefusal) -> Stop
-        ensures { commit_refusal_told result ≡ Some refusal }
+        ensures { commit_refusal_reported result ≡ Some refusal }
     {
         match refusal {
             CommitRefusal::Unvouched { key } => Stop::Refused(JobRefusal::Unvouched { key }),
@@ -87,8 +87,8 @@ impl Stop {
     /// An end of a run on these reads, other than its last statement.
     fn of_end(end: End, reads: Sequence<ReadAnswer>) -> Stop
         requires { end ≢ Done }
-        ensures end { end_told result ≡ Some end }
-        ensures reads { reads_told result ≡ Some reads }
+        ensures end { end_reported result ≡ Some end }
+        ensures reads { reads_reported result ≡ Some reads }
     {
         match end {
             End::Done => unreachable!(),
@@ -100,8 +100,8 @@ impl Stop {
     /// A run on these reads that came to an end other than its last statement.
     pub(crate) fn of_run(run: Run, reads: Sequence<ReadAnswer>) -> Stop
         requires { run.end ≢ Done }
-        ensures end { end_told result ≡ Some run.end }
-        ensures reads { reads_told result ≡ Some reads }
+        ensures end { end_reported result ≡ Some run.end }
+        ensures reads { reads_reported result ≡ Some reads }
     {
         Stop::of_end(run.end, reads)
     }
@@ -109,9 +109,9 @@ impl Stop {
     /// The job's end, where it is one: want of memory is none.
     pub(crate) fn end(self) -> Result<JobEnd, AllocError>
         ensures end { IfOk result (λ end. is_committed end ≡ false) }
-        ensures told { IfOk result (λ end. job_end_told self ≡ Some end) }
+        ensures reported { IfOk result (λ end. job_end_reported self ≡ Some end) }
         ensures want { IfErr result (λ error. self ≡ OutOfMemory) }
-        ensures no_want { OnOk result (self ≢ OutOfMemory) }
+        ensures not_out_of_memory { OnOk result (self ≢ OutOfMemory) }
     {
         match self {
             Stop::OutOfMemory => Err(AllocError),

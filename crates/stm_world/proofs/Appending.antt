@@ -36,10 +36,10 @@ use Rattle.stm_world.specs.declared.event.WorldEvent.TheVariants.{WatchKey, Watc
 use Rattle.stm_world.specs.declared.reply.Reply.{Reply}
 use Rattle.stm_world.specs.declared.reply.Reply.TheVariants.{Started, Prefetched, Fetched, Conflict, GaveUp, Aborted, Faulted, Ended}
 use Rattle.stm_world.specs.declared.refusal.Refusal.TheVariants.{BadLimit}
-use Rattle.stm_world.specs.Told.{store_after_call, store_after_poll}
+use Rattle.stm_world.specs.Reported.{store_after_call, store_after_poll}
 use Rattle.stm_world.specs.Task.{Task, answer_at, modified_now, after_list, after_fetch, after_conflict}
 use Rattle.stm_world.specs.World.{World, Runner, Slot, Over, Live, runner_at, with_slot, refused, replied, begin, start_runner, fetch, fetch_list, entry_of}
-use Rattle.stm_world.specs.World.{seen_in, decided, commit_told, commit, finish, step_on, step_live, step_runner, if_taken, if_changed}
+use Rattle.stm_world.specs.World.{seen_in, decided, commit_reported, commit, finish, step_on, step_live, step_runner, if_taken, if_changed}
 use Rattle.stm_world.specs.World.{expiries, step}
 use Rattle.stm_world.specs.Sound.{IsSound}
 use Rattle.stm_world.proofs.Entered.{EntriesFollow, nothing_follows}
@@ -53,7 +53,7 @@ use Rattle.stm_compile.proofs.AgreeLemmas.{commit_is_the_run_now}
 use Rattle.stm_entries.proofs.Replaying.{replay_goes_on, all_legal}
 use Rattle.stm_world.specs.declared.reply.Reply.{Reply}
 use Rattle.stm_world.specs.declared.refusal.Denied.{Denied}
-use Rattle.stm_world.specs.Told.{denied, reply_to, advance_reply, poll_reply}
+use Rattle.stm_world.specs.Reported.{denied, reply_to, advance_reply, poll_reply}
 use Rattle.stm_world.specs.declared.refusal.Refusal.TheVariants.{NoRunner}
 use Rattle.stm_world.specs.declared.reply.Reply.TheVariants.{Txn as TxnDone, Granted, Kept, Revoked, Watching, Cancelled, Compacted}
 use Rattle.stm_world.specs.World.{Stepped, world_after}
@@ -137,7 +137,7 @@ decided_appends w id r run done (Some failed) x comes_to some =
     (nat_lt (r.failures + 1) r.task.limit)
 
 commit_by : (w : World) (id : ℕ) (r : Runner) (run : Run) (o : Result Done StoreRefusal) → IsDone w r run →
-    committed (terms_of w.standing) r.task.level r.known.reads run ≡ o → Appends w (commit_told id r r.known.reads run o w)
+    committed (terms_of w.standing) r.task.level r.known.reads run ≡ o → Appends w (commit_reported id r r.known.reads run o w)
 commit_by w id r run (Ok done) x is = decided_appends w id r run done done.answer.failed x is refl
 commit_by w id r run (Err cause) x is = ended_appends w id (Ended id cause)
 

@@ -22,7 +22,7 @@ use Rattle.stm_compile.specs.Laws.{CommitIsTheRunNow}
 use Rattle.stm_attempt.specs.Settled.{run_on}
 use Rattle.stm_entries.specs.Replayed.{Replayed, without_moment, replay_terms}
 use Rattle.stm_entries.specs.Alone.{seen_at, history_left, left_by, left_by_run}
-use Rattle.stm_world.specs.Task.{Task, answers_told}
+use Rattle.stm_world.specs.Task.{Task, answers_reported}
 use Rattle.stm_world.specs.World.{entry_of}
 use Rattle.stm_world.proofs.Truth.{Keeps, keeps_changes}
 use Rattle.stm_world.proofs.Entered.{EntriesFollow, floor_stays}
@@ -39,9 +39,9 @@ same_seen : (b : Bool) (h : History) (reads : List ReadAnswer) → cond b (state
 same_seen true h reads = refl
 same_seen false h reads = refl
 
-told_truth : (b : Bool) (h : History) (reads : List ReadAnswer) → AreTrue h reads → MatchBool b (cond b [] reads ≡ []) (AreTrue h (cond b [] reads))
-told_truth true h reads t = refl
-told_truth false h reads t = t
+reported_truth : (b : Bool) (h : History) (reads : List ReadAnswer) → AreTrue h reads → MatchBool b (cond b [] reads ≡ []) (AreTrue h (cond b [] reads))
+reported_truth true h reads t = refl
+reported_truth false h reads t = t
 
 left_by_done : (run : Run) (end : End) (r : Replayed) (done : Done) → end ≡ DoneEnd →
     applied (replay_terms r) (map as_change (latest_writes run.writes)) ≡ Ok done →
@@ -61,7 +61,7 @@ pub record Takes (s : Standing) (task : Task) (reads : List ReadAnswer) (run : R
 pub record Taken (s : Standing) (task : Task) (reads : List ReadAnswer) (run : Run) (done : Done) : Type 0 where
   pub alone : run_over (seen_at task.level reads s.history) task.program.statements ≡ EndedRun run
   pub applies : applied (terms_of s) (map as_change (latest_writes run.writes)) ≡ Ok done
-  pub replayed : left_by_run (run_over (seen_at task.level (answers_told task.level reads) s.history) task.program.statements) (without_moment s)
+  pub replayed : left_by_run (run_over (seen_at task.level (answers_reported task.level reads) s.history) task.program.statements) (without_moment s)
       ≡ record { history = done.history; live = s.live }
 
 -- the run of a program that committed, at its point
@@ -76,7 +76,7 @@ committed_run s task reads run done law t clear =
 replayed_run : (s : Standing) (task : Task) (reads : List ReadAnswer) (run : Run) (done : Done) →
     run_over (seen_at task.level reads s.history) task.program.statements ≡ EndedRun run → run.end ≡ DoneEnd →
     applied (terms_of s) (map as_change (latest_writes run.writes)) ≡ Ok done →
-    left_by_run (run_over (seen_at task.level (answers_told task.level reads) s.history) task.program.statements) (without_moment s)
+    left_by_run (run_over (seen_at task.level (answers_reported task.level reads) s.history) task.program.statements) (without_moment s)
     ≡ record { history = done.history; live = s.live }
 replayed_run s task reads run done alone is_done applies =
     ap (λ look. left_by_run (run_over look task.program.statements) (without_moment s)) (same_seen (is_comparing task.level) s.history reads)
@@ -117,7 +117,7 @@ commit_follows_entry s task reads run done t taken = record {
       is_done = t.is_done;
       emits = refl;
       sees = refl;
-      reads_truth = told_truth (is_comparing task.level) s.history reads t.truth;
+      reads_truth = reported_truth (is_comparing task.level) s.history reads t.truth;
       done = done;
       applies = taken.applies;
       reached = refl;

@@ -12,7 +12,7 @@ use Rattle.stm_world.specs.declared.event.WorldEvent.{WorldEvent}
 use Rattle.stm_world.specs.declared.event.WorldEvent.TheVariants.{Step}
 use Rattle.stm_world.specs.declared.reply.Reply.{Reply}
 use Rattle.stm_world.specs.declared.refusal.Denied.{Denied}
-use Rattle.stm_world.specs.Log.{Line, started, is_start, runner_started, store, line_entries, entries_told}
+use Rattle.stm_world.specs.Log.{Line, started, is_start, runner_started, store, line_entries, entries_reported}
 use Rattle.stm_world.specs.Right.{IsRight, AreRight}
 use Rattle.stm_world.specs.World.{World, Stepped, Runner, Slot, live_in, runner_at, with_slot}
 use Rattle.stm_world.specs.Sound.{KnowsTruth}
@@ -33,7 +33,7 @@ pub record FollowsAt (start : Setup) (log : List Line) (runners : List Slot) (en
   pub fresh : (id : ℕ) → started log < id → IsFresh start log id
   pub truth : (id : ℕ) (r : Runner) → runner_at id runners ≡ Some r → KnowsTruth (store start log).history r.known
   pub well_run : (id : ℕ) (r : Runner) → runner_at id runners ≡ Some r → IsWellRun start r
-  pub told : entries ≡ entries_told start log
+  pub reported : entries ≡ entries_reported start log
   pub replays : replay entries (opening start.revision) ≡ without_moment (store start log)
   pub legal : AreLegal entries (opening start.revision)
 
@@ -62,8 +62,8 @@ legal_more start log after runners entries more f e =
 
 -- the entries with those of one more line
 entries_more : (start : Setup) (log : List Line) (runners : List Slot) (entries more : List Entry) (line : Line) → FollowsAt start log runners entries →
-    more ≡ line_entries start line log → entries ++ more ≡ entries_told start (line ∷ log)
-entries_more start log runners entries more line f is = ap (λ (es : List Entry). es ++ more) f.told ∙ ap (λ (es : List Entry). entries_told start log ++ es) is
+    more ≡ line_entries start line log → entries ++ more ≡ entries_reported start (line ∷ log)
+entries_more start log runners entries more line f is = ap (λ (es : List Entry). es ++ more) f.reported ∙ ap (λ (es : List Entry). entries_reported start log ++ es) is
 
 same_count : (event : WorldEvent) (reply : Result Reply Denied) (log : List Line) → runner_started reply ≡ None →
     started (with_line event reply log) ≡ started log
@@ -84,7 +84,7 @@ no_runner_touched start log runners entries more event reply f right none untouc
       fresh = λ id above. fresh_stays start id line log (untouched id) (f.fresh id (subst (λ n. n < id) count above));
       truth = λ id r found. known_stays (store start log).history (store start (line ∷ log)).history r.known e.keeps (f.truth id r found);
       well_run = f.well_run;
-      told = entries_more start log runners entries more line f entered;
+      reported = entries_more start log runners entries more line f entered;
       replays = replays_more start log (line ∷ log) runners entries more f e;
       legal = legal_more start log (line ∷ log) runners entries more f e;
     }
@@ -138,7 +138,7 @@ slot_touched start log runners entries more id r slot reply f found right none o
         | true ↦ λ is. read x (sym own ∙ subst (λ n. runner_at n (with_slot id slot runners) ≡ Some x) (sym (equal_numbers id other is)) at)
         | false ↦ λ is. f.well_run other x (sym (runner_other id other runners slot there.0 (differ id other is)) ∙ at)
       ] refl;
-      told = entries_more start log runners entries more line f entered;
+      reported = entries_more start log runners entries more line f entered;
       replays = replays_more start log (line ∷ log) runners entries more f e;
       legal = legal_more start log (line ∷ log) runners entries more f e;
     }

@@ -52,7 +52,7 @@ holds_follows start before earlier w laws holds =
         fresh = at.fresh;
         truth = λ id r found. at.truth id r (at.slots id ∙ sym (holds.runners id) ∙ found);
         well_run = λ id r found. at.well_run id r (at.slots id ∙ sym (holds.runners id) ∙ found);
-        told = holds.entries;
+        reported = holds.entries;
         replays = holds.replays ∙ ap without_moment holds.standing;
         legal = holds.legal;
       };
@@ -78,7 +78,7 @@ headline_goes_on laws start before events earlier w holds =
       standing = f.standing;
       count = f.at.count;
       runners = f.at.slots;
-      entries = f.at.told;
+      entries = f.at.reported;
       replays = f.at.replays ∙ ap without_moment (sym f.standing);
       legal = f.at.legal;
     }

@@ -23,9 +23,9 @@ use Rattle.stm_world.specs.declared.reply.Reply.{Reply}
 use Rattle.stm_world.specs.declared.reply.Reply.TheVariants.{Started, Txn as TxnDone, Granted, Kept, Revoked, Watching, Cancelled, Compacted, Lost}
 use Rattle.stm_world.specs.declared.refusal.Refusal.TheVariants.{BadLimit, NoRunner}
 use Rattle.stm_world.specs.declared.refusal.Denied.{Denied}
-use Rattle.stm_world.specs.Told.{denied, reply_to, store_after_call, advance_reply, batch_reply, poll_reply}
+use Rattle.stm_world.specs.Reported.{denied, reply_to, store_after_call, advance_reply, batch_reply, poll_reply}
 use Rattle.stm_world.specs.Task.{Task}
-use Rattle.stm_world.specs.Log.{Line, begun, running, started, store, runner_started, if_told, expired_told, entries_told, told}
+use Rattle.stm_world.specs.Log.{Line, begun, running, started, store, runner_started, if_reported, expired_reported, entries_reported, reported}
 use Rattle.stm_world.specs.Right.{RunnerIsRight}
 use Rattle.stm_world.specs.World.{World, Runner, Slot, Live, live_in, runner_at, begin, opened, refused, start_runner, step_runner, if_changed}
 use Rattle.stm_world.specs.World.{if_taken, expiries, step}
@@ -37,14 +37,14 @@ use Rattle.stm_world.proofs.Asked.{asked_are_distinct}
 use Rattle.stm_world.proofs.OneState.{are_of_one_state}
 use Rattle.stm_world.proofs.Logs.{logged, log_of, log_of_is_log, of_each_log}
 use Rattle.stm_world.proofs.Slots.{equal_numbers, same_number, other_number, differ, runner_new, runner_old, count_grows, no_runner}
-use Rattle.stm_world.proofs.Untouched.{Untouched, IsFresh, none_told, same_in_log, fresh_stays, by_refusal, by_call, by_advance}
+use Rattle.stm_world.proofs.Untouched.{Untouched, IsFresh, none_reported, same_in_log, fresh_stays, by_refusal, by_call, by_advance}
 use Rattle.stm_world.proofs.Untouched.{by_reply}
 use Rattle.stm_world.proofs.Following.{FollowsAt, FollowsStep, with_line, world_at, no_runner_touched, nothing_touched}
 use Rattle.stm_world.proofs.RunnerSteps.{CommitLaws, live_follows}
 use Rattle.stm_world.proofs.Entered.{nothing_follows}
 use Rattle.stm_world.proofs.EventKeeps.{store_limit}
 use Rattle.stm_world.proofs.Calls.{txn_follows, grant_follows, keep_follows, revoke_follows, advance_follows}
-use Rattle.stm_world.proofs.WatchCalls.{poll_told, watch_follows, poll_follows, cancel_follows, compact_follows}
+use Rattle.stm_world.proofs.WatchCalls.{poll_reported, watch_follows, poll_follows, cancel_follows, compact_follows}
 
 -- ---- starts ----
 
@@ -99,7 +99,7 @@ started_follows start log runners entries task f some =
             (sym (runner_new runners slot) ∙ subst (λ n. runner_at n (runners ++ slot ∷ []) ≡ Some x) (sym (equal_numbers id other is)) found)
         | false ↦ λ is. f.well_run other x (sym (runner_old runners slot other (λ e. differ id other is (sym e))) ∙ found)
       ] refl;
-      told = f.told ∙ sym (append-nil (entries_told start log));
+      reported = f.reported ∙ sym (append-nil (entries_reported start log));
       replays = f.replays;
       legal = f.legal;
     }
@@ -145,10 +145,10 @@ runner_follows start log runners entries id laws f =
 
 -- ---- calls ----
 
-no_number : {A : Type 0} (tell : A → Reply) (o : Result (StoreStep A) StoreRefusal) → ((x : A) → runner_started (Ok (tell x)) ≡ None) →
-    runner_started (reply_to tell o) ≡ None
-no_number tell (Ok done) none = none done.answer
-no_number tell (Err cause) none = refl
+no_number : {A : Type 0} (report : A → Reply) (o : Result (StoreStep A) StoreRefusal) → ((x : A) → runner_started (Ok (report x)) ≡ None) →
+    runner_started (reply_to report o) ≡ None
+no_number report (Ok done) none = none done.answer
+no_number report (Err cause) none = refl
 
 no_number_at : (moment : ℕ) (a : StoreAdvance) → runner_started (advance_reply moment a.expired a.cause) ≡ None
 no_number_at moment a = by_cause a.cause
@@ -158,14 +158,14 @@ no_number_at moment a = by_cause a.cause
     by_cause (Some cause) = refl
 
 -- an entry of the call is one of its reply
-call_entered : {A : Type 0} (tell : A → Reply) (o : Result (StoreStep A) StoreRefusal) (entry : Entry) → if_taken o entry ≡ if_told (reply_to tell o) entry
-call_entered tell (Ok done) entry = refl
-call_entered tell (Err cause) entry = refl
+call_entered : {A : Type 0} (report : A → Reply) (o : Result (StoreStep A) StoreRefusal) (entry : Entry) → if_taken o entry ≡ if_reported (reply_to report o) entry
+call_entered report (Ok done) entry = refl
+call_entered report (Err cause) entry = refl
 
 -- an advance tells what expired, also where it was refused
-expiries_told : (moment : ℕ) (expired : List Expired) (cause : Option StoreRefusal) → expired_told (advance_reply moment expired cause) ≡ expired
-expiries_told moment expired None = refl
-expiries_told moment expired (Some cause) = refl
+expiries_reported : (moment : ℕ) (expired : List Expired) (cause : Option StoreRefusal) → expired_reported (advance_reply moment expired cause) ≡ expired
+expiries_reported moment expired None = refl
+expiries_reported moment expired (Some cause) = refl
 
 -- each event
 pub event_follows : (start : Setup) (log : List Line) (runners : List Slot) (entries : List Entry) (event : WorldEvent) → CommitLaws →
@@ -216,7 +216,7 @@ event_follows start log runners entries (Advance moment) laws f =
       standing = refl;
       follows = no_runner_touched start log runners entries (expiries a.expired) (Advance moment) (advance_reply moment a.expired a.cause) f refl
           (no_number_at moment a) (λ id. by_advance id moment a.expired a.cause)
-          (ap expiries (sym (expiries_told moment a.expired a.cause))) (advance_follows (store start log) moment);
+          (ap expiries (sym (expiries_reported moment a.expired a.cause))) (advance_follows (store start log) moment);
     }
 event_follows start log runners entries (WatchKey key from) laws f =
     let s : Standing = store start log in
@@ -241,8 +241,8 @@ event_follows start log runners entries (Poll watcher most) laws f =
     record {
       standing = refl;
       follows = nothing_touched start log runners entries (Poll watcher most) reply f refl
-          (poll_told (λ (r : Result Reply Denied). runner_started r ≡ None) s watcher most (λ batch. refl) refl refl)
-          (λ id. poll_told (Untouched id) s watcher most (λ batch. by_reply id (batch_reply watcher batch) refl)
+          (poll_reported (λ (r : Result Reply Denied). runner_started r ≡ None) s watcher most (λ batch. refl) refl refl)
+          (λ id. poll_reported (Untouched id) s watcher most (λ batch. by_reply id (batch_reply watcher batch) refl)
           (by_reply id (Lost watcher s.floor) refl) (by_refusal id _)) refl (poll_follows s watcher most);
     }
 event_follows start log runners entries (Cancel watcher) laws f =
@@ -290,10 +290,10 @@ opened_follows start = record {
     right = tt;
     count = refl;
     slots = no_runner;
-    fresh = λ id above. none_told start id;
+    fresh = λ id above. none_reported start id;
     truth = λ id r found. let none : runner_at id [] ≡ None = no_runner id in absurd (cc);
     well_run = λ id r found. let none : runner_at id [] ≡ None = no_runner id in absurd (cc);
-    told = refl;
+    reported = refl;
     replays = refl;
     legal = tt;
   };
@@ -310,7 +310,7 @@ headline laws start events =
       standing = f.standing;
       count = f.at.count;
       runners = f.at.slots;
-      entries = f.at.told;
+      entries = f.at.reported;
       replays = f.at.replays ∙ ap without_moment (sym f.standing);
       legal = f.at.legal;
     }
@@ -334,17 +334,17 @@ runs_after start events id task laws runs =
 pub one_state : CommitLaws → OneState
 one_state laws =
     of_each_log (λ (start : Setup) (log : List Line). (id : ℕ) (task : Task) → 1 ≤ start.revision → running id log ≡ Some task →
-    is_serializable task.level ≡ true → AreOfOneState (store start log).history task (told start id task log).reads)
+    is_serializable task.level ≡ true → AreOfOneState (store start log).history task (reported start id task log).reads)
     (λ start events id task some runs serializable.
     let log : List Line = log_of start events in
     let known : RunsAfter start events (runner_for start log id task) = runs_after start events id task laws runs in
-    are_of_one_state (store start log).history task (told start id task log).reads (known.well_run.based some serializable).0 known.truth.0)
+    are_of_one_state (store start log).history task (reported start id task log).reads (known.well_run.based some serializable).0 known.truth.0)
 
 -- no attempt reads a key twice
 pub read_once : CommitLaws → ReadOnce
 read_once laws =
     of_each_log (λ (start : Setup) (log : List Line). (id : ℕ) (task : Task) → running id log ≡ Some task → has_repeat task.program.prefetch ≡ false →
-    HaveDistinctKeys (told start id task log).reads)
+    HaveDistinctKeys (reported start id task log).reads)
     (λ start events id task runs once.
     let well = (runs_after start events id task laws runs).well_run in
-    asked_are_distinct task.program (told start id task (log_of start events)).reads once well.listed well.asked)
+    asked_are_distinct task.program (reported start id task (log_of start events)).reads once well.listed well.asked)

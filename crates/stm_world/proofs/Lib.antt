@@ -34,7 +34,7 @@ pub mod LowRevisions
 pub mod Served
 pub mod MovingOn
 pub mod Failures
-pub mod Telling
+pub mod Notifying
 pub mod WrongFailures
 pub mod WorkedExamples
 pub mod ListExamples

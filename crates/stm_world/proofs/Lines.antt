@@ -14,14 +14,14 @@ use Rattle.stm_world.specs.declared.reply.Reply.{Reply}
 use Rattle.stm_world.specs.declared.reply.Reply.TheVariants.{Started, Txn as TxnDone, Granted, Kept, Revoked, Watching, Cancelled, Compacted, Lost}
 use Rattle.stm_world.specs.declared.refusal.Refusal.TheVariants.{NoRunner}
 use Rattle.stm_world.specs.declared.refusal.Denied.{Denied}
-use Rattle.stm_world.specs.Told.{denied, reply_to, advance_reply, batch_reply, poll_reply}
+use Rattle.stm_world.specs.Reported.{denied, reply_to, advance_reply, batch_reply, poll_reply}
 use Rattle.stm_world.specs.Task.{Task}
 use Rattle.stm_world.specs.Log.{Line, running, started, store}
 use Rattle.stm_world.specs.Right.{IsRight, StepIsRight, RunnerIsRight, StartIsRight, situation}
 use Rattle.stm_world.specs.World.{World, replies_to, step}
 use Rattle.stm_world.specs.Doomed.{EachLine, failed_commit, stopped}
 use Rattle.stm_world.proofs.Untouched.{Untouched, by_refusal, by_advance, by_reply}
-use Rattle.stm_world.proofs.WatchCalls.{poll_told}
+use Rattle.stm_world.proofs.WatchCalls.{poll_reported}
 use Rattle.stm_world.proofs.Following.{FollowsStep, with_line}
 use Rattle.stm_world.proofs.RunnerSteps.{CommitLaws}
 use Rattle.stm_world.proofs.Logs.{logged}
@@ -40,27 +40,27 @@ each_line start P laws holds (e ∷ es) log w f before =
 
 -- ---- replies that are about no runner ----
 
-pub record TellsNothing (reply : Result Reply Denied) : Type 0 where
+pub record ReturnsNothing (reply : Result Reply Denied) : Type 0 where
   pub no_failure : failed_commit reply ≡ None
   pub no_stop : stopped reply ≡ None
   pub untouched : (id : ℕ) → Untouched id reply
 
-nothing_by_refusal : (refusal : Denied) → TellsNothing (Err refusal)
+nothing_by_refusal : (refusal : Denied) → ReturnsNothing (Err refusal)
 nothing_by_refusal refusal = record { no_failure = refl; no_stop = refl; untouched = λ id. by_refusal id refusal }
 
-nothing_by_call : {A : Type 0} (tell : A → Reply) (o : Result (StoreStep A) StoreRefusal) → ((x : A) → TellsNothing (Ok (tell x))) →
-    TellsNothing (reply_to tell o)
-nothing_by_call tell (Ok done) none = none done.answer
-nothing_by_call tell (Err cause) none = nothing_by_refusal _
+nothing_by_call : {A : Type 0} (report : A → Reply) (o : Result (StoreStep A) StoreRefusal) → ((x : A) → ReturnsNothing (Ok (report x))) →
+    ReturnsNothing (reply_to report o)
+nothing_by_call report (Ok done) none = none done.answer
+nothing_by_call report (Err cause) none = nothing_by_refusal _
 
-nothing_by_advance : (moment : ℕ) (expired : List Expired) (cause : Option StoreRefusal) → TellsNothing (advance_reply moment expired cause)
+nothing_by_advance : (moment : ℕ) (expired : List Expired) (cause : Option StoreRefusal) → ReturnsNothing (advance_reply moment expired cause)
 nothing_by_advance moment expired None = record { no_failure = refl; no_stop = refl; untouched = λ id. by_advance id moment expired None }
 nothing_by_advance moment expired (Some cause) =
     record { no_failure = refl; no_stop = refl; untouched = λ id. by_advance id moment expired (Some cause) }
 
-nothing_by_poll : (s : Standing) (id most : ℕ) → TellsNothing (poll_reply id s.floor (polled s id most))
+nothing_by_poll : (s : Standing) (id most : ℕ) → ReturnsNothing (poll_reply id s.floor (polled s id most))
 nothing_by_poll s id most =
-    poll_told TellsNothing s id most
+    poll_reported ReturnsNothing s id most
     (λ batch. record { no_failure = refl; no_stop = refl; untouched = λ runner. by_reply runner (batch_reply id batch) refl })
     (record { no_failure = refl; no_stop = refl; untouched = λ runner. by_reply runner (Lost id s.floor) refl }) (nothing_by_refusal _)
 
@@ -70,7 +70,7 @@ nothing_by_poll s id most =
 abbrev pub Judged : Type 1
 Judged = WorldEvent → Result Reply Denied → Type 0
 
-start_judged : (count : ℕ) (P : Judged) (task : Task) → ((reply : Result Reply Denied) → TellsNothing reply → P (Start task.program task.level task.limit) reply) →
+start_judged : (count : ℕ) (P : Judged) (task : Task) → ((reply : Result Reply Denied) → ReturnsNothing reply → P (Start task.program task.level task.limit) reply) →
     P (Start task.program task.level task.limit) (Ok (Started (count + 1))) → (reply : Result Reply Denied) → StartIsRight count task.limit reply →
     P (Start task.program task.level task.limit) reply
 start_judged count P task nothing begins (Ok reply) right =
@@ -78,7 +78,7 @@ start_judged count P task nothing begins (Ok reply) right =
 start_judged count P task nothing begins (Err refusal) right = nothing (Err refusal) (nothing_by_refusal refusal)
 
 runner_judged : (start : Setup) (log : List Line) (id : ℕ) (P : Result Reply Denied → Type 0) (o : Option Task) → running id log ≡ o →
-    ((reply : Result Reply Denied) → TellsNothing reply → P reply) →
+    ((reply : Result Reply Denied) → ReturnsNothing reply → P reply) →
     ((task : Task) (reply : Result Reply Denied) → running id log ≡ Some task → StepIsRight (situation start log id task) reply → P reply) →
     (reply : Result Reply Denied) → RunnerIsRight start log id o reply → P reply
 runner_judged start log id P None runs nothing stepped reply right = subst P (sym right) (nothing (denied NoRunner) (nothing_by_refusal _))
@@ -86,7 +86,7 @@ runner_judged start log id P (Some task) runs nothing stepped reply right = step
 
 -- What holds of a reply that tells nothing of runners, of a start that was taken, and of the step of a runner that runs, holds of each
 -- right reply.
-pub by_event : (start : Setup) (log : List Line) (P : Judged) → ((event : WorldEvent) (reply : Result Reply Denied) → TellsNothing reply → P event reply) →
+pub by_event : (start : Setup) (log : List Line) (P : Judged) → ((event : WorldEvent) (reply : Result Reply Denied) → ReturnsNothing reply → P event reply) →
     ((task : Task) → P (Start task.program task.level task.limit) (Ok (Started (started log + 1)))) →
     ((id : ℕ) (task : Task) (reply : Result Reply Denied) → running id log ≡ Some task → StepIsRight (situation start log id task) reply → P (Step id) reply) →
     (event : WorldEvent) (reply : Result Reply Denied) → IsRight start log event reply → P event reply

@@ -76,10 +76,10 @@ both_answers =
     record { key = codes "p"; kv = Some (first_put 2); of_rev = 2; revision = 2 } ∷ record { key = codes "q"; kv = None; of_rev = 2; revision = 2 } ∷ []
 
 -- at read committed both are among the answers that are told
-list_is_told : replies_to (raced ReadCommitted) (opened (at_revision 1))
+list_is_reported : replies_to (raced ReadCommitted) (opened (at_revision 1))
     ≡ until_second_put ++ Ok (Committed 1 3 1 (TextValue (codes "1") ∷ []) p_seen both_answers) ∷ []
 unfolding start_runner fetch commit step_live settle run_over run_block evaluate key_in get_key last_write latest_writes fresh
-list_is_told = refl
+list_is_reported = refl
 
 -- a key that is only written is in conflict where it was put since the list was read
 abbrev puts_r : ProgramTree

@@ -41,14 +41,14 @@ use Rattle.stm_world.specs.declared.reply.Reply.TheVariants.{Ended, Txn as TxnDo
 use Rattle.stm_world.specs.declared.refusal.Denied.{Denied}
 use Rattle.stm_world.specs.declared.refusal.Refusal.{Refusal as WorldRefusal}
 use Rattle.stm_world.specs.declared.refusal.Refusal.TheVariants.{Store, BadLimit, NoRunner}
-use Rattle.stm_world.specs.Told.{reply_to, advance_reply}
+use Rattle.stm_world.specs.Reported.{reply_to, advance_reply}
 use Rattle.stm_world.specs.Task.{Task}
 use Rattle.stm_world.specs.Log.{Line, running, store}
 use Rattle.stm_world.specs.Right.{Situation, Commits, IsRefused, RunnerIsRight, IsRight, situation}
 use Rattle.stm_world.specs.NeverOutOfMemory.{NeverOutOfMemory}
-use Rattle.stm_world.proofs.Wants.{NoWant, NeverWants, transacted_never, advanced_never}
+use Rattle.stm_world.proofs.Wants.{NoOutOfMemory, NeverWants, transacted_never, advanced_never}
 use Rattle.stm_world.proofs.Calls.{granted_by, kept_by, revoked_by}
-use Rattle.stm_world.proofs.WatchCalls.{poll_told}
+use Rattle.stm_world.proofs.WatchCalls.{poll_reported}
 
 -- ---- watchers ----
 
@@ -145,7 +145,7 @@ not_want : {A : Type 0} (o : Result A Refusal) → NeverWants o → o ≢ Err Ou
 not_want (Ok done) never is = absurd (cc)
 not_want (Err cause) never is = let same : cause ≡ OutOfMemory = cc in never same
 
-no_cause : (o : Option Refusal) → NoWant o → o ≢ Some OutOfMemory
+no_cause : (o : Option Refusal) → NoOutOfMemory o → o ≢ Some OutOfMemory
 no_cause None never is = absurd (cc)
 no_cause (Some cause) never is = let same : cause ≡ OutOfMemory = cc in never same
 
@@ -158,11 +158,11 @@ cause_of (Err refusal) = refusal.cause
 abbrev wanting : List Expired → Result Reply Denied
 wanting expired = Err (record { cause = Store OutOfMemory; expired = expired })
 
-call_for : {A : Type 0} (tell : A → Reply) (o : Result (StoreStep A) Refusal) → NeverWants o → Store OutOfMemory ≡ cause_of (reply_to tell o) → ⊥
-call_for tell (Ok done) never is = absurd (cc)
-call_for tell (Err cause) never is = let same : OutOfMemory ≡ cause = cc in never (sym same)
+call_for : {A : Type 0} (report : A → Reply) (o : Result (StoreStep A) Refusal) → NeverWants o → Store OutOfMemory ≡ cause_of (reply_to report o) → ⊥
+call_for report (Ok done) never is = absurd (cc)
+call_for report (Err cause) never is = let same : OutOfMemory ≡ cause = cc in never (sym same)
 
-advance_for : (moment : ℕ) (expired : List Expired) (o : Option Refusal) → NoWant o → Store OutOfMemory ≡ cause_of (advance_reply moment expired o) → ⊥
+advance_for : (moment : ℕ) (expired : List Expired) (o : Option Refusal) → NoOutOfMemory o → Store OutOfMemory ≡ cause_of (advance_reply moment expired o) → ⊥
 advance_for moment expired None never is = absurd (cc)
 advance_for moment expired (Some cause) never is = let same : OutOfMemory ≡ cause = cc in never (sym same)
 
@@ -190,7 +190,7 @@ refusal start log (WatchRange first end from) expired right =
     call_for WatchingReply (watched s (Range first end) from) (watched_never s (Range first end) from) (ap cause_of right)
 refusal start log (Poll watcher most) expired right =
     let s : Standing = store start log in
-    poll_told (λ (r : Result Reply Denied). Store OutOfMemory ≡ cause_of r → ⊥) s watcher most (λ batch is. absurd (cc)) (λ is. absurd (cc))
+    poll_reported (λ (r : Result Reply Denied). Store OutOfMemory ≡ cause_of r → ⊥) s watcher most (λ batch is. absurd (cc)) (λ is. absurd (cc))
     (λ is. absurd (cc)) (ap cause_of right)
 refusal start log (Cancel watcher) expired right =
     let s : Standing = store start log in

@@ -30,7 +30,7 @@ use Rattle.stm_world.specs.declared.reply.Reply.{Reply}
 use Rattle.stm_world.specs.declared.reply.Reply.TheVariants.{Started, Prefetched, Fetched, Committed, Conflict, GaveUp, Aborted, Faulted, Ended}
 use Rattle.stm_world.specs.declared.reply.Reply.TheVariants.{Txn as TxnDone, Granted, Kept, Revoked, Advanced, Watching, Batch, Cancelled, Compacted, Lost}
 use Rattle.stm_world.specs.declared.refusal.Denied.{Denied}
-use Rattle.stm_world.specs.Task.{Task, modified_now, answers_told}
+use Rattle.stm_world.specs.Task.{Task, modified_now, answers_reported}
 use Rattle.stm_world.specs.Log.{Line, IsLogOf, running, started}
 use Rattle.stm_world.specs.Right.{Situation, HasList, Commits, IsConflicted, IsRefused, ReplyIsRight, StepIsRight, RunnerIsRight, StartIsRight, IsRight, AreRight, situation}
 use Rattle.stm_world.specs.World.{seen_in, opened, replies_to}
@@ -44,7 +44,7 @@ by_limit at seen modified true = Conflict at.id seen.key seen.mod_rev modified
 by_limit at seen modified false = GaveUp at.id (at.failures + 1) seen.key seen.mod_rev modified
 
 abbrev by_compare : Situation → Run → Done → Option FailedCompare → Reply
-by_compare at run done None = Committed at.id (now done.history) (at.failures + 1) run.output run.trace (answers_told at.task.level at.reads)
+by_compare at run done None = Committed at.id (now done.history) (at.failures + 1) run.output run.trace (answers_reported at.task.level at.reads)
 by_compare at run done (Some failed) =
     by_limit at (seen_in (slice_get (seen_by at.reads (latest_writes run.writes)) failed.index)) failed.mod_rev (nat_lt (at.failures + 1) at.task.limit)
 
@@ -109,29 +109,29 @@ by_refusal at cause (inr (inl (same, behind))) =
 one_reply : (at : Situation) (reply : Reply) → ReplyIsRight at reply → reply ≡ reply_at at
 one_reply at (Prefetched runner revision reads) right =
     let p = right.1 in
-    let told : Prefetched runner revision reads ≡ by_count at false = (λ i. Prefetched (right.0 i) (p.carries i) (p.shows i)) in
-    told ∙ sym (ap (by_list at) p.due ∙ ap (by_count at) (le-ltb at.store.limit (length at.task.program.prefetch) p.few))
+    let reported : Prefetched runner revision reads ≡ by_count at false = (λ i. Prefetched (right.0 i) (p.carries i) (p.shows i)) in
+    reported ∙ sym (ap (by_list at) p.due ∙ ap (by_count at) (le-ltb at.store.limit (length at.task.program.prefetch) p.few))
 one_reply at (Fetched runner key mod_rev of_rev revision) right =
     let f = right.1 in
-    let told : Fetched runner key mod_rev of_rev revision ≡ fetched_at at key of_rev =
+    let reported : Fetched runner key mod_rev of_rev revision ≡ fetched_at at key of_rev =
     (λ i. Fetched (right.0 i) key (f.modified i) of_rev (f.carries i)) in
-    told ∙ ap (fetched_at at key) f.shows ∙ sym (ap (by_list at) f.has_list ∙ ap (by_run at) f.wants ∙ ap (by_base at key) f.readable)
+    reported ∙ ap (fetched_at at key) f.shows ∙ sym (ap (by_list at) f.has_list ∙ ap (by_run at) f.wants ∙ ap (by_base at key) f.readable)
 one_reply at (Committed runner revision attempts output trace answers) right =
     let c = right.3 in
-    let told : Committed runner revision attempts output trace answers ≡ by_compare at c.commits.run c.done None =
-    (λ i. Committed (right.0 i) (c.reached i) (right.1 i) (c.emits i) (c.sees i) (c.told i)) in
-    told ∙ sym (by_outcome at (Ok c.done) c.commits ∙ ap (by_compare at c.commits.run c.done) c.succeeds)
+    let reported : Committed runner revision attempts output trace answers ≡ by_compare at c.commits.run c.done None =
+    (λ i. Committed (right.0 i) (c.reached i) (right.1 i) (c.emits i) (c.sees i) (c.reported i)) in
+    reported ∙ sym (by_outcome at (Ok c.done) c.commits ∙ ap (by_compare at c.commits.run c.done) c.succeeds)
 one_reply at (Conflict runner key seen now_modified) right =
     let c = right.2 in
-    let told : Conflict runner key seen now_modified ≡ by_limit at c.conflict.seen c.failed.mod_rev true =
+    let reported : Conflict runner key seen now_modified ≡ by_limit at c.conflict.seen c.failed.mod_rev true =
     (λ i. Conflict (right.0 i) (c.about i) (c.was i) (c.is i)) in
-    told ∙ sym (by_conflict at key seen now_modified c true (lt-ltb (at.failures + 1) at.task.limit right.1))
+    reported ∙ sym (by_conflict at key seen now_modified c true (lt-ltb (at.failures + 1) at.task.limit right.1))
 one_reply at (GaveUp runner attempts key seen now_modified) right =
     let c = right.3 in
     let reached : at.task.limit ≤ at.failures + 1 = omega (arith, right.1, right.2) in
-    let told : GaveUp runner attempts key seen now_modified ≡ by_limit at c.conflict.seen c.failed.mod_rev false =
+    let reported : GaveUp runner attempts key seen now_modified ≡ by_limit at c.conflict.seen c.failed.mod_rev false =
     (λ i. GaveUp (right.0 i) (right.1 i) (c.about i) (c.was i) (c.is i)) in
-    told ∙ sym (by_conflict at key seen now_modified c false (le-ltb (at.failures + 1) at.task.limit reached))
+    reported ∙ sym (by_conflict at key seen now_modified c false (le-ltb (at.failures + 1) at.task.limit reached))
 one_reply at (Aborted runner text) right =
     ap (λ n. Aborted n text) right.0 ∙ sym (by_stop at right.1.run (AbortedEnd text) right.1.has_list right.1.is_run right.1.ended)
 one_reply at (Faulted runner fault) right =

@@ -11,53 +11,53 @@ use Rattle.stm_history.specs.History.{History, number_of_last, now, add_revision
 use Rattle.stm_keys.specs.declared.event.Event.{Event}
 use Rattle.stm_keys.specs.Events.{events_above}
 use Rattle.stm_outcome.specs.Outcome.{with_changes}
-use Rattle.stm_watch.specs.declared.told.Told.{Told}
+use Rattle.stm_watch.specs.declared.pending_revision.PendingRevision.{PendingRevision}
 use Rattle.stm_watch.specs.declared.watched.Watched.{Watched}
 use Rattle.stm_watch.specs.Watching.{Watching}
 use Rattle.stm_watch.specs.Places.{is_lost}
-use Rattle.stm_watch.specs.Pending.{watching_from, matching, told_at, told_above, pending, first_told, first_pending, events_told, last_told, batch_of, after_poll}
+use Rattle.stm_watch.specs.Pending.{watching_from, matching, pending_of_revision, pending_above, pending, number_of_first, first_pending, pending_events, last_number, batch_of, after_poll}
 
 -- what is told of a revision with these events, where it is above what was seen
-abbrev part : ℕ → ℕ → List Event → List Told
-part seen n events = cond (nat_lt seen n) (told_at n events) []
+abbrev part : ℕ → ℕ → List Event → List PendingRevision
+part seen n events = cond (nat_lt seen n) (pending_of_revision n events) []
 
 -- the events of the last revision that match
 abbrev of_last : Opening → Watched → List Change → List (List Change) → List Event
 of_last opening watched changes older = matching watched (events_above opening changes older)
 
-same_first : (x y : Told) (xs ys : List Told) → x ∷ xs ≡ y ∷ ys → x ≡ y
+same_first : (x y : PendingRevision) (xs ys : List PendingRevision) → x ∷ xs ≡ y ∷ ys → x ≡ y
 same_first x y xs ys is = cc
 
-same_rest : (x y : Told) (xs ys : List Told) → x ∷ xs ≡ y ∷ ys → xs ≡ ys
+same_rest : (x y : PendingRevision) (xs ys : List PendingRevision) → x ∷ xs ≡ y ∷ ys → xs ≡ ys
 same_rest x y xs ys is = cc
 
 -- ---- the first revision that is told, and the others
 
 -- only one revision is told
-record IsAlone (seen n : ℕ) (t : Told) (ts : List Told) : Type 0 where
+record IsAlone (seen n : ℕ) (t : PendingRevision) (ts : List PendingRevision) : Type 0 where
   above : seen < n
   number : t.number ≡ n
   alone : ts ≡ []
 
-alone_by : (seen n : ℕ) (events : List Event) (b : Bool) (t : Told) (ts : List Told) → nat_lt seen n ≡ b → cond b (told_at n events) [] ≡ t ∷ ts →
+alone_by : (seen n : ℕ) (events : List Event) (b : Bool) (t : PendingRevision) (ts : List PendingRevision) → nat_lt seen n ≡ b → cond b (pending_of_revision n events) [] ≡ t ∷ ts →
     IsAlone seen n t ts
 alone_by seen n events false t ts less is = absurd (cc)
 alone_by seen n [] true t ts less is = absurd (cc)
 alone_by seen n (e ∷ es) true t ts less is =
-    let first : Told = record { number = n; events = e ∷ es } in
+    let first : PendingRevision = record { number = n; events = e ∷ es } in
     record {
       above = ltb-true seen n less;
-      number = sym (ap (λ (x : Told). x.number) (same_first first t [] ts is));
+      number = sym (ap (λ (x : PendingRevision). x.number) (same_first first t [] ts is));
       alone = sym (same_rest first t [] ts is);
     }
 
 -- the first revision that is told is above what was seen, and there
-record IsWithin (seen last : ℕ) (t : Told) : Type 0 where
+record IsWithin (seen last : ℕ) (t : PendingRevision) : Type 0 where
   above : seen < t.number
   below : t.number ≤ last
 
-within_by : (seen last n : ℕ) (events : List Event) (earlier : List Told) (t : Told) (ts : List Told) → n ≡ last + 1 →
-    ((rest : List Told) → earlier ≡ t ∷ rest → IsWithin seen last t) → earlier ++ part seen n events ≡ t ∷ ts → IsWithin seen n t
+within_by : (seen last n : ℕ) (events : List Event) (earlier : List PendingRevision) (t : PendingRevision) (ts : List PendingRevision) → n ≡ last + 1 →
+    ((rest : List PendingRevision) → earlier ≡ t ∷ rest → IsWithin seen last t) → earlier ++ part seen n events ≡ t ∷ ts → IsWithin seen n t
 within_by seen last n events [] t ts next goes is =
     let one : IsAlone seen n t ts = alone_by seen n events (nat_lt seen n) t ts refl is in
     let above : seen < n = one.above in
@@ -65,95 +65,95 @@ within_by seen last n events [] t ts next goes is =
     record { above = omega arith; below = omega arith }
 within_by seen last n events (x ∷ rest) t ts next goes is =
     let same : x ≡ t = same_first x t (rest ++ part seen n events) ts is in
-    let within : IsWithin seen last t = goes rest (ap (λ (y : Told). y ∷ rest) same) in
+    let within : IsWithin seen last t = goes rest (ap (λ (y : PendingRevision). y ∷ rest) same) in
     let below : t.number ≤ last = within.below in
     record { above = within.above; below = omega arith }
 
-first_within : (opening : Opening) (seen : ℕ) (watched : Watched) (revisions : List (List Change)) (t : Told) (ts : List Told) →
-    told_above opening seen watched revisions ≡ t ∷ ts → IsWithin seen (number_of_last opening revisions) t
+first_within : (opening : Opening) (seen : ℕ) (watched : Watched) (revisions : List (List Change)) (t : PendingRevision) (ts : List PendingRevision) →
+    pending_above opening seen watched revisions ≡ t ∷ ts → IsWithin seen (number_of_last opening revisions) t
 first_within opening seen watched [] t ts is = absurd (cc)
 first_within opening seen watched (changes ∷ older) t ts is =
     let next : number_of_last opening (changes ∷ older) ≡ number_of_last opening older + 1 = omega arith in
     within_by seen (number_of_last opening older) (number_of_last opening (changes ∷ older)) (of_last opening watched changes older)
-    (told_above opening seen watched older) t ts next (λ rest. first_within opening seen watched older t rest) is
+    (pending_above opening seen watched older) t ts next (λ rest. first_within opening seen watched older t rest) is
 
 nothing_above : (opening : Opening) (seen : ℕ) (watched : Watched) (revisions : List (List Change)) → number_of_last opening revisions ≤ seen →
-    told_above opening seen watched revisions ≡ []
+    pending_above opening seen watched revisions ≡ []
 nothing_above opening seen watched [] above = refl
 nothing_above opening seen watched (changes ∷ older) above =
     let n : ℕ = number_of_last opening (changes ∷ older) in
-    ap (λ (ts : List Told). ts ++ part seen n (of_last opening watched changes older)) (nothing_above opening seen watched older (omega arith))
-    ∙ ap (λ b. cond b (told_at n (of_last opening watched changes older)) []) (le-ltb seen n above)
+    ap (λ (ts : List PendingRevision). ts ++ part seen n (of_last opening watched changes older)) (nothing_above opening seen watched older (omega arith))
+    ∙ ap (λ b. cond b (pending_of_revision n (of_last opening watched changes older)) []) (le-ltb seen n above)
 
-rest_by : (seen last n : ℕ) (events : List Event) (earlier later : List Told) (t : Told) (ts : List Told) → n ≡ last + 1 →
-    ((rest : List Told) → earlier ≡ t ∷ rest → IsWithin seen last t × (rest ≡ later)) → (last ≤ t.number → later ≡ []) →
+rest_by : (seen last n : ℕ) (events : List Event) (earlier later : List PendingRevision) (t : PendingRevision) (ts : List PendingRevision) → n ≡ last + 1 →
+    ((rest : List PendingRevision) → earlier ≡ t ∷ rest → IsWithin seen last t × (rest ≡ later)) → (last ≤ t.number → later ≡ []) →
     earlier ++ part seen n events ≡ t ∷ ts → ts ≡ later ++ part t.number n events
 rest_by seen last n events [] later t ts next goes none is =
     let one : IsAlone seen n t ts = alone_by seen n events (nat_lt seen n) t ts refl is in
     let number : t.number ≡ n = one.number in
     one.alone
-    ∙ sym (ap (λ (l : List Told). l ++ part t.number n events) (none (omega arith))
-    ∙ ap (λ b. cond b (told_at n events) []) (le-ltb t.number n (omega arith)))
+    ∙ sym (ap (λ (l : List PendingRevision). l ++ part t.number n events) (none (omega arith))
+    ∙ ap (λ b. cond b (pending_of_revision n events) []) (le-ltb t.number n (omega arith)))
 rest_by seen last n events (x ∷ rest) later t ts next goes none is =
     let same : x ≡ t = same_first x t (rest ++ part seen n events) ts is in
-    let found : IsWithin seen last t × (rest ≡ later) = goes rest (ap (λ (y : Told). y ∷ rest) same) in
+    let found : IsWithin seen last t × (rest ≡ later) = goes rest (ap (λ (y : PendingRevision). y ∷ rest) same) in
     let above : seen < t.number = found.0.above in
     let below : t.number ≤ last = found.0.below in
     sym (same_rest x t (rest ++ part seen n events) ts is)
-    ∙ ap (λ (l : List Told). l ++ part seen n events) found.1
-    ∙ ap (λ b. later ++ cond b (told_at n events) []) (lt-ltb seen n (omega arith) ∙ sym (lt-ltb t.number n (omega arith)))
+    ∙ ap (λ (l : List PendingRevision). l ++ part seen n events) found.1
+    ∙ ap (λ b. later ++ cond b (pending_of_revision n events) []) (lt-ltb seen n (omega arith) ∙ sym (lt-ltb t.number n (omega arith)))
 
 -- the others are what is told above the first
-rest_above : (opening : Opening) (seen : ℕ) (watched : Watched) (revisions : List (List Change)) (t : Told) (ts : List Told) →
-    told_above opening seen watched revisions ≡ t ∷ ts → ts ≡ told_above opening t.number watched revisions
+rest_above : (opening : Opening) (seen : ℕ) (watched : Watched) (revisions : List (List Change)) (t : PendingRevision) (ts : List PendingRevision) →
+    pending_above opening seen watched revisions ≡ t ∷ ts → ts ≡ pending_above opening t.number watched revisions
 rest_above opening seen watched [] t ts is = absurd (cc)
 rest_above opening seen watched (changes ∷ older) t ts is =
     let next : number_of_last opening (changes ∷ older) ≡ number_of_last opening older + 1 = omega arith in
     rest_by seen (number_of_last opening older) (number_of_last opening (changes ∷ older)) (of_last opening watched changes older)
-    (told_above opening seen watched older) (told_above opening t.number watched older) t ts next
+    (pending_above opening seen watched older) (pending_above opening t.number watched older) t ts next
     (λ rest some. (first_within opening seen watched older t rest some, rest_above opening seen watched older t rest some))
     (nothing_above opening t.number watched older) is
 
 -- ---- a poll
 
 -- so many revisions, and what is told above the last of them, are all
-record AreSplit (most : ℕ) (opening : Opening) (seen : ℕ) (watched : Watched) (revisions : List (List Change)) (all : List Told) : Type 0 where
-  whole : take most all ++ told_above opening (last_told seen (take most all)) watched revisions ≡ all
-  since : seen ≤ last_told seen (take most all)
-  reached : last_told seen (take most all) ≤ max seen (number_of_last opening revisions)
+record AreSplit (most : ℕ) (opening : Opening) (seen : ℕ) (watched : Watched) (revisions : List (List Change)) (all : List PendingRevision) : Type 0 where
+  whole : take most all ++ pending_above opening (last_number seen (take most all)) watched revisions ≡ all
+  since : seen ≤ last_number seen (take most all)
+  reached : last_number seen (take most all) ≤ max seen (number_of_last opening revisions)
 
-split_by : (most : ℕ) (opening : Opening) (seen : ℕ) (watched : Watched) (revisions : List (List Change)) (all : List Told) →
-    told_above opening seen watched revisions ≡ all →
-    ((next : ℕ) → AreSplit most opening next watched revisions (told_above opening next watched revisions)) →
+split_by : (most : ℕ) (opening : Opening) (seen : ℕ) (watched : Watched) (revisions : List (List Change)) (all : List PendingRevision) →
+    pending_above opening seen watched revisions ≡ all →
+    ((next : ℕ) → AreSplit most opening next watched revisions (pending_above opening next watched revisions)) →
     AreSplit (suc most) opening seen watched revisions all
 split_by most opening seen watched revisions [] is goes = record { whole = is; since = omega arith; reached = omega arith }
 split_by most opening seen watched revisions (t ∷ ts) is goes =
-    let rest : ts ≡ told_above opening t.number watched revisions = rest_above opening seen watched revisions t ts is in
+    let rest : ts ≡ pending_above opening t.number watched revisions = rest_above opening seen watched revisions t ts is in
     let within : IsWithin seen (number_of_last opening revisions) t = first_within opening seen watched revisions t ts is in
     let split : AreSplit most opening t.number watched revisions ts =
     subst (AreSplit most opening t.number watched revisions) (sym rest) (goes t.number) in
     let above : seen < t.number = within.above in
     let below : t.number ≤ number_of_last opening revisions = within.below in
-    let since : t.number ≤ last_told t.number (take most ts) = split.since in
-    let reached : last_told t.number (take most ts) ≤ max t.number (number_of_last opening revisions) = split.reached in
-    record { whole = ap (λ (l : List Told). t ∷ l) split.whole; since = omega arith; reached = omega arith }
+    let since : t.number ≤ last_number t.number (take most ts) = split.since in
+    let reached : last_number t.number (take most ts) ≤ max t.number (number_of_last opening revisions) = split.reached in
+    record { whole = ap (λ (l : List PendingRevision). t ∷ l) split.whole; since = omega arith; reached = omega arith }
 
 split : (most : ℕ) (opening : Opening) (seen : ℕ) (watched : Watched) (revisions : List (List Change)) →
-    AreSplit most opening seen watched revisions (told_above opening seen watched revisions)
+    AreSplit most opening seen watched revisions (pending_above opening seen watched revisions)
 split zero opening seen watched revisions = record { whole = refl; since = omega arith; reached = omega arith }
 split (suc most) opening seen watched revisions =
-    split_by most opening seen watched revisions (told_above opening seen watched revisions) refl (λ next. split most opening next watched revisions)
+    split_by most opening seen watched revisions (pending_above opening seen watched revisions) refl (λ next. split most opening next watched revisions)
 
 -- a poll that tells up to a revision gives so many revisions, and leaves the others pending
 record IsPolled (most : ℕ) (h : History) (w : Watching) (upto : ℕ) : Type 0 where
-  whole : take most (pending h w) ++ told_above h.opening upto w.watched h.revisions ≡ pending h w
+  whole : take most (pending h w) ++ pending_above h.opening upto w.watched h.revisions ≡ pending h w
   since : w.seen ≤ upto
   reached : upto ≤ max w.seen (now h)
 
 polled_by : (most : ℕ) (h : History) (w : Watching) (all : Bool) → nat_le (length (pending h w)) most ≡ all →
-    IsPolled most h w (cond all (max w.seen (now h)) (last_told w.seen (take most (pending h w))))
+    IsPolled most h w (cond all (max w.seen (now h)) (last_number w.seen (take most (pending h w))))
 polled_by most h w true all = record {
-  whole = ap (λ (l : List Told). take most (pending h w) ++ l)
+  whole = ap (λ (l : List PendingRevision). take most (pending h w) ++ l)
       (nothing_above h.opening (max w.seen (now h)) w.watched h.revisions (le-max_right w.seen (now h)))
       ∙ append-nil (take most (pending h w)) ∙ take_all most (pending h w) (leb-true (length (pending h w)) most all);
   since = omega arith;
@@ -166,25 +166,25 @@ polled_by most h w false all =
 -- ---- what a watcher was told and what is pending for it
 
 -- What was told a watcher that began so and stands so, with what is pending for it, is all of what it was to be told since.
-pub record HasTold (h : History) (told : List Event) (begun w : Watching) : Type 0 where
+pub record HasReported (h : History) (reported : List Event) (begun w : Watching) : Type 0 where
   pub same : w.watched ≡ begun.watched
   pub since : begun.seen ≤ w.seen
   pub reached : w.seen ≤ max begun.seen (now h)
-  pub all : told ++ events_told (pending h w) ≡ events_told (pending h begun)
+  pub all : reported ++ pending_events (pending h w) ≡ pending_events (pending h begun)
 
-pub begun_tells : (h : History) (w : Watching) → HasTold h [] w w
-begun_tells h w = record { same = refl; since = omega arith; reached = omega arith; all = refl }
+pub begun_reports : (h : History) (w : Watching) → HasReported h [] w w
+begun_reports h w = record { same = refl; since = omega arith; reached = omega arith; all = refl }
 
-events_joined : (ts us : List Told) → events_told (ts ++ us) ≡ events_told ts ++ events_told us
-events_joined ts us = flat_map-append (λ (t : Told). t.events) ts us
+events_joined : (ts us : List PendingRevision) → pending_events (ts ++ us) ≡ pending_events ts ++ pending_events us
+events_joined ts us = flat_map-append (λ (t : PendingRevision). t.events) ts us
 
 -- a poll tells what it gives
-pub polled_tells : (most : ℕ) (h : History) (told : List Event) (begun w : Watching) → HasTold h told begun w →
-    HasTold h (told ++ (batch_of most h w).events) begun (after_poll most h w)
-polled_tells most h told begun w t =
+pub polled_reports : (most : ℕ) (h : History) (reported : List Event) (begun w : Watching) → HasReported h reported begun w →
+    HasReported h (reported ++ (batch_of most h w).events) begun (after_poll most h w)
+polled_reports most h reported begun w t =
     let upto : ℕ = (batch_of most h w).upto in
-    let given : List Told = take most (pending h w) in
-    let left : List Told = told_above h.opening upto w.watched h.revisions in
+    let given : List PendingRevision = take most (pending h w) in
+    let left : List PendingRevision = pending_above h.opening upto w.watched h.revisions in
     let p : IsPolled most h w upto = polled_by most h w (nat_le (length (pending h w)) most) refl in
     let first : begun.seen ≤ w.seen = t.since in
     let last : w.seen ≤ max begun.seen (now h) = t.reached in
@@ -194,16 +194,16 @@ polled_tells most h told begun w t =
       same = t.same;
       since = omega arith;
       reached = omega arith;
-      all = append_assoc told (events_told given) (events_told left)
-          ∙ ap (λ (es : List Event). told ++ es) (sym (events_joined given left) ∙ ap events_told p.whole) ∙ t.all;
+      all = append_assoc reported (pending_events given) (pending_events left)
+          ∙ ap (λ (es : List Event). reported ++ es) (sym (events_joined given left) ∙ ap pending_events p.whole) ∙ t.all;
     }
 
 -- a new revision is pending alike
-grown_tells : (h : History) (changes : List Change) (told : List Event) (begun w : Watching) → HasTold h told begun w →
-    HasTold (add_revision h changes) told begun w
-grown_tells h changes told begun w t =
+grown_reports : (h : History) (changes : List Change) (reported : List Event) (begun w : Watching) → HasReported h reported begun w →
+    HasReported (add_revision h changes) reported begun w
+grown_reports h changes reported begun w t =
     let n : ℕ = number_of_last h.opening (changes ∷ h.revisions) in
-    let more : Watching → List Told = λ x. part x.seen n (of_last h.opening x.watched changes h.revisions) in
+    let more : Watching → List PendingRevision = λ x. part x.seen n (of_last h.opening x.watched changes h.revisions) in
     let since : begun.seen ≤ w.seen = t.since in
     let reached : w.seen ≤ max begun.seen (now h) = t.reached in
     let both : nat_lt w.seen n ≡ nat_lt begun.seen n = elim (cases_lt begun.seen n) [
@@ -211,66 +211,66 @@ grown_tells h changes told begun w t =
       | inr above ↦ le-ltb w.seen n (omega arith) ∙ sym (le-ltb begun.seen n above)
     ] in
     let alike : more w ≡ more begun =
-    ap (λ b. cond b (told_at n (of_last h.opening w.watched changes h.revisions)) []) both
+    ap (λ b. cond b (pending_of_revision n (of_last h.opening w.watched changes h.revisions)) []) both
     ∙ ap (λ (k : Watched). part begun.seen n (of_last h.opening k changes h.revisions)) t.same in
     record {
       same = t.same;
       since = since;
       reached = omega arith;
-      all = ap (λ (es : List Event). told ++ es)
-          (events_joined (pending h w) (more w) ∙ ap (λ (ts : List Told). events_told (pending h w) ++ events_told ts) alike)
-          ∙ sym (append_assoc told (events_told (pending h w)) (events_told (more begun)))
-          ∙ ap (λ (es : List Event). es ++ events_told (more begun)) t.all ∙ sym (events_joined (pending h begun) (more begun));
+      all = ap (λ (es : List Event). reported ++ es)
+          (events_joined (pending h w) (more w) ∙ ap (λ (ts : List PendingRevision). pending_events (pending h w) ++ pending_events ts) alike)
+          ∙ sym (append_assoc reported (pending_events (pending h w)) (pending_events (more begun)))
+          ∙ ap (λ (es : List Event). es ++ pending_events (more begun)) t.all ∙ sym (events_joined (pending h begun) (more begun));
     }
 
 -- what was told of one history goes on in another
 abbrev pub Carries : History → History → Type 0
-Carries before after = (told : List Event) (begun w : Watching) → HasTold before told begun w → HasTold after told begun w
+Carries before after = (reported : List Event) (begun w : Watching) → HasReported before reported begun w → HasReported after reported begun w
 
 pub carries_changes : (h : History) (changes : List Change) → Carries h (with_changes h changes)
-carries_changes h [] told begun w t = t
-carries_changes h (c ∷ cs) told begun w t = grown_tells h (c ∷ cs) told begun w t
+carries_changes h [] reported begun w t = t
+carries_changes h (c ∷ cs) reported begun w t = grown_reports h (c ∷ cs) reported begun w t
 
 -- ---- nothing that is pending is below the floor
 
 -- the first of these revisions is not below the floor
-abbrev pub IsFrom : ℕ → List Told → Type 0
-IsFrom floor ts = IfSome (first_told ts) (λ n. floor ≤ n)
+abbrev pub IsFrom : ℕ → List PendingRevision → Type 0
+IsFrom floor ts = IfSome (number_of_first ts) (λ n. floor ≤ n)
 
 -- none of them is
-abbrev AreFrom : ℕ → List Told → Type 0
+abbrev AreFrom : ℕ → List PendingRevision → Type 0
 AreFrom floor [] = Unit {0}
 AreFrom floor (t ∷ ts) = (floor ≤ t.number) × AreFrom floor ts
 
-first_from : (floor : ℕ) (ts : List Told) → AreFrom floor ts → IsFrom floor ts
+first_from : (floor : ℕ) (ts : List PendingRevision) → AreFrom floor ts → IsFrom floor ts
 first_from floor [] are = tt
 first_from floor (t ∷ ts) are = are.0
 
-both_from : (floor : ℕ) (ts us : List Told) → AreFrom floor ts → AreFrom floor us → AreFrom floor (ts ++ us)
+both_from : (floor : ℕ) (ts us : List PendingRevision) → AreFrom floor ts → AreFrom floor us → AreFrom floor (ts ++ us)
 both_from floor [] us are others = others
 both_from floor (t ∷ ts) us are others = (are.0, both_from floor ts us are.1 others)
 
-rest_from : (floor : ℕ) (ts us : List Told) → AreFrom floor (ts ++ us) → AreFrom floor us
+rest_from : (floor : ℕ) (ts us : List PendingRevision) → AreFrom floor (ts ++ us) → AreFrom floor us
 rest_from floor [] us are = are
 rest_from floor (t ∷ ts) us are = rest_from floor ts us are.1
 
-more_from : (floor : ℕ) (ts us : List Told) → IsFrom floor ts → AreFrom floor us → IsFrom floor (ts ++ us)
+more_from : (floor : ℕ) (ts us : List PendingRevision) → IsFrom floor ts → AreFrom floor us → IsFrom floor (ts ++ us)
 more_from floor [] us is others = first_from floor us others
 more_from floor (t ∷ ts) us is others = is
 
-part_from : (floor n : ℕ) (events : List Event) (above : Bool) → floor ≤ n → AreFrom floor (cond above (told_at n events) [])
+part_from : (floor n : ℕ) (events : List Event) (above : Bool) → floor ≤ n → AreFrom floor (cond above (pending_of_revision n events) [])
 part_from floor n events false from = tt
 part_from floor n [] true from = tt
 part_from floor n (e ∷ es) true from = (from, tt)
 
-one_from : (floor n : ℕ) (events : List Event) (above : Bool) → IsFrom floor (cond above (told_at n events) []) →
-    AreFrom floor (cond above (told_at n events) [])
+one_from : (floor n : ℕ) (events : List Event) (above : Bool) → IsFrom floor (cond above (pending_of_revision n events) []) →
+    AreFrom floor (cond above (pending_of_revision n events) [])
 one_from floor n events false is = tt
 one_from floor n [] true is = tt
 one_from floor n (e ∷ es) true is = (is, tt)
 
-all_by : (floor seen last n : ℕ) (events : List Event) (earlier : List Told) → n ≡ last + 1 →
-    ((t : Told) (ts : List Told) → earlier ≡ t ∷ ts → IsWithin seen last t) → (IsFrom floor earlier → AreFrom floor earlier) →
+all_by : (floor seen last n : ℕ) (events : List Event) (earlier : List PendingRevision) → n ≡ last + 1 →
+    ((t : PendingRevision) (ts : List PendingRevision) → earlier ≡ t ∷ ts → IsWithin seen last t) → (IsFrom floor earlier → AreFrom floor earlier) →
     IsFrom floor (earlier ++ part seen n events) → AreFrom floor (earlier ++ part seen n events)
 all_by floor seen last n events [] next within goes is = one_from floor n events (nat_lt seen n) is
 all_by floor seen last n events (t ∷ ts) next within goes is =
@@ -281,19 +281,19 @@ all_by floor seen last n events (t ∷ ts) next within goes is =
 
 -- they are told in their order, so where the first is not below the floor none is
 all_from : (floor : ℕ) (opening : Opening) (seen : ℕ) (watched : Watched) (revisions : List (List Change)) →
-    IsFrom floor (told_above opening seen watched revisions) → AreFrom floor (told_above opening seen watched revisions)
+    IsFrom floor (pending_above opening seen watched revisions) → AreFrom floor (pending_above opening seen watched revisions)
 all_from floor opening seen watched [] is = tt
 all_from floor opening seen watched (changes ∷ older) is =
     let next : number_of_last opening (changes ∷ older) ≡ number_of_last opening older + 1 = omega arith in
     all_by floor seen (number_of_last opening older) (number_of_last opening (changes ∷ older)) (of_last opening watched changes older)
-    (told_above opening seen watched older) next (first_within opening seen watched older) (all_from floor opening seen watched older) is
+    (pending_above opening seen watched older) next (first_within opening seen watched older) (all_from floor opening seen watched older) is
 
 -- so it stays with a poll
 pub polled_from : (most floor : ℕ) (h : History) (w : Watching) → IsFrom floor (pending h w) → IsFrom floor (pending h (after_poll most h w))
 polled_from most floor h w is =
     let upto : ℕ = (batch_of most h w).upto in
-    let given : List Told = take most (pending h w) in
-    let left : List Told = told_above h.opening upto w.watched h.revisions in
+    let given : List PendingRevision = take most (pending h w) in
+    let left : List PendingRevision = pending_above h.opening upto w.watched h.revisions in
     let p : IsPolled most h w upto = polled_by most h w (nat_le (length (pending h w)) most) refl in
     let all : AreFrom floor (pending h w) = all_from floor h.opening w.seen w.watched h.revisions is in
     first_from floor left (rest_from floor given left (subst (AreFrom floor) (sym p.whole) all))
@@ -308,8 +308,8 @@ changes_from floor h (c ∷ cs) w reached is =
     let events : List Event = of_last h.opening w.watched (c ∷ cs) h.revisions in
     more_from floor (pending h w) (part w.seen n events) is (part_from floor n events (nat_lt w.seen n) (omega arith))
 
-above_from : (floor : ℕ) (opening : Opening) (seen : ℕ) (watched : Watched) (revisions : List (List Change)) (all : List Told) → floor ≤ seen + 1 →
-    told_above opening seen watched revisions ≡ all → IsFrom floor all
+above_from : (floor : ℕ) (opening : Opening) (seen : ℕ) (watched : Watched) (revisions : List (List Change)) (all : List PendingRevision) → floor ≤ seen + 1 →
+    pending_above opening seen watched revisions ≡ all → IsFrom floor all
 above_from floor opening seen watched revisions [] from is = tt
 above_from floor opening seen watched revisions (t ∷ ts) from is =
     let first : IsWithin seen (number_of_last opening revisions) t = first_within opening seen watched revisions t ts is in
@@ -337,7 +337,7 @@ begun_from floor h watched from reached kept =
 
 -- ---- what is below the floor stays so
 
-first_stays : (floor : ℕ) (ts us : List Told) → is_lost floor (first_told ts) ≡ true → is_lost floor (first_told (ts ++ us)) ≡ true
+first_stays : (floor : ℕ) (ts us : List PendingRevision) → is_lost floor (number_of_first ts) ≡ true → is_lost floor (number_of_first (ts ++ us)) ≡ true
 first_stays floor [] us is = absurd (cc)
 first_stays floor (t ∷ ts) us is = is
 

@@ -40,10 +40,10 @@ use Rattle.stm_world.specs.declared.event.WorldEvent.TheVariants.{WatchKey, Watc
 use Rattle.stm_world.specs.declared.reply.Reply.{Reply}
 use Rattle.stm_world.specs.declared.reply.Reply.TheVariants.{Started, Prefetched, Fetched, Conflict, GaveUp, Aborted, Faulted, Ended}
 use Rattle.stm_world.specs.declared.refusal.Refusal.TheVariants.{BadLimit}
-use Rattle.stm_world.specs.Told.{store_after_call, store_after_poll}
+use Rattle.stm_world.specs.Reported.{store_after_call, store_after_poll}
 use Rattle.stm_world.specs.Task.{Task, answer_at, modified_now, after_list, after_fetch, after_conflict}
 use Rattle.stm_world.specs.World.{World, Runner, Slot, Over, Live, live_in, runner_at, with_slot, refused, replied, begin, start_runner, fetch, fetch_list, entry_of}
-use Rattle.stm_world.specs.World.{take_commit, seen_in, decided, commit_told, commit, finish, step_on, step_live, step_runner, if_taken, if_changed}
+use Rattle.stm_world.specs.World.{take_commit, seen_in, decided, commit_reported, commit, finish, step_on, step_live, step_runner, if_taken, if_changed}
 use Rattle.stm_world.specs.World.{expiries, step}
 use Rattle.stm_world.specs.Sound.{KnowsTruth, IsSound}
 use Rattle.stm_world.proofs.Truth.{known_stays, prefetch_true, fetch_true, conflict_true}
@@ -211,7 +211,7 @@ decided_sound w id r run done (Some failed) law x comes_to some =
 
 commit_by : (w : World) (id : ℕ) (r : Runner) (run : Run) (o : Result Done StoreRefusal) → CommitIsTheRunNow → IsDone w id r run →
     committed (terms_of w.standing) r.task.level r.known.reads run ≡ o →
-    IsSound (commit_told id r r.known.reads run o w).next
+    IsSound (commit_reported id r r.known.reads run o w).next
 commit_by w id r run (Ok done) law x is = decided_sound w id r run done done.answer.failed law x is refl
 commit_by w id r run (Err cause) law x is = ended_sound w id r (Ended id cause) x.sound x.found
 

@@ -34,12 +34,12 @@ pub record Keeps (before after : History) : Type 0 where
   pub opening : after.opening ≡ before.opening
 
 pub keeps_same : (h : History) → Keeps h h
-keeps_same h = record { truth = λ answers t. t; carries = λ told begun w t. t; lost = λ floor w is. is; opening = refl }
+keeps_same h = record { truth = λ answers t. t; carries = λ reported begun w t. t; lost = λ floor w is. is; opening = refl }
 
 pub keeps_twice : (a b c : History) → Keeps a b → Keeps b c → Keeps a c
 keeps_twice a b c first second = record {
   truth = λ answers t. second.truth answers (first.truth answers t);
-  carries = λ told begun w t. second.carries told begun w (first.carries told begun w t);
+  carries = λ reported begun w t. second.carries reported begun w (first.carries reported begun w t);
   lost = λ floor w is. second.lost floor w (first.lost floor w is);
   opening = second.opening ∙ first.opening;
 }

@@ -11,9 +11,9 @@ use Rattle.stm_world.specs.declared.reply.Reply.{Reply}
 use Rattle.stm_world.specs.declared.reply.Reply.TheVariants.{Started, Prefetched, Fetched, Committed, Conflict, GaveUp, Aborted, Faulted, Ended}
 use Rattle.stm_world.specs.declared.reply.Reply.TheVariants.{Txn as TxnDone, Granted, Kept, Revoked, Advanced, Watching, Batch, Cancelled, Compacted, Lost}
 use Rattle.stm_world.specs.declared.refusal.Denied.{Denied}
-use Rattle.stm_world.specs.Told.{reply_to, advance_reply}
+use Rattle.stm_world.specs.Reported.{reply_to, advance_reply}
 use Rattle.stm_world.specs.Task.{Task, nothing_known, answer_at, after_list, after_fetch, after_conflict}
-use Rattle.stm_world.specs.Log.{Line, begun, is_over, running, failures, is_id, task_in, store, told, known_after}
+use Rattle.stm_world.specs.Log.{Line, begun, is_over, running, failures, is_id, task_in, store, reported, known_after}
 use Rattle.stm_world.specs.Log.{runner_started, runner_ended, runner_in_conflict}
 use Rattle.stm_world.specs.World.{Runner}
 use Rattle.stm_world.specs.Headline.{runner_for, runner_in_log}
@@ -32,13 +32,13 @@ same_running id line log u =
 pub same_failures : (id : ℕ) (line : Line) (log : List Line) → Untouched id line.reply → failures id (line ∷ log) ≡ failures id log
 same_failures id line log u = ap (λ b. cond b (failures id log + 1) (failures id log)) u.no_conflict
 
-pub same_told : (start : Setup) (id : ℕ) (task : Task) (line : Line) (log : List Line) → Untouched id line.reply →
-    told start id task (line ∷ log) ≡ told start id task log
-same_told start id task line log u = u.known task (store start log).history (told start id task log)
+pub same_reported : (start : Setup) (id : ℕ) (task : Task) (line : Line) (log : List Line) → Untouched id line.reply →
+    reported start id task (line ∷ log) ≡ reported start id task log
+same_reported start id task line log u = u.known task (store start log).history (reported start id task log)
 
 same_runner_for : (start : Setup) (id : ℕ) (task : Task) (line : Line) (log : List Line) → Untouched id line.reply →
     runner_for start (line ∷ log) id task ≡ runner_for start log id task
-same_runner_for start id task line log u = λ i. record { task = task; failures = same_failures id line log u i; known = same_told start id task line log u i }
+same_runner_for start id task line log u = λ i. record { task = task; failures = same_failures id line log u i; known = same_reported start id task line log u i }
 
 map_alike : (f g : Task → Runner) (o : Option Task) → ((task : Task) → f task ≡ g task) → option_map f o ≡ option_map g o
 map_alike f g None alike = refl
@@ -57,17 +57,17 @@ pub record IsFresh (start : Setup) (log : List Line) (id : ℕ) : Type 0 where
   pub not_begun : begun id log ≡ None
   pub not_over : is_over id log ≡ false
   pub no_failures : failures id log ≡ 0
-  pub nothing : (task : Task) → told start id task log ≡ nothing_known
+  pub nothing : (task : Task) → reported start id task log ≡ nothing_known
 
-pub none_told : (start : Setup) (id : ℕ) → IsFresh start [] id
-none_told start id = record { not_begun = refl; not_over = refl; no_failures = refl; nothing = λ task. refl }
+pub none_reported : (start : Setup) (id : ℕ) → IsFresh start [] id
+none_reported start id = record { not_begun = refl; not_over = refl; no_failures = refl; nothing = λ task. refl }
 
 pub fresh_stays : (start : Setup) (id : ℕ) (line : Line) (log : List Line) → Untouched id line.reply → IsFresh start log id → IsFresh start (line ∷ log) id
 fresh_stays start id line log u fresh = record {
   not_begun = ap (λ b. cond b (task_in line.event) (begun id log)) u.not_started ∙ fresh.not_begun;
   not_over = ap (λ b. b || is_over id log) u.not_ended ∙ fresh.not_over;
   no_failures = same_failures id line log u ∙ fresh.no_failures;
-  nothing = λ task. same_told start id task line log u ∙ fresh.nothing task;
+  nothing = λ task. same_reported start id task line log u ∙ fresh.nothing task;
 }
 
 -- ---- replies ----
@@ -75,10 +75,10 @@ fresh_stays start id line log u fresh = record {
 pub by_refusal : (id : ℕ) (refusal : Denied) → Untouched id (Err refusal)
 by_refusal id refusal = record { not_started = refl; not_ended = refl; no_conflict = refl; known = λ task h k. refl }
 
-pub by_call : {A : Type 0} (id : ℕ) (tell : A → Reply) (o : Result (StoreStep A) StoreRefusal) → ((x : A) → Untouched id (Ok (tell x))) →
-    Untouched id (reply_to tell o)
-by_call id tell (Ok done) each = each done.answer
-by_call id tell (Err cause) each = record { not_started = refl; not_ended = refl; no_conflict = refl; known = λ task h k. refl }
+pub by_call : {A : Type 0} (id : ℕ) (report : A → Reply) (o : Result (StoreStep A) StoreRefusal) → ((x : A) → Untouched id (Ok (report x))) →
+    Untouched id (reply_to report o)
+by_call id report (Ok done) each = each done.answer
+by_call id report (Err cause) each = record { not_started = refl; not_ended = refl; no_conflict = refl; known = λ task h k. refl }
 
 pub by_advance : (id moment : ℕ) (expired : List Expired) (cause : Option StoreRefusal) → Untouched id (advance_reply moment expired cause)
 by_advance id moment expired None = record { not_started = refl; not_ended = refl; no_conflict = refl; known = λ task h k. refl }

@@ -22,9 +22,9 @@ use Rattle.stm_txn.specs.Standing.{Standing, Advance, step_of, transacted, ended
 use Rattle.stm_txn.specs.Standing.{after, expired_in, expire_up_to, expire_all, at_moment, advanced, IsCutShort}
 use Rattle.stm_outcome.specs.Terms.{Terms, is_below_floor}
 
-abbrev pub NoWant : Option Refusal → Type 0
-NoWant None = Unit {0}
-NoWant (Some cause) = cause ≢ OutOfMemory
+abbrev pub NoOutOfMemory : Option Refusal → Type 0
+NoOutOfMemory None = Unit {0}
+NoOutOfMemory (Some cause) = cause ≢ OutOfMemory
 
 abbrev pub NeverWants : {A : Type 0} → Result A Refusal → Type 0
 NeverWants (Ok done) = Unit {0}
@@ -32,35 +32,35 @@ NeverWants (Err cause) = cause ≢ OutOfMemory
 
 -- ---- transactions ----
 
-by_unless : {A : Type 0} (found : Option Refusal) (next : Result A Refusal) → NoWant found → NeverWants next → NeverWants (unless found next)
+by_unless : {A : Type 0} (found : Option Refusal) (next : Result A Refusal) → NoOutOfMemory found → NeverWants next → NeverWants (unless found next)
 by_unless None next none rest = rest
 by_unless (Some cause) next not rest = not
 
-by_or : (first later : Option Refusal) → NoWant first → NoWant later → NoWant (option_or first later)
+by_or : (first later : Option Refusal) → NoOutOfMemory first → NoOutOfMemory later → NoOutOfMemory (option_or first later)
 by_or None later first rest = rest
 by_or (Some cause) later first rest = first
 
-by_fault : (many empty clash : Bool) → NoWant (cond many (Some TooManyOps) (cond empty (Some EmptyKey) (cond clash (Some DuplicateKey) None)))
+by_fault : (many empty clash : Bool) → NoOutOfMemory (cond many (Some TooManyOps) (cond empty (Some EmptyKey) (cond clash (Some DuplicateKey) None)))
 by_fault true empty clash = λ e. absurd (cc)
 by_fault false true clash = λ e. absurd (cc)
 by_fault false false true = λ e. absurd (cc)
 by_fault false false false = tt
 
-by_read : (above below : Bool) → NoWant (cond above (Some FutureRevision) (cond below (Some Compacted) None))
+by_read : (above below : Bool) → NoOutOfMemory (cond above (Some FutureRevision) (cond below (Some Compacted) None))
 by_read true below = λ e. absurd (cc)
 by_read false true = λ e. absurd (cc)
 by_read false false = tt
 
-by_put : (fine : Bool) → NoWant (cond fine None (Some LeaseNotFound))
+by_put : (fine : Bool) → NoOutOfMemory (cond fine None (Some LeaseNotFound))
 by_put true = tt
 by_put false = λ e. absurd (cc)
 
-op_never : (terms : Terms) (op : Op) → NoWant (op_refusal terms op)
+op_never : (terms : Terms) (op : Op) → NoOutOfMemory (op_refusal terms op)
 op_never terms (Get key rev) = by_read (nat_lt (now terms.history) rev) (is_below_floor terms.floor rev)
 op_never terms (Put key value lease) = by_put (nat_eq lease 0 || terms.is_live lease)
 op_never terms (Del key) = tt
 
-branch_never : (terms : Terms) (ops : List Op) → NoWant (branch_refusal terms ops)
+branch_never : (terms : Terms) (ops : List Op) → NoOutOfMemory (branch_refusal terms ops)
 branch_never terms [] = tt
 branch_never terms (op ∷ ops) = by_or (op_refusal terms op) (branch_refusal terms ops) (op_never terms op) (branch_never terms ops)
 
@@ -116,51 +116,51 @@ one_more : (n : ℕ) (s : Standing) (o : Option ℕ) → elim o [
 one_more n s None = refl
 one_more n s (Some id) = same_end n s id (ended s id)
 
-expiry_never : (n : ℕ) (s : Standing) (id : ℕ) (o : Result Standing Refusal) → ((next : Standing) → NoWant (expire_up_to n next).cause) → NeverWants o →
-    NoWant (by_end n s id o).cause
+expiry_never : (n : ℕ) (s : Standing) (id : ℕ) (o : Result Standing Refusal) → ((next : Standing) → NoOutOfMemory (expire_up_to n next).cause) → NeverWants o →
+    NoOutOfMemory (by_end n s id o).cause
 expiry_never n s id (Err cause) rest never = never
 expiry_never n s id (Ok next) rest never = rest next
 
-due_never : (n : ℕ) (s : Standing) (o : Option ℕ) → ((next : Standing) → NoWant (expire_up_to n next).cause) → NoWant (by_due n s o).cause
+due_never : (n : ℕ) (s : Standing) (o : Option ℕ) → ((next : Standing) → NoOutOfMemory (expire_up_to n next).cause) → NoOutOfMemory (by_due n s o).cause
 due_never n s None rest = tt
 due_never n s (Some id) rest = expiry_never n s id (ended s id) rest (ended_never s id)
 
-expiries_never : (n : ℕ) (s : Standing) → NoWant (expire_up_to n s).cause
+expiries_never : (n : ℕ) (s : Standing) → NoOutOfMemory (expire_up_to n s).cause
 expiries_never zero s = tt
 expiries_never (suc n) s =
-    subst (λ (a : Advance). NoWant a.cause) (sym (one_more n s (first_due s.live s.moment)))
+    subst (λ (a : Advance). NoOutOfMemory a.cause) (sym (one_more n s (first_due s.live s.moment)))
     (due_never n s (first_due s.live s.moment) (λ next. expiries_never n next))
 
 advance_by : (s : Standing) (moment : ℕ) (back : Bool) →
-    NoWant (cond back (record { expired = []; leaves = s; cause = Some TimeGoesBack }) (expire_all (at_moment s moment))).cause
+    NoOutOfMemory (cond back (record { expired = []; leaves = s; cause = Some TimeGoesBack }) (expire_all (at_moment s moment))).cause
 advance_by s moment true = λ e. absurd (cc)
 advance_by s moment false = expiries_never (finmap.len s.live) (at_moment s moment)
 
-pub advanced_never : (s : Standing) (moment : ℕ) → NoWant (advanced s moment).cause
+pub advanced_never : (s : Standing) (moment : ℕ) → NoOutOfMemory (advanced s moment).cause
 advanced_never s moment = advance_by s moment (nat_lt moment s.moment)
 
 -- no more leases expire than are live
 
-abbrev told_in : Advance → ℕ
-told_in a = length a.expired
+abbrev reported_in : Advance → ℕ
+reported_in a = length a.expired
 
-expiry_within : (n : ℕ) (s : Standing) (id : ℕ) (o : Result Standing Refusal) → ((next : Standing) → told_in (expire_up_to n next) ≤ n) →
-    told_in (by_end n s id o) ≤ suc n
+expiry_within : (n : ℕ) (s : Standing) (id : ℕ) (o : Result Standing Refusal) → ((next : Standing) → reported_in (expire_up_to n next) ≤ n) →
+    reported_in (by_end n s id o) ≤ suc n
 expiry_within n s id (Err cause) rest = omega arith
-expiry_within n s id (Ok next) rest = let more : told_in (expire_up_to n next) ≤ n = rest next in omega arith
+expiry_within n s id (Ok next) rest = let more : reported_in (expire_up_to n next) ≤ n = rest next in omega arith
 
-due_within : (n : ℕ) (s : Standing) (o : Option ℕ) → ((next : Standing) → told_in (expire_up_to n next) ≤ n) → told_in (by_due n s o) ≤ suc n
+due_within : (n : ℕ) (s : Standing) (o : Option ℕ) → ((next : Standing) → reported_in (expire_up_to n next) ≤ n) → reported_in (by_due n s o) ≤ suc n
 due_within n s None rest = omega arith
 due_within n s (Some id) rest = expiry_within n s id (ended s id) rest
 
-expiries_within : (n : ℕ) (s : Standing) → told_in (expire_up_to n s) ≤ n
+expiries_within : (n : ℕ) (s : Standing) → reported_in (expire_up_to n s) ≤ n
 expiries_within zero s = omega arith
 expiries_within (suc n) s =
-    subst (λ (a : Advance). told_in a ≤ suc n) (sym (one_more n s (first_due s.live s.moment)))
+    subst (λ (a : Advance). reported_in a ≤ suc n) (sym (one_more n s (first_due s.live s.moment)))
     (due_within n s (first_due s.live s.moment) (λ next. expiries_within n next))
 
 advance_within_by : (s : Standing) (moment : ℕ) (back : Bool) →
-    told_in (cond back (record { expired = []; leaves = s; cause = Some TimeGoesBack }) (expire_all (at_moment s moment))) ≤ finmap.len s.live
+    reported_in (cond back (record { expired = []; leaves = s; cause = Some TimeGoesBack }) (expire_all (at_moment s moment))) ≤ finmap.len s.live
 advance_within_by s moment true = omega arith
 advance_within_by s moment false = expiries_within (finmap.len s.live) (at_moment s moment)
 

@@ -19,7 +19,7 @@ use Rattle.stm_world.specs.declared.reply.Reply.{Reply}
 use Rattle.stm_world.specs.declared.reply.Reply.TheVariants.{Lost}
 use Rattle.stm_world.specs.declared.refusal.Denied.{Denied}
 use Rattle.stm_world.specs.declared.refusal.Refusal.TheVariants.{Store}
-use Rattle.stm_world.specs.Told.{denied, batch_reply, poll_reply, store_after_call, store_after_poll}
+use Rattle.stm_world.specs.Reported.{denied, batch_reply, poll_reply, store_after_call, store_after_poll}
 use Rattle.stm_world.proofs.KeptFor.{kept_set, kept_by_watch, kept_by_poll, kept_by_compaction}
 use Rattle.stm_world.proofs.Truth.{keeps_same}
 use Rattle.stm_world.proofs.Entered.{EntriesFollow, floor_stays, nothing_follows}
@@ -39,9 +39,9 @@ by_place P s id most (Some w) batch lost none =
     (batch (batch_of most s.history w)) lost
 
 -- what holds of each batch, of a watcher that is lost and of none holds of the reply to a poll
-pub poll_told : (P : Result Reply Denied → Type 0) (s : Standing) (id most : ℕ) → ((batch : Batch) → P (Ok (batch_reply id batch))) →
+pub poll_reported : (P : Result Reply Denied → Type 0) (s : Standing) (id most : ℕ) → ((batch : Batch) → P (Ok (batch_reply id batch))) →
     P (Ok (Lost id s.floor)) → P (denied (Store NoWatcher)) → P (poll_reply id s.floor (polled s id most))
-poll_told P s id most batch lost none = by_place P s id most (watcher_at id s.watchers) batch lost none
+poll_reported P s id most batch lost none = by_place P s id most (watcher_at id s.watchers) batch lost none
 
 -- ---- what each call leaves
 

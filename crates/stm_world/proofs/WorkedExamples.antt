@@ -39,7 +39,7 @@ use Rattle.stm_world.specs.declared.reply.Reply.{Reply}
 use Rattle.stm_world.specs.declared.reply.Reply.TheVariants.{Started, Fetched, Committed, Conflict, GaveUp, Aborted, Faulted, Txn as TxnDone, Watching, Batch, Compacted, Lost}
 use Rattle.stm_world.specs.declared.refusal.Denied.{Denied}
 use Rattle.stm_world.specs.declared.refusal.Refusal.TheVariants.{Store}
-use Rattle.stm_world.specs.Told.{denied}
+use Rattle.stm_world.specs.Reported.{denied}
 use Rattle.stm_world.specs.Task.{Task}
 use Rattle.stm_world.specs.Log.{Line, IsLogOf, store}
 use Rattle.stm_txn.specs.Standing.{at_revision}
@@ -171,11 +171,11 @@ abbrev both_seen : List ℕ → List TraceItem
 both_seen value = seen.Get (codes "x") value ∷ seen.Get (codes "y") value ∷ []
 
 -- at serializable the sixth reply is a conflict over x, seen at 2 and now at 3, and the attempt after it commits
-conflict_is_told : replies_to (raced Serializable 2 ++ Step 1 ∷ []) (opened (at_revision 1))
+conflict_is_reported : replies_to (raced Serializable 2 ++ Step 1 ∷ []) (opened (at_revision 1))
     ≡ both_are_put 2 ∷ Ok (Started 1) ∷ Ok (Fetched 1 (codes "x") 2 2 2) ∷ both_are_put 3 ∷ Ok (Fetched 1 (codes "y") 2 2 3)
     ∷ Ok (Conflict 1 (codes "x") 2 3) ∷ Ok (Committed 1 3 2 (NumberValue (pos 1) ∷ []) (both_seen (codes "2")) []) ∷ []
 unfolding start_runner fetch commit step_live settle run_over run_block evaluate key_in num_of written_number arithmetic computed get_key last_write latest_writes fresh
-conflict_is_told = refl
+conflict_is_reported = refl
 
 -- where it may send one commit it gives up over the same key
 gives_up : replies_to (raced Serializable 1) (opened (at_revision 1))
@@ -265,9 +265,9 @@ conflict_is_real = record {
 abbrev failed_once : List Line
 failed_once = line (Step 1) (Ok (Conflict 1 (codes "x") 2 3)) ∷ two_reads Serializable 2 2
 
-failed_once_is_told : log_of (at_revision 1) (raced Serializable 2) ≡ failed_once
+failed_once_is_reported : log_of (at_revision 1) (raced Serializable 2) ≡ failed_once
 unfolding start_runner fetch commit step_live settle run_over run_block evaluate key_in num_of written_number arithmetic computed get_key last_write latest_writes fresh
-failed_once_is_told = refl
+failed_once_is_reported = refl
 
 one_failure : (since (at_revision 1) 1 failed_once ≡ 2) × (failed_commits 1 failed_once ≡ 1) × (now (store (at_revision 1) failed_once).history ≡ 3)
 one_failure = (refl, refl, refl)
@@ -293,11 +293,11 @@ before_abort =
     line (both_put (codes "2")) (both_are_put 3) ∷ line (Step 1) (Ok (Fetched 1 (codes "x") 2 2 2))
     ∷ line (Start abort_with_x Serializable 1) (Ok (Started 1)) ∷ line (both_put (codes "1")) (both_are_put 2) ∷ []
 
-earlier_abort_is_told :
+earlier_abort_is_reported :
     log_of (at_revision 1) (both_put (codes "1") ∷ Start abort_with_x Serializable 1 ∷ Step 1 ∷ both_put (codes "2") ∷ Step 1 ∷ [])
     ≡ line (Step 1) (Ok (Aborted 1 (codes "1"))) ∷ before_abort
 unfolding start_runner fetch commit step_live settle run_over run_block evaluate key_in text_in get_key last_write fresh
-earlier_abort_is_told = refl
+earlier_abort_is_reported = refl
 
 abbrev abort_run : List ℕ → Run
 abort_run value =

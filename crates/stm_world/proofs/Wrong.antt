@@ -35,20 +35,20 @@ use Rattle.stm_watch.specs.declared.refusal.PollRefusal.TheVariants.{Compacted a
 use Rattle.stm_txn.specs.Standing.{Standing, Step as StoreStep, transacted, granted, kept_alive, revoked, advanced, watched, poll_step, polled, cancelled, with_floor, floor_step, raised}
 use Rattle.stm_txn.specs.Standing.{Setup}
 use Rattle.stm_keys.specs.declared.event.Event.{Event}
-use Rattle.stm_watch.specs.declared.told.Told.{Told}
+use Rattle.stm_watch.specs.declared.pending_revision.PendingRevision.{PendingRevision}
 use Rattle.stm_watch.specs.declared.watched.Watched.TheVariants.{Key, Range}
 use Rattle.stm_watch.specs.Watching.{Watching}
-use Rattle.stm_watch.specs.Pending.{pending, events_told, batch_of, after_poll}
+use Rattle.stm_watch.specs.Pending.{pending, pending_events, batch_of, after_poll}
 use Rattle.stm_watch.specs.Calls.{watcher_at, poll_found}
-use Rattle.stm_world.specs.Told.{denied, reply_to, advance_reply, poll_reply}
+use Rattle.stm_world.specs.Reported.{denied, reply_to, advance_reply, poll_reply}
 use Rattle.stm_world.specs.Task.{Task, modified_now}
-use Rattle.stm_world.specs.Log.{Line, begun, running, started, is_start, runner_started, is_id, task_in, store, told}
+use Rattle.stm_world.specs.Log.{Line, begun, running, started, is_start, runner_started, is_id, task_in, store, reported}
 use Rattle.stm_world.specs.Right.{IsRight, AreRight, RunnerIsRight, Situation, HasList, ReplyIsRight, EndsWith, IsRefused, situation}
 use Rattle.stm_world.specs.World.{World}
 use Rattle.stm_world.specs.Headline.{Holds}
-use Rattle.stm_world.specs.WrongLogs.{WrongLogs, runner_told}
+use Rattle.stm_world.specs.WrongLogs.{WrongLogs, runner_reported}
 use Rattle.stm_world.proofs.Logs.{as_many}
-use Rattle.stm_world.proofs.WatchCalls.{poll_told}
+use Rattle.stm_world.proofs.WatchCalls.{poll_reported}
 
 causeless_refusal : (start : Setup) (log : List Line) (id : ℕ) (task : Task) (refusal : Denied) → running id log ≡ Some task
     → IsRight start log (Step id) (Err refusal) → ⊥
@@ -64,10 +64,10 @@ equal_numbers : (a b : ℕ) → nat_eq a b ≡ true → a ≡ b
 equal_numbers a b h = (unsigned_Decides a b).0 h
 
 -- only a start is told a number
-call_gives_none : {A : Type 0} (tell : A → Reply) (o : Result (StoreStep A) StoreRefusal) → ((x : A) → runner_started (Ok (tell x)) ≡ None) →
-    runner_started (reply_to tell o) ≡ None
-call_gives_none tell (Ok done) none = none done.answer
-call_gives_none tell (Err cause) none = refl
+call_gives_none : {A : Type 0} (report : A → Reply) (o : Result (StoreStep A) StoreRefusal) → ((x : A) → runner_started (Ok (report x)) ≡ None) →
+    runner_started (reply_to report o) ≡ None
+call_gives_none report (Ok done) none = none done.answer
+call_gives_none report (Err cause) none = refl
 
 advance_gives_none : (moment : ℕ) (expired : List Expired) (cause : Option StoreRefusal) → runner_started (advance_reply moment expired cause) ≡ None
 advance_gives_none moment expired None = refl
@@ -108,7 +108,7 @@ given_next start log (WatchRange first end from) reply id right named =
 given_next start log (Poll watcher most) reply id right named =
     let s : Standing = store start log in
     let none : runner_started reply ≡ None =
-    ap runner_started right ∙ poll_told (λ (r : Result Reply Denied). runner_started r ≡ None) s watcher most (λ batch. refl) refl refl in absurd (cc)
+    ap runner_started right ∙ poll_reported (λ (r : Result Reply Denied). runner_started r ≡ None) s watcher most (λ batch. refl) refl refl in absurd (cc)
 given_next start log (Cancel watcher) reply id right named =
     let none = ap runner_started right ∙ call_gives_none (λ _. Cancelled watcher) (cancelled (store start log) watcher) (λ x. refl) in absurd (cc)
 given_next start log (Compact revision) reply id right named =
@@ -141,7 +141,7 @@ number_given_twice start log id task program level limit right is again =
 
 -- ---- replies ----
 
-another : (at : Situation) (reply : Reply) (runner : ℕ) → runner_told reply ≡ Some runner → ReplyIsRight at reply → runner ≡ at.id
+another : (at : Situation) (reply : Reply) (runner : ℕ) → runner_reported reply ≡ Some runner → ReplyIsRight at reply → runner ≡ at.id
 another at (Started r) runner named right = absurd right
 another at (Prefetched r revision reads) runner named right = let same : r ≡ runner = cc in sym same ∙ right.0
 another at (Fetched r key mod_rev of_rev revision) runner named right = let same : r ≡ runner = cc in sym same ∙ right.0
@@ -162,12 +162,12 @@ another at (Cancelled watcher) runner named right = absurd right
 another at (Compacted revision) runner named right = absurd right
 another at (Lost watcher floor) runner named right = absurd right
 
-another_by : (start : Setup) (log : List Line) (id runner : ℕ) (o : Option Task) (reply : Reply) → runner_told reply ≡ Some runner → runner ≢ id
+another_by : (start : Setup) (log : List Line) (id runner : ℕ) (o : Option Task) (reply : Reply) → runner_reported reply ≡ Some runner → runner ≢ id
     → RunnerIsRight start log id o (Ok reply) → ⊥
 another_by start log id runner None reply named other right = absurd (cc)
 another_by start log id runner (Some task) reply named other right = other (another (situation start log id task) reply runner named right)
 
-another_runner : (start : Setup) (log : List Line) (id runner : ℕ) (reply : Reply) → runner_told reply ≡ Some runner → runner ≢ id
+another_runner : (start : Setup) (log : List Line) (id runner : ℕ) (reply : Reply) → runner_reported reply ≡ Some runner → runner ≢ id
     → IsRight start log (Step id) (Ok reply) → ⊥
 another_runner start log id runner reply named other right = another_by start log id runner (running id log) reply named other right
 
@@ -179,7 +179,7 @@ not_aborted at run text is_run done ends =
     let both : DoneEnd ≡ AbortedEnd text = sym done ∙ ap (λ (r : Run). r.end) same ∙ ends.ended in absurd (cc)
 
 another_abort : (start : Setup) (log : List Line) (id : ℕ) (task : Task) (run : Run) (text : List ℕ) → running id log ≡ Some task
-    → run_on task.program (told start id task log).reads ≡ EndedRun run → run.end ≡ DoneEnd
+    → run_on task.program (reported start id task log).reads ≡ EndedRun run → run.end ≡ DoneEnd
     → IsRight start log (Step id) (Ok (Aborted id text)) → ⊥
 another_abort start log id task run text runs is_run done right =
     not_aborted (situation start log id task) run text is_run done
@@ -188,82 +188,82 @@ another_abort start log id task run text runs is_run done right =
 -- ---- watchers ----
 
 -- the reply to a poll, by what stands at the watcher's place
-abbrev told_of : Standing → ℕ → ℕ → Option Watching → Result Reply Denied
-told_of s id most o = poll_reply id s.floor (poll_step s (poll_found s.history id most s.watchers o))
+abbrev reported_of : Standing → ℕ → ℕ → Option Watching → Result Reply Denied
+reported_of s id most o = poll_reply id s.floor (poll_step s (poll_found s.history id most s.watchers o))
 
 -- the reply to a poll of a watcher that is there, by whether it is lost
-abbrev told_if : Standing → ℕ → ℕ → Watching → Bool → Result Reply Denied
-told_if s id most w lost = poll_reply id s.floor (poll_step s (cond lost (Err LostToPoll) (Ok (record {
+abbrev reported_if : Standing → ℕ → ℕ → Watching → Bool → Result Reply Denied
+reported_if s id most w lost = poll_reply id s.floor (poll_step s (cond lost (Err LostToPoll) (Ok (record {
   answer = batch_of most s.history w;
   next = slice_set s.watchers (id - 1) (Some (after_poll most s.history w));
 }))))
 
-there_told : (s : Standing) (id most : ℕ) (w : Watching) (reply : Result Reply Denied) → watcher_at id s.watchers ≡ Some w →
-    reply ≡ poll_reply id s.floor (polled s id most) → reply ≡ told_if s id most w w.lost
-there_told s id most w reply there right = subst (λ (o : Option Watching). reply ≡ told_of s id most o) there right
+there_reported : (s : Standing) (id most : ℕ) (w : Watching) (reply : Result Reply Denied) → watcher_at id s.watchers ≡ Some w →
+    reply ≡ poll_reply id s.floor (polled s id most) → reply ≡ reported_if s id most w w.lost
+there_reported s id most w reply there right = subst (λ (o : Option Watching). reply ≡ reported_of s id most o) there right
 
-none_refused : (s : Standing) (id most : ℕ) (w : Watching) (refusal : Denied) (lost : Bool) → Err refusal ≡ told_if s id most w lost → ⊥
-none_refused s id most w refusal true told = absurd (cc)
-none_refused s id most w refusal false told = absurd (cc)
+none_refused : (s : Standing) (id most : ℕ) (w : Watching) (refusal : Denied) (lost : Bool) → Err refusal ≡ reported_if s id most w lost → ⊥
+none_refused s id most w refusal true reported = absurd (cc)
+none_refused s id most w refusal false reported = absurd (cc)
 
 refused_poll : (start : Setup) (log : List Line) (id most : ℕ) (w : Watching) (refusal : Denied) → watcher_at id (store start log).watchers ≡ Some w
     → IsRight start log (Poll id most) (Err refusal) → ⊥
 refused_poll start log id most w refusal there right =
-    none_refused (store start log) id most w refusal w.lost (there_told (store start log) id most w (Err refusal) there right)
+    none_refused (store start log) id most w refusal w.lost (there_reported (store start log) id most w (Err refusal) there right)
 
 poll_of_none : (start : Setup) (log : List Line) (id most : ℕ) (reply : Reply) → watcher_at id (store start log).watchers ≡ None
     → IsRight start log (Poll id most) (Ok reply) → ⊥
 poll_of_none start log id most reply none right =
-    let told : Ok reply ≡ told_of (store start log) id most None =
-    subst (λ (o : Option Watching). Ok reply ≡ told_of (store start log) id most o) none right in absurd (cc)
+    let reported : Ok reply ≡ reported_of (store start log) id most None =
+    subst (λ (o : Option Watching). Ok reply ≡ reported_of (store start log) id most o) none right in absurd (cc)
 
 batch_named : (s : Standing) (id most watcher upto : ℕ) (events : List Event) (w : Watching) (lost : Bool)
-    → Ok (Batch watcher upto events) ≡ told_if s id most w lost → watcher ≡ id
-batch_named s id most watcher upto events w true told = absurd (cc)
-batch_named s id most watcher upto events w false told = cc
+    → Ok (Batch watcher upto events) ≡ reported_if s id most w lost → watcher ≡ id
+batch_named s id most watcher upto events w true reported = absurd (cc)
+batch_named s id most watcher upto events w false reported = cc
 
 watcher_named : (s : Standing) (id most watcher upto : ℕ) (events : List Event) (o : Option Watching)
-    → Ok (Batch watcher upto events) ≡ told_of s id most o → watcher ≡ id
-watcher_named s id most watcher upto events None told = absurd (cc)
-watcher_named s id most watcher upto events (Some w) told = batch_named s id most watcher upto events w w.lost told
+    → Ok (Batch watcher upto events) ≡ reported_of s id most o → watcher ≡ id
+watcher_named s id most watcher upto events None reported = absurd (cc)
+watcher_named s id most watcher upto events (Some w) reported = batch_named s id most watcher upto events w w.lost reported
 
-none_taken : (most : ℕ) → take most (let none : List Told = [] in none) ≡ []
+none_taken : (most : ℕ) → take most (let none : List PendingRevision = [] in none) ≡ []
 none_taken zero = refl
 none_taken (suc most) = refl
 
-nothing_told : (s : Standing) (id most upto : ℕ) (w : Watching) (event : Event) (events : List Event) (lost : Bool) → pending s.history w ≡ []
-    → Ok (Batch id upto (event ∷ events)) ≡ told_if s id most w lost → ⊥
-nothing_told s id most upto w event events true none told = absurd (cc)
-nothing_told s id most upto w event events false none told =
-    let same : event ∷ events ≡ events_told (take most (pending s.history w)) = cc in
-    let nothing : event ∷ events ≡ [] = same ∙ ap (λ (ts : List Told). events_told (take most ts)) none ∙ ap events_told (none_taken most) in
+nothing_reported : (s : Standing) (id most upto : ℕ) (w : Watching) (event : Event) (events : List Event) (lost : Bool) → pending s.history w ≡ []
+    → Ok (Batch id upto (event ∷ events)) ≡ reported_if s id most w lost → ⊥
+nothing_reported s id most upto w event events true none reported = absurd (cc)
+nothing_reported s id most upto w event events false none reported =
+    let same : event ∷ events ≡ pending_events (take most (pending s.history w)) = cc in
+    let nothing : event ∷ events ≡ [] = same ∙ ap (λ (ts : List PendingRevision). pending_events (take most ts)) none ∙ ap pending_events (none_taken most) in
     absurd (cc)
 
 event_not_pending : (start : Setup) (log : List Line) (id most upto : ℕ) (w : Watching) (event : Event) (events : List Event)
     → watcher_at id (store start log).watchers ≡ Some w → pending (store start log).history w ≡ []
     → IsRight start log (Poll id most) (Ok (Batch id upto (event ∷ events))) → ⊥
 event_not_pending start log id most upto w event events there none right =
-    nothing_told (store start log) id most upto w event events w.lost none
-    (there_told (store start log) id most w (Ok (Batch id upto (event ∷ events))) there right)
+    nothing_reported (store start log) id most upto w event events w.lost none
+    (there_reported (store start log) id most w (Ok (Batch id upto (event ∷ events))) there right)
 
 batch_of_lost : (start : Setup) (log : List Line) (id most watcher upto : ℕ) (w : Watching) (events : List Event)
     → watcher_at id (store start log).watchers ≡ Some w → w.lost ≡ true → IsRight start log (Poll id most) (Ok (Batch watcher upto events)) → ⊥
 batch_of_lost start log id most watcher upto w events there lost right =
     let s : Standing = store start log in
-    let told : Ok (Batch watcher upto events) ≡ told_if s id most w true =
-    there_told s id most w (Ok (Batch watcher upto events)) there right ∙ ap (told_if s id most w) lost in absurd (cc)
+    let reported : Ok (Batch watcher upto events) ≡ reported_if s id most w true =
+    there_reported s id most w (Ok (Batch watcher upto events)) there right ∙ ap (reported_if s id most w) lost in absurd (cc)
 
 not_lost : (start : Setup) (log : List Line) (id most watcher floor : ℕ) (w : Watching) → watcher_at id (store start log).watchers ≡ Some w
     → w.lost ≡ false → IsRight start log (Poll id most) (Ok (Lost watcher floor)) → ⊥
 not_lost start log id most watcher floor w there kept right =
     let s : Standing = store start log in
-    let told : Ok (Lost watcher floor) ≡ told_if s id most w false =
-    there_told s id most w (Ok (Lost watcher floor)) there right ∙ ap (told_if s id most w) kept in absurd (cc)
+    let reported : Ok (Lost watcher floor) ≡ reported_if s id most w false =
+    there_reported s id most w (Ok (Lost watcher floor)) there right ∙ ap (reported_if s id most w) kept in absurd (cc)
 
 -- ---- compactions ----
 
 fetch_below : (start : Setup) (log : List Line) (id : ℕ) (task : Task) (key : List ℕ) (mod_rev of_rev revision : ℕ) → running id log ≡ Some task
-    → is_below_floor (store start log).floor (at_of task.level (told start id task log).reads) ≡ true
+    → is_below_floor (store start log).floor (at_of task.level (reported start id task log).reads) ≡ true
     → IsRight start log (Step id) (Ok (Fetched id key mod_rev of_rev revision)) → ⊥
 fetch_below start log id task key mod_rev of_rev revision runs below right =
     let fetch = (subst (λ (o : Option Task). RunnerIsRight start log id o (Ok (Fetched id key mod_rev of_rev revision))) runs right).1 in
@@ -278,9 +278,9 @@ not_refused at key trace cause listed wants above (inr (inr (same, overfull))) =
     let both : true ≡ false = sym overfull.due ∙ listed in absurd (cc)
 
 refused_fetch : (start : Setup) (log : List Line) (id : ℕ) (task : Task) (key : List ℕ) (trace : List TraceItem) (cause : StoreRefusal)
-    → running id log ≡ Some task → is_due task.program.prefetch (told start id task log).reads ≡ false
-    → run_on task.program (told start id task log).reads ≡ Wants key trace
-    → is_below_floor (store start log).floor (at_of task.level (told start id task log).reads) ≡ false
+    → running id log ≡ Some task → is_due task.program.prefetch (reported start id task log).reads ≡ false
+    → run_on task.program (reported start id task log).reads ≡ Wants key trace
+    → is_below_floor (store start log).floor (at_of task.level (reported start id task log).reads) ≡ false
     → IsRight start log (Step id) (Ok (Ended id cause)) → ⊥
 refused_fetch start log id task key trace cause runs listed wants above right =
     not_refused (situation start log id task) key trace cause listed wants above
@@ -303,7 +303,7 @@ is_listed : (start : Setup) (log : List Line) (id : ℕ) (task : Task) (reply : 
 is_listed start log id task reply runs right = subst (λ (o : Option Task). RunnerIsRight start log id o (Ok reply)) runs right
 
 list_again : (start : Setup) (log : List Line) (id : ℕ) (task : Task) (revision : ℕ) (reads : List KeyRead) → running id log ≡ Some task
-    → is_due task.program.prefetch (told start id task log).reads ≡ false → IsRight start log (Step id) (Ok (Prefetched id revision reads)) → ⊥
+    → is_due task.program.prefetch (reported start id task log).reads ≡ false → IsRight start log (Step id) (Ok (Prefetched id revision reads)) → ⊥
 list_again start log id task revision reads runs listed right =
     let list = (is_listed start log id task (Prefetched id revision reads) runs right).1 in
     let both : true ≡ false = sym list.due ∙ listed in absurd (cc)
@@ -315,38 +315,38 @@ part_of_list start log id task revision reads runs other right =
     other (ap (λ (l : List KeyRead). length l) list.shows ∙ length-map task.program.prefetch (modified_now (store start log).history))
 
 read_before_list : (start : Setup) (log : List Line) (id : ℕ) (task : Task) (key : List ℕ) (mod_rev of_rev revision : ℕ) → running id log ≡ Some task
-    → is_due task.program.prefetch (told start id task log).reads ≡ true → IsRight start log (Step id) (Ok (Fetched id key mod_rev of_rev revision)) → ⊥
+    → is_due task.program.prefetch (reported start id task log).reads ≡ true → IsRight start log (Step id) (Ok (Fetched id key mod_rev of_rev revision)) → ⊥
 read_before_list start log id task key mod_rev of_rev revision runs due right =
     let fetch = (is_listed start log id task (Fetched id key mod_rev of_rev revision) runs right).1 in
     let both : true ≡ false = sym due ∙ fetch.has_list in absurd (cc)
 
 abort_before_list : (start : Setup) (log : List Line) (id : ℕ) (task : Task) (text : List ℕ) → running id log ≡ Some task
-    → is_due task.program.prefetch (told start id task log).reads ≡ true → IsRight start log (Step id) (Ok (Aborted id text)) → ⊥
+    → is_due task.program.prefetch (reported start id task log).reads ≡ true → IsRight start log (Step id) (Ok (Aborted id text)) → ⊥
 abort_before_list start log id task text runs due right =
     let ends = (is_listed start log id task (Aborted id text) runs right).1 in
     let both : true ≡ false = sym due ∙ ends.has_list in absurd (cc)
 
 fault_before_list : (start : Setup) (log : List Line) (id : ℕ) (task : Task) (fault : Fault) → running id log ≡ Some task
-    → is_due task.program.prefetch (told start id task log).reads ≡ true → IsRight start log (Step id) (Ok (Faulted id fault)) → ⊥
+    → is_due task.program.prefetch (reported start id task log).reads ≡ true → IsRight start log (Step id) (Ok (Faulted id fault)) → ⊥
 fault_before_list start log id task fault runs due right =
     let ends = (is_listed start log id task (Faulted id fault) runs right).1 in
     let both : true ≡ false = sym due ∙ ends.has_list in absurd (cc)
 
 commit_before_list : (start : Setup) (log : List Line) (id : ℕ) (task : Task) (revision attempts : ℕ) (output : List Value) (trace : List TraceItem)
-    (answers : List ReadAnswer) → running id log ≡ Some task → is_due task.program.prefetch (told start id task log).reads ≡ true
+    (answers : List ReadAnswer) → running id log ≡ Some task → is_due task.program.prefetch (reported start id task log).reads ≡ true
     → IsRight start log (Step id) (Ok (Committed id revision attempts output trace answers)) → ⊥
 commit_before_list start log id task revision attempts output trace answers runs due right =
     let commit = (is_listed start log id task (Committed id revision attempts output trace answers) runs right).3 in
     let both : true ≡ false = sym due ∙ commit.commits.has_list in absurd (cc)
 
 conflict_before_list : (start : Setup) (log : List Line) (id : ℕ) (task : Task) (key : List ℕ) (seen now_modified : ℕ) → running id log ≡ Some task
-    → is_due task.program.prefetch (told start id task log).reads ≡ true → IsRight start log (Step id) (Ok (Conflict id key seen now_modified)) → ⊥
+    → is_due task.program.prefetch (reported start id task log).reads ≡ true → IsRight start log (Step id) (Ok (Conflict id key seen now_modified)) → ⊥
 conflict_before_list start log id task key seen now_modified runs due right =
     let conflict = (is_listed start log id task (Conflict id key seen now_modified) runs right).2 in
     let both : true ≡ false = sym due ∙ conflict.commits.has_list in absurd (cc)
 
 give_up_before_list : (start : Setup) (log : List Line) (id : ℕ) (task : Task) (attempts : ℕ) (key : List ℕ) (seen now_modified : ℕ)
-    → running id log ≡ Some task → is_due task.program.prefetch (told start id task log).reads ≡ true
+    → running id log ≡ Some task → is_due task.program.prefetch (reported start id task log).reads ≡ true
     → IsRight start log (Step id) (Ok (GaveUp id attempts key seen now_modified)) → ⊥
 give_up_before_list start log id task attempts key seen now_modified runs due right =
     let conflict = (is_listed start log id task (GaveUp id attempts key seen now_modified) runs right).3 in
@@ -359,7 +359,7 @@ none_refused_list at cause due few (inr (inl (same, behind))) = let both : true 
 none_refused_list at cause due few (inr (inr (same, overfull))) = let many = overfull.many in omega (arith, few, many)
 
 refused_list : (start : Setup) (log : List Line) (id : ℕ) (task : Task) (cause : StoreRefusal) → running id log ≡ Some task
-    → is_due task.program.prefetch (told start id task log).reads ≡ true → length task.program.prefetch ≤ (store start log).limit
+    → is_due task.program.prefetch (reported start id task log).reads ≡ true → length task.program.prefetch ≤ (store start log).limit
     → IsRight start log (Step id) (Ok (Ended id cause)) → ⊥
 refused_list start log id task cause runs due few right =
     none_refused_list (situation start log id task) cause due few (is_listed start log id task (Ended id cause) runs right).1

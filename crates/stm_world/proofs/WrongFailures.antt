@@ -46,7 +46,7 @@ use Rattle.stm_world.specs.declared.reply.Reply.TheVariants.{Started, Prefetched
 use Rattle.stm_world.specs.declared.reply.Reply.TheVariants.{Txn as TxnDone, Granted, Kept, Revoked, Advanced, Watching, Batch, Cancelled, Compacted, Lost}
 use Rattle.stm_world.specs.declared.refusal.Denied.{Denied}
 use Rattle.stm_world.specs.Task.{Task, answer_at, after_list, after_fetch, after_conflict}
-use Rattle.stm_world.specs.Log.{Line, begun, running, store, known_after, told}
+use Rattle.stm_world.specs.Log.{Line, begun, running, store, known_after, reported}
 use Rattle.stm_world.specs.Doomed.{FailedCommit, NamesAConflict, IsRealFailure, Stopped, IsEndOnOneState, IsRealStop, since, failed_commits}
 use Rattle.stm_world.specs.Doomed.{FailuresMoveOn}
 use Rattle.stm_world.specs.World.{opened, replies_to}
@@ -130,10 +130,10 @@ known_small number id task h (Ok (Compacted revision)) known opens all = all
 known_small number id task h (Ok (Lost watcher floor)) known opens all = all
 known_small number id task h (Err refusal) known opens all = all
 
-told_small : (start : Setup) (id : ℕ) (task : Task) (log : List Line) → KnowsAll IsSmall (told start id task log)
-told_small start id task [] = (tt, tt)
-told_small start id task (line ∷ older) =
-    known_small start.revision id task (store start older).history line.reply (told start id task older) (store_opens start older) (told_small start id task older)
+reported_small : (start : Setup) (id : ℕ) (task : Task) (log : List Line) → KnowsAll IsSmall (reported start id task log)
+reported_small start id task [] = (tt, tt)
+reported_small start id task (line ∷ older) =
+    known_small start.revision id task (store start older).history line.reply (reported start id task older) (store_opens start older) (reported_small start id task older)
 
 -- so is what a compare is about
 
@@ -413,7 +413,7 @@ not_above start log failed present below real =
     let c : NamesAConflict h real.task.level reads writes failed = real.conflict in
     let small : c.seen.mod_rev ≤ c.seen.at =
     seen_at_index IsSeenSmall (seen_by reads writes) c.compare.index c.seen
-    (seen_small reads writes (told_small start failed.runner real.task log).0) c.about in
+    (seen_small reads writes (reported_small start failed.runner real.task log).0) c.about in
     let above : c.seen.at < mod_of (key_now h failed.key) =
     modified_above h.opening c.seen.at failed.key h.revisions c.changed (subst (λ n. 0 < n) c.is present) in
     let is : failed.now_modified ≡ mod_of (key_now h failed.key) = c.is in

@@ -1,5 +1,5 @@
 pub mod Names
-pub mod Told
+pub mod Reported
 pub mod Task
 pub mod Asked
 pub mod Log
@@ -14,5 +14,5 @@ pub mod OneReply
 pub mod Doomed
 pub mod WrongLogs
 pub mod NeverOutOfMemory
-pub mod Telling
+pub mod Notifying
 pub mod WrongFailures

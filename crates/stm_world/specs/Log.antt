@@ -23,7 +23,7 @@ use Rattle.stm_world.specs.declared.event.WorldEvent.TheVariants.{WatchKey, Watc
 use Rattle.stm_world.specs.declared.reply.Reply.{Reply}
 use Rattle.stm_world.specs.declared.reply.Reply.TheVariants.{Started, Prefetched, Fetched, Committed, Conflict, GaveUp, Aborted, Faulted, Ended, Advanced}
 use Rattle.stm_world.specs.declared.refusal.Denied.{Denied}
-use Rattle.stm_world.specs.Told.{store_after_call, store_after_poll}
+use Rattle.stm_world.specs.Reported.{store_after_call, store_after_poll}
 use Rattle.stm_world.specs.Task.{Task, nothing_known, answer_at, after_list, after_fetch, after_conflict}
 
 -- an event and the reply to it
@@ -141,15 +141,15 @@ entries_of_step task_of (Ok (Committed runner revision attempts output trace ans
 entries_of_step task_of other = []
 
 -- a call that was not refused is an entry
-abbrev pub if_told : Result Reply Denied → Entry → List Entry
-if_told (Ok reply) entry = entry ∷ []
-if_told (Err refusal) entry = []
+abbrev pub if_reported : Result Reply Denied → Entry → List Entry
+if_reported (Ok reply) entry = entry ∷ []
+if_reported (Err refusal) entry = []
 
 -- the leases that an advance expired, also where it was refused
-abbrev pub expired_told : Result Reply Denied → List Expired
-expired_told (Ok (Advanced moment expired)) = expired
-expired_told (Ok other) = []
-expired_told (Err refusal) = refusal.expired
+abbrev pub expired_reported : Result Reply Denied → List Expired
+expired_reported (Ok (Advanced moment expired)) = expired
+expired_reported (Ok other) = []
+expired_reported (Err refusal) = refusal.expired
 
 -- what an event is entered as: a transaction where it changed something, and each lease that an advance expired; nothing about
 -- watchers is entered, and no compaction
@@ -157,10 +157,10 @@ abbrev pub entries_of : (ℕ → Option Task) → Standing → Standing → Worl
 entries_of task_of before after (Start program level limit) reply = []
 entries_of task_of before after (Step runner) reply = entries_of_step task_of reply
 entries_of task_of before after (Txn txn) reply = if nat_lt (now before.history) (now after.history) then Foreign txn ∷ [] else []
-entries_of task_of before after (Grant id ttl) reply = if_told reply (GrantEntry id ttl before.moment)
-entries_of task_of before after (Keep id) reply = if_told reply (Renew id before.moment)
-entries_of task_of before after (Revoke id) reply = if_told reply (RevokeEntry id)
-entries_of task_of before after (Advance moment) reply = map (λ (e : Expired). Expire e.id) (expired_told reply)
+entries_of task_of before after (Grant id ttl) reply = if_reported reply (GrantEntry id ttl before.moment)
+entries_of task_of before after (Keep id) reply = if_reported reply (Renew id before.moment)
+entries_of task_of before after (Revoke id) reply = if_reported reply (RevokeEntry id)
+entries_of task_of before after (Advance moment) reply = map (λ (e : Expired). Expire e.id) (expired_reported reply)
 entries_of task_of before after (WatchKey key from) reply = []
 entries_of task_of before after (WatchRange first end from) reply = []
 entries_of task_of before after (Poll watcher most) reply = []
@@ -173,9 +173,9 @@ line_entries start line older =
     entries_of (λ id. begun id older) (store start older) (store start (line ∷ older)) line.event line.reply
 
 -- the entries of a log, the oldest first
-abbrev pub entries_told : Setup → List Line → List Entry
-entries_told start [] = []
-entries_told start (line ∷ older) = entries_told start older ++ line_entries start line older
+abbrev pub entries_reported : Setup → List Line → List Entry
+entries_reported start [] = []
+entries_reported start (line ∷ older) = entries_reported start older ++ line_entries start line older
 
 -- ---- what a runner knows ----
 
@@ -189,6 +189,6 @@ known_after id task h (Ok (Conflict runner key seen now)) known = if nat_eq runn
 known_after id task h other known = known
 
 -- what a runner with this task was told in its attempt
-abbrev pub told : Setup → ℕ → Task → List Line → Known
-told start id task [] = nothing_known
-told start id task (line ∷ older) = known_after id task (store start older).history line.reply (told start id task older)
+abbrev pub reported : Setup → ℕ → Task → List Line → Known
+reported start id task [] = nothing_known
+reported start id task (line ∷ older) = known_after id task (store start older).history line.reply (reported start id task older)

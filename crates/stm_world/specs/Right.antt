@@ -37,10 +37,10 @@ use Rattle.stm_world.specs.declared.reply.Reply.TheVariants.{Txn as TxnDone, Gra
 use Rattle.stm_world.specs.declared.reply.KeyRead.{KeyRead}
 use Rattle.stm_world.specs.declared.refusal.Refusal.TheVariants.{BadLimit, NoRunner}
 use Rattle.stm_world.specs.declared.refusal.Denied.{Denied}
-use Rattle.stm_world.specs.Told.{denied, reply_to, advance_reply, poll_reply}
-use Rattle.stm_world.specs.Task.{Task, modified_now, answers_told}
+use Rattle.stm_world.specs.Reported.{denied, reply_to, advance_reply, poll_reply}
+use Rattle.stm_world.specs.Task.{Task, modified_now, answers_reported}
 use Rattle.stm_world.specs.Asked.{keys_read, keys_first_read}
-use Rattle.stm_world.specs.Log.{Line, running, started, failures, store, told}
+use Rattle.stm_world.specs.Log.{Line, running, started, failures, store, reported}
 
 -- Where a runner stands: its number, its task, what it has read in its attempt (with the prefetched answers that it took), the
 -- conflicts that it was told, and the store.
@@ -112,7 +112,7 @@ pub record IsCommitted (at : Situation) (revision : ℕ) (output : List Value) (
   pub emits : output ≡ commits.run.output
   pub sees : trace ≡ commits.run.trace
   pub reached : revision ≡ now done.history
-  pub told : answers ≡ answers_told at.task.level at.reads
+  pub reported : answers ≡ answers_reported at.task.level at.reads
   pub in_order : keys_first_read at.task.program.prefetch commits.run.reads ≡ keys_read at.reads
 
 -- A commit that fails changes nothing: a compare failed, it is about this key, and it is a conflict.
@@ -157,7 +157,7 @@ abbrev pub situation : Setup → List Line → ℕ → Task → Situation
 situation start log id task = record {
   id = id;
   task = task;
-  reads = (told start id task log).reads;
+  reads = (reported start id task log).reads;
   failures = failures id log;
   store = store start log;
 }

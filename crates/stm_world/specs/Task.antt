@@ -53,5 +53,5 @@ after_conflict task h known =
     with_served task (record { reads = []; prefetched = map (answer_now h) (reread_keys task.level known.reads) })
 
 -- the answers that a commit is told with: those that it read at ReadCommitted, and none at the other levels
-abbrev pub answers_told : Level → List ReadAnswer → List ReadAnswer
-answers_told level reads = if is_comparing level then [] else reads
+abbrev pub answers_reported : Level → List ReadAnswer → List ReadAnswer
+answers_reported level reads = if is_comparing level then [] else reads

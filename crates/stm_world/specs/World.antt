@@ -45,8 +45,8 @@ use Rattle.stm_world.specs.declared.reply.Reply.TheVariants.{Txn as TxnDone, Gra
 use Rattle.stm_world.specs.declared.refusal.Refusal.{Refusal}
 use Rattle.stm_world.specs.declared.refusal.Refusal.TheVariants.{BadLimit, NoRunner}
 use Rattle.stm_world.specs.declared.refusal.Denied.{Denied}
-use Rattle.stm_world.specs.Told.{denied, reply_to, store_after_call, advance_reply, poll_reply, store_after_poll}
-use Rattle.stm_world.specs.Task.{Task, nothing_known, answer_at, modified_now, after_list, after_fetch, after_conflict, answers_told}
+use Rattle.stm_world.specs.Reported.{denied, reply_to, store_after_call, advance_reply, poll_reply, store_after_poll}
+use Rattle.stm_world.specs.Task.{Task, nothing_known, answer_at, modified_now, after_list, after_fetch, after_conflict, answers_reported}
 
 -- a runner whose run goes on: its task, the commits of it that failed, and what it knows in its attempt
 pub record Runner : Type 0 where
@@ -134,12 +134,12 @@ fetch_list id r w =
 
 -- the entry of a commit
 abbrev pub entry_of : Task → List ReadAnswer → Run → ℕ → Entry
-entry_of task reads run revision = Program task.program task.level (answers_told task.level reads) run.output run.trace revision
+entry_of task reads run revision = Program task.program task.level (answers_reported task.level reads) run.output run.trace revision
 
 -- a commit that succeeded is an entry, and the run is over
 abbrev pub take_commit : ℕ → Runner → List ReadAnswer → Run → Done → World → Stepped
 take_commit id r reads run done w = record {
-  reply = Ok (Committed id (now done.history) (r.failures + 1) run.output run.trace (answers_told r.task.level reads));
+  reply = Ok (Committed id (now done.history) (r.failures + 1) run.output run.trace (answers_reported r.task.level reads));
   next = record {
     standing = with_history w.standing done.history;
     runners = with_slot id Over w.runners;
@@ -165,14 +165,14 @@ decided id r reads run done None w = take_commit id r reads run done w
 decided id r reads run done (Some failed) w =
     fail_commit id r (seen_in (slice_get (seen_by reads (latest_writes run.writes)) failed.index)) failed.mod_rev w
 
-abbrev pub commit_told : ℕ → Runner → List ReadAnswer → Run → Result Done StoreRefusal → World → Stepped
-commit_told id r reads run (Ok done) w = decided id r reads run done done.answer.failed w
-commit_told id r reads run (Err cause) w = replied (Ended id cause) id Over w
+abbrev pub commit_reported : ℕ → Runner → List ReadAnswer → Run → Result Done StoreRefusal → World → Stepped
+commit_reported id r reads run (Ok done) w = decided id r reads run done done.answer.failed w
+commit_reported id r reads run (Err cause) w = replied (Ended id cause) id Over w
 
 -- the commit of a run that is done, one transaction; a refused one ends the run
 unfoldable pub commit : ℕ → Runner → List ReadAnswer → Run → World → Stepped
 commit id r reads run w =
-    commit_told id r reads run (committed (terms_of w.standing) r.task.level reads run) w
+    commit_reported id r reads run (committed (terms_of w.standing) r.task.level reads run) w
 
 -- a run that has come to its end: an abort or a fault ends it with nothing committed
 abbrev pub finish : ℕ → Runner → List ReadAnswer → Run → End → World → Stepped

@@ -25,23 +25,23 @@ use Rattle.stm_world.specs.declared.reply.Reply.TheVariants.{Started, Prefetched
 use Rattle.stm_world.specs.declared.reply.KeyRead.{KeyRead}
 use Rattle.stm_world.specs.declared.refusal.Denied.{Denied}
 use Rattle.stm_world.specs.Task.{Task}
-use Rattle.stm_world.specs.Log.{Line, begun, running, store, told}
+use Rattle.stm_world.specs.Log.{Line, begun, running, store, reported}
 use Rattle.stm_world.specs.Right.{IsRight, AreRight}
 use Rattle.stm_world.specs.World.{World}
 use Rattle.stm_world.specs.Headline.{Holds}
 use Rattle.stm_txn.specs.Standing.{Setup}
 
 -- the runner of whose step a reply tells
-abbrev pub runner_told : Reply → Option ℕ
-runner_told (Prefetched runner revision reads) = Some runner
-runner_told (Fetched runner key mod_rev of_rev revision) = Some runner
-runner_told (Committed runner revision attempts output trace answers) = Some runner
-runner_told (Conflict runner key seen now) = Some runner
-runner_told (GaveUp runner attempts key seen now) = Some runner
-runner_told (Aborted runner text) = Some runner
-runner_told (Faulted runner fault) = Some runner
-runner_told (EndedReply runner cause) = Some runner
-runner_told other = None
+abbrev pub runner_reported : Reply → Option ℕ
+runner_reported (Prefetched runner revision reads) = Some runner
+runner_reported (Fetched runner key mod_rev of_rev revision) = Some runner
+runner_reported (Committed runner revision attempts output trace answers) = Some runner
+runner_reported (Conflict runner key seen now) = Some runner
+runner_reported (GaveUp runner attempts key seen now) = Some runner
+runner_reported (Aborted runner text) = Some runner
+runner_reported (Faulted runner fault) = Some runner
+runner_reported (EndedReply runner cause) = Some runner
+runner_reported other = None
 
 pub record WrongLogs : Type 0 where
   -- a world that answers no event, whatever it has come to
@@ -61,11 +61,11 @@ pub record WrongLogs : Type 0 where
   -- a runner that was not started, or has ended, has no step
   pub step_of_none : (start : Setup) (log : List Line) (id : ℕ) (reply : Reply) → running id log ≡ None → IsRight start log (Step id) (Ok reply) → ⊥
   -- a step of a runner is told of no other runner
-  pub another_runner : (start : Setup) (log : List Line) (id runner : ℕ) (reply : Reply) → runner_told reply ≡ Some runner → runner ≢ id
+  pub another_runner : (start : Setup) (log : List Line) (id runner : ℕ) (reply : Reply) → runner_reported reply ≡ Some runner → runner ≢ id
       → IsRight start log (Step id) (Ok reply) → ⊥
   -- a program that is done on what it was told has not aborted
   pub another_abort : (start : Setup) (log : List Line) (id : ℕ) (task : Task) (run : Run) (text : List ℕ) → running id log ≡ Some task
-      → run_on task.program (told start id task log).reads ≡ Ended run → run.end ≡ Done
+      → run_on task.program (reported start id task log).reads ≡ Ended run → run.end ≡ Done
       → IsRight start log (Step id) (Ok (Aborted id text)) → ⊥
   -- a watcher that is there is not refused a poll, for NoWatcher or anything else
   pub refused_poll : (start : Setup) (log : List Line) (id most : ℕ) (w : Watching) (refusal : Denied)
@@ -88,43 +88,43 @@ pub record WrongLogs : Type 0 where
       → w.lost ≡ false → IsRight start log (Poll id most) (Ok (Lost watcher floor)) → ⊥
   -- at a base that is compacted nothing is fetched
   pub fetch_below : (start : Setup) (log : List Line) (id : ℕ) (task : Task) (key : List ℕ) (mod_rev of_rev revision : ℕ) → running id log ≡ Some task
-      → is_below_floor (store start log).floor (at_of task.level (told start id task log).reads) ≡ true
+      → is_below_floor (store start log).floor (at_of task.level (reported start id task log).reads) ≡ true
       → IsRight start log (Step id) (Ok (Fetched id key mod_rev of_rev revision)) → ⊥
   -- at one that is not, the store refuses no fetch
   pub refused_fetch : (start : Setup) (log : List Line) (id : ℕ) (task : Task) (key : List ℕ) (trace : List TraceItem) (cause : StoreRefusal)
-      → running id log ≡ Some task → is_due task.program.prefetch (told start id task log).reads ≡ false
-      → run_on task.program (told start id task log).reads ≡ Wants key trace
-      → is_below_floor (store start log).floor (at_of task.level (told start id task log).reads) ≡ false
+      → running id log ≡ Some task → is_due task.program.prefetch (reported start id task log).reads ≡ false
+      → run_on task.program (reported start id task log).reads ≡ Wants key trace
+      → is_below_floor (store start log).floor (at_of task.level (reported start id task log).reads) ≡ false
       → IsRight start log (Step id) (Ok (EndedReply id cause)) → ⊥
   -- a list that is read is not fetched again
   pub list_again : (start : Setup) (log : List Line) (id : ℕ) (task : Task) (revision : ℕ) (reads : List KeyRead) → running id log ≡ Some task
-      → is_due task.program.prefetch (told start id task log).reads ≡ false → IsRight start log (Step id) (Ok (Prefetched id revision reads)) → ⊥
+      → is_due task.program.prefetch (reported start id task log).reads ≡ false → IsRight start log (Step id) (Ok (Prefetched id revision reads)) → ⊥
   -- nor is a part of it told as the list
   pub part_of_list : (start : Setup) (log : List Line) (id : ℕ) (task : Task) (revision : ℕ) (reads : List KeyRead) → running id log ≡ Some task
       → length reads ≢ length task.program.prefetch → IsRight start log (Step id) (Ok (Prefetched id revision reads)) → ⊥
   -- before its list is read, a program has no other read
   pub read_before_list : (start : Setup) (log : List Line) (id : ℕ) (task : Task) (key : List ℕ) (mod_rev of_rev revision : ℕ) → running id log ≡ Some task
-      → is_due task.program.prefetch (told start id task log).reads ≡ true
+      → is_due task.program.prefetch (reported start id task log).reads ≡ true
       → IsRight start log (Step id) (Ok (Fetched id key mod_rev of_rev revision)) → ⊥
   -- and it does not abort
   pub abort_before_list : (start : Setup) (log : List Line) (id : ℕ) (task : Task) (text : List ℕ) → running id log ≡ Some task
-      → is_due task.program.prefetch (told start id task log).reads ≡ true → IsRight start log (Step id) (Ok (Aborted id text)) → ⊥
+      → is_due task.program.prefetch (reported start id task log).reads ≡ true → IsRight start log (Step id) (Ok (Aborted id text)) → ⊥
   -- nor come to a fault
   pub fault_before_list : (start : Setup) (log : List Line) (id : ℕ) (task : Task) (fault : Fault) → running id log ≡ Some task
-      → is_due task.program.prefetch (told start id task log).reads ≡ true → IsRight start log (Step id) (Ok (Faulted id fault)) → ⊥
+      → is_due task.program.prefetch (reported start id task log).reads ≡ true → IsRight start log (Step id) (Ok (Faulted id fault)) → ⊥
   -- nor commit
   pub commit_before_list : (start : Setup) (log : List Line) (id : ℕ) (task : Task) (revision attempts : ℕ) (output : List Value) (trace : List TraceItem)
-      (answers : List ReadAnswer) → running id log ≡ Some task → is_due task.program.prefetch (told start id task log).reads ≡ true
+      (answers : List ReadAnswer) → running id log ≡ Some task → is_due task.program.prefetch (reported start id task log).reads ≡ true
       → IsRight start log (Step id) (Ok (Committed id revision attempts output trace answers)) → ⊥
   -- nor is it told a conflict, whether it goes on or not
   pub conflict_before_list : (start : Setup) (log : List Line) (id : ℕ) (task : Task) (key : List ℕ) (seen now_modified : ℕ) → running id log ≡ Some task
-      → is_due task.program.prefetch (told start id task log).reads ≡ true → IsRight start log (Step id) (Ok (Conflict id key seen now_modified)) → ⊥
+      → is_due task.program.prefetch (reported start id task log).reads ≡ true → IsRight start log (Step id) (Ok (Conflict id key seen now_modified)) → ⊥
   pub give_up_before_list : (start : Setup) (log : List Line) (id : ℕ) (task : Task) (attempts : ℕ) (key : List ℕ) (seen now_modified : ℕ)
-      → running id log ≡ Some task → is_due task.program.prefetch (told start id task log).reads ≡ true
+      → running id log ≡ Some task → is_due task.program.prefetch (reported start id task log).reads ≡ true
       → IsRight start log (Step id) (Ok (GaveUp id attempts key seen now_modified)) → ⊥
   -- and a list that has no more keys than the store takes operations is not refused
   pub refused_list : (start : Setup) (log : List Line) (id : ℕ) (task : Task) (cause : StoreRefusal) → running id log ≡ Some task
-      → is_due task.program.prefetch (told start id task log).reads ≡ true → length task.program.prefetch ≤ (store start log).limit
+      → is_due task.program.prefetch (reported start id task log).reads ≡ true → length task.program.prefetch ≤ (store start log).limit
       → IsRight start log (Step id) (Ok (EndedReply id cause)) → ⊥
   -- no compaction goes back
   pub compacted_again : (start : Setup) (log : List Line) (revision at : ℕ) → revision ≤ (store start log).floor

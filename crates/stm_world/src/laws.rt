@@ -7,7 +7,7 @@ ghost use Rattle.stm_world.specs.Joined.{RunsGoOn};
 ghost use Rattle.stm_world.specs.NeverOutOfMemory.{NeverOutOfMemory};
 ghost use Rattle.stm_world.specs.OneReply.{OneRightReply};
 ghost use Rattle.stm_world.specs.Sound.{WorldsAreSound};
-ghost use Rattle.stm_world.specs.Telling.{WatchersAreTold};
+ghost use Rattle.stm_world.specs.Notifying.{WatchersAreNotified};
 ghost use Rattle.stm_world.specs.WrongFailures.{WrongFailures, WrongRuns};
 ghost use Rattle.stm_world.specs.WrongLogs.{WrongLogs};
 
@@ -88,7 +88,7 @@ pub fn wrong_logs_are_none()
 
 /// No call of a store and no commit is refused as `OutOfMemory` by its definition, so that no right reply refuses an event
 /// for want of memory, or ends a run by it. Only code runs out of memory, and its contracts say what is left then.
-pub fn want_of_memory_is_never_right()
+pub fn out_of_memory_is_never_right()
     ensures { NeverOutOfMemory }
 {}
 
@@ -138,6 +138,6 @@ pub fn answers_are_the_reads()
 /// compacted, unless the watcher is lost. So none is dropped, told twice, or told before an earlier one, but those that
 /// a lost watcher was still to be told, which its next poll tells of. A watcher is lost only where the first event that
 /// is pending for it is compacted, or where it began below the floor.
-pub fn watchers_are_told()
-    ensures { WatchersAreTold }
+pub fn watchers_are_notified()
+    ensures { WatchersAreNotified }
 {}

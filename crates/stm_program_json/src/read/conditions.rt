@@ -3,7 +3,7 @@ ghost use Rattle.std.specs.Prelude.{◌≡◌};
 ghost use Rattle.serde_json.specs.View.{view, items_view};
 ghost use Rattle.stm_json.specs.Elements.{one_of, two_of, worded};
 ghost use Rattle.stm_json.specs.Outcome.{within as within_lem};
-ghost use Rattle.stm_json.specs.Tells.{Tells};
+ghost use Rattle.stm_json.specs.Returns.{Returns};
 ghost use Rattle.stm_program_json.specs.Reading.{expression_at, condition_at, condition_array as condition_array_lem, condition_named as condition_named_lem};
 ghost use Rattle.stm_program_json.specs.Reading.{one_part, two_parts, comparison_of, connective_of};
 ghost use Rattle.stm_program.specs.Syntax.{Not};
@@ -25,7 +25,7 @@ pub(crate) fn condition(
     levels: usize,
     room: usize,
 ) -> Result<(Cond, usize), ReadError>
-    ensures { Tells (λ x. x) result (condition_at levels room (view value.now)) }
+    ensures { Returns (λ x. x) result (condition_at levels room (view value.now)) }
 {
     if levels == 0 {
         return Err(fault(alloc, Cause::TooDeep));
@@ -45,7 +45,7 @@ pub(crate) fn condition_part(
     levels: usize,
     room: usize,
 ) -> Result<(Arc<Cond>, usize), ReadError>
-    ensures { Tells (λ x. (x.0.value, x.1)) result (within_lem index (condition_at levels room (view value.now))) }
+    ensures { Returns (λ x. (x.0.value, x.1)) result (within_lem index (condition_at levels room (view value.now))) }
 {
     let outcome = condition(alloc, value, levels, room);
     let (condition, room) = within(alloc, index, outcome)?;
@@ -60,7 +60,7 @@ fn condition_array(
     levels: usize,
     room: usize,
 ) -> Result<(Cond, usize), ReadError>
-    ensures { Tells (λ x. x) result (condition_array_lem (expression_at levels) (condition_at levels) room (worded (view value.now))) }
+    ensures { Returns (λ x. x) result (condition_array_lem (expression_at levels) (condition_at levels) room (worded (view value.now))) }
 {
     match worded_array(value) {
         Some((word, elements)) => condition_named(alloc, word, elements, levels, room),
@@ -76,7 +76,7 @@ fn condition_named(
     levels: usize,
     room: usize,
 ) -> Result<(Cond, usize), ReadError>
-    ensures { Tells (λ x. x) result (condition_named_lem (expression_at levels) (condition_at levels) room (condition_word word.now) (items_view elements.now)) }
+    ensures { Returns (λ x. x) result (condition_named_lem (expression_at levels) (condition_at levels) room (condition_word word.now) (items_view elements.now)) }
 {
     match condition_word_of(word) {
         None => Err(fault(alloc, Cause::Shape)),
@@ -97,7 +97,7 @@ fn negation(
     levels: usize,
     room: usize,
 ) -> Result<(Cond, usize), ReadError>
-    ensures { Tells (λ x. x) result (one_part (condition_at levels) Not room (one_of (items_view elements.now))) }
+    ensures { Returns (λ x. x) result (one_part (condition_at levels) Not room (one_of (items_view elements.now))) }
 {
     match one(elements) {
         None => Err(fault(alloc, Cause::Shape)),
@@ -117,7 +117,7 @@ fn connective_condition(
     levels: usize,
     room: usize,
 ) -> Result<(Cond, usize), ReadError>
-    ensures { Tells (λ x. x) result (two_parts (condition_at levels) (connective_of connective) room (two_of (items_view elements.now))) }
+    ensures { Returns (λ x. x) result (two_parts (condition_at levels) (connective_of connective) room (two_of (items_view elements.now))) }
 {
     match two(elements) {
         None => Err(fault(alloc, Cause::Shape)),
@@ -136,7 +136,7 @@ fn comparison_condition(
     levels: usize,
     room: usize,
 ) -> Result<(Cond, usize), ReadError>
-    ensures { Tells (λ x. x) result (two_parts (expression_at levels) (comparison_of comparison) room (two_of (items_view elements.now))) }
+    ensures { Returns (λ x. x) result (two_parts (expression_at levels) (comparison_of comparison) room (two_of (items_view elements.now))) }
 {
     match two(elements) {
         None => Err(fault(alloc, Cause::Shape)),

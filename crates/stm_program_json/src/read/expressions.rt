@@ -3,7 +3,7 @@ ghost use Rattle.std.specs.Prelude.{◌≡◌, ◌≤◌, IfOk};
 ghost use Rattle.serde_json.specs.View.{view, items_view};
 ghost use Rattle.stm_json.specs.Elements.{one_of, two_of, number_up_to};
 ghost use Rattle.stm_json.specs.Outcome.{within as within_lem};
-ghost use Rattle.stm_json.specs.Tells.{Tells};
+ghost use Rattle.stm_json.specs.Returns.{Returns};
 ghost use Rattle.stm_program_json.specs.Reading.{expression_at, expression_body as expression_body_lem, expression_named as expression_named_lem};
 ghost use Rattle.stm_program_json.specs.Reading.{literal as literal_lem, variable as variable_lem, one_part, two_parts, unary_of, binary_of};
 ghost use Rattle.stm_program_json.specs.Words.{expression_word};
@@ -27,7 +27,7 @@ pub(crate) fn expression(
     levels: usize,
     room: usize,
 ) -> Result<(Expr, usize), ReadError>
-    ensures { Tells (λ x. x) result (expression_at levels room (view value.now)) }
+    ensures { Returns (λ x. x) result (expression_at levels room (view value.now)) }
 {
     if levels == 0 {
         return Err(fault(alloc, Cause::TooDeep));
@@ -47,7 +47,7 @@ pub(crate) fn expression_part(
     levels: usize,
     room: usize,
 ) -> Result<(Arc<Expr>, usize), ReadError>
-    ensures { Tells (λ x. (x.0.value, x.1)) result (within_lem index (expression_at levels room (view value.now))) }
+    ensures { Returns (λ x. (x.0.value, x.1)) result (within_lem index (expression_at levels room (view value.now))) }
 {
     let outcome = expression(alloc, value, levels, room);
     let (expression, room) = within(alloc, index, outcome)?;
@@ -63,7 +63,7 @@ fn expression_body(
     levels: usize,
     room: usize,
 ) -> Result<(Expr, usize), ReadError>
-    ensures { Tells (λ x. x) result (expression_body_lem (expression_at levels) room (view value.now)) }
+    ensures { Returns (λ x. x) result (expression_body_lem (expression_at levels) room (view value.now)) }
 {
     if let Some(text) = value.as_str() {
         return literal(alloc, text, room);
@@ -87,7 +87,7 @@ fn expression_named(
     levels: usize,
     room: usize,
 ) -> Result<(Expr, usize), ReadError>
-    ensures { Tells (λ x. x) result (expression_named_lem (expression_at levels) room (expression_word word.now) (items_view elements.now)) }
+    ensures { Returns (λ x. x) result (expression_named_lem (expression_at levels) room (expression_word word.now) (items_view elements.now)) }
 {
     match expression_word_of(word) {
         None => Err(fault(alloc, Cause::Shape)),
@@ -105,7 +105,7 @@ fn unary_expression(
     levels: usize,
     room: usize,
 ) -> Result<(Expr, usize), ReadError>
-    ensures { Tells (λ x. x) result (one_part (expression_at levels) (unary_of unary) room (one_of (items_view elements.now))) }
+    ensures { Returns (λ x. x) result (one_part (expression_at levels) (unary_of unary) room (one_of (items_view elements.now))) }
 {
     match one(elements) {
         None => Err(fault(alloc, Cause::Shape)),
@@ -124,7 +124,7 @@ fn binary_expression(
     levels: usize,
     room: usize,
 ) -> Result<(Expr, usize), ReadError>
-    ensures { Tells (λ x. x) result (two_parts (expression_at levels) (binary_of binary) room (two_of (items_view elements.now))) }
+    ensures { Returns (λ x. x) result (two_parts (expression_at levels) (binary_of binary) room (two_of (items_view elements.now))) }
 {
     match two(elements) {
         None => Err(fault(alloc, Cause::Shape)),
@@ -137,7 +137,7 @@ fn binary_expression(
 }
 
 fn literal(alloc: Global, text: &str, room: usize) -> Result<(Expr, usize), ReadError>
-    ensures { Tells (λ x. x) result (literal_lem room text.now) }
+    ensures { Returns (λ x. x) result (literal_lem room text.now) }
 {
     if text.len() <= MAX_TEXT {
         let text = Text::copy_of(alloc, text)?;
@@ -149,7 +149,7 @@ fn literal(alloc: Global, text: &str, room: usize) -> Result<(Expr, usize), Read
 }
 
 fn variable(alloc: Global, elements: &[Value], room: usize) -> Result<(Expr, usize), ReadError>
-    ensures { Tells (λ x. x) result (variable_lem room (one_of (items_view elements.now))) }
+    ensures { Returns (λ x. x) result (variable_lem room (one_of (items_view elements.now))) }
 {
     match one(elements) {
         None => Err(fault(alloc, Cause::Shape)),
@@ -168,7 +168,7 @@ pub(crate) fn number_part(
     limit: u64,
     value: &Value,
 ) -> Result<u64, ReadError>
-    ensures exact { Tells (λ n. n) result (within_lem index (number_up_to limit (view value.now))) }
+    ensures exact { Returns (λ n. n) result (within_lem index (number_up_to limit (view value.now))) }
     ensures bounded { IfOk result (λ n. n ≤ limit) }
 {
     let outcome = number_within(alloc, limit, value);
@@ -182,7 +182,7 @@ pub(crate) fn variable_part(
     index: usize,
     value: &Value,
 ) -> Result<Variable, ReadError>
-    ensures { Tells (λ v. v) result (within_lem index (number_up_to MAX_VARIABLE (view value.now))) }
+    ensures { Returns (λ v. v) result (within_lem index (number_up_to MAX_VARIABLE (view value.now))) }
 {
     let number = number_part(alloc, index, MAX_VARIABLE, value)?;
     Ok(Variable::new(number as u8))

@@ -4,8 +4,8 @@ ghost use Rattle.serde_json.specs.Find.{as_str, as_array};
 ghost use Rattle.serde_json.specs.View.{view, items_view};
 ghost use Rattle.stm_json.specs.Elements.{worded, one_of};
 ghost use Rattle.stm_json.specs.Outcome.{within as within_lem};
-ghost use Rattle.stm_json.specs.Tells.{Tells};
-ghost use Rattle.stm_program_json.specs.Reading.{key_told, key_at, keys_from, keys_array, list_of, list_parts};
+ghost use Rattle.stm_json.specs.Returns.{Returns};
+ghost use Rattle.stm_program_json.specs.Reading.{key_reported, key_at, keys_from, keys_array, list_of, list_parts};
 
 use serde_json::Value;
 use std::alloc::Global;
@@ -26,7 +26,7 @@ pub(crate) fn list_parts(value: &Value) -> Option<&[Value]>
 
 /// The key that a value spells, behind these keys.
 fn key(alloc: Global, earlier: &[String], value: &Value) -> Result<String, ReadError>
-    ensures { Tells string_bytes result (key_told (map string_bytes earlier.now) (as_str (view value.now))) }
+    ensures { Returns string_bytes result (key_reported (map string_bytes earlier.now) (as_str (view value.now))) }
 {
     let Some(text) = value.as_str() else {
         return Err(fault(alloc, Cause::Shape));
@@ -43,7 +43,7 @@ fn key(alloc: Global, earlier: &[String], value: &Value) -> Result<String, ReadE
 
 /// The same, where there may be one more key.
 fn next_key(alloc: Global, earlier: &[String], value: &Value) -> Result<String, ReadError>
-    ensures { Tells string_bytes result (key_at (map string_bytes earlier.now) (view value.now)) }
+    ensures { Returns string_bytes result (key_at (map string_bytes earlier.now) (view value.now)) }
 {
     if earlier.len() < MAX_PREFETCH {
         key(alloc, earlier, value)
@@ -54,7 +54,7 @@ fn next_key(alloc: Global, earlier: &[String], value: &Value) -> Result<String, 
 
 /// The same, of the next element of an array. A fault's place is that in the array.
 fn key_part(alloc: Global, earlier: &[String], value: &Value) -> Result<String, ReadError>
-    ensures { Tells string_bytes result (within_lem (length earlier.now) (key_at (map string_bytes earlier.now) (view value.now))) }
+    ensures { Returns string_bytes result (within_lem (length earlier.now) (key_at (map string_bytes earlier.now) (view value.now))) }
 {
     within(alloc, earlier.len(), next_key(alloc, earlier, value))
 }
@@ -66,7 +66,7 @@ fn with_keys(
     earlier: Vec<String>,
     values: &[Value],
 ) -> Result<Vec<String>, ReadError>
-    ensures { Tells (λ keys. map string_bytes keys.items) result (keys_from (map string_bytes earlier.items) (items_view values.now)) }
+    ensures { Returns (λ keys. map string_bytes keys.items) result (keys_from (map string_bytes earlier.items) (items_view values.now)) }
 {
     let mut keys = earlier;
     match values {
@@ -81,7 +81,7 @@ fn with_keys(
 
 /// The keys of an array.
 fn keys(alloc: Global, value: &Value) -> Result<Vec<String>, ReadError>
-    ensures { Tells (λ keys. map string_bytes keys.items) result (keys_array (as_array (view value.now))) }
+    ensures { Returns (λ keys. map string_bytes keys.items) result (keys_array (as_array (view value.now))) }
 {
     match value.as_array() {
         Some(values) => with_keys(alloc, Vec::new(alloc), values.as_slice()),
@@ -91,7 +91,7 @@ fn keys(alloc: Global, value: &Value) -> Result<Vec<String>, ReadError>
 
 /// The keys behind the word of a list: nothing but their array stands there.
 fn list_keys(alloc: Global, parts: &[Value]) -> Result<Vec<String>, ReadError>
-    ensures { Tells (λ keys. map string_bytes keys.items) result (list_of (one_of (items_view parts.now))) }
+    ensures { Returns (λ keys. map string_bytes keys.items) result (list_of (one_of (items_view parts.now))) }
 {
     match one(parts) {
         Some(value) => within(alloc, 1, keys(alloc, value)),
@@ -101,7 +101,7 @@ fn list_keys(alloc: Global, parts: &[Value]) -> Result<Vec<String>, ReadError>
 
 /// The same, where the list is the first element of an array. A fault's place is that in the array.
 pub(crate) fn list_part(alloc: Global, parts: &[Value]) -> Result<Vec<String>, ReadError>
-    ensures { Tells (λ keys. map string_bytes keys.items) result (within_lem 0 (list_of (one_of (items_view parts.now)))) }
+    ensures { Returns (λ keys. map string_bytes keys.items) result (within_lem 0 (list_of (one_of (items_view parts.now)))) }
 {
     within(alloc, 0, list_keys(alloc, parts))
 }

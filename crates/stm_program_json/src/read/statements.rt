@@ -4,7 +4,7 @@ ghost use Rattle.serde_json.specs.View.{view, items_view};
 ghost use Rattle.stm_program.specs.BlockView.{block_of};
 ghost use Rattle.stm_json.specs.Elements.{one_of, two_of, three_of, four_of, worded};
 ghost use Rattle.stm_json.specs.Outcome.{within as within_lem};
-ghost use Rattle.stm_json.specs.Tells.{Tells};
+ghost use Rattle.stm_json.specs.Returns.{Returns};
 ghost use Rattle.stm_program_json.specs.Reading.{expression_at, condition_at, statement_at, statement_array as statement_array_lem, statement_named as statement_named_lem};
 ghost use Rattle.stm_program_json.specs.Reading.{one_part, simple_of, set_of, put_of, if_of, for_of, block_by, statements_from};
 ghost use Rattle.stm_program_json.specs.Words.{statement_word};
@@ -26,7 +26,7 @@ pub(crate) fn statement(
     levels: usize,
     room: usize,
 ) -> Result<(Stmt, usize), ReadError>
-    ensures { Tells (λ x. x) result (statement_at levels room (view value.now)) }
+    ensures { Returns (λ x. x) result (statement_at levels room (view value.now)) }
 {
     if levels == 0 {
         return Err(fault(alloc, Cause::TooDeep));
@@ -46,7 +46,7 @@ fn statement_part(
     levels: usize,
     room: usize,
 ) -> Result<(Stmt, usize), ReadError>
-    ensures { Tells (λ x. x) result (within_lem index (statement_at levels room (view value.now))) }
+    ensures { Returns (λ x. x) result (within_lem index (statement_at levels room (view value.now))) }
 {
     let outcome = statement(alloc, value, levels, room);
     let read = within(alloc, index, outcome)?;
@@ -62,7 +62,7 @@ pub(crate) fn statements(
     levels: usize,
     room: usize,
 ) -> Result<(Vec<Stmt>, usize), ReadError>
-    ensures { Tells (λ x. (block_of x.0.items, x.1)) result (block_by (statement_at levels) room (view value.now)) }
+    ensures { Returns (λ x. (block_of x.0.items, x.1)) result (block_by (statement_at levels) room (view value.now)) }
 {
     match value.as_array() {
         Some(values) => statement_list(alloc, values.as_slice(), 0, levels, room),
@@ -80,7 +80,7 @@ pub(crate) fn statement_list(
     room: usize,
 ) -> Result<(Vec<Stmt>, usize), ReadError>
     requires { first ≤ 1 }
-    ensures { Tells (λ x. (block_of x.0.items, x.1)) result (statements_from (statement_at levels) first room (items_view values.now)) }
+    ensures { Returns (λ x. (block_of x.0.items, x.1)) result (statements_from (statement_at levels) first room (items_view values.now)) }
 {
     let mut statements = Vec::new(alloc);
     let mut left = room;
@@ -101,7 +101,7 @@ fn block_part(
     levels: usize,
     room: usize,
 ) -> Result<(Block, usize), ReadError>
-    ensures { Tells (λ x. x) result (within_lem index (block_by (statement_at levels) room (view value.now))) }
+    ensures { Returns (λ x. x) result (within_lem index (block_by (statement_at levels) room (view value.now))) }
 {
     let outcome = statements(alloc, value, levels, room);
     let (statements, room) = within(alloc, index, outcome)?;
@@ -116,7 +116,7 @@ fn statement_array(
     levels: usize,
     room: usize,
 ) -> Result<(Stmt, usize), ReadError>
-    ensures { Tells (λ x. x) result (statement_array_lem (expression_at levels) (condition_at levels) (block_by (statement_at levels)) room (worded (view value.now))) }
+    ensures { Returns (λ x. x) result (statement_array_lem (expression_at levels) (condition_at levels) (block_by (statement_at levels)) room (worded (view value.now))) }
 {
     match worded_array(value) {
         Some((word, elements)) => statement_named(alloc, word, elements, levels, room),
@@ -132,7 +132,7 @@ fn statement_named(
     levels: usize,
     room: usize,
 ) -> Result<(Stmt, usize), ReadError>
-    ensures { Tells (λ x. x) result (statement_named_lem (expression_at levels) (condition_at levels) (block_by (statement_at levels)) room (statement_word word.now) (items_view elements.now)) }
+    ensures { Returns (λ x. x) result (statement_named_lem (expression_at levels) (condition_at levels) (block_by (statement_at levels)) room (statement_word word.now) (items_view elements.now)) }
 {
     match statement_word_of(word) {
         None => Err(fault(alloc, Cause::Shape)),
@@ -153,7 +153,7 @@ fn choice(
     levels: usize,
     room: usize,
 ) -> Result<(Stmt, usize), ReadError>
-    ensures { Tells (λ x. x) result (if_of (condition_at levels) (block_by (statement_at levels)) room (three_of (items_view elements.now))) }
+    ensures { Returns (λ x. x) result (if_of (condition_at levels) (block_by (statement_at levels)) room (three_of (items_view elements.now))) }
 {
     match three(elements) {
         None => Err(fault(alloc, Cause::Shape)),
@@ -174,7 +174,7 @@ fn repetition(
     levels: usize,
     room: usize,
 ) -> Result<(Stmt, usize), ReadError>
-    ensures { Tells (λ x. x) result (for_of (expression_at levels) (block_by (statement_at levels)) room (four_of (items_view elements.now))) }
+    ensures { Returns (λ x. x) result (for_of (expression_at levels) (block_by (statement_at levels)) room (four_of (items_view elements.now))) }
 {
     match four(elements) {
         None => Err(fault(alloc, Cause::Shape)),
@@ -195,7 +195,7 @@ fn set(
     levels: usize,
     room: usize,
 ) -> Result<(Stmt, usize), ReadError>
-    ensures { Tells (λ x. x) result (set_of (expression_at levels) room (two_of (items_view elements.now))) }
+    ensures { Returns (λ x. x) result (set_of (expression_at levels) room (two_of (items_view elements.now))) }
 {
     match two(elements) {
         None => Err(fault(alloc, Cause::Shape)),
@@ -214,7 +214,7 @@ fn put(
     levels: usize,
     room: usize,
 ) -> Result<(Stmt, usize), ReadError>
-    ensures { Tells (λ x. x) result (put_of (expression_at levels) room (three_of (items_view elements.now))) }
+    ensures { Returns (λ x. x) result (put_of (expression_at levels) room (three_of (items_view elements.now))) }
 {
     match three(elements) {
         None => Err(fault(alloc, Cause::Shape)),
@@ -235,7 +235,7 @@ fn simple_statement(
     levels: usize,
     room: usize,
 ) -> Result<(Stmt, usize), ReadError>
-    ensures { Tells (λ x. x) result (one_part (expression_at levels) (simple_of simple) room (one_of (items_view elements.now))) }
+    ensures { Returns (λ x. x) result (one_part (expression_at levels) (simple_of simple) room (one_of (items_view elements.now))) }
 {
     match one(elements) {
         None => Err(fault(alloc, Cause::Shape)),

@@ -30,4 +30,4 @@ unreachable-requires g c =
 
 pub returns-in-Err : goal.returns-in-Err
 returns-in-Err g c =
-    failed (app_of c.in-Ok.command) c.in-Ok.ensures (map string_bytes c.args.words.now) c.in-Err.error c.told.result c.in-Err.ensures.kinds c.told.ensures
+    failed (app_of c.in-Ok.command) c.in-Ok.ensures (map string_bytes c.args.words.now) c.in-Err.error c.reported.result c.in-Err.ensures.kinds c.reported.ensures

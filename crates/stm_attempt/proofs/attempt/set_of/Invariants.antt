@@ -7,5 +7,5 @@ abbrev pub invariant-loop-answer : goal.invariant-loop-answer
 invariant-loop-answer l = record {
   can_next : (goal.iterator-loop-answer).can_next l.answer-iterator;
   ends : (goal.iterator-loop-answer).is_finite l.answer-iterator;
-  told : l.set ++ into_iter_items l.answer-iterator ≡ l.fn.answers;
+  reported : l.set ++ into_iter_items l.answer-iterator ≡ l.fn.answers;
 }

@@ -24,7 +24,7 @@ take_each-requires t c = (
 pub returns-in_ok-add-in-Some : goal.returns-in_ok-add-in-Some
 returns-in_ok-add-in-Some t c =
     IfOk-weaker c.take_each.result _ _
-    (λ found told. take_goes_on c.args.keys.now c.first-item.result _ c.args.taken c.add.new.self c.args.prefetched.now _
+    (λ found reported. take_goes_on c.args.keys.now c.first-item.result _ c.args.taken c.add.new.self c.args.prefetched.now _
     c.in_ok-copy_of-in-Some.field-0 found c.in-len1-up.len_at_least c.first-item.is c.as_str.ensures.value c.in-Some.ensures.answer
-    c.in_ok-copy_of-in-Some.ensures c.in_ok-add-in-Some.ensures.ok told)
+    c.in_ok-copy_of-in-Some.ensures c.in_ok-add-in-Some.ensures.ok reported)
     c.take_each.ensures

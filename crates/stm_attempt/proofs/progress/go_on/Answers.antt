@@ -4,8 +4,8 @@ use Rattle.stm_attempt.specs.Progress.{HasCome}
 use Rattle.stm_attempt.proofs.ProgressLemmas.{end_is}
 use Rattle.stm_attempt.proofs.progress.go_on.Goals as goal
 
-pub tell_end-requires-clause-ended : goal.tell_end-requires-clause-ended
-tell_end-requires-clause-ended c = c.in_ok-wanted.ensures.ended c.in-None.is
+pub report_end-requires-clause-ended : goal.report_end-requires-clause-ended
+report_end-requires-clause-ended c = c.in_ok-wanted.ensures.ended c.in-None.is
 
 pub returns-in_err-next-in-None-clause-come : goal.returns-in_err-next-in-None-clause-come
 returns-in_err-next-in-None-clause-come c =

@@ -8,5 +8,5 @@ abbrev pub invariant-loop-answer : goal.invariant-loop-answer
 invariant-loop-answer l = record {
   can_next : (goal.iterator-loop-answer).can_next l.answer-iterator;
   ends : (goal.iterator-loop-answer).is_finite l.answer-iterator;
-  told : l.reads.items ++ reads_in (into_iter_items l.answer-iterator) ≡ reads_in l.fn.answers;
+  reported : l.reads.items ++ reads_in (into_iter_items l.answer-iterator) ≡ reads_in l.fn.answers;
 }

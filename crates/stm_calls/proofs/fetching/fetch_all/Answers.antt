@@ -4,7 +4,7 @@ use Rattle.std.proofs.lemmas.Result.{err_from_is_err_and}
 use Rattle.stm_outcome.specs.Numbers.{ReadFits}
 use Rattle.stm_outcome.specs.declared.refusal.Refusal.TheVariants.{OutOfMemory}
 use Rattle.stm_calls.proofs.ReadLemmas.{reads_fit}
-use Rattle.stm_calls.proofs.ListFetchLemmas.{are_read, all_refused, all_told, refused_with_all}
+use Rattle.stm_calls.proofs.ListFetchLemmas.{are_read, all_refused, all_reported, refused_with_all}
 use Rattle.stm_calls.proofs.fetching.fetch_all.Goals as goal
 
 -- the store refused it
@@ -23,13 +23,13 @@ returns-in_err-reads-clause-refused c =
 
 pub returns-in_err-reads-clause-store : goal.returns-in_err-reads-clause-store
 returns-in_err-reads-clause-store c =
-    (are_read c.args.store.now.standing c.txn-told.new.self.standing c.args.keys.now c.in_ok-txn.txn c.in_ok-answer.answer c.in_ok-txn.ensures c.requires
+    (are_read c.args.store.now.standing c.txn-reported.new.self.standing c.args.keys.now c.in_ok-txn.txn c.in_ok-answer.answer c.in_ok-txn.ensures c.requires
     c.in_ok-answer.ensures.step).unchanged
 
-pub returns-clause-told : goal.returns-clause-told
-returns-clause-told c =
-    all_told c.args.store.now.standing c.txn-told.new.self.standing c.args.keys.now c.in_ok-answer.answer.answers c.in_ok-reads.reads.items
-    (are_read c.args.store.now.standing c.txn-told.new.self.standing c.args.keys.now c.in_ok-txn.txn c.in_ok-answer.answer c.in_ok-txn.ensures c.requires
+pub returns-clause-reported : goal.returns-clause-reported
+returns-clause-reported c =
+    all_reported c.args.store.now.standing c.txn-reported.new.self.standing c.args.keys.now c.in_ok-answer.answer.answers c.in_ok-reads.reads.items
+    (are_read c.args.store.now.standing c.txn-reported.new.self.standing c.args.keys.now c.in_ok-txn.txn c.in_ok-answer.answer c.in_ok-txn.ensures c.requires
     c.in_ok-answer.ensures.step)
     c.in_ok-reads.ensures
 
@@ -38,5 +38,5 @@ returns-clause-in_range c = subst (All ReadFits) (sym c.in_ok-reads.ensures) (re
 
 pub returns-clause-store : goal.returns-clause-store
 returns-clause-store c =
-    (are_read c.args.store.now.standing c.txn-told.new.self.standing c.args.keys.now c.in_ok-txn.txn c.in_ok-answer.answer c.in_ok-txn.ensures c.requires
+    (are_read c.args.store.now.standing c.txn-reported.new.self.standing c.args.keys.now c.in_ok-txn.txn c.in_ok-answer.answer c.in_ok-txn.ensures c.requires
     c.in_ok-answer.ensures.step).unchanged

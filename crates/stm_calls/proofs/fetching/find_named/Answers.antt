@@ -6,7 +6,7 @@ use Rattle.stm_keys.specs.declared.refusal.ReadRefusal.TheVariants.{FutureRevisi
 use Rattle.stm_outcome.specs.declared.refusal.Refusal.{Refusal}
 use Rattle.stm_txn.specs.Standing.{Standing}
 use Rattle.stm_txn.proofs.Compacting.{has_come, not_so}
-use Rattle.stm_calls.proofs.FetchLemmas.{told_read, told_refused}
+use Rattle.stm_calls.proofs.FetchLemmas.{reported_read, reported_refused}
 use Rattle.stm_calls.proofs.fetching.find_named.Goals as goal
 
 -- what the keys have is what the read shows
@@ -17,7 +17,7 @@ returns-in-Ok-clause-found c =
     let come : c.args.at ≤ now c.keys-keys.result.now.history =
     has_come _ FutureRevision (now c.keys-keys.result.now.history) c.args.at c.in-Ok.ensures.future in
     let reached : c.args.at ≤ now s.history = omega (arith, come, ap now same) in
-    told_read s c.args.key.now c.args.at _ c.requires reached
+    reported_read s c.args.key.now c.args.at _ c.requires reached
     (λ under. not_so _ Compacted c.in-Ok.ensures.compacted (under.0, omega (arith, under.1, c.keys-keys.ensures.floor)))
     (c.in-Ok.ensures.found ∙ ap (λ (h : History). key_read h c.args.key.now c.args.at) same)
 
@@ -28,7 +28,7 @@ returns-in-Err-clause-refused c =
     let same : c.keys-keys.result.now.history ≡ s.history = c.keys-keys.ensures.history in
     let floor : s.floor ≤ now s.history =
     omega (arith, c.revision-counter.ensures.floor, c.revision-counter.ensures.value, c.keys-keys.ensures.floor, ap now same) in
-    told_refused s c.args.key.now c.args.at c.in-Err.refusal c.requires floor
+    reported_refused s c.args.key.now c.args.at c.in-Err.refusal c.requires floor
     (λ is. let above : now c.keys-keys.result.now.history < c.args.at = c.in-Err.ensures.future.0 (ap (λ (r : ReadRefusal). Err r) is) in
     omega (arith, above, ap now same))
     (λ is. let under = c.in-Err.ensures.compacted.0 (ap (λ (r : ReadRefusal). Err r) is) in

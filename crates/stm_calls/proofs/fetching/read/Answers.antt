@@ -6,20 +6,20 @@ use Rattle.stm_history.specs.History.{now}
 use Rattle.stm_outcome.specs.declared.refusal.Refusal.{Refusal}
 use Rattle.stm_outcome.specs.declared.refusal.Refusal.TheVariants.{OutOfMemory}
 use Rattle.stm_txn.specs.Standing.{Standing}
-use Rattle.stm_calls.specs.Fetched.{read_told}
-use Rattle.stm_calls.proofs.FetchLemmas.{told_as, read_fits, refused_with}
+use Rattle.stm_calls.specs.Fetched.{read_reported}
+use Rattle.stm_calls.proofs.FetchLemmas.{reported_as, read_fits, refused_with}
 use Rattle.stm_calls.proofs.fetching.read.Goals as goal
 
 -- a growth was refused where the read would be answered
-pub returns-in_err-answer-in-Ok-clause-told : goal.returns-in_err-answer-in-Ok-clause-told
-returns-in_err-answer-in-Ok-clause-told c =
+pub returns-in_err-answer-in-Ok-clause-reported : goal.returns-in_err-answer-in-Ok-clause-reported
+returns-in_err-answer-in-Ok-clause-reported c =
     let exit = err_from_is_err_and c.from_residual.result c.from_residual.ensures.1 in
-    refused_with (read_told c.args.store.now.standing c.args.key.now c.args.at) c.from_residual.result exit.0 OutOfMemory exit.1 exit.2
+    refused_with (read_reported c.args.store.now.standing c.args.key.now c.args.at) c.from_residual.result exit.0 OutOfMemory exit.1 exit.2
     (inr (refl, subst (λ (r : Result ReadAnswer Refusal). IsOk r) (sym c.in-Ok.ensures.found) refl))
 
-pub returns-in_ok-answer-in-Ok-clause-told : goal.returns-in_ok-answer-in-Ok-clause-told
-returns-in_ok-answer-in-Ok-clause-told c =
-    told_as c.args.store.now.standing _ c.args.key.now c.args.at _ c.in_ok-answer-in-Ok.answer c.in-Ok.ensures.found c.keys.ensures.history
+pub returns-in_ok-answer-in-Ok-clause-reported : goal.returns-in_ok-answer-in-Ok-clause-reported
+returns-in_ok-answer-in-Ok-clause-reported c =
+    reported_as c.args.store.now.standing _ c.args.key.now c.args.at _ c.in_ok-answer-in-Ok.answer c.in-Ok.ensures.found c.keys.ensures.history
     c.in_ok-answer-in-Ok.ensures.answer
 
 pub returns-in_ok-answer-in-Ok-clause-in_range : goal.returns-in_ok-answer-in-Ok-clause-in_range
@@ -27,7 +27,7 @@ returns-in_ok-answer-in-Ok-clause-in_range c =
     let s : Standing = c.args.store.now.standing in
     let bounded : now s.history ≤ HIGHEST_REVISION = omega (arith, c.in_ok-answer-in-Ok.ensures.counter, ap now c.keys.ensures.history) in
     read_fits s c.args.key.now c.args.at c.in_ok-answer-in-Ok.answer bounded c.keys.ensures.numbers
-    (told_as s _ c.args.key.now c.args.at _ c.in_ok-answer-in-Ok.answer c.in-Ok.ensures.found c.keys.ensures.history c.in_ok-answer-in-Ok.ensures.answer)
+    (reported_as s _ c.args.key.now c.args.at _ c.in_ok-answer-in-Ok.answer c.in-Ok.ensures.found c.keys.ensures.history c.in_ok-answer-in-Ok.ensures.answer)
 
-pub returns-in-Err-clause-told : goal.returns-in-Err-clause-told
-returns-in-Err-clause-told c = inl c.in-Err.ensures.refused
+pub returns-in-Err-clause-reported : goal.returns-in-Err-clause-reported
+returns-in-Err-clause-reported c = inl c.in-Err.ensures.refused

@@ -11,7 +11,7 @@ use Rattle.stm_attempt.specs.ReadyRun.{ReadyRun, IsRunOnItsAnswers}
 use Rattle.stm_calls.specs.Reads.{reads_in}
 use Rattle.stm_calls.specs.Sent.{seen_in, failed_at, sent}
 use Rattle.stm_calls.specs.Prefetch.{CanGoOn}
-use Rattle.stm_calls.proofs.CommitLemmas.{comes_to, writes_are_latest, tells_committed, is_turned_down, tells_told, is_refused, refused_with}
+use Rattle.stm_calls.proofs.CommitLemmas.{comes_to, writes_are_latest, reports_committed, is_turned_down, reports_reported, is_refused, refused_with}
 use Rattle.stm_calls.proofs.PrefetchLemmas.{may_be_prefetched}
 use Rattle.stm_calls.proofs.sending.commit.Goals as goal
 
@@ -35,43 +35,43 @@ returns-in-None-clause-step c = λ run ended.
     let kept : IsRunOnItsAnswers ready = subst IsRunOnItsAnswers c.ready.view_is c.ready.invariant in
     let txn_is : c.in_ok-txn.txn ≡ commit_of ready.level ready.answers ready.writes =
     c.in_ok-txn.ensures ∙ ap (λ (r : ReadyRun). commit_of r.level r.answers r.writes) c.ready.view_is in
-    tells_committed c.args.store.now.standing c.txn-sent.new.self.standing ready.level ready.answers run c.in_ok-answer.answer
+    reports_committed c.args.store.now.standing c.txn-sent.new.self.standing ready.level ready.answers run c.in_ok-answer.answer
     (sym (comes_to c.args.store.now.standing ready run c.in_ok-txn.txn kept c.requires.named ended txn_is) ∙ c.in_ok-answer.ensures.step)
     c.in-None.is
 
 -- a compare failed, and a growth was refused
-pub returns-in_err-told-in-Some-clause-step : goal.returns-in_err-told-in-Some-clause-step
-returns-in_err-told-in-Some-clause-step c = λ run ended.
+pub returns-in_err-reported-in-Some-clause-step : goal.returns-in_err-reported-in-Some-clause-step
+returns-in_err-reported-in-Some-clause-step c = λ run ended.
     let ready : ReadyRun = c.args.ready.now in
     let kept : IsRunOnItsAnswers ready = subst IsRunOnItsAnswers c.ready.view_is c.ready.invariant in
     let txn_is : c.in_ok-txn.txn ≡ commit_of ready.level ready.answers ready.writes =
     c.in_ok-txn.ensures ∙ ap (λ (r : ReadyRun). commit_of r.level r.answers r.writes) c.ready.view_is in
-    let exit = err_from_is_err_and c.from_residual-in_err-told-in-Some.result c.from_residual-in_err-told-in-Some.ensures.1 in
+    let exit = err_from_is_err_and c.from_residual-in_err-reported-in-Some.result c.from_residual-in_err-reported-in-Some.ensures.1 in
     let down =
     is_turned_down c.args.store.now.standing c.txn-sent.new.self.standing ready.level ready.answers run c.in_ok-answer.answer c.in-Some.failed
     (sym (comes_to c.args.store.now.standing ready run c.in_ok-txn.txn kept c.requires.named ended txn_is) ∙ c.in_ok-answer.ensures.step)
     c.in-Some.is in
     refused_with (sent c.args.store.now.standing ready.level ready.answers run) c.args.store.now.standing c.txn-sent.new.self.standing
-    c.from_residual-in_err-told-in-Some.result exit.0 OutOfMemory exit.1 exit.2 (inl refl, down.unchanged)
+    c.from_residual-in_err-reported-in-Some.result exit.0 OutOfMemory exit.1 exit.2 (inl refl, down.unchanged)
 
 -- a compare failed
-pub returns-in_ok-told-in-Some-clause-step : goal.returns-in_ok-told-in-Some-clause-step
-returns-in_ok-told-in-Some-clause-step c = λ run ended.
+pub returns-in_ok-reported-in-Some-clause-step : goal.returns-in_ok-reported-in-Some-clause-step
+returns-in_ok-reported-in-Some-clause-step c = λ run ended.
     let ready : ReadyRun = c.args.ready.now in
     let kept : IsRunOnItsAnswers ready = subst IsRunOnItsAnswers c.ready.view_is c.ready.invariant in
     let txn_is : c.in_ok-txn.txn ≡ commit_of ready.level ready.answers ready.writes =
     c.in_ok-txn.ensures ∙ ap (λ (r : ReadyRun). commit_of r.level r.answers r.writes) c.ready.view_is in
-    tells_told c.args.store.now.standing c.txn-sent.new.self.standing ready run c.in_ok-answer.answer c.in-Some.failed c.in_ok-told-in-Some.told
+    reports_reported c.args.store.now.standing c.txn-sent.new.self.standing ready run c.in_ok-answer.answer c.in-Some.failed c.in_ok-reported-in-Some.reported
     (writes_are_latest ready run kept ended)
     (sym (comes_to c.args.store.now.standing ready run c.in_ok-txn.txn kept c.requires.named ended txn_is) ∙ c.in_ok-answer.ensures.step)
     c.in-Some.is
-    (c.in_ok-told-in-Some.ensures.told
+    (c.in_ok-reported-in-Some.ensures.reported
     ∙ ap (λ (r : ReadyRun). failed_at (seen_in (slice_get (seen_by r.answers r.writes) c.in-Some.failed.index)) c.in-Some.failed.mod_rev
     (reads_in c.in_ok-answer.answer.answers)) c.ready.view_is)
 
 -- its answers may be prefetched
-pub returns-in_ok-told-in-Some-clause-answers : goal.returns-in_ok-told-in-Some-clause-answers
-returns-in_ok-told-in-Some-clause-answers c =
+pub returns-in_ok-reported-in-Some-clause-answers : goal.returns-in_ok-reported-in-Some-clause-answers
+returns-in_ok-reported-in-Some-clause-answers c =
     let ready : ReadyRun = c.args.ready.now in
     let kept : IsRunOnItsAnswers ready = subst IsRunOnItsAnswers c.ready.view_is c.ready.invariant in
     let txn_is : c.in_ok-txn.txn ≡ commit_of ready.level ready.answers ready.writes =
@@ -82,6 +82,6 @@ returns-in_ok-told-in-Some-clause-answers c =
     c.in-Some.is in
     let distinct : IsDistinct bytes_eq (map (λ (a : ReadAnswer). a.key) ready.answers) =
     subst (λ (r : ReadyRun). IsDistinct bytes_eq (map (λ (a : ReadAnswer). a.key) r.answers)) c.ready.view_is c.as_slice-keys_differ.ensures.distinct in
-    subst CanGoOn (sym c.in_ok-told-in-Some.ensures.told)
+    subst CanGoOn (sym c.in_ok-reported-in-Some.ensures.reported)
     (may_be_prefetched c.args.store.now.standing.history ready.level ready.answers c.in_ok-answer.answer.answers distinct
     c.in_ok-answer.ensures.numbers.answers down.rereads)

@@ -4,8 +4,8 @@ use Rattle.stm_txn.specs.Standing.{Standing, IsCutShort, advanced}
 use Rattle.stm_reports.specs.declared.line.ReportLine.TheVariants.{Advanced}
 use Rattle.stm_world.specs.declared.event.WorldEvent.TheVariants.{Advance as AdvanceEvent}
 use Rattle.stm_check.specs.Point.{led_by, moment_after, expiries, advance_entries}
-use Rattle.stm_world.specs.Told.{advance_reply}
-use Rattle.stm_lines.specs.Lines.{line_told}
+use Rattle.stm_world.specs.Reported.{advance_reply}
+use Rattle.stm_lines.specs.Lines.{line_reported}
 use Rattle.stm_check.proofs.CallLemmas.{tests_same, cut_right, cut_next, led_where, advance_led, advance_line_is}
 use Rattle.stm_check.proofs.calls.replay_advance.Goals as goal
 
@@ -15,7 +15,7 @@ returns-in-Ok-clause-right c =
     let next : Standing = c.advance.new.self.standing in
     let n = c.args.number in
     let expired = c.in-Ok.expired.items in
-    tests_same c.is_advanced.result (line_told n (advance_reply c.args.moment (advanced s c.args.moment).expired (advanced s c.args.moment).cause)) (Advanced n c.args.moment c.as_slice.result.now) c.args.line.now
+    tests_same c.is_advanced.result (line_reported n (advance_reply c.args.moment (advanced s c.args.moment).expired (advanced s c.args.moment).cause)) (Advanced n c.args.moment c.as_slice.result.now) c.args.line.now
     (advance_line_is n s next c.args.moment expired None c.in-Ok.ensures.ok
     ∙ ap (λ (es : List Expired). Advanced n c.args.moment es) (sym c.as_slice.ensures.value)) c.is_advanced.ensures
 
@@ -36,7 +36,7 @@ returns-in-Err-clause-right c =
     let n = c.args.number in
     let expired = c.as_slice-in-Err.result.now in
     let cause = c.in-Err.refused.cause in
-    cut_right c.tells_refusal.result n s next c.args.moment expired cause c.args.line.now c.tells_refusal.ensures.told c.tells_refusal.ensures.memory
+    cut_right c.reports_refusal.result n s next c.args.moment expired cause c.args.line.now c.reports_refusal.ensures.reported c.reports_refusal.ensures.memory
     (subst (λ (es : List Expired). IsCutShort (advanced s c.args.moment) es cause next) (sym c.as_slice-in-Err.ensures) c.in-Err.ensures.refused)
 
 pub returns-in-Err-clause-next : goal.returns-in-Err-clause-next
@@ -46,5 +46,5 @@ returns-in-Err-clause-next c =
     let n = c.args.number in
     let expired = c.as_slice-in-Err.result.now in
     let cause = c.in-Err.refused.cause in
-    cut_next c.tells_refusal.result n s next c.args.moment expired cause c.args.line.now c.tells_refusal.ensures.told c.tells_refusal.ensures.memory
+    cut_next c.reports_refusal.result n s next c.args.moment expired cause c.args.line.now c.reports_refusal.ensures.reported c.reports_refusal.ensures.memory
     (subst (λ (es : List Expired). IsCutShort (advanced s c.args.moment) es cause next) (sym c.as_slice-in-Err.ensures) c.in-Err.ensures.refused)

@@ -3,10 +3,10 @@ use Rattle.std.specs.Prelude.{Result, []}
 use Rattle.stm_outcome.specs.declared.refusal.Refusal.{Refusal as Cause}
 use Rattle.stm_txn.specs.Standing.{Standing, Step, IsRefusalOf, raised}
 use Rattle.stm_txn.specs.Store.{StoreView}
-use Rattle.stm_reports.specs.Told.{cause_told}
+use Rattle.stm_reports.specs.Reported.{cause_reported}
 use Rattle.stm_reports.specs.declared.line.ReportLine.TheVariants.{Refused, Compacted}
-use Rattle.stm_world.specs.Told.{reply_to}
-use Rattle.stm_lines.specs.Lines.{line_told}
+use Rattle.stm_world.specs.Reported.{reply_to}
+use Rattle.stm_lines.specs.Lines.{line_reported}
 use Rattle.stm_world.specs.declared.reply.Reply.TheVariants as reply
 use Rattle.stm_check.proofs.CallLemmas.{taken_line, refused_line, tests_same, refused_right, compact_led, compact_stays}
 use Rattle.stm_check.proofs.calls.replay_compact.Goals as goal
@@ -17,7 +17,7 @@ returns-in-Ok-clause-right c =
     let next : Standing = c.raise_floor.new.self.standing in
     let n = c.args.number in
     let l = c.args.line.now in
-    tests_same c.is_compacted.result (line_told n (reply_to (λ _. reply.Compacted c.args.revision) (raised s c.args.revision))) (Compacted n c.args.revision) l
+    tests_same c.is_compacted.result (line_reported n (reply_to (λ _. reply.Compacted c.args.revision) (raised s c.args.revision))) (Compacted n c.args.revision) l
     (taken_line n (λ _. reply.Compacted c.args.revision) (raised s c.args.revision) tt next c.in-Ok.ensures.step) c.is_compacted.ensures
 
 pub returns-in-Ok-clause-next : goal.returns-in-Ok-clause-next
@@ -34,8 +34,8 @@ returns-in-Err-clause-right c =
     let next : Standing = c.raise_floor.new.self.standing in
     let n = c.args.number in
     let l = c.args.line.now in
-    refused_right c.tells_refusal.result c.in-Err.cause (line_told n (reply_to (λ _. reply.Compacted c.args.revision) (raised s c.args.revision))) (Refused n (cause_told c.in-Err.cause) []) l
-    c.tells_refusal.ensures.told c.tells_refusal.ensures.memory
+    refused_right c.reports_refusal.result c.in-Err.cause (line_reported n (reply_to (λ _. reply.Compacted c.args.revision) (raised s c.args.revision))) (Refused n (cause_reported c.in-Err.cause) []) l
+    c.reports_refusal.ensures.reported c.reports_refusal.ensures.memory
     (λ other. refused_line n (λ _. reply.Compacted c.args.revision) (raised s c.args.revision) c.in-Err.cause
     (subst (λ (o : Result (Step (Unit {0})) Cause). IsRefusalOf o c.in-Err.cause) (sym c.in-Err.ensures.step) refl) other)
 
@@ -45,5 +45,5 @@ returns-in-Err-clause-next c =
     let next : Standing = c.raise_floor.new.self.standing in
     let n = c.args.number in
     let l = c.args.line.now in
-    compact_stays c.tells_refusal.result n c.args.revision (cause_told c.in-Err.cause) l s next c.tells_refusal.ensures.told
+    compact_stays c.reports_refusal.result n c.args.revision (cause_reported c.in-Err.cause) l s next c.reports_refusal.ensures.reported
     (ap (λ (v : StoreView). v.standing) c.in-Err.ensures.err)

@@ -2,11 +2,11 @@ use Rattle.std.proofs.Common.{ap, refl}
 use Rattle.std.specs.Prelude.{[]}
 use Rattle.stm_txn.specs.Standing.{Standing, granted}
 use Rattle.stm_txn.specs.Store.{StoreView}
-use Rattle.stm_reports.specs.Told.{cause_told}
+use Rattle.stm_reports.specs.Reported.{cause_reported}
 use Rattle.stm_reports.specs.declared.line.ReportLine.TheVariants.{Refused, Granted}
 use Rattle.stm_check.specs.Point.{grant_entries}
-use Rattle.stm_world.specs.Told.{reply_to}
-use Rattle.stm_lines.specs.Lines.{line_told}
+use Rattle.stm_world.specs.Reported.{reply_to}
+use Rattle.stm_lines.specs.Lines.{line_reported}
 use Rattle.stm_world.specs.declared.reply.Reply.TheVariants as reply
 use Rattle.stm_check.proofs.CallLemmas.{taken_line, refused_line, tests_same, refused_right, refused_next, led_where, grant_led}
 use Rattle.stm_check.proofs.calls.replay_grant.Goals as goal
@@ -17,7 +17,7 @@ returns-in-Ok-clause-right c =
     let next : Standing = c.grant.new.self.standing in
     let n = c.args.number in
     let l = c.args.line.now in
-    tests_same c.is_granted.result (line_told n (reply_to (λ _. reply.Granted c.args.id) (granted s c.args.id c.args.ttl))) (Granted n c.args.id) l
+    tests_same c.is_granted.result (line_reported n (reply_to (λ _. reply.Granted c.args.id) (granted s c.args.id c.args.ttl))) (Granted n c.args.id) l
     (taken_line n (λ _. reply.Granted c.args.id) (granted s c.args.id c.args.ttl) tt next c.in-Ok.ensures.step) c.is_granted.ensures
 
 pub returns-in-Ok-clause-next : goal.returns-in-Ok-clause-next
@@ -35,8 +35,8 @@ returns-in-Err-clause-right c =
     let next : Standing = c.grant.new.self.standing in
     let n = c.args.number in
     let l = c.args.line.now in
-    refused_right c.tells_refusal.result c.in-Err.cause (line_told n (reply_to (λ _. reply.Granted c.args.id) (granted s c.args.id c.args.ttl))) (Refused n (cause_told c.in-Err.cause) []) l
-    c.tells_refusal.ensures.told c.tells_refusal.ensures.memory
+    refused_right c.reports_refusal.result c.in-Err.cause (line_reported n (reply_to (λ _. reply.Granted c.args.id) (granted s c.args.id c.args.ttl))) (Refused n (cause_reported c.in-Err.cause) []) l
+    c.reports_refusal.ensures.reported c.reports_refusal.ensures.memory
     (λ other. refused_line n (λ _. reply.Granted c.args.id) (granted s c.args.id c.args.ttl) c.in-Err.cause c.in-Err.ensures.step other)
 
 pub returns-in-Err-clause-next : goal.returns-in-Err-clause-next
@@ -45,6 +45,6 @@ returns-in-Err-clause-next c =
     let next : Standing = c.grant.new.self.standing in
     let n = c.args.number in
     let l = c.args.line.now in
-    refused_next c.tells_refusal.result (Refused n (cause_told c.in-Err.cause) []) l (grant_entries c.args.id c.args.ttl s.moment) s next
-    c.tells_refusal.ensures.told refl
+    refused_next c.reports_refusal.result (Refused n (cause_reported c.in-Err.cause) []) l (grant_entries c.args.id c.args.ttl s.moment) s next
+    c.reports_refusal.ensures.reported refl
     (ap (λ (v : StoreView). v.standing) c.in-Err.ensures.err)

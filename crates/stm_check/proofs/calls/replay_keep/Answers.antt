@@ -3,11 +3,11 @@ use Rattle.std.specs.Prelude.{Result, []}
 use Rattle.stm_outcome.specs.declared.refusal.Refusal.{Refusal as Cause}
 use Rattle.stm_txn.specs.Standing.{Standing, Step, IsRefusalOf, kept_alive}
 use Rattle.stm_txn.specs.Store.{StoreView}
-use Rattle.stm_reports.specs.Told.{cause_told}
+use Rattle.stm_reports.specs.Reported.{cause_reported}
 use Rattle.stm_reports.specs.declared.line.ReportLine.TheVariants.{Refused, Kept}
 use Rattle.stm_check.specs.Point.{keep_entries}
-use Rattle.stm_world.specs.Told.{reply_to}
-use Rattle.stm_lines.specs.Lines.{line_told}
+use Rattle.stm_world.specs.Reported.{reply_to}
+use Rattle.stm_lines.specs.Lines.{line_reported}
 use Rattle.stm_world.specs.declared.reply.Reply.TheVariants as reply
 use Rattle.stm_check.proofs.CallLemmas.{taken_line, refused_line, tests_same, refused_right, refused_next, led_where, keep_led}
 use Rattle.stm_check.proofs.calls.replay_keep.Goals as goal
@@ -18,7 +18,7 @@ returns-in-Ok-clause-right c =
     let next : Standing = c.keep_alive.new.self.standing in
     let n = c.args.number in
     let l = c.args.line.now in
-    tests_same c.is_kept.result (line_told n (reply_to (λ _. reply.Kept c.args.id) (kept_alive s c.args.id))) (Kept n c.args.id) l
+    tests_same c.is_kept.result (line_reported n (reply_to (λ _. reply.Kept c.args.id) (kept_alive s c.args.id))) (Kept n c.args.id) l
     (taken_line n (λ _. reply.Kept c.args.id) (kept_alive s c.args.id) tt next c.in-Ok.ensures.step) c.is_kept.ensures
 
 pub returns-in-Ok-clause-next : goal.returns-in-Ok-clause-next
@@ -36,8 +36,8 @@ returns-in-Err-clause-right c =
     let next : Standing = c.keep_alive.new.self.standing in
     let n = c.args.number in
     let l = c.args.line.now in
-    refused_right c.tells_refusal.result c.in-Err.cause (line_told n (reply_to (λ _. reply.Kept c.args.id) (kept_alive s c.args.id))) (Refused n (cause_told c.in-Err.cause) []) l
-    c.tells_refusal.ensures.told c.tells_refusal.ensures.memory
+    refused_right c.reports_refusal.result c.in-Err.cause (line_reported n (reply_to (λ _. reply.Kept c.args.id) (kept_alive s c.args.id))) (Refused n (cause_reported c.in-Err.cause) []) l
+    c.reports_refusal.ensures.reported c.reports_refusal.ensures.memory
     (λ other. refused_line n (λ _. reply.Kept c.args.id) (kept_alive s c.args.id) c.in-Err.cause
     (subst (λ (o : Result (Step (Unit {0})) Cause). IsRefusalOf o c.in-Err.cause) (sym c.in-Err.ensures.step) refl) other)
 
@@ -47,5 +47,5 @@ returns-in-Err-clause-next c =
     let next : Standing = c.keep_alive.new.self.standing in
     let n = c.args.number in
     let l = c.args.line.now in
-    refused_next c.tells_refusal.result (Refused n (cause_told c.in-Err.cause) []) l (keep_entries c.args.id s.moment) s next c.tells_refusal.ensures.told refl
+    refused_next c.reports_refusal.result (Refused n (cause_reported c.in-Err.cause) []) l (keep_entries c.args.id s.moment) s next c.reports_refusal.ensures.reported refl
     (ap (λ (v : StoreView). v.standing) c.in-Err.ensures.err)

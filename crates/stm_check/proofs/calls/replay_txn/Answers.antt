@@ -3,11 +3,11 @@ use Rattle.std.specs.Prelude.{[]}
 use Rattle.stm_history.specs.History.{now}
 use Rattle.stm_txn.specs.Standing.{Standing, transacted}
 use Rattle.stm_txn.specs.Store.{StoreView}
-use Rattle.stm_reports.specs.Told.{cause_told, txn_line}
+use Rattle.stm_reports.specs.Reported.{cause_reported, txn_line}
 use Rattle.stm_reports.specs.declared.line.ReportLine.TheVariants.{Refused}
 use Rattle.stm_check.specs.Point.{txn_entries}
-use Rattle.stm_world.specs.Told.{reply_to}
-use Rattle.stm_lines.specs.Lines.{line_told}
+use Rattle.stm_world.specs.Reported.{reply_to}
+use Rattle.stm_lines.specs.Lines.{line_reported}
 use Rattle.stm_world.specs.declared.reply.Reply.TheVariants.{Txn as TxnDone}
 use Rattle.stm_check.proofs.CallLemmas.{taken_line, refused_line, tests_same, refused_right, refused_next, led_where, txn_led}
 use Rattle.stm_check.proofs.calls.replay_txn.Goals as goal
@@ -18,7 +18,7 @@ returns-in-Ok-clause-right c =
     let next : Standing = c.txn.new.self.standing in
     let n = c.args.number in
     let l = c.args.line.now in
-    tests_same c.is_txn.result (line_told n (reply_to TxnDone (transacted s c.args.txn.now))) (txn_line n c.in-Ok.answer) l
+    tests_same c.is_txn.result (line_reported n (reply_to TxnDone (transacted s c.args.txn.now))) (txn_line n c.in-Ok.answer) l
     (taken_line n TxnDone (transacted s c.args.txn.now) c.in-Ok.answer next c.in-Ok.ensures.step) c.is_txn.ensures
 
 pub returns-in-Ok-clause-next : goal.returns-in-Ok-clause-next
@@ -36,8 +36,8 @@ returns-in-Err-clause-right c =
     let next : Standing = c.txn.new.self.standing in
     let n = c.args.number in
     let l = c.args.line.now in
-    refused_right c.tells_refusal.result c.in-Err.cause (line_told n (reply_to TxnDone (transacted s c.args.txn.now))) (Refused n (cause_told c.in-Err.cause) []) l
-    c.tells_refusal.ensures.told c.tells_refusal.ensures.memory
+    refused_right c.reports_refusal.result c.in-Err.cause (line_reported n (reply_to TxnDone (transacted s c.args.txn.now))) (Refused n (cause_reported c.in-Err.cause) []) l
+    c.reports_refusal.ensures.reported c.reports_refusal.ensures.memory
     (λ other. refused_line n TxnDone (transacted s c.args.txn.now) c.in-Err.cause c.in-Err.ensures.step other)
 
 pub returns-in-Err-clause-next : goal.returns-in-Err-clause-next
@@ -46,6 +46,6 @@ returns-in-Err-clause-next c =
     let next : Standing = c.txn.new.self.standing in
     let n = c.args.number in
     let l = c.args.line.now in
-    refused_next c.tells_refusal.result (Refused n (cause_told c.in-Err.cause) []) l (txn_entries (now s.history) c.args.txn.now) s next
-    c.tells_refusal.ensures.told refl
+    refused_next c.reports_refusal.result (Refused n (cause_reported c.in-Err.cause) []) l (txn_entries (now s.history) c.args.txn.now) s next
+    c.reports_refusal.ensures.reported refl
     (ap (λ (v : StoreView). v.standing) c.in-Err.ensures.err)

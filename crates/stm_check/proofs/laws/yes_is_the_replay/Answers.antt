@@ -1,4 +1,4 @@
-use Rattle.stm_check.proofs.LegalTold.{yes_is_the_replay}
+use Rattle.stm_check.proofs.LegalReported.{yes_is_the_replay}
 use Rattle.stm_check.proofs.laws.yes_is_the_replay.Goals as goal
 
 pub returns : goal.returns

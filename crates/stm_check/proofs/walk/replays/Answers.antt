@@ -23,4 +23,4 @@ returns-in-Compact-clause-next c =
     let next : Standing = c.replay_compact.new.store.standing in
     let l = c.args.line.now in
     subst (λ (event : WorldEvent). IfOk c.replay_compact.result (λ b. IsTrue b → next ≡ standing_after s c.args.runners.now event l)) (sym c.in-Compact.is)
-    (IfOk-weaker c.replay_compact.result _ _ (λ b led told. led told ∙ sym (line_keeps s c.in-Compact.revision l)) c.replay_compact.ensures.next)
+    (IfOk-weaker c.replay_compact.result _ _ (λ b led reported. led reported ∙ sym (line_keeps s c.in-Compact.revision l)) c.replay_compact.ensures.next)

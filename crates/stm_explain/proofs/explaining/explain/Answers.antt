@@ -7,8 +7,8 @@ pub returns : goal.returns
 returns c =
     let words = c.as_str-2.result.now in
     IfOk-weaker c.line_of.result _ _ (λ s e. (
-      c.in_ok-told.told.offset,
-      c.in_ok-told.ensures,
+      c.in_ok-reported.reported.offset,
+      c.in_ok-reported.ensures,
       words,
       e ∙ ap (λ (p : ℕ × ℕ). explanation c.args.name.now p.0 p.1 words) c.position_of-at.ensures,
     )) c.line_of.ensures

@@ -13,11 +13,11 @@ returns-in-Ok-clause-ends g c =
         Ok c.in-Ok.verdict,
         c.in-Ok.ensures,
         (
-          c.tell_verdict.ensures.status,
+          c.report_verdict.ensures.status,
           c.as_str.result.now,
           subst (OrNothing (ExplainsSearched keeps.name.now keeps.bytes.items c.explore_sources-searched.result)) (sym c.as_str.ensures.value)
               c.searched_explanation-more.ensures,
-          c.tell_verdict.ensures.says,
+          c.report_verdict.ensures.says,
         ),
       ),
     )

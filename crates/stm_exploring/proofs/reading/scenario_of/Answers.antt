@@ -1,15 +1,15 @@
 use Rattle.std.proofs.Common.{◌≡◌, ℕ, List, take, Ok, Err, IfSome, sym, subst}
 use Rattle.stm_json.specs.declared.read_error.ReadError.{ReadError}
-use Rattle.stm_json.specs.Tells.{TellsFault}
+use Rattle.stm_json.specs.Returns.{ReturnsFault}
 use Rattle.stm_devices.specs.declared.transfer.TheConstants.{MOST_READ}
 use Rattle.stm_exploring.specs.Exploring.{asked_in}
-use Rattle.stm_exploring.proofs.ReadingLemmas.{scenario_told}
+use Rattle.stm_exploring.proofs.ReadingLemmas.{scenario_reported}
 use Rattle.stm_exploring.proofs.reading.scenario_of.Goals as goal
 
 pub returns-in-Ok-scenario_in_bytes-clause-scenario : goal.returns-in-Ok-scenario_in_bytes-clause-scenario
 returns-in-Ok-scenario_in_bytes-clause-scenario g c = (
   c.in-Ok.ensures.bytes.0,
-  scenario_told c.args.level c.as_slice.result.now (g.S.Source.left c.args.source.now) (Ok c.in-Ok-scenario_in_bytes.scenario)
+  scenario_reported c.args.level c.as_slice.result.now (g.S.Source.left c.args.source.now) (Ok c.in-Ok-scenario_in_bytes.scenario)
       (subst (λ (bytes : List ℕ). IfSome (g.S.Source.left c.args.source.now) (λ all. bytes ≡ take MOST_READ all)) (sym c.as_slice.ensures.value)
       c.in-Ok.ensures.bytes.1) c.in-Ok-scenario_in_bytes.ensures.scenario,
   c.in-Ok-scenario_in_bytes.ensures.opening,
@@ -18,8 +18,8 @@ returns-in-Ok-scenario_in_bytes-clause-scenario g c = (
 pub returns-clause-scenario : goal.returns-clause-scenario
 returns-clause-scenario g c = (
   c.in-Ok.ensures.bytes.0,
-  scenario_told c.args.level c.as_slice.result.now (g.S.Source.left c.args.source.now) (Err c.in-Err-Bad.fault)
+  scenario_reported c.args.level c.as_slice.result.now (g.S.Source.left c.args.source.now) (Err c.in-Err-Bad.fault)
       (subst (λ (bytes : List ℕ). IfSome (g.S.Source.left c.args.source.now) (λ all. bytes ≡ take MOST_READ all)) (sym c.as_slice.ensures.value)
       c.in-Ok.ensures.bytes.1)
-      (subst (λ (e : ReadError). TellsFault e (asked_in c.args.level c.as_slice.result.now)) c.in-Err-Bad.field-0-is c.in-Err-Bad.ensures.scenario),
+      (subst (λ (e : ReadError). ReturnsFault e (asked_in c.args.level c.as_slice.result.now)) c.in-Err-Bad.field-0-is c.in-Err-Bad.ensures.scenario),
 )

@@ -3,8 +3,8 @@ use Rattle.std.proofs.lemmas.List.{drop_all}
 use Rattle.std.specs.Prelude.{string_bytes}
 use Rattle.stm_world.specs.declared.event.WorldEvent.{WorldEvent}
 use Rattle.stm_world.specs.World.{replies_to}
-use Rattle.stm_faulted_runs.specs.Lines.{faults_from, faults_told}
-use Rattle.stm_faulted_runs.specs.ToldFaults.{told_as}
+use Rattle.stm_faulted_runs.specs.Lines.{faults_from, faults_reported}
+use Rattle.stm_faulted_runs.specs.ReportedFaults.{reported_as}
 use Rattle.stm_faulted_runs.specs.Origins.{origin_in}
 use Rattle.stm_faulted_runs.proofs.LineLemmas.{HasSaid, said_step, said_all}
 use Rattle.stm_faulted_runs.proofs.events.explain_events.Goals as goal
@@ -13,9 +13,9 @@ pub loop-index-preserved : goal.loop-index-preserved
 loop-index-preserved c =
     let events = c.args.events.now in
     said_step (origin_in c.args.explained.now) (faults_from c.args.world.now events) (string_bytes c.args.out.now) (string_bytes c.loop-index.out)
-    (string_bytes c.push_told.new.out) events c.loop-index.index c.index-events-index.result c.loop-index.world c.take.new.world
-    (told_as c.in_ok-told.told) c.loop-index-test.true c.index-events-index.is c.in_ok-told.ensures.next c.in_ok-told.ensures.told c.loop-index.invariant
-    c.in_ok-push_told.ensures
+    (string_bytes c.push_reported.new.out) events c.loop-index.index c.index-events-index.result c.loop-index.world c.take.new.world
+    (reported_as c.in_ok-reported.reported) c.loop-index-test.true c.index-events-index.is c.in_ok-reported.ensures.next c.in_ok-reported.ensures.reported c.loop-index.invariant
+    c.in_ok-push_reported.ensures
 
 pub returns : goal.returns
 returns c =
@@ -25,5 +25,5 @@ returns c =
     let old = string_bytes c.args.out.now in
     let out = string_bytes c.loop-index.out in
     said_all origin all old out
-    (subst (λ (es : List WorldEvent). HasSaid origin all old out (faults_told (c.loop-index.index + 1) (replies_to es c.loop-index.world)))
+    (subst (λ (es : List WorldEvent). HasSaid origin all old out (faults_reported (c.loop-index.index + 1) (replies_to es c.loop-index.world)))
     (drop_all c.loop-index.index events (omega arith)) c.loop-index.invariant)

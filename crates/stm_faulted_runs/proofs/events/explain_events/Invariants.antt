@@ -1,7 +1,7 @@
 use Rattle.std.proofs.Common.{◌+◌, drop}
 use Rattle.std.specs.Prelude.{string_bytes}
 use Rattle.stm_world.specs.World.{replies_to}
-use Rattle.stm_faulted_runs.specs.Lines.{faults_from, faults_told}
+use Rattle.stm_faulted_runs.specs.Lines.{faults_from, faults_reported}
 use Rattle.stm_faulted_runs.specs.Origins.{origin_in}
 use Rattle.stm_faulted_runs.proofs.LineLemmas.{HasSaid}
 use Rattle.stm_faulted_runs.proofs.events.explain_events.Given as goal
@@ -10,4 +10,4 @@ use Rattle.stm_faulted_runs.proofs.events.explain_events.Given as goal
 abbrev pub invariant-loop-index : goal.invariant-loop-index
 invariant-loop-index l =
     HasSaid (origin_in l.explained) (faults_from l.fn.world l.events) (string_bytes l.fn.out) (string_bytes l.out)
-    (faults_told (l.index + 1) (replies_to (drop l.index l.events) l.world))
+    (faults_reported (l.index + 1) (replies_to (drop l.index l.events) l.world))

@@ -2,14 +2,14 @@ use Rattle.std.proofs.Common.{◌∙◌, Result, ap}
 use Rattle.stm_world.specs.declared.reply.Reply.{Reply}
 use Rattle.stm_world.specs.declared.refusal.Denied.{Denied}
 use Rattle.stm_retry.proofs.WorldLemmas.{taken}
-use Rattle.stm_faulted_runs.specs.Lines.{told_by}
+use Rattle.stm_faulted_runs.specs.Lines.{reported_by}
 use Rattle.stm_faulted_runs.proofs.events.take.Goals as goal
 
-pub returns-in-Ok-clause-told : goal.returns-in-Ok-clause-told
-returns-in-Ok-clause-told c =
-    let s = taken c.args.event.now c.step-reply.result c.args.world.now c.step-reply.new.self c.in-Ok.ensures c.step-reply.ensures.told in
-    ap (λ (r : Result Reply Denied). told_by c.args.number r) s.reply_is ∙ c.fault_in-told.ensures
+pub returns-in-Ok-clause-reported : goal.returns-in-Ok-clause-reported
+returns-in-Ok-clause-reported c =
+    let s = taken c.args.event.now c.step-reply.result c.args.world.now c.step-reply.new.self c.in-Ok.ensures c.step-reply.ensures.reported in
+    ap (λ (r : Result Reply Denied). reported_by c.args.number r) s.reply_is ∙ c.fault_in-reported.ensures
 
 pub returns-in-Ok-clause-next : goal.returns-in-Ok-clause-next
 returns-in-Ok-clause-next c =
-    (taken c.args.event.now c.step-reply.result c.args.world.now c.step-reply.new.self c.in-Ok.ensures c.step-reply.ensures.told).next_is
+    (taken c.args.event.now c.step-reply.result c.args.world.now c.step-reply.new.self c.in-Ok.ensures c.step-reply.ensures.reported).next_is

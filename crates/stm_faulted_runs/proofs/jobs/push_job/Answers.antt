@@ -1,6 +1,6 @@
 use Rattle.std.proofs.Common.{◌++◌, ◌∙◌, List, ℕ, ap}
 use Rattle.std.specs.Prelude.{string_bytes}
-use Rattle.stm_faulted_runs.specs.Jobs.{told_job, told_of_job}
+use Rattle.stm_faulted_runs.specs.Jobs.{reported_job, reported_of_job}
 use Rattle.stm_faulted_runs.specs.Origins.{origin_in}
 use Rattle.stm_faulted_runs.proofs.LineLemmas.{one_line}
 use Rattle.stm_faulted_runs.proofs.jobs.push_job.Goals as goal
@@ -8,5 +8,5 @@ use Rattle.stm_faulted_runs.proofs.jobs.push_job.Goals as goal
 pub returns : goal.returns
 returns c =
     let old = string_bytes c.args.out.now in
-    one_line (origin_in c.args.explained.now) (told_of_job (told_job c.args.job.now)) old (string_bytes c.push_str.new.self) (string_bytes c.in_ok-line.line)
+    one_line (origin_in c.args.explained.now) (reported_of_job (reported_job c.args.job.now)) old (string_bytes c.push_str.new.self) (string_bytes c.in_ok-line.line)
     (c.in_ok-push_str.ensures.bytes ∙ ap (λ (line : List ℕ). old ++ line) c.as_str.ensures.value) c.in_ok-line.ensures

@@ -11,5 +11,5 @@ returns g c =
     let look = g.L.Lookup.answers c.args.lookup.now in
     let origin = origin_in c.args.explained.now in
     IfOk-weaker c.place_of_run.result _ _
-    (λ p more. (look, subst (λ (n : ℕ). IsMoreOf origin.json (slice_get origin.runs n) look c.args.told.fault (string_bytes p.more)) c.saturating_sub-number.ensures more))
+    (λ p more. (look, subst (λ (n : ℕ). IsMoreOf origin.json (slice_get origin.runs n) look c.args.reported.fault (string_bytes p.more)) c.saturating_sub-number.ensures more))
     c.place_of_run.ensures

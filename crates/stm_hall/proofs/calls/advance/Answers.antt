@@ -7,7 +7,7 @@ use Rattle.stm_txn.specs.Standing.{Standing}
 use Rattle.stm_entries.specs.declared.entry.Entry.{Entry}
 use Rattle.stm_hall.specs.HallState.{HallState, hall_of}
 use Rattle.stm_hall.specs.Entering.{expiries, HasStopped}
-use Rattle.stm_hall.proofs.CallLemmas.{same_hall, tells_back, tells_no_room, tells_stopped, taken_within, cut_within}
+use Rattle.stm_hall.proofs.CallLemmas.{same_hall, reports_back, reports_no_room, reports_stopped, taken_within, cut_within}
 use Rattle.stm_hall.proofs.calls.advance.Goals as goal
 
 pub enter_expiries-requires : goal.enter_expiries-requires
@@ -33,7 +33,7 @@ returns-then-moment-clause-refused c = λ start.
     let s : Standing = c.args.store.now.standing in
     let below : c.args.moment < s.moment = omega (arith, c.moment.ensures, c.if-moment.true) in
     let hall : HallState = hall_of s c.args.entries.now.items start in
-    subst (λ (r : AdvanceRefused). HasStopped hall c.args.moment r.expired r.cause hall) (sym c.stop.ensures) (tells_back hall c.args.moment below)
+    subst (λ (r : AdvanceRefused). HasStopped hall c.args.moment r.expired r.cause hall) (sym c.stop.ensures) (reports_back hall c.args.moment below)
 
 pub returns-then-is_err-clause-refused : goal.returns-then-is_err-clause-refused
 returns-then-is_err-clause-refused c = λ start.
@@ -42,7 +42,7 @@ returns-then-is_err-clause-refused c = λ start.
     let before : HallState = hall_of s c.args.entries.now.items start in
     let after : HallState = hall_of s c.reserve.new.self.items start in
     subst (λ (r : AdvanceRefused). HasStopped before c.args.moment r.expired r.cause after) (sym c.stop-then-is_err.ensures)
-    (tells_no_room before after c.args.moment forward (same_hall s s c.args.entries.now.items c.reserve.new.self.items start refl c.reserve.ensures.items))
+    (reports_no_room before after c.args.moment forward (same_hall s s c.args.entries.now.items c.reserve.new.self.items start refl c.reserve.ensures.items))
 
 -- the entries behind those of before
 pub returns-in-Ok-clause-ok : goal.returns-in-Ok-clause-ok
@@ -63,6 +63,6 @@ returns-in-Err-clause-refused c = λ start.
     c.enter_expiries-in-Err.ensures
     ∙ ap (λ (l : List Entry). l ++ expiries c.as_slice-in-Err.result.now) c.reserve.ensures.items
     ∙ ap (λ (l : List Expired). es ++ expiries l) c.as_slice-in-Err.ensures in
-    tells_stopped (hall_of s es start) (hall_of c.advance.new.self.standing c.enter_expiries-in-Err.new.entries.items start) c.args.moment
+    reports_stopped (hall_of s es start) (hall_of c.advance.new.self.standing c.enter_expiries-in-Err.new.entries.items start) c.args.moment
     c.in-Err.stopped.expired c.in-Err.stopped.cause forward c.in-Err.ensures.refused c.in-Err.ensures.come_so_far
     (ap (λ (l : List Entry). hall_of c.advance.new.self.standing l start) entered)

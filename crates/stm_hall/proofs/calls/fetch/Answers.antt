@@ -3,8 +3,8 @@ use Rattle.stm_history.specs.History.{now}
 use Rattle.stm_txn.specs.Standing.{Standing}
 use Rattle.stm_txn.specs.Store.{StoreView}
 use Rattle.stm_hall.specs.declared.refusal.FetchRefusal.TheVariants.{Behind}
-use Rattle.stm_hall.specs.Fetching.{fetched, FetchTells}
-use Rattle.stm_hall.proofs.FetchLemmas.{store_unchanged, revision_unchanged, tells_behind, tells_answer, tells_refused}
+use Rattle.stm_hall.specs.Fetching.{fetched, FetchReturns}
+use Rattle.stm_hall.proofs.FetchLemmas.{store_unchanged, revision_unchanged, reports_behind, reports_answer, reports_refused}
 use Rattle.stm_hall.proofs.calls.fetch.Goals as goal
 
 -- the store is behind what was seen
@@ -13,14 +13,14 @@ returns-then-now-seen-clause-answer c =
     let s : Standing = c.args.store.now.standing in
     let is : c.revision-now.result ≡ now s.history = c.revision-now.ensures.value ∙ ap now c.keys.ensures.history in
     let below : now s.history < c.args.seen = omega (arith, is, c.if-now-seen.true) in
-    subst (λ (n : ℕ). FetchTells (fetched s c.args.seen c.args.txn.now) (Err (Behind c.args.seen n))) (sym is) (tells_behind s c.args.seen c.args.txn.now below)
+    subst (λ (n : ℕ). FetchReturns (fetched s c.args.seen c.args.txn.now) (Err (Behind c.args.seen n))) (sym is) (reports_behind s c.args.seen c.args.txn.now below)
 
 pub returns-in-Ok-clause-answer : goal.returns-in-Ok-clause-answer
 returns-in-Ok-clause-answer c =
     let s : Standing = c.args.store.now.standing in
     let is : c.revision-now.result ≡ now s.history = c.revision-now.ensures.value ∙ ap now c.keys.ensures.history in
     let reached : c.args.seen ≤ now s.history = omega (arith, is, c.if-now-seen.false) in
-    tells_answer s c.txn.new.self.standing c.args.seen c.args.txn.now c.in-Ok.answer reached c.in-Ok.ensures.step
+    reports_answer s c.txn.new.self.standing c.args.seen c.args.txn.now c.in-Ok.answer reached c.in-Ok.ensures.step
 
 pub returns-in-Ok-clause-seen : goal.returns-in-Ok-clause-seen
 returns-in-Ok-clause-seen c =
@@ -42,7 +42,7 @@ returns-in-Err-clause-answer c =
     let s : Standing = c.args.store.now.standing in
     let is : c.revision-now.result ≡ now s.history = c.revision-now.ensures.value ∙ ap now c.keys.ensures.history in
     let reached : c.args.seen ≤ now s.history = omega (arith, is, c.if-now-seen.false) in
-    tells_refused s c.args.seen c.args.txn.now c.in-Err.cause reached c.in-Err.ensures.step
+    reports_refused s c.args.seen c.args.txn.now c.in-Err.cause reached c.in-Err.ensures.step
 
 pub returns-in-Err-clause-same : goal.returns-in-Err-clause-same
 returns-in-Err-clause-same c = ap (λ (v : StoreView). v.standing) c.in-Err.ensures.err

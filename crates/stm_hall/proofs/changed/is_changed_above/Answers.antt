@@ -4,7 +4,7 @@ use Rattle.stm_history.specs.declared.key_state.KeyState.{KeyState}
 use Rattle.stm_history.specs.Opening.{opened_state}
 use Rattle.stm_history.specs.History.{History, key_at, mod_of}
 use Rattle.stm_compile.specs.Conflicts.{changes_above}
-use Rattle.stm_hall.proofs.ChangedAbove.{at_the_opening, told_opened, told_since}
+use Rattle.stm_hall.proofs.ChangedAbove.{at_the_opening, reported_opened, reported_since}
 use Rattle.stm_hall.proofs.changed.is_changed_above.Goals as goal
 
 pub look_back-requires : goal.look_back-requires
@@ -20,7 +20,7 @@ returns-then-is_modified_above c =
     let key : List ℕ = c.args.key.now in
     let state : option_copied c.look_back.result ≡ opened_state h.opening key =
     c.look_back.ensures ∙ ap (λ (n : ℕ). key_at h key n) c.below-below.ensures ∙ at_the_opening h key in
-    sym (told_opened h c.args.since key
+    sym (reported_opened h c.args.since key
     (ap (λ (o : Option KeyState). nat_lt c.args.since (mod_of o)) (sym state)
     ∙ sym c.is_modified_above.ensures ∙ c.if-is_modified_above.true))
 
@@ -35,6 +35,6 @@ returns c =
     c.max-start.ensures ∙ ap (λ (n : ℕ). max c.args.since n) c.below-below.ensures in
     c.is_changed_from.ensures
     ∙ ap (λ (n : ℕ). changes_above h.opening n key h.revisions) start
-    ∙ sym (told_since h c.args.since key
+    ∙ sym (reported_since h c.args.since key
     (ap (λ (o : Option KeyState). nat_lt c.args.since (mod_of o)) (sym state)
     ∙ sym c.is_modified_above.ensures ∙ c.if-is_modified_above.false))

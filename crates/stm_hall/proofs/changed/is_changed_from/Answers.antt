@@ -14,7 +14,7 @@ loop-number-init c =
     record {
       opened = omega (arith, start);
       reached = omega (arith, start);
-      told = from_the_last h c.args.start c.args.key.now
+      reported = from_the_last h c.args.start c.args.key.now
           ∙ ap (λ (n : ℕ). changes_above h.opening c.args.start c.args.key.now (revisions_up_to h.opening n h.revisions)) (sym start);
     }
 
@@ -27,7 +27,7 @@ returns-then-has_event_of c =
     let above : c.args.start < number = omega (arith, c.loop-number-test.true) in
     let found : is_some (event_about key (events_of h number)) ≡ true =
     subst (λ (es : List Event). is_some (event_about key es) ≡ true) c.events_at.ensures (sym c.has_event_of.ensures ∙ c.if-has_event_of.true) in
-    sym (c.loop-number.invariant.told ∙ found_at h c.args.start number key c.requires above c.loop-number.invariant.reached found)
+    sym (c.loop-number.invariant.reported ∙ found_at h c.args.start number key c.requires above c.loop-number.invariant.reached found)
 
 pub loop-number-preserved : goal.loop-number-preserved
 loop-number-preserved c =
@@ -43,7 +43,7 @@ loop-number-preserved c =
     record {
       opened = omega (arith, low, above);
       reached = omega (arith, reached);
-      told = c.loop-number.invariant.told
+      reported = c.loop-number.invariant.reported
           ∙ passed_at h c.args.start number (number - 1) key step low (omega (arith, above)) reached none;
     }
 
@@ -52,5 +52,5 @@ pub returns : goal.returns
 returns c =
     let h : History = c.args.keys.now.history in
     let passed : c.loop-number.number ≤ c.args.start = omega (arith, c.loop-number-test.false) in
-    sym (c.loop-number.invariant.told
+    sym (c.loop-number.invariant.reported
     ∙ seen_all h c.args.start c.loop-number.number c.args.key.now c.loop-number.invariant.opened passed)

@@ -8,7 +8,7 @@ abbrev pub invariant-loop-number : goal.invariant-loop-number
 invariant-loop-number l = record {
   opened : l.keys.history.opening.number ≤ l.number;
   reached : l.number ≤ now l.keys.history;
-  told : changes_above l.keys.history.opening l.start l.key l.keys.history.revisions
+  reported : changes_above l.keys.history.opening l.start l.key l.keys.history.revisions
       ≡ changes_above l.keys.history.opening l.start l.key (revisions_up_to l.keys.history.opening l.number l.keys.history.revisions);
 }
 

@@ -29,13 +29,13 @@ returns-in-None-clause-verdict c =
     c.make.ensures.verdict
 
 -- a cause was found
-pub turn_down-told-requires : goal.turn_down-told-requires
-turn_down-told-requires c =
+pub turn_down-reported-requires : goal.turn_down-reported-requires
+turn_down-reported-requires c =
     ap (cause_of c.args.store.now.standing) c.attempt.ensures
     ∙ sym c.find_cause.ensures.cause
     ∙ c.in-Some.is
 
 pub returns-in-Some-clause-verdict : goal.returns-in-Some-clause-verdict
 returns-in-Some-clause-verdict c =
-    turned_there c.args.store.now.standing c.args.entries.now.items c.args.prepared c.attempt.result.now c.turn_down-told.result c.turn_down-told.ensures.verdict
+    turned_there c.args.store.now.standing c.args.entries.now.items c.args.prepared c.attempt.result.now c.turn_down-reported.result c.turn_down-reported.ensures.verdict
     c.attempt.ensures

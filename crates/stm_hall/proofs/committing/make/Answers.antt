@@ -6,7 +6,7 @@ use Rattle.stm_entries.specs.declared.entry.Entry.{Entry}
 use Rattle.stm_hall.specs.HallState.{hall_of}
 use Rattle.stm_hall.specs.Verdicts.{entry_of}
 use Rattle.stm_hall.proofs.CallLemmas.{same_hall}
-use Rattle.stm_hall.proofs.Judging.{tells_made, tells_not_made, changes_of_ready}
+use Rattle.stm_hall.proofs.Judging.{reports_made, reports_not_made, changes_of_ready}
 use Rattle.stm_hall.proofs.committing.make.Goals as goal
 
 -- its changes are of distinct keys
@@ -21,7 +21,7 @@ returns-in-Ok-clause-verdict c = λ start.
     let entered : c.push_reserved.new.self.items ≡ es ++ entry_of c.args.ready c.in-Ok.revision ∷ [] =
     c.push_reserved.ensures.items ∙ ap (λ (l : List Entry). l ++ c.entry_from.result ∷ []) c.reserve.ensures.items
     ∙ ap (λ (e : Entry). es ++ e ∷ []) c.entry_from.ensures in
-    tells_made (hall_of s es start) (hall_of next c.push_reserved.new.self.items start) c.args.ready c.args.changes.items next c.len-index.result c.in-Ok.revision
+    reports_made (hall_of s es start) (hall_of next c.push_reserved.new.self.items start) c.args.ready c.args.changes.items next c.len-index.result c.in-Ok.revision
     c.requires.clear c.requires.run c.requires.changes c.in-Ok.ensures.step
     (c.len-index.ensures ∙ c.reserve.new.self.ok.0 ∙ ap (λ (l : List Entry). length l) c.reserve.ensures.items)
     (ap (λ (l : List Entry). hall_of next l start) entered)
@@ -31,6 +31,6 @@ returns-in-Err-clause-verdict c = λ start.
     let s : Standing = c.args.store.now.standing in
     let es : List Entry = c.args.entries.now.items in
     let unchanged : c.write.new.self.standing ≡ s = ap (λ (v : StoreView). v.standing) c.in-Err.ensures.err in
-    tells_not_made (hall_of s es start) (hall_of c.write.new.self.standing c.reserve.new.self.items start) c.args.ready c.args.changes.items c.in-Err.cause
+    reports_not_made (hall_of s es start) (hall_of c.write.new.self.standing c.reserve.new.self.items start) c.args.ready c.args.changes.items c.in-Err.cause
     c.requires.clear c.requires.run c.requires.changes c.in-Err.ensures.step
     (same_hall s c.write.new.self.standing es c.reserve.new.self.items start unchanged c.reserve.ensures.items)

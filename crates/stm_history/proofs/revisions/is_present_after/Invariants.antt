@@ -8,7 +8,7 @@ use Rattle.stm_history.proofs.revisions.is_present_after.Given as goal
 abbrev pub invariant-loop-left : goal.invariant-loop-left
 invariant-loop-left l = record {
   within : l.left ≤ length l.revisions;
-  told : is_some (key_after (opening_at l.opening) l.key (reverse (take l.left l.revisions))) ≡ is_some (key_after (opening_at l.opening) l.key (reverse l.revisions));
+  reported : is_some (key_after (opening_at l.opening) l.key (reverse (take l.left l.revisions))) ≡ is_some (key_after (opening_at l.opening) l.key (reverse l.revisions));
 }
 
 abbrev pub decreases-loop-left : goal.decreases-loop-left

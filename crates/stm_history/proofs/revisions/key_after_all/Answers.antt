@@ -24,10 +24,10 @@ loop-left-preserved c =
     record {
       within = omega (arith, within);
       few = search rules;
-      told =
+      reported =
           ap (λ (s : KeyState). walked c.args.opening key (Some s) older) c.in_ok-with_older_put-in-Some-Put.ensures
           ∙ step_put c.args.opening key c.loop-left.found changes older c.in-Some-Put.field-0-0 c.in-Some-Put.value c.in-Some-Put.lease
           (c.args.opening + i + 1) put (omega (arith, size))
           ∙ sym (ap (walked c.args.opening key c.loop-left.found) newest)
-          ∙ c.loop-left.invariant.told;
+          ∙ c.loop-left.invariant.reported;
     }

@@ -10,7 +10,7 @@ abbrev pub invariant-loop-left : goal.invariant-loop-left
 invariant-loop-left l = record {
   within : l.left ≤ length l.revisions;
   few : version_of l.found + l.left ≤ length l.revisions;
-  told : walked l.opening l.key l.found (reverse (take l.left l.revisions)) ≡ key_after (opening_at l.opening) l.key (reverse l.revisions);
+  reported : walked l.opening l.key l.found (reverse (take l.left l.revisions)) ≡ key_after (opening_at l.opening) l.key (reverse l.revisions);
 }
 
 abbrev pub decreases-loop-left : goal.decreases-loop-left

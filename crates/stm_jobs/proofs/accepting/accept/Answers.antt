@@ -23,8 +23,8 @@ loop-event-preserved c =
       ends = tt;
       counted = let was = at.invariant.counted in omega arith;
       room = omega (arith, at.invariant.room, gone);
-      told = next_event c.first_place-first.result at.before (into_iter_items at.event-iterator) rest event old new (accepted c.args.scenario) items added
-          at.invariant.told;
+      reported = next_event c.first_place-first.result at.before (into_iter_items at.event-iterator) rest event old new (accepted c.args.scenario) items added
+          at.invariant.reported;
     }
 
 pub returns-in_err-within : goal.returns-in_err-within
@@ -38,13 +38,13 @@ returns-in_err-within c =
     let fault = c.in_err-within.field-0.0 in
     let p = err_from_is_err_and c.from_residual.result c.from_residual.ensures.1 in
     let items : into_iter_items at.event-iterator ≡ event ∷ rest = c.in-Some.ensures.steps.0 in
-    let told = within_err (λ _. new) place c.add.result (Err fault) (add_event old event) fault c.in_err-within.ensures c.add.ensures refl in
-    rw (p.1, p.2) (stops_at c.first_place-first.result at.before (into_iter_items at.event-iterator) rest event old (accepted c.args.scenario) fault items told
-    at.invariant.told)
+    let reported = within_err (λ _. new) place c.add.result (Err fault) (add_event old event) fault c.in_err-within.ensures c.add.ensures refl in
+    rw (p.1, p.2) (stops_at c.first_place-first.result at.before (into_iter_items at.event-iterator) rest event old (accepted c.args.scenario) fault items reported
+    at.invariant.reported)
 
 pub returns : goal.returns
 returns c =
     let at = c.loop-event in
     let none : into_iter_items at.event-iterator ≡ [] =
     nothing_left (into_iter_items at.event-iterator) (sym at.invariant.counted ∙ c.in-None.ensures.steps.0) in
-    all_sorted c.first_place-first.result at.before (into_iter_items at.event-iterator) (sorted_of at.sorted) (accepted c.args.scenario) none at.invariant.told
+    all_sorted c.first_place-first.result at.before (into_iter_items at.event-iterator) (sorted_of at.sorted) (accepted c.args.scenario) none at.invariant.reported

@@ -10,5 +10,5 @@ invariant-loop-event l = record {
   ends : (goal.iterator-loop-event).is_finite l.event-iterator;
   counted : into_iter_len l.event-iterator ≡ length (into_iter_items l.event-iterator);
   room : l.before + into_iter_len l.event-iterator < 2 ^ 64;
-  told : add_events l.first l.before (into_iter_items l.event-iterator) (sorted_of l.sorted) ≡ accepted l.fn.scenario;
+  reported : add_events l.first l.before (into_iter_items l.event-iterator) (sorted_of l.sorted) ≡ accepted l.fn.scenario;
 }

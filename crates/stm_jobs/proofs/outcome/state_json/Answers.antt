@@ -8,13 +8,13 @@ use Rattle.stm_jobs.proofs.LineLemmas.{next_pair, all_pairs, ascends}
 use Rattle.stm_jobs.proofs.outcome.state_json.Goals as goal
 
 pub loop-i-init : goal.loop-i-init
-loop-i-init c = record { told = rw c.new-values.ensures.items refl; rises = λ some. absurd (omega (arith, some)) }
+loop-i-init c = record { reported = rw c.new-values.ensures.items refl; rises = λ some. absurd (omega (arith, some)) }
 
 pub loop-i-preserved : goal.loop-i-preserved
 loop-i-preserved c = record {
-  told =
+  reported =
       rw (c.in_ok-push_pair.ensures, c.as_str.ensures, c.as_str-in-loop-i.ensures) (next_pair (map view c.loop-i.values.items) (pairs c.args.state.now)
-      c.args.state.now c.loop-i.i c.at-entry.result.now c.at-entry.ensures.entry c.loop-i.invariant.told);
+      c.args.state.now c.loop-i.i c.at-entry.result.now c.at-entry.ensures.entry c.loop-i.invariant.reported);
   rises = λ some. c.at-entry.ensures.ascending;
 }
 
@@ -22,7 +22,7 @@ pub returns-clause-data : goal.returns-clause-data
 returns-clause-data c =
     view-Array c.loop-i.values
     ∙ ap (λ (ds : List Data). list ds)
-    (all_pairs (map view c.loop-i.values.items) c.args.state.now c.loop-i.i (omega (arith, c.len-i-end.ensures)) c.loop-i.invariant.told)
+    (all_pairs (map view c.loop-i.values.items) c.args.state.now c.loop-i.i (omega (arith, c.len-i-end.ensures)) c.loop-i.invariant.reported)
 
 pub returns-clause-ascending : goal.returns-clause-ascending
 returns-clause-ascending c = ascends c.args.state.now c.loop-i.i (omega (arith, c.len-i-end.ensures)) c.loop-i.invariant.rises

@@ -7,6 +7,6 @@ use Rattle.stm_jobs.proofs.outcome.state_json.Given as goal
 -- the keys so far, and those that are left; once a key was looked at, the keys are known to ascend
 abbrev pub invariant-loop-i : goal.invariant-loop-i
 invariant-loop-i l = record {
-  told : map view l.values.items ++ pairs (drop l.i l.state) ≡ pairs l.state;
+  reported : map view l.values.items ++ pairs (drop l.i l.state) ≡ pairs l.state;
   rises : 0 < l.i → IsAscending l.state;
 }

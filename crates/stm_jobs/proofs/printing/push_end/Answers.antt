@@ -16,8 +16,8 @@ returns-in-Aborted c =
     subst (λ (e : JobEnd). OnOk c.push_text.result (string_bytes c.push_text.new.text
     ≡ string_bytes c.args.text.now ++ line_text (end_of_job c.args.job e c.args.attempts)))
     (sym c.in-Aborted.is)
-    (subst (λ (told : List ℕ). OnOk c.push_text.result (string_bytes c.push_text.new.text
-    ≡ string_bytes c.args.text.now ++ line_text (job_line c.args.job (codes "aborted") (string told) c.args.attempts)))
+    (subst (λ (reported : List ℕ). OnOk c.push_text.result (string_bytes c.push_text.new.text
+    ≡ string_bytes c.args.text.now ++ line_text (job_line c.args.job (codes "aborted") (string reported) c.args.attempts)))
     c.as_str.ensures c.push_text.ensures)
 
 pub returns-in-Faulted : goal.returns-in-Faulted
@@ -25,8 +25,8 @@ returns-in-Faulted c =
     subst (λ (e : JobEnd). OnOk c.push_text-in-Faulted.result (string_bytes c.push_text-in-Faulted.new.text
     ≡ string_bytes c.args.text.now ++ line_text (end_of_job c.args.job e c.args.attempts)))
     (sym c.in-Faulted.is)
-    (subst (λ (told : List ℕ). OnOk c.push_text-in-Faulted.result (string_bytes c.push_text-in-Faulted.new.text
-    ≡ string_bytes c.args.text.now ++ line_text (job_line c.args.job (codes "faulted") (string told) c.args.attempts)))
+    (subst (λ (reported : List ℕ). OnOk c.push_text-in-Faulted.result (string_bytes c.push_text-in-Faulted.new.text
+    ≡ string_bytes c.args.text.now ++ line_text (job_line c.args.job (codes "faulted") (string reported) c.args.attempts)))
     c.name.ensures c.push_text-in-Faulted.ensures)
 
 pub returns-in-GaveUp : goal.returns-in-GaveUp
@@ -34,6 +34,6 @@ returns-in-GaveUp c =
     subst (λ (e : JobEnd). OnOk c.push_text-in-GaveUp.result (string_bytes c.push_text-in-GaveUp.new.text
     ≡ string_bytes c.args.text.now ++ line_text (end_of_job c.args.job e c.args.attempts)))
     (sym c.in-GaveUp.is)
-    (subst (λ (told : List ℕ). OnOk c.push_text-in-GaveUp.result (string_bytes c.push_text-in-GaveUp.new.text
-    ≡ string_bytes c.args.text.now ++ line_text (job_line c.args.job (codes "gaveup") (string told) c.args.attempts)))
+    (subst (λ (reported : List ℕ). OnOk c.push_text-in-GaveUp.result (string_bytes c.push_text-in-GaveUp.new.text
+    ≡ string_bytes c.args.text.now ++ line_text (job_line c.args.job (codes "gaveup") (string reported) c.args.attempts)))
     c.as_str-in-GaveUp.ensures c.push_text-in-GaveUp.ensures)

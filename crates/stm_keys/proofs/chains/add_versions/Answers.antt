@@ -32,11 +32,11 @@ loop-event-preserved c =
           (λ k some. c.loop-event.invariant.room k (ap (λ (l : List Event). is_some (event_about k l)) rest ∙ some))
           c.add_version.ensures.room;
       apart = apart.1;
-      told =
+      reported =
           versions_left x left c.args.number (λ l. versions_in (get_by_text c.loop-event.chains l)) (λ l. versions_in (get_by_text c.add_version.new.chains l))
           (λ k. with_version (is_some (event_about k cs)) c.args.number (versions_in (get_by_text c.args.chains.now k))) apart.0
           (λ k. sym (ap (λ (l : List Event). with_version (is_some (event_about k l)) c.args.number (versions_in (get_by_text c.loop-event.chains k))) rest)
-          ∙ c.loop-event.invariant.told k)
+          ∙ c.loop-event.invariant.reported k)
           c.add_version.ensures.versions;
       bound = c.add_version.ensures.bound;
       first = λ is_present first.
@@ -61,6 +61,6 @@ loop-event-init c = record {
   room = c.requires.room;
   apart = c.requires.apart;
   bound = c.requires.bound;
-  told = λ k. refl;
+  reported = λ k. refl;
   first = λ is_present first. (is_present, first, λ k. refl);
 }

@@ -10,7 +10,7 @@ invariant-loop-event l = record {
   room : (k : List ℕ) → is_some (event_about k (drop l.event-index l.events)) ≡ true → 0 < room_in (get_by_text l.chains k);
   apart : AreApart (drop l.event-index l.events);
   bound : l.present ≤ length l.chains.entries;
-  told : (k : List ℕ) → with_version (is_some (event_about k (drop l.event-index l.events))) l.number (versions_in (get_by_text l.chains k)) ≡ with_version
+  reported : (k : List ℕ) → with_version (is_some (event_about k (drop l.event-index l.events))) l.number (versions_in (get_by_text l.chains k)) ≡ with_version
       (is_some (event_about k l.events)) l.number (versions_in (get_by_text l.fn.chains k));
   first : (is_present : List ℕ → Bool) → StandFirst is_present l.fn.present (names_of l.fn.chains) →
       (now : List ℕ → Bool) × StandFirst now l.present (names_of l.chains)

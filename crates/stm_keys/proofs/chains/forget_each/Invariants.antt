@@ -9,7 +9,7 @@ abbrev pub invariant-loop-event : goal.invariant-loop-event
 invariant-loop-event l = record {
   apart : AreApart l.left.items;
   oldest : (k : List ℕ) → is_some (event_about k l.left.items) ≡ true → 0 < length (versions_in (get_by_text l.chains k)).numbers;
-  told : (k : List ℕ) → forgotten (event_about k l.left.items) (versions_in (get_by_text l.chains k))
+  reported : (k : List ℕ) → forgotten (event_about k l.left.items) (versions_in (get_by_text l.chains k))
       ≡ forgotten (event_about k l.fn.events.items) (versions_in (get_by_text l.fn.chains k));
   present : DropsAbsent (λ k. forgotten (event_about k l.fn.events.items) (versions_in (get_by_text l.fn.chains k))) (names_of l.fn.chains) (names_of l.chains);
 }

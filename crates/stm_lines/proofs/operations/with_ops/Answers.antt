@@ -2,11 +2,11 @@ use Rattle.std.proofs.Common.{[], ◌∷◌, ◌++◌, ap, ◌∙◌, map}
 use Rattle.std.proofs.lemmas.Result.{IfOk-weaker}
 use Rattle.serde_json.specs.View.{view}
 use Rattle.stm_reports.specs.LineData.{list, op_data}
-use Rattle.stm_reports.specs.Told.{op_told}
-use Rattle.stm_lines.proofs.Lists.{told_each}
+use Rattle.stm_reports.specs.Reported.{op_reported}
+use Rattle.stm_lines.proofs.Lists.{reported_each}
 use Rattle.stm_lines.proofs.operations.with_ops.Goals as goal
 
 pub returns : goal.returns
 returns c =
     IfOk-weaker c.with_list.result _ _ (λ longer e. e ∙ ap (λ ds. map view c.args.parts.values.items ++ list ds ∷ [])
-    (told_each op_data op_told c.args.answers.now)) c.with_list.ensures
+    (reported_each op_data op_reported c.args.answers.now)) c.with_list.ensures

@@ -16,10 +16,10 @@ loop-account-preserved c =
     let before = c.loop-account.invariant in
     let more = c.with_balance-sum.ensures in
     record {
-      told =
+      reported =
           ap (λ z. sum_of (Some z) (total_of c.args.state.now (map (λ account. account.now) (drop (i + 1) c.args.accounts.now)))) (sum ∙ ap (λ z. s +ℤ z) read)
           ∙ total_of-next c.args.state.now (λ account. account.now) c.args.accounts.now i _ s x c.loop-account-test.true c.in_ok-balance.ensures
-          ∙ before.told;
+          ∙ before.reported;
       above = subst (λ (z : ℤ). neg_ℤ (pos (2 ^ 63 * (i + 1))) ≤ℤ z) (sym sum) (above-next i s _ before.above more.above);
       below = subst (λ (z : ℤ). z ≤ℤ pos (2 ^ 63 * (i + 1))) (sym sum) (below-next i s _ before.below more.below);
     }

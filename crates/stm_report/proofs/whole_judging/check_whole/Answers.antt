@@ -3,11 +3,11 @@ use Rattle.stm_report.proofs.whole_judging.check_whole.Goals as goal
 
 pub returns-clause-judged : goal.returns-clause-judged
 returns-clause-judged g c =
-    let told = rw (c.as_slice.ensures.value, c.as_slice-2.ensures.value) at c.judge_text.ensures in
+    let reported = rw (c.as_slice.ensures.value, c.as_slice-2.ensures.value) at c.judge_text.ensures in
     judged (record {
       scenario = g.S.Source.left c.args.scenario.now;
       report = g.R.Source.left c.args.report.now;
       scenario_failed = g.S.Source.failed c.expected_of.new.scenario;
       report_failed = g.R.Source.failed c.given_of.new.report;
     }) c.in-Ok.expected.items c.in-Ok-given_of.given.items c.judge_text.result (c.in-Ok.ensures.report.0, c.in-Ok-given_of.ensures.bytes.0)
-    c.in-Ok.ensures.report.1 c.in-Ok-given_of.ensures.bytes.1 told
+    c.in-Ok.ensures.report.1 c.in-Ok-given_of.ensures.bytes.1 reported

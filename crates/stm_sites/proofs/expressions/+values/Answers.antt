@@ -1,7 +1,7 @@
 use Rattle.std.proofs.Common.{◌≡◌, subst}
 use Rattle.stm_program.specs.Syntax.{Expression, Get, Rev, Arithmetic, Cat, TextOf, NumOf}
 use Rattle.stm_sites.specs.Sites.{expression_site}
-use Rattle.stm_sites.specs.Tells.{StopsAt}
+use Rattle.stm_sites.specs.Returns.{StopsAt}
 use Rattle.stm_sites.proofs.expressions.+values.Goals as goal
 
 pub value_of-returns-in-Arithmetic-clause-site : goal.value_of-returns-in-Arithmetic-clause-site

@@ -12,11 +12,11 @@ run_turns-loop-turn-preserved g t c =
     let site = block_site look 0 c.args.body.now in (
       sym
           (repeat-step c.args.variable body c.args.count c.loop-turn.turn c.loop-turn.session c.begin_turn.new.session c.run_part.new.session
-          c.loop-turn-test.true c.in_ok-begin_turn.ensures.told c.in_ok-run_part.ensures.told)
+          c.loop-turn-test.true c.in_ok-begin_turn.ensures.reported c.in_ok-run_part.ensures.reported)
           ∙ c.loop-turn.invariant.0,
       sym
           (site-step c.args.variable body site c.args.count c.loop-turn.turn c.loop-turn.session c.begin_turn.new.session c.run_part.new.session
-          c.loop-turn-test.true c.in_ok-begin_turn.ensures.told c.in_ok-run_part.ensures.told)
+          c.loop-turn-test.true c.in_ok-begin_turn.ensures.reported c.in_ok-run_part.ensures.reported)
           ∙ c.loop-turn.invariant.1,
     )
 
@@ -27,10 +27,10 @@ run_all-loop-index-preserved g t c =
     let statement = c.index-statements-index.result in (
       sym
           (run-step look statements c.loop-index.index statement c.loop-index.session c.run_at.new.session c.loop-index-test.true
-          c.index-statements-index.is c.in_ok-run_at.ensures.told)
+          c.index-statements-index.is c.in_ok-run_at.ensures.reported)
           ∙ c.loop-index.invariant.0,
       sym
           (block-step look statements c.loop-index.index statement c.loop-index.session c.run_at.new.session c.loop-index-test.true
-          c.index-statements-index.is c.in_ok-run_at.ensures.told)
+          c.index-statements-index.is c.in_ok-run_at.ensures.reported)
           ∙ c.loop-index.invariant.1,
     )

@@ -1,6 +1,6 @@
 use Rattle.std.specs.Prelude.{Ok}
-use Rattle.stm_json.proofs.FaultLemmas.{told_faults}
-use Rattle.stm_json.proofs.OutcomeLemmas.{told_means, told_reads}
+use Rattle.stm_json.proofs.FaultLemmas.{reported_faults}
+use Rattle.stm_json.proofs.OutcomeLemmas.{reported_means, reported_reads}
 use Rattle.stm_texts.specs.declared.scenario.Scenario.{Scenario}
 use Rattle.stm_texts.specs.FirstFault.{first_fault}
 use Rattle.stm_texts.specs.Grammar.{SpellsScenario}
@@ -13,17 +13,17 @@ use Rattle.stm_texts.proofs.reading.read_scenario.Goals as goal
 pub returns-clause-spelled : goal.returns-clause-spelled
 returns-clause-spelled c =
     let bytes = c.args.bytes.now in
-    told_means (λ (s : Scenario). s) (SpellsScenario bytes) c.scenario_of_bytes.result (scenario_in bytes) (scenario_sound bytes)
+    reported_means (λ (s : Scenario). s) (SpellsScenario bytes) c.scenario_of_bytes.result (scenario_in bytes) (scenario_sound bytes)
     c.scenario_of_bytes.ensures.value
 
 pub returns-clause-accepts : goal.returns-clause-accepts
 returns-clause-accepts c s spelled =
     let bytes = c.args.bytes.now in
-    told_reads (λ (x : Scenario). x) c.scenario_of_bytes.result (scenario_in bytes) (Ok s) (scenario_reads bytes s spelled)
+    reported_reads (λ (x : Scenario). x) c.scenario_of_bytes.result (scenario_in bytes) (Ok s) (scenario_reads bytes s spelled)
     c.scenario_of_bytes.ensures.value
 
 pub returns-clause-faults : goal.returns-clause-faults
 returns-clause-faults c =
     let bytes = c.args.bytes.now in
-    told_faults (λ (s : Scenario). s) (first_fault bytes) c.scenario_of_bytes.result (scenario_in bytes) (first_fault-is bytes)
+    reported_faults (λ (s : Scenario). s) (first_fault bytes) c.scenario_of_bytes.result (scenario_in bytes) (first_fault-is bytes)
     c.scenario_of_bytes.ensures.value

@@ -8,4 +8,4 @@ returns-in-Ok-clause-shows g c =
 
 pub returns-in-Ok-clause-fault : goal.returns-in-Ok-clause-fault
 returns-in-Ok-clause-fault g c =
-    IfErr-weaker c.text_on.result _ _ (λ fault told. told (as_setup c.args.opening) c.args.calls.now c.in-Ok.ensures) c.text_on.ensures.fault
+    IfErr-weaker c.text_on.result _ _ (λ fault reported. reported (as_setup c.args.opening) c.args.calls.now c.in-Ok.ensures) c.text_on.ensures.fault

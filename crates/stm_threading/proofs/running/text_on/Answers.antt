@@ -20,7 +20,7 @@ returns-in-Ok-clause-shows g c =
 
 pub returns-in-Ok-clause-fault : goal.returns-in-Ok-clause-fault
 returns-in-Ok-clause-fault g c =
-    IfErr-weaker c.text_of_run.result _ _ (λ fault told start calls stands. no_room start calls c.args.jobs.now fault told) c.text_of_run.ensures.fault
+    IfErr-weaker c.text_of_run.result _ _ (λ fault reported start calls stands. no_room start calls c.args.jobs.now fault reported) c.text_of_run.ensures.fault
 
 -- its cause is told
 pub returns-in-Err-clause-fault : goal.returns-in-Err-clause-fault

@@ -9,5 +9,5 @@ abbrev pub invariant-loop-key : goal.invariant-loop-key
 invariant-loop-key l = record {
   can_next : (goal.iterator-loop-key).can_next l.key-iterator;
   ends : (goal.iterator-loop-key).is_finite l.key-iterator;
-  told : l.changes.items ++ map Del (map string_bytes (into_iter_items l.key-iterator)) ≡ map Del (map string_bytes l.fn.keys.items);
+  reported : l.changes.items ++ map Del (map string_bytes (into_iter_items l.key-iterator)) ≡ map Del (map string_bytes l.fn.keys.items);
 }

@@ -2,11 +2,11 @@ use Rattle.std.proofs.Common.{◌≡◌, ◌∙◌, ℕ, List, ◌++◌, ap, sym
 use Rattle.stm_history.specs.History.{History}
 use Rattle.stm_keys.specs.declared.event.Event.{Event}
 use Rattle.stm_keys.specs.Events.{events_of}
-use Rattle.stm_watch.specs.declared.told.Told.{Told}
+use Rattle.stm_watch.specs.declared.pending_revision.PendingRevision.{PendingRevision}
 use Rattle.stm_watch.specs.Watching.{Watching}
 use Rattle.stm_watch.specs.Pending.{pending, matching}
 use Rattle.stm_watch.specs.Slots.{followed}
-use Rattle.stm_watch.proofs.Telling.{head_is}
+use Rattle.stm_watch.proofs.Notifying.{head_is}
 use Rattle.stm_watch.proofs.Giving.{above_of, none_is, one_more, none_after}
 use Rattle.stm_watch.proofs.gather.gather.Goals as goal
 
@@ -22,9 +22,9 @@ loop-count-preserved c =
     let w : Watching = followed c.args.watcher.now in
     let number : ℕ = c.in-Some.number in
     let head = head_is h.opening c.loop-count.upto w.watched h.revisions number (sym c.loop-count.invariant.next_is ∙ c.in-Some.is) in
-    let t : Told = record { number = number; events = matching w.watched (events_of h number) } in
+    let t : PendingRevision = record { number = number; events = matching w.watched (events_of h number) } in
     let joined : c.append.new.self.items ≡ c.loop-count.events.items ++ t.events =
-    c.in_ok-append.ensures.items ∙ ap (λ (es : List Event). c.loop-count.events.items ++ es) (c.in_ok-told.ensures ∙ ap (matching w.watched) c.events_at.ensures) in
+    c.in_ok-append.ensures.items ∙ ap (λ (es : List Event). c.loop-count.events.items ++ es) (c.in_ok-reported.ensures ∙ ap (matching w.watched) c.events_at.ensures) in
     record {
       within = omega (arith, c.loop-count-test.true);
       next_is = c.next_number-next.ensures;

@@ -3,8 +3,8 @@ use Rattle.stm_workers.proofs.auditing.audit.Goals as goal
 
 pub returns-in-Some-clause-fault : goal.returns-in-Some-clause-fault
 returns-in-Some-clause-fault c =
-    let told = c.in-Some.ensures.fault in
-    (told.0, unborne_falls c.args.begun c.args.hall.now c.args.jobs.now c.args.ends.now c.in-Some.place told.1)
+    let reported = c.in-Some.ensures.fault in
+    (reported.0, unborne_falls c.args.begun c.args.hall.now c.args.jobs.now c.args.ends.now c.in-Some.place reported.1)
 
 -- then all are borne out
 pub audit_names-requires-clause-borne : goal.audit_names-requires-clause-borne

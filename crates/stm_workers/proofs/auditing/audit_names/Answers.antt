@@ -17,8 +17,8 @@ returns-in-None-clause-clear c =
 
 pub returns-in-Some-clause-fault : goal.returns-in-Some-clause-fault
 returns-in-Some-clause-fault c =
-    let told = subst (λ (o : Option ℕ). IfSome o (λ place. (place < length c.args.ends.now) × (IsNewAt c.args.ends.now place → ⊥))) c.in-Some.is
+    let reported = subst (λ (o : Option ℕ). IfSome o (λ place. (place < length c.args.ends.now) × (IsNewAt c.args.ends.now place → ⊥))) c.in-Some.is
     c.in_ok-find_repeated.ensures.fault in (
-      subst (λ (n : ℕ). c.in-Some.place < n) c.requires.many told.0,
-      repeated_falls c.args.begun c.args.hall.now c.args.jobs.now c.args.ends.now c.in-Some.place c.requires.many told.0 told.1,
+      subst (λ (n : ℕ). c.in-Some.place < n) c.requires.many reported.0,
+      repeated_falls c.args.begun c.args.hall.now c.args.jobs.now c.args.ends.now c.in-Some.place c.requires.many reported.0 reported.1,
     )

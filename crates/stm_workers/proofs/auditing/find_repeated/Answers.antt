@@ -26,7 +26,7 @@ loop-place-preserved c =
           c.mark.ensures.marks;
       new = next_place (λ (p : ℕ). IsNewAt ends p) c.loop-place.place i.new
           (new_there ends c.loop-place.place c.args.entries end c.loop-place.marks.items c.end_at.ensures i.marked c.requires
-          (sym c.mark.ensures.told ∙ c.if-mark.false));
+          (sym c.mark.ensures.reported ∙ c.if-mark.false));
     }
 
 -- this entry was named before
@@ -36,7 +36,7 @@ returns-then-mark-clause-fault c =
     let i = c.loop-place.invariant in (
       omega arith,
       not_new_there ends c.loop-place.place c.args.entries c.end_at.result.now c.loop-place.marks.items c.end_at.ensures i.marked c.requires
-          (sym c.mark.ensures.told ∙ c.if-mark.true),
+          (sym c.mark.ensures.reported ∙ c.if-mark.true),
     )
 
 pub returns-clause-clear : goal.returns-clause-clear

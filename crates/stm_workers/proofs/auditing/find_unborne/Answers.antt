@@ -1,6 +1,6 @@
 use Rattle.std.proofs.Common.{ℕ, arith}
 use Rattle.stm_workers.specs.Ends.{BorneOutAt}
-use Rattle.stm_workers.proofs.AuditLemmas.{not_told, next_place, all_places}
+use Rattle.stm_workers.proofs.AuditLemmas.{not_reported, next_place, all_places}
 use Rattle.stm_workers.proofs.auditing.find_unborne.Goals as goal
 
 pub loop-place-init : goal.loop-place-init
@@ -15,7 +15,7 @@ loop-place-preserved c =
 pub returns-then-not-is_borne_out_at-clause-fault : goal.returns-then-not-is_borne_out_at-clause-fault
 returns-then-not-is_borne_out_at-clause-fault c = (
   omega (arith, c.requires),
-  not_told _ c.is_borne_out_at.result c.is_borne_out_at.ensures c.if-not-is_borne_out_at.true,
+  not_reported _ c.is_borne_out_at.result c.is_borne_out_at.ensures c.if-not-is_borne_out_at.true,
 )
 
 -- all are

@@ -10,8 +10,8 @@ pub set_mark-requires : goal.set_mark-requires
 set_mark-requires c =
     subst (λ (e : JobEnd). IfSome (entry_named e) (λ index. index < length c.args.marks.now.items)) c.in-Committed.is c.requires
 
-pub returns-in-Committed-clause-told : goal.returns-in-Committed-clause-told
-returns-in-Committed-clause-told c =
+pub returns-in-Committed-clause-reported : goal.returns-in-Committed-clause-reported
+returns-in-Committed-clause-reported c =
     c.set_mark.ensures.was ∙ ap (λ (e : JobEnd). is_marked c.args.marks.now.items (entry_named e)) (sym c.in-Committed.is)
 
 pub returns-in-Committed-clause-marks : goal.returns-in-Committed-clause-marks
@@ -28,29 +28,29 @@ returns-in-Committed-clause-length c =
 
 -- ---- an end that names none
 
-pub returns-in-Aborted-clause-told : goal.returns-in-Aborted-clause-told
-returns-in-Aborted-clause-told c = ap (λ (e : JobEnd). is_marked c.args.marks.now.items (entry_named e)) (sym c.in-Aborted.is)
+pub returns-in-Aborted-clause-reported : goal.returns-in-Aborted-clause-reported
+returns-in-Aborted-clause-reported c = ap (λ (e : JobEnd). is_marked c.args.marks.now.items (entry_named e)) (sym c.in-Aborted.is)
 
 pub returns-in-Aborted-clause-marks : goal.returns-in-Aborted-clause-marks
 returns-in-Aborted-clause-marks c = λ index low.
     ap (λ (e : JobEnd). names_entry index e || get_or c.args.marks.now.items index false) (sym c.in-Aborted.is)
 
-pub returns-in-Faulted-clause-told : goal.returns-in-Faulted-clause-told
-returns-in-Faulted-clause-told c = ap (λ (e : JobEnd). is_marked c.args.marks.now.items (entry_named e)) (sym c.in-Faulted.is)
+pub returns-in-Faulted-clause-reported : goal.returns-in-Faulted-clause-reported
+returns-in-Faulted-clause-reported c = ap (λ (e : JobEnd). is_marked c.args.marks.now.items (entry_named e)) (sym c.in-Faulted.is)
 
 pub returns-in-Faulted-clause-marks : goal.returns-in-Faulted-clause-marks
 returns-in-Faulted-clause-marks c = λ index low.
     ap (λ (e : JobEnd). names_entry index e || get_or c.args.marks.now.items index false) (sym c.in-Faulted.is)
 
-pub returns-in-Refused-clause-told : goal.returns-in-Refused-clause-told
-returns-in-Refused-clause-told c = ap (λ (e : JobEnd). is_marked c.args.marks.now.items (entry_named e)) (sym c.in-Refused.is)
+pub returns-in-Refused-clause-reported : goal.returns-in-Refused-clause-reported
+returns-in-Refused-clause-reported c = ap (λ (e : JobEnd). is_marked c.args.marks.now.items (entry_named e)) (sym c.in-Refused.is)
 
 pub returns-in-Refused-clause-marks : goal.returns-in-Refused-clause-marks
 returns-in-Refused-clause-marks c = λ index low.
     ap (λ (e : JobEnd). names_entry index e || get_or c.args.marks.now.items index false) (sym c.in-Refused.is)
 
-pub returns-in-GaveUp-clause-told : goal.returns-in-GaveUp-clause-told
-returns-in-GaveUp-clause-told c = ap (λ (e : JobEnd). is_marked c.args.marks.now.items (entry_named e)) (sym c.in-GaveUp.is)
+pub returns-in-GaveUp-clause-reported : goal.returns-in-GaveUp-clause-reported
+returns-in-GaveUp-clause-reported c = ap (λ (e : JobEnd). is_marked c.args.marks.now.items (entry_named e)) (sym c.in-GaveUp.is)
 
 pub returns-in-GaveUp-clause-marks : goal.returns-in-GaveUp-clause-marks
 returns-in-GaveUp-clause-marks c = λ index low.

@@ -8,5 +8,5 @@ abbrev pub invariant-loop-ended_job : goal.invariant-loop-ended_job
 invariant-loop-ended_job l = record {
   can_next : (goal.iterator-loop-ended_job).can_next l.ended_job-iterator;
   ends : (goal.iterator-loop-ended_job).is_finite l.ended_job-iterator;
-  told : l.ends.items ++ ends_in (into_iter_items l.ended_job-iterator) ≡ ends_in l.fn.ended.items;
+  reported : l.ends.items ++ ends_in (into_iter_items l.ended_job-iterator) ≡ ends_in l.fn.ended.items;
 }

@@ -43,8 +43,8 @@ returns-in-Ok-clause-commits g c =
 pub returns-in-Ok-clause-ran : goal.returns-in-Ok-clause-ran
 returns-in-Ok-clause-ran g c =
     IfOk-weaker c.place_ends.result _ _
-    (λ placed told.
-    told c.args.hall c.args.jobs.now
+    (λ placed reported.
+    reported c.args.hall c.args.jobs.now
     (subst (λ (h : HallState). All (HasItsRun h c.args.jobs.now) c.parts-share.result.1.items) (sym c.requires.hall)
     (subst (λ (js : List Job). All (HasItsRun g.R.RunOfJobs.before js) c.parts-share.result.1.items) (sym c.requires.jobs) c.parts-share.ensures.ran)))
     c.place_ends.ensures.ran

@@ -15,17 +15,17 @@ returns-in_default-clause-fault g c = broke_off_early c.args.hall _ c.args.jobs.
 pub returns-in-Ok-gather-clause-ok : goal.returns-in-Ok-gather-clause-ok
 returns-in-Ok-gather-clause-ok g c =
     let run = c.run_on-placed in
-    let told = c.in-Ok-gather.ensures in
+    let reported = c.in-Ok-gather.ensures in
     let gathered = c.in-Ok-gather.gathered in
     let placed = c.in-Ok-placed.placed in
     ran_on c.args.hall run.result.1 gathered.hall c.args.jobs.now placed.ends.items gathered.ends.items placed.attempts.items gathered.attempts.items
-    gathered.committed told.hall told.ends.0 told.ends.1
+    gathered.committed reported.hall reported.ends.0 reported.ends.1
     (ran_to c.args.hall run.result.1 c.args.jobs.now placed.ends.items placed.attempts.items c.start_of-start.result gathered.committed
     c.start_of-start.ensures run.ensures.gone_on run.ensures.kept run.ensures.takes
     (at_ok (λ p. (length p.ends.items ≡ length c.args.jobs.now) × (length p.attempts.items ≡ length c.args.jobs.now)) run.result.0 placed c.in-Ok-placed.is
     run.ensures.places)
     (at_ok (λ p. commits_in run.result.1.entries ≡ commits_in c.args.hall.entries + count_by is_committed p.ends.items) run.result.0 placed
-    c.in-Ok-placed.is run.ensures.commits) told.committed told.stand
+    c.in-Ok-placed.is run.ensures.commits) reported.committed reported.stand
     (at_ok (λ p. HaveTheirRuns c.args.hall c.args.jobs.now p.ends.items p.attempts.items) run.result.0 placed c.in-Ok-placed.is run.ensures.ran))
 
 -- and each job was drawn once
@@ -40,10 +40,10 @@ returns-in-Ok-gather-clause-drawn g c =
 pub returns-in-Ok-placed-clause-fault : goal.returns-in-Ok-placed-clause-fault
 returns-in-Ok-placed-clause-fault g c =
     let run = c.run_on-placed in
-    let told = c.in-Err-gather.ensures in
+    let reported = c.in-Err-gather.ensures in
     let fault = c.in-Err-gather.fault in
     fault_found c.args.hall run.result.1 fault.hall c.args.jobs.now fault.ends.items c.start_of-start.result fault.cause c.start_of-start.ensures
-    run.ensures.gone_on run.ensures.kept run.ensures.takes told.broken told.cause
+    run.ensures.gone_on run.ensures.kept run.ensures.takes reported.broken reported.cause
 
 -- the threads were given up
 pub returns-clause-fault : goal.returns-clause-fault

@@ -1,18 +1,18 @@
-use Rattle.stm_attempt.proofs.AttemptLemmas.{left_asked_told, left_list_told}
+use Rattle.stm_attempt.proofs.AttemptLemmas.{left_asked_reported, left_list_reported}
 use Rattle.stm_attempt.proofs.attempt.Attempt.advance_to_end.Goals as goal
 
 pub returns-then-is_none-clause-asked : goal.returns-then-is_none-clause-asked
 returns-then-is_none-clause-asked c =
-    left_asked_told c.args.program.now c.args.self.now c.first_to_end.new.self c.first_to_end.result c.first_to_end.ensures.left c.first_to_end.ensures.next
+    left_asked_reported c.args.program.now c.args.self.now c.first_to_end.new.self c.first_to_end.result c.first_to_end.ensures.left c.first_to_end.ensures.next
 
 pub returns-then-is_none-clause-list : goal.returns-then-is_none-clause-list
 returns-then-is_none-clause-list c =
-    left_list_told c.args.program.now c.args.self.now c.first_to_end.new.self c.first_to_end.result c.first_to_end.ensures.left c.first_to_end.ensures.next
+    left_list_reported c.args.program.now c.args.self.now c.first_to_end.new.self c.first_to_end.result c.first_to_end.ensures.left c.first_to_end.ensures.next
 
 pub returns-else-is_none-clause-asked : goal.returns-else-is_none-clause-asked
 returns-else-is_none-clause-asked c =
-    left_asked_told c.args.program.now c.args.self.now c.next_to_end.new.self c.next_to_end.result c.next_to_end.ensures.left c.next_to_end.ensures.next
+    left_asked_reported c.args.program.now c.args.self.now c.next_to_end.new.self c.next_to_end.result c.next_to_end.ensures.left c.next_to_end.ensures.next
 
 pub returns-else-is_none-clause-list : goal.returns-else-is_none-clause-list
 returns-else-is_none-clause-list c =
-    left_list_told c.args.program.now c.args.self.now c.next_to_end.new.self c.next_to_end.result c.next_to_end.ensures.left c.next_to_end.ensures.next
+    left_list_reported c.args.program.now c.args.self.now c.next_to_end.new.self c.next_to_end.result c.next_to_end.ensures.left c.next_to_end.ensures.next

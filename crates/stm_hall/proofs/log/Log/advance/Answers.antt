@@ -7,12 +7,12 @@ use Rattle.stm_hall.proofs.log.Log.advance.Goals as goal
 pub returns-clause-ok : goal.returns-clause-ok
 returns-clause-ok c =
     let after : HallState = hall_of c.advance.new.store.standing c.advance.new.entries.items c.self.inside.start in
-    IfOk-weaker c.advance.result _ _ (λ expired told.
-    subst (λ (h : HallState). IsAdvanced h c.args.moment expired.items None after) c.self.view_is (told c.self.inside.start)) c.advance.ensures.ok
+    IfOk-weaker c.advance.result _ _ (λ expired reported.
+    subst (λ (h : HallState). IsAdvanced h c.args.moment expired.items None after) c.self.view_is (reported c.self.inside.start)) c.advance.ensures.ok
 
 pub returns-clause-refused : goal.returns-clause-refused
 returns-clause-refused c =
     let after : HallState = hall_of c.advance.new.store.standing c.advance.new.entries.items c.self.inside.start in
-    IfErr-weaker c.advance.result _ _ (λ stopped told.
-    subst (λ (h : HallState). HasStopped h c.args.moment stopped.expired stopped.cause after) c.self.view_is (told c.self.inside.start))
+    IfErr-weaker c.advance.result _ _ (λ stopped reported.
+    subst (λ (h : HallState). HasStopped h c.args.moment stopped.expired stopped.cause after) c.self.view_is (reported c.self.inside.start))
     c.advance.ensures.refused

@@ -79,14 +79,14 @@ invariant_of-self-2 c =
     c.requires.revision
     (λ key. sym (ap (λ (v : Contents). key_now v.history key) c.self.view_is))
     (c.in_ok-events.ensures ∙ ap (λ n. map (event_of (n + 1) state) c.args.changes.items) (sym c.revision-before.ensures.value))
-    c.in_ok-add_recorded.ensures.told
+    c.in_ok-add_recorded.ensures.reported
     c.in_ok-add_recorded.ensures.recorded in
     let present : List ℕ → Bool = λ key. is_some (key_after opening key (changes_of (reverse xs))) in
     subst (λ (o : Opening). IsKept o (reverse ys) next
     × StandFirst (λ key. is_some (key_after o key (changes_of (reverse ys)))) c.add_recorded.new.present (names_of c.add_recorded.new.chains)
     × (c.self.inside.floor ≤ c.self.inside.below + length ys))
     (sym (opening_kept c.self.inside.chains c.add_recorded.new.chains c.self.inside.below
-    (λ key. ap (λ (v : Versions). v.before) (c.in_ok-add_recorded.ensures.told key)
+    (λ key. ap (λ (v : Versions). v.before) (c.in_ok-add_recorded.ensures.reported key)
     ∙ before_with (is_some (event_about key c.in_ok-events.events)) (c.revision-before.result + 1) (versions_in (get_by_text c.self.inside.chains key))))) (
       added.0,
       first_after opening xs ys (get_by_text c.self.inside.chains) next c.in_ok-events.events c.add_recorded.new.present
@@ -113,11 +113,11 @@ returns-clause-ok c =
     c.requires.revision
     (λ key. sym (ap (λ (v : Contents). key_now v.history key) c.self.view_is))
     (c.in_ok-events.ensures ∙ ap (λ n. map (event_of (n + 1) state) c.args.changes.items) (sym c.revision-before.ensures.value))
-    c.in_ok-add_recorded.ensures.told
+    c.in_ok-add_recorded.ensures.reported
     c.in_ok-add_recorded.ensures.recorded in
     ap (λ (o : Opening). let h : History = record { opening = o; revisions = changes_of (reverse c.add_recorded.new.revisions.items) } in h)
     (opening_kept c.self.inside.chains c.add_recorded.new.chains c.self.inside.below
-    (λ key. ap (λ (v : Versions). v.before) (c.in_ok-add_recorded.ensures.told key)
+    (λ key. ap (λ (v : Versions). v.before) (c.in_ok-add_recorded.ensures.reported key)
     ∙ before_with (is_some (event_about key c.in_ok-events.events)) (c.revision-before.result + 1) (versions_in (get_by_text c.self.inside.chains key))))
     ∙ ap (λ (l : List (List Change)). let h : History = record { opening = opening; revisions = l } in h) added.1
     ∙ ap (λ (v : Contents). add_revision v.history c.args.changes.items) c.self.view_is

@@ -7,7 +7,7 @@ use Rattle.stm_keys.proofs.keys.Keys.forget_up_to.Given as goal
 abbrev pub invariant-revisions : goal.invariant-revisions
 invariant-revisions l = record {
   reached : l.number ≤ now l.self.history;
-  told : without_up_to l.number l.self ≡ without_up_to l.number l.fn.self;
+  reported : without_up_to l.number l.self ≡ without_up_to l.number l.fn.self;
 }
 
 abbrev pub decreases-revisions : goal.decreases-revisions

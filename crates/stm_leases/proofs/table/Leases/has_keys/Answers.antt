@@ -2,7 +2,7 @@ use Rattle.std.proofs.Common.{ap, sym, ◌∙◌, option_map, is_some}
 use Rattle.std.specs.Option.{option_copied}
 use Rattle.indexmap.specs.IndexMap.{get_by_text}
 use Rattle.stm_leases.specs.Kept.{list_in}
-use Rattle.stm_leases.proofs.Ordered.{list-has_keys, none-hang}
+use Rattle.stm_leases.proofs.Ordered.{list-has_keys, none-attach}
 use Rattle.stm_leases.proofs.Seen.{lease_of-now}
 use Rattle.stm_leases.proofs.table.Leases.has_keys.Goals as goal
 
@@ -16,7 +16,7 @@ returns-in-None c =
     let none = sym c.get.ensures.value ∙ ap option_copied c.in-None.is in (
       λ never. absurd (cc),
       λ has. absurd
-          (none-hang c.args.self.now (list_in c.self.inside.leases) (get_by_text c.self.inside.attached) c.self.inside.keys c.args.id c.self.invariant.in_step
+          (none-attach c.args.self.now (list_in c.self.inside.leases) (get_by_text c.self.inside.attached) c.self.inside.keys c.args.id c.self.invariant.in_step
           (lease_of-now c.self.inside.leases c.self.inside.attached _ _ c.self.view_is) (ap (option_map (λ l. l.keys)) none) has),
     )
 

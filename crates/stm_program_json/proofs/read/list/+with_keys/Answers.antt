@@ -2,7 +2,7 @@ use Rattle.std.proofs.Common.{List, ℕ, map, subst}
 use Rattle.std.specs.Prelude.{string_bytes}
 use Rattle.std.proofs.lemmas.Result.{err_from_is_err_and}
 use Rattle.stm_json.specs.Outcome.{Outcome}
-use Rattle.stm_json.specs.Tells.{Tells}
+use Rattle.stm_json.specs.Returns.{Returns}
 use Rattle.stm_program_json.proofs.KeyLists.{no_keys, text_faulted, text_more}
 use Rattle.stm_program_json.proofs.read.list.+with_keys.Goals as goal
 
@@ -17,7 +17,7 @@ returns-in_err-key-in-len1-up t c =
 
 pub returns-in_ok-push-in-len1-up : goal.returns-in_ok-push-in-len1-up
 returns-in_ok-push-in-len1-up t c =
-    subst (λ (o : Outcome (List (List ℕ))). Tells (λ keys. map string_bytes keys.items) c.with_keys.result o)
+    subst (λ (o : Outcome (List (List ℕ))). Returns (λ keys. map string_bytes keys.items) c.with_keys.result o)
     (text_more c.as_slice.result.now c.args.earlier.items c.push.new.self.items c.args.values.now c.first-item.result c.in_ok-key-in-len1-up.key
     c.as_slice.ensures.value c.in-len1-up.len_at_least c.first-item.is c.in_ok-key-in-len1-up.ensures c.in_ok-push-in-len1-up.ensures.items)
     c.with_keys.ensures

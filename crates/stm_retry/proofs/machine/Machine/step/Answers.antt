@@ -5,31 +5,31 @@ use Rattle.stm_world.specs.declared.event.WorldEvent.TheVariants.{Start, Step}
 use Rattle.stm_world.specs.declared.reply.Reply.{Reply}
 use Rattle.stm_world.specs.declared.refusal.Denied.{Denied}
 use Rattle.stm_world.specs.World.{World}
-use Rattle.stm_retry.specs.Tells.{IsStep}
-use Rattle.stm_retry.specs.Kept.{compact_kept, KeptTells}
-use Rattle.stm_retry.proofs.WorldLemmas.{start_tells, step_tells}
+use Rattle.stm_retry.specs.Returns.{IsStep}
+use Rattle.stm_retry.specs.Kept.{compact_kept, KeptReturns}
+use Rattle.stm_retry.proofs.WorldLemmas.{start_reports, step_reports}
 use Rattle.stm_retry.proofs.machine.Machine.step.Goals as goal
 
 pub returns-in-Start : goal.returns-in-Start
 returns-in-Start c =
     let old : World = c.args.self.now in
     let new : World = c.start-outcome.new.self in
-    subst (λ (e : WorldEvent). KeptTells e c.to_reply.result old new) (sym c.in-Start.is)
-    (subst (λ (r : Result Reply Denied). KeptTells (Start c.in-Start.program c.in-Start.level c.in-Start.limit) r old new) (sym c.to_reply.ensures)
-    (start_tells c.in-Start.program c.in-Start.level c.in-Start.limit c.start-outcome.result old new c.start-outcome.ensures))
+    subst (λ (e : WorldEvent). KeptReturns e c.to_reply.result old new) (sym c.in-Start.is)
+    (subst (λ (r : Result Reply Denied). KeptReturns (Start c.in-Start.program c.in-Start.level c.in-Start.limit) r old new) (sym c.to_reply.ensures)
+    (start_reports c.in-Start.program c.in-Start.level c.in-Start.limit c.start-outcome.result old new c.start-outcome.ensures))
 
 pub returns-in-Step : goal.returns-in-Step
 returns-in-Step c =
     let old : World = c.args.self.now in
     let new : World = c.step_runner-outcome.new.self in
-    subst (λ (e : WorldEvent). KeptTells e c.to_reply-in-Step.result old new) (sym c.in-Step.is)
-    (subst (λ (r : Result Reply Denied). KeptTells (Step c.in-Step.runner) r old new) (sym c.to_reply-in-Step.ensures)
-    (step_tells c.in-Step.runner c.step_runner-outcome.result old new c.step_runner-outcome.ensures))
+    subst (λ (e : WorldEvent). KeptReturns e c.to_reply-in-Step.result old new) (sym c.in-Step.is)
+    (subst (λ (r : Result Reply Denied). KeptReturns (Step c.in-Step.runner) r old new) (sym c.to_reply-in-Step.ensures)
+    (step_reports c.in-Step.runner c.step_runner-outcome.result old new c.step_runner-outcome.ensures))
 
 pub returns-in-Compact : goal.returns-in-Compact
 returns-in-Compact c =
     let left : Standing → World = λ s. record { standing = s; runners = c.self-in-Compact.inside.runners.items; entries = c.self-in-Compact.inside.entries.items } in
     let new : World = left c.compact.new.store.standing in
-    subst (λ (e : WorldEvent). KeptTells e c.compact.result c.args.self.now new) (sym c.in-Compact.is)
+    subst (λ (e : WorldEvent). KeptReturns e c.compact.result c.args.self.now new) (sym c.in-Compact.is)
     (subst (λ (w : World). IsStep (compact_kept c.in-Compact.revision w) c.compact.result new) c.self-in-Compact.view_is
-    (record { reply_is = sym c.compact.ensures.told; next_is = ap left (sym c.compact.ensures.store) }))
+    (record { reply_is = sym c.compact.ensures.reported; next_is = ap left (sym c.compact.ensures.store) }))

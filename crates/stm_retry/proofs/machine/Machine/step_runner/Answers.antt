@@ -5,10 +5,10 @@ use Rattle.stm_entries.specs.declared.entry.Entry.{Entry}
 use Rattle.stm_world.specs.declared.reply.Reply.{Reply}
 use Rattle.stm_world.specs.declared.refusal.Denied.{Denied}
 use Rattle.stm_world.specs.World.{World, Runner, Slot, Over, runner_at, with_slot, step_runner}
-use Rattle.stm_retry.specs.declared.told.Told.{Told}
-use Rattle.stm_retry.specs.MachineTells.{Tells}
-use Rattle.stm_retry.specs.RunnerTells.{slot_left}
-use Rattle.stm_retry.proofs.StepLemmas.{outcome_tells}
+use Rattle.stm_retry.specs.declared.step_outcome.StepOutcome.{StepOutcome}
+use Rattle.stm_retry.specs.MachineReturns.{Returns}
+use Rattle.stm_retry.specs.RunnerReturns.{slot_left}
+use Rattle.stm_retry.proofs.StepLemmas.{outcome_reports}
 use Rattle.stm_retry.proofs.machine.Machine.step_runner.Goals as goal
 
 pub returns : goal.returns
@@ -20,17 +20,17 @@ returns c =
       entries = c.self.inside.entries.items;
     } in
     let r : Runner = c.in-Some.runner.runner in
-    let q : Runner = c.step-told.new.self.runner in
-    let after : Standing = c.step-told.new.store.standing in
-    let entries : List Entry = c.step-told.new.entries.items in
+    let q : Runner = c.step-reported.new.self.runner in
+    let after : Standing = c.step-reported.new.store.standing in
+    let entries : List Entry = c.step-reported.new.entries.items in
     let slots : List Slot = c.put_slot.new.slots.items in
-    let told : Result Told AllocError = c.step-told.result in
+    let reported : Result StepOutcome AllocError = c.step-reported.result in
     let new : World = record { standing = after; runners = slots; entries = entries } in
     let found : runner_at id w.runners ≡ Some r = sym c.in-Some.ensures.found in
-    let put : slots ≡ with_slot id (slot_left told q) (with_slot id Over w.runners) =
+    let put : slots ≡ with_slot id (slot_left reported q) (with_slot id Over w.runners) =
     c.put_slot.ensures
     ∙ ap (λ (s : Slot). with_slot id s c.take_runner.new.slots.items) c.slot_after-slot.ensures
-    ∙ ap (λ (l : List Slot). with_slot id (slot_left told q) l) c.in-Some.ensures.taken in
-    let tells = outcome_tells id w r q after entries slots told (runner_at id w.runners) found found c.step-told.ensures put in
-    subst (λ (v : World). Tells c.reply_of.result v new (step_runner id (runner_at id v.runners) v)) c.self.view_is
-    (subst (λ (o : Result (Result Reply Denied) AllocError). Tells o w new (step_runner id (runner_at id w.runners) w)) (sym c.reply_of.ensures) tells)
+    ∙ ap (λ (l : List Slot). with_slot id (slot_left reported q) l) c.in-Some.ensures.taken in
+    let reports = outcome_reports id w r q after entries slots reported (runner_at id w.runners) found found c.step-reported.ensures put in
+    subst (λ (v : World). Returns c.reply_of.result v new (step_runner id (runner_at id v.runners) v)) c.self.view_is
+    (subst (λ (o : Result (Result Reply Denied) AllocError). Returns o w new (step_runner id (runner_at id w.runners) w)) (sym c.reply_of.ensures) reports)

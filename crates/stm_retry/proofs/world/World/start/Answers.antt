@@ -17,12 +17,12 @@ invariant_of-self c =
 pub returns-clause-number : goal.returns-clause-number
 returns-clause-number c =
     let task : Task = record { program = c.args.program; level = c.args.level; limit = c.args.limit } in
-    let told : Result ℕ Refusal → Type 0 = λ r. IfOk r (λ id. (start_runner task c.args.self.now).reply ≡ Ok (Started id)) in
+    let reported : Result ℕ Refusal → Type 0 = λ r. IfOk r (λ id. (start_runner task c.args.self.now).reply ≡ Ok (Started id)) in
     elim c.match-add_runner.branch [
-      | in-Ok w ↦ subst told (sym w.result-is)
+      | in-Ok w ↦ subst reported (sym w.result-is)
           (sym (started_number task c.self.inside.opened c.self.inside.machine c.self.invariant ∙ ap (λ (w : World). (start_runner task w).reply) c.self.view_is)
           ∙ w.in-Ok.ensures.number)
-      | in-Err w ↦ subst told (sym w.result-is) tt
+      | in-Err w ↦ subst reported (sym w.result-is) tt
     ]
 
 pub returns-clause-ok : goal.returns-clause-ok

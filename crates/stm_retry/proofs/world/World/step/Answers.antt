@@ -15,11 +15,11 @@ pub invariant_of-self : goal.invariant_of-self
 invariant_of-self c =
     (step_leaves c.args.event.now c.step.result c.self.inside.opened c.self.inside.machine c.step.new.self c.self.invariant c.step.ensures).is_kept
 
-pub returns-clause-told : goal.returns-clause-told
-returns-clause-told c =
-    let told =
-    (step_leaves c.args.event.now c.step.result c.self.inside.opened c.self.inside.machine c.step.new.self c.self.invariant c.step.ensures).tells in
-    rw c.self.view_is at told
+pub returns-clause-reported : goal.returns-clause-reported
+returns-clause-reported c =
+    let reported =
+    (step_leaves c.args.event.now c.step.result c.self.inside.opened c.self.inside.machine c.step.new.self c.self.invariant c.step.ensures).reports in
+    rw c.self.view_is at reported
 
 -- what a commit has read is so before the step, since the world is sound
 pub returns-clause-reads : goal.returns-clause-reads
@@ -33,7 +33,7 @@ pub returns-clause-headline : goal.returns-clause-headline
 returns-clause-headline c = λ had start before earlier holds.
     let old : World = whole_world c.self.inside.opened c.self.inside.machine in
     let new : World = whole_world c.self.inside.opened c.step.new.self in
-    let told =
-    (step_leaves c.args.event.now c.step.result c.self.inside.opened c.self.inside.machine c.step.new.self c.self.invariant c.step.ensures).tells in
+    let reported =
+    (step_leaves c.args.event.now c.step.result c.self.inside.opened c.self.inside.machine c.step.new.self c.self.invariant c.step.ensures).reports in
     let before_step : Holds start before earlier old = subst (λ (w : World). Holds start before earlier w) (sym c.self.view_is) holds in
-    step_holds start before earlier c.args.event.now c.step.result old new had told before_step
+    step_holds start before earlier c.args.event.now c.step.result old new had reported before_step

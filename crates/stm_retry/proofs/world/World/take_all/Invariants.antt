@@ -7,7 +7,7 @@ abbrev pub invariant-loop-event : goal.invariant-loop-event
 invariant-loop-event l = record {
   counted : l.done ≡ l.event-index;
   room : vec_len l.replies + length (drop l.event-index l.events) ≤ vec_capacity l.replies;
-  told : l.replies.items ++ replies_to (drop l.event-index l.events) l.self ≡ replies_to l.events l.fn.self;
+  reported : l.replies.items ++ replies_to (drop l.event-index l.events) l.self ≡ replies_to l.events l.fn.self;
   rest : world_after (drop l.event-index l.events) l.self ≡ world_after l.events l.fn.self;
   reached : l.self ≡ world_after (take l.event-index l.events) l.fn.self;
 }

@@ -4,16 +4,16 @@ use Rattle.stm_history.specs.History.{History, now, add_revision, key_now, chang
 use Rattle.stm_keys.specs.Events.{change_of_event, events_of}
 use Rattle.stm_leases.specs.Leases.{Leases, lease_of}
 use Rattle.stm_watch.specs.Calls.{StandFor}
-use Rattle.stm_txn.specs.Leasing.{hanging, hung_after, hangs_of, HangOnLive}
+use Rattle.stm_txn.specs.Leasing.{attaching, attached_after, attached_of, AttachedToLive}
 use Rattle.stm_outcome.specs.Numbers.{LeasesFit}
 use Rattle.stm_txn.specs.Store.{StoreView}
-use Rattle.stm_txn.proofs.Bounding.{hung_fit}
+use Rattle.stm_txn.proofs.Bounding.{attached_fit}
 use Rattle.stm_txn.proofs.Ending.{still_stored}
 use Rattle.stm_txn.proofs.Moving.{last_changes}
 use Rattle.stm_txn.proofs.store.Store.change.Goals as goal
 
-pub tell_watchers-requires : goal.tell_watchers-requires
-tell_watchers-requires c =
+pub notify_watchers-requires : goal.notify_watchers-requires
+notify_watchers-requires c =
     let more : now c.apply.new.self.history ≡ now (add_revision c.self.inside.keys.history c.args.changes.items) = ap now c.in-Ok.ensures.ok in
     omega (arith, c.self.invariant.3, c.self.invariant.4, more)
 
@@ -26,14 +26,14 @@ move_keys-requires-clause-distinct c =
     ∙ last_changes h cs in
     subst HasDistinctKeys (sym shown) c.requires.revision.1
 
-pub move_keys-requires-clause-hangs : goal.move_keys-requires-clause-hangs
-move_keys-requires-clause-hangs c =
+pub move_keys-requires-clause-attaches : goal.move_keys-requires-clause-attaches
+move_keys-requires-clause-attaches c =
     let h : History = c.self.inside.keys.history in
     let cs : List Change = c.args.changes.items in
     let shown : map change_of_event c.last_events.result.now ≡ cs =
     ap (map change_of_event) c.last_events.ensures ∙ ap (λ (x : History). map change_of_event (events_of x (now x))) c.in-Ok.ensures.ok
     ∙ last_changes h cs in
-    c.in_ok-hangs.ensures ∙ ap hangs_of c.as_slice.ensures.value ∙ ap hangs_of (sym shown)
+    c.in_ok-attaches.ensures ∙ ap attached_of c.as_slice.ensures.value ∙ ap attached_of (sym shown)
 
 pub invariant_of-self-2 : goal.invariant_of-self-2
 invariant_of-self-2 c =
@@ -42,25 +42,25 @@ invariant_of-self-2 c =
     let shown : map change_of_event c.last_events.result.now ≡ cs =
     ap (map change_of_event) c.last_events.ensures ∙ ap (λ (x : History). map change_of_event (events_of x (now x))) c.in-Ok.ensures.ok
     ∙ last_changes h cs in
-    subst (λ (next : History). ((key : List ℕ) → lease_of c.move_keys.new.leases key ≡ hanging (key_now next key)) × LeasesFit next
-    × StandFor next c.tell_watchers.new.watchers × (c.tell_watchers.new.watchers.floor ≡ c.apply.new.self.floor) × (c.apply.new.self.floor ≤ now next))
+    subst (λ (next : History). ((key : List ℕ) → lease_of c.move_keys.new.leases key ≡ attaching (key_now next key)) × LeasesFit next
+    × StandFor next c.notify_watchers.new.watchers × (c.notify_watchers.new.watchers.floor ≡ c.apply.new.self.floor) × (c.apply.new.self.floor ≤ now next))
     (sym c.in-Ok.ensures.ok) (
       λ key.
           still_stored h cs key (lease_of c.reserve_attach.new.self key) (lease_of c.move_keys.new.leases key)
           (ap (λ (s : Leases). lease_of s key) c.in_ok-reserve_attach.ensures.ok ∙ c.self.invariant.0 key)
           (c.move_keys.ensures.keys key
-          ∙ ap (λ (l : List Change). hung_after (change_of key l) (lease_of c.reserve_attach.new.self key)) shown),
+          ∙ ap (λ (l : List Change). attached_after (change_of key l) (lease_of c.reserve_attach.new.self key)) shown),
       (
         c.self.invariant.1.0,
         (
-          hung_fit c.self.inside.leases.live cs c.is_live-ids_are_in_range.ensures.in_range
-              (subst (λ (s : StoreView). HangOnLive s.standing.live (hangs_of cs)) (sym c.self.view_is) c.requires.live),
+          attached_fit c.self.inside.leases.live cs c.is_live-ids_are_in_range.ensures.in_range
+              (subst (λ (s : StoreView). AttachedToLive s.standing.live (attached_of cs)) (sym c.self.view_is) c.requires.live),
           c.self.invariant.1.1,
         ),
       ),
-      subst (λ (x : History). StandFor x c.tell_watchers.new.watchers) c.in-Ok.ensures.ok
-          (c.tell_watchers.ensures.stand h cs c.in-Ok.ensures.ok c.self.invariant.2),
-      c.tell_watchers.ensures.floor
+      subst (λ (x : History). StandFor x c.notify_watchers.new.watchers) c.in-Ok.ensures.ok
+          (c.notify_watchers.ensures.stand h cs c.in-Ok.ensures.ok c.self.invariant.2),
+      c.notify_watchers.ensures.floor
           ∙ c.self.invariant.3
           ∙ sym c.in-Ok.ensures.kept.1,
       omega (arith, c.self.invariant.4, c.in-Ok.ensures.kept.1),

@@ -5,7 +5,7 @@ use Rattle.stm_keys.specs.declared.refusal.ReadRefusal.TheVariants.{FutureRevisi
 use Rattle.stm_outcome.specs.declared.refusal.Refusal.TheVariants.{FutureRevision as FutureCause, Compacted as CompactedCause}
 use Rattle.stm_txn.specs.Standing.{Standing, compacted}
 use Rattle.stm_txn.specs.Store.{StoreView}
-use Rattle.stm_txn.proofs.Compacting.{above_floor, has_come, done, compacted_told, compacted_parts, refused_compacted, refused_future, compacted_refused}
+use Rattle.stm_txn.proofs.Compacting.{above_floor, has_come, done, compacted_reported, compacted_parts, refused_compacted, refused_future, compacted_refused}
 use Rattle.stm_txn.proofs.Copied.{store_of}
 use Rattle.stm_txn.proofs.store.Store.compact.Goals as goal
 
@@ -31,7 +31,7 @@ returns-in-Ok-clause-step c =
     let reached : c.args.revision ≤ now keys.history = has_come _ FutureRevision (now keys.history) c.args.revision c.in-Ok.ensures.future in
     let next : Standing = (store_of c.self.inside.limit c.compact.new.self c.self.inside.leases c.self.inside.moment c.compacted.new.self).standing in
     subst (λ (v : StoreView). compacted v.standing c.args.revision ≡ done next) c.self.view_is
-    (compacted_told c.self.inside.limit keys c.compact.new.self c.self.inside.leases c.self.inside.moment c.self.inside.watchers c.compacted.new.self c.args.revision above reached
+    (compacted_reported c.self.inside.limit keys c.compact.new.self c.self.inside.leases c.self.inside.moment c.self.inside.watchers c.compacted.new.self c.args.revision above reached
     (c.compacted.ensures.watchings keys.history c.self.invariant.2) c.in-Ok.ensures.ok)
 
 pub returns-in-Ok-clause-present : goal.returns-in-Ok-clause-present

@@ -2,11 +2,11 @@ use Rattle.std.proofs.Common.{◌≡◌, ◌∙◌, sym, ap, subst, List}
 use Rattle.stm_history.specs.declared.change.Change.{Change}
 use Rattle.stm_history.specs.History.{History, HasDistinctKeys}
 use Rattle.stm_keys.specs.Keys.{DeletePresent}
-use Rattle.stm_txn.specs.Leasing.{lease_now, hangs_of, HangOnLive}
+use Rattle.stm_txn.specs.Leasing.{lease_now, attached_of, AttachedToLive}
 use Rattle.stm_txn.specs.LeaseKeys.{deletions_of}
 use Rattle.stm_outcome.specs.Outcome.{with_changes}
 use Rattle.stm_txn.specs.Store.{StoreView}
-use Rattle.stm_txn.proofs.Ending.{deletions_are_distinct, deletions_are_present, hangs_of-deletions, gone}
+use Rattle.stm_txn.proofs.Ending.{deletions_are_distinct, deletions_are_present, attached_of-deletions, gone}
 use Rattle.stm_txn.proofs.store.Store.end_lease.Goals as goal
 
 pub commit-requires-clause-distinct : goal.commit-requires-clause-distinct
@@ -16,8 +16,8 @@ commit-requires-clause-distinct c =
 
 pub commit-requires-clause-live : goal.commit-requires-clause-live
 commit-requires-clause-live c =
-    subst (λ (cs : List Change). HangOnLive c.args.self.now.standing.live (hangs_of cs)) (sym c.in_ok-changes.ensures.ok)
-    (subst (HangOnLive c.args.self.now.standing.live) (sym (hangs_of-deletions c.args.self.now.standing.history c.args.id)) tt)
+    subst (λ (cs : List Change). AttachedToLive c.args.self.now.standing.live (attached_of cs)) (sym c.in_ok-changes.ensures.ok)
+    (subst (AttachedToLive c.args.self.now.standing.live) (sym (attached_of-deletions c.args.self.now.standing.history c.args.id)) tt)
 
 pub remove-requires-clause-no_keys : goal.remove-requires-clause-no_keys
 remove-requires-clause-no_keys c = λ has.

@@ -6,11 +6,11 @@ use Rattle.stm_outcome.specs.declared.txn.Op.{Op}
 use Rattle.stm_outcome.specs.Branches.{are_readable}
 use Rattle.stm_outcome.specs.LookUps.{changes_copied}
 use Rattle.stm_keys.specs.Keys.{DeletePresent}
-use Rattle.stm_txn.specs.Leasing.{hangs_of, HangOnLive}
+use Rattle.stm_txn.specs.Leasing.{attached_of, AttachedToLive}
 use Rattle.stm_txn.specs.Standing.{terms_of}
 use Rattle.stm_txn.specs.Store.{StoreView}
 use Rattle.stm_outcome.proofs.Branching.{changes_are_distinct}
-use Rattle.stm_txn.proofs.Running.{all_readable, hangs_live, deletes_present}
+use Rattle.stm_txn.proofs.Running.{all_readable, attaches_live, deletes_present}
 use Rattle.stm_txn.proofs.store.Store.finish.Goals as goal
 
 pub run_branch-requires : goal.run_branch-requires
@@ -27,9 +27,9 @@ commit-requires-clause-distinct c =
 
 pub commit-requires-clause-live : goal.commit-requires-clause-live
 commit-requires-clause-live c =
-    subst (λ (cs : List Change). HangOnLive c.args.self.now.standing.live (hangs_of cs)) (sym (c.in_ok-branch.ensures.changes
+    subst (λ (cs : List Change). AttachedToLive c.args.self.now.standing.live (attached_of cs)) (sym (c.in_ok-branch.ensures.changes
     ∙ ap (λ (s : StoreView). changes_copied s.standing.history [] c.args.ops.now) c.self.view_is))
-    (hangs_live c.args.self.now.standing c.args.ops.now c.requires.allowed)
+    (attaches_live c.args.self.now.standing c.args.ops.now c.requires.allowed)
 
 pub commit-requires-clause-present : goal.commit-requires-clause-present
 commit-requires-clause-present c =

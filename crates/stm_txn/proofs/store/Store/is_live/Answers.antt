@@ -4,11 +4,11 @@ use Rattle.stm_txn.specs.Leasing.{lease_now}
 use Rattle.stm_txn.specs.Store.{StoreView}
 use Rattle.stm_txn.proofs.store.Store.is_live.Goals as goal
 
-pub returns-clause-hang_on_live : goal.returns-clause-hang_on_live
-returns-clause-hang_on_live c =
+pub returns-clause-attach_on_live : goal.returns-clause-attach_on_live
+returns-clause-attach_on_live c =
     subst (λ (s : StoreView). (key : List ℕ) (lease : ℕ) → lease_now s.standing.history key ≡ Some lease →
     is_live_in s.standing.live lease ≡ true) c.self.view_is
-    (λ key lease is. c.is_live.ensures.hang_on_live key lease (c.self.invariant.0 key ∙ is))
+    (λ key lease is. c.is_live.ensures.attach_on_live key lease (c.self.invariant.0 key ∙ is))
 
 pub returns-clause-in_range : goal.returns-clause-in_range
 returns-clause-in_range c = subst (λ (s : StoreView). AreInRange s.standing.live) c.self.view_is c.is_live.ensures.in_range

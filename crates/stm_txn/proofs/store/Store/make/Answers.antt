@@ -5,7 +5,7 @@ use Rattle.stm_history.specs.History.{HasDistinctKeys}
 use Rattle.stm_keys.specs.Keys.{DeletePresent}
 use Rattle.stm_leases.specs.Live.{is_live_in}
 use Rattle.stm_outcome.specs.Commits.{is_on_dead_lease, effective}
-use Rattle.stm_txn.specs.Leasing.{hangs_of, HangOnLive}
+use Rattle.stm_txn.specs.Leasing.{attached_of, AttachedToLive}
 use Rattle.stm_txn.specs.Store.{StoreView}
 use Rattle.stm_txn.proofs.Writing.{effective_distinct, effective_live, effective_present}
 use Rattle.stm_txn.proofs.store.Store.make.Goals as goal
@@ -22,7 +22,7 @@ commit-requires-clause-live c =
     ap (λ (s : StoreView). list_any (is_on_dead_lease (is_live_in s.standing.live)) c.args.writes.items) (sym c.self.view_is)
     ∙ sym (c.any_names_dead_lease.ensures ∙ ap (list_any (is_on_dead_lease (is_live_in c.self.inside.leases.live))) c.as_slice.ensures.value)
     ∙ c.if-any_names_dead_lease.false in
-    subst (λ (cs : List Change). HangOnLive c.args.self.now.standing.live (hangs_of cs)) (sym (c.only_effective-changes.ensures
+    subst (λ (cs : List Change). AttachedToLive c.args.self.now.standing.live (attached_of cs)) (sym (c.only_effective-changes.ensures
     ∙ ap (λ (s : StoreView). effective s.standing.history c.args.writes.items) c.self.view_is))
     (effective_live c.args.self.now.standing c.args.writes.items c.requires alive)
 

@@ -6,7 +6,7 @@ use Rattle.stm_history.specs.History.{History, now, key_now}
 use Rattle.stm_leases.specs.Live.{Live}
 use Rattle.stm_watch.specs.Places.{WatchersView}
 use Rattle.stm_watch.specs.Calls.{StandFor}
-use Rattle.stm_txn.specs.Leasing.{hanging}
+use Rattle.stm_txn.specs.Leasing.{attaching}
 use Rattle.stm_outcome.specs.Numbers.{LeasesFit}
 use Rattle.stm_txn.proofs.store.Store.opened.Goals as goal
 
@@ -15,7 +15,7 @@ invariant_of-result c = (
   λ key.
       ap (λ (m : finmap.FinMap (slice_cmp nat_cmp) ℕ). finmap.get m key) c.new.ensures.attached
       ∙ finmap.get-empty (slice_cmp nat_cmp) key
-      ∙ ap (λ h. hanging (key_now h key)) (sym c.with_revision.ensures.history),
+      ∙ ap (λ h. attaching (key_now h key)) (sym c.with_revision.ensures.history),
   subst (λ (h : History). LeasesFit h) (sym c.with_revision.ensures.history) ((λ key. tt), tt),
   subst (λ (v : WatchersView). StandFor c.with_revision.result.history v) (sym c.requires.unwatched) tt,
   ap (λ (v : WatchersView). v.floor) c.requires.unwatched

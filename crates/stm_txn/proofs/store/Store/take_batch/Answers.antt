@@ -2,7 +2,7 @@ use Rattle.std.proofs.Common.{◌≡◌, OnErr, subst, sym}
 use Rattle.stm_watch.specs.Places.{watchings}
 use Rattle.stm_txn.specs.Standing.{Standing, with_watchers, poll_refused}
 use Rattle.stm_txn.specs.Store.{StoreView}
-use Rattle.stm_txn.specs.WatchTold.{poll_told}
+use Rattle.stm_txn.specs.WatchReported.{poll_reported}
 use Rattle.stm_txn.proofs.Watches.{refused_leaves}
 use Rattle.stm_txn.proofs.store.Store.take_batch.Goals as goal
 
@@ -16,6 +16,6 @@ returns-clause-refused c =
       moment = c.self.inside.moment;
       watchers = watchings c.self.inside.watchers;
     } in
-    subst (λ r. OnErr r (with_watchers s (watchings c.poll-polled.new.self) ≡ poll_refused c.args.self.now.standing c.args.id)) (sym c.told_poll.ensures)
-    (subst (λ (v : StoreView). OnErr (poll_told c.poll-polled.result) (with_watchers s (watchings c.poll-polled.new.self) ≡ poll_refused v.standing c.args.id))
+    subst (λ r. OnErr r (with_watchers s (watchings c.poll-polled.new.self) ≡ poll_refused c.args.self.now.standing c.args.id)) (sym c.reported_poll.ensures)
+    (subst (λ (v : StoreView). OnErr (poll_reported c.poll-polled.result) (with_watchers s (watchings c.poll-polled.new.self) ≡ poll_refused v.standing c.args.id))
     c.self.view_is (refused_leaves s c.args.id (watchings c.poll-polled.new.self) c.poll-polled.result c.poll-polled.ensures.refused))

@@ -14,7 +14,7 @@ returns-in-Ok-clause-shown g c = (read_shows g.R.RunOfJobs.before c.args.seen.no
 
 pub returns-in-Ok-clause-answered : goal.returns-in-Ok-clause-answered
 returns-in-Ok-clause-answered g c = record {
-  told = one_read c.in-Ok.answer;
+  reported = one_read c.in-Ok.answer;
   by_hall = in_some_hall g.R.RunOfJobs.before c.args.seen.now c.as_str.result.now c.args.key.now c.args.at (Ok (one_read c.in-Ok.answer)) c.as_str.ensures c.in-Ok.ensures.answer;
   is_read = refl;
 }
@@ -24,5 +24,5 @@ pub returns-in-Err-clause-refused : goal.returns-in-Err-clause-refused
 returns-in-Err-clause-refused g c = inr (record {
   cause = c.in-Err.refusal;
   by_hall = in_some_hall g.R.RunOfJobs.before c.args.seen.now c.as_str.result.now c.args.key.now c.args.at (Err c.in-Err.refusal) c.as_str.ensures c.in-Err.ensures.answer;
-  told = c.of_fetch.ensures;
+  reported = c.of_fetch.ensures;
 })

@@ -1,7 +1,7 @@
 use Rattle.std.proofs.Common.{◌∙◌, refl, arith, true≢false, sym}
 use Rattle.std.proofs.lemmas.Result.{err_from_is_err_and}
 use Rattle.stm_workers.specs.Attempts.{state_of}
-use Rattle.stm_workers.proofs.AttemptLemmas.{told_out, at_again, at_ended, first_is_next, one_lost, ends_at, stops_at}
+use Rattle.stm_workers.proofs.AttemptLemmas.{reported_out, at_again, at_ended, first_is_next, one_lost, ends_at, stops_at}
 use Rattle.stm_workers.proofs.executor.Executor.attempt.Goals as goal
 
 pub loop-number-init : goal.loop-number-init
@@ -32,7 +32,7 @@ loop-number-preserved g c =
 pub returns-in_err-end-clause-stops : goal.returns-in_err-end-clause-stops
 returns-in_err-end-clause-stops g c =
     let exit = err_from_is_err_and c.from_residual.result c.from_residual.ensures.1 in
-    told_out c.from_residual.result _ exit.0 c.in_err-end.field-0.0 exit.1 exit.2
+    reported_out c.from_residual.result _ exit.0 c.in_err-end.field-0.0 exit.1 exit.2
     (stops_at g.R.RunOfJobs.before c.args.job.now c.args.seen.now c.loop-number.number c.try_attempt.new.seen (state_of c.loop-number.attempt c.loop-number.seen)
     c.in_err-end.field-0.0 c.loop-number.invariant.lost (omega arith) c.in_err-end.ensures.stops)
 

@@ -1,7 +1,7 @@
 use Rattle.std.proofs.Common.{arith}
 use Rattle.std.proofs.lemmas.Result.{err_from_is_err_and}
 use Rattle.stm_workers.specs.Attempts.{state_of}
-use Rattle.stm_workers.proofs.AttemptLemmas.{told_out, none_fetched, one_fetched, stops_there}
+use Rattle.stm_workers.proofs.AttemptLemmas.{reported_out, none_fetched, one_fetched, stops_there}
 use Rattle.stm_workers.proofs.executor.Executor.evaluate.Goals as goal
 
 pub loop-init : goal.loop-init
@@ -14,7 +14,7 @@ loop-init g c = record {
 pub returns-in_err-ready-clause-stops : goal.returns-in_err-ready-clause-stops
 returns-in_err-ready-clause-stops g c =
     let exit = err_from_is_err_and c.from_residual.result c.from_residual.ensures.1 in
-    told_out c.from_residual.result _ exit.0 c.in_err-ready.field-0.0 exit.1 exit.2
+    reported_out c.from_residual.result _ exit.0 c.in_err-ready.field-0.0 exit.1 exit.2
     (stops_there g.R.RunOfJobs.before c.args.job.now (state_of c.args.attempt.now c.args.seen.now) (state_of c.loop.attempt c.loop.seen) _ _ c.loop.invariant.fetched
     c.in_err-ready.ensures.stops)
 

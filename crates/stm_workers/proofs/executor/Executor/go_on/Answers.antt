@@ -7,7 +7,7 @@ use Rattle.stm_attempt.specs.AttemptState.{AttemptState, advanced, supplied, sup
 use Rattle.stm_workers.specs.declared.stop.Stop.TheVariants.{OutOfMemory}
 use Rattle.stm_outcome.specs.Commits.{AreNamed}
 use Rattle.stm_workers.specs.Attempts.{state_of, AreAnswered, AreUnanswered}
-use Rattle.stm_workers.proofs.AttemptLemmas.{told_out, fetch_stops, list_stops}
+use Rattle.stm_workers.proofs.AttemptLemmas.{reported_out, fetch_stops, list_stops}
 use Rattle.stm_workers.proofs.executor.Executor.go_on.Goals as goal
 
 pub advance_to_end-requires : goal.advance_to_end-requires
@@ -97,7 +97,7 @@ returns-in-Aborted-clause-stops g c = inr (
     run = c.in-Aborted.run';
     has_list = aborted_has_list c.args.job.now.program c.args.attempt.now.level c.args.attempt.now.known c.in-Aborted.run' (sym c.in_ok-next.ensures.next ∙ c.in-Aborted.is);
     is_run = aborted_is_run c.args.job.now.program c.args.attempt.now.level c.args.attempt.now.known c.in-Aborted.run' (sym c.in_ok-next.ensures.next ∙ c.in-Aborted.is);
-    told = c.of_run.ensures.end;
+    reported = c.of_run.ensures.end;
     reads = c.of_run.ensures.reads ∙ ap (λ (rs : List ReadAnswer). Some rs) (reads_taken c.args.job.now.program c.args.attempt.now c.advance_to_end.new.self
         c.take_reads.result (left_at_abort (advanced c.args.job.now.program c.args.attempt.now) c.advance_to_end.new.self c.in_ok-next.next c.in-Aborted.run' c.in_ok-next.ensures.left c.in-Aborted.is) c.take_reads.ensures.reads);
   }),
@@ -110,7 +110,7 @@ returns-in-Faulted-clause-stops g c = inr (
     run = c.in-Faulted.run';
     has_list = faulted_has_list c.args.job.now.program c.args.attempt.now.level c.args.attempt.now.known c.in-Faulted.run' (sym c.in_ok-next.ensures.next ∙ c.in-Faulted.is);
     is_run = faulted_is_run c.args.job.now.program c.args.attempt.now.level c.args.attempt.now.known c.in-Faulted.run' (sym c.in_ok-next.ensures.next ∙ c.in-Faulted.is);
-    told = c.of_run-in-Faulted.ensures.end;
+    reported = c.of_run-in-Faulted.ensures.end;
     reads = c.of_run-in-Faulted.ensures.reads
         ∙ ap (λ (rs : List ReadAnswer). Some rs) (reads_taken c.args.job.now.program c.args.attempt.now c.advance_to_end.new.self
         c.take_reads-in-Faulted.result (left_at_fault (advanced c.args.job.now.program c.args.attempt.now) c.advance_to_end.new.self c.in_ok-next.next c.in-Faulted.run' c.in_ok-next.ensures.left c.in-Faulted.is)
@@ -122,24 +122,24 @@ returns-in-Faulted-clause-stops g c = inr (
 pub returns-in_err-next-clause-stops : goal.returns-in_err-next-clause-stops
 returns-in_err-next-clause-stops g c =
     let exit = err_from_is_err_and c.from_residual.result c.from_residual.ensures.1 in
-    told_out c.from_residual.result _ exit.0 OutOfMemory exit.1 exit.2 (inl refl)
+    reported_out c.from_residual.result _ exit.0 OutOfMemory exit.1 exit.2 (inl refl)
 
 pub returns-in_err-answer-in-Fetch-clause-stops : goal.returns-in_err-answer-in-Fetch-clause-stops
 returns-in_err-answer-in-Fetch-clause-stops g c =
     let exit = err_from_is_err_and c.from_residual-in_err-answer-in-Fetch.result c.from_residual-in_err-answer-in-Fetch.ensures.1 in
-    told_out c.from_residual-in_err-answer-in-Fetch.result _ exit.0 c.in_err-answer-in-Fetch.field-0.0 exit.1 exit.2
+    reported_out c.from_residual-in_err-answer-in-Fetch.result _ exit.0 c.in_err-answer-in-Fetch.field-0.0 exit.1 exit.2
     (fetch_stops g.R.RunOfJobs.before c.args.job.now (state_of c.args.attempt.now c.args.seen.now) c.in-Fetch.key c.in-Fetch.at _ _ (sym c.in_ok-next.ensures.next ∙ c.in-Fetch.is)
     c.in_err-answer-in-Fetch.ensures.refused c.in_err-answer-in-Fetch.ensures.stopped)
 
 pub returns-in_err-supply-in-Fetch-clause-stops : goal.returns-in_err-supply-in-Fetch-clause-stops
 returns-in_err-supply-in-Fetch-clause-stops g c =
     let exit = err_from_is_err_and c.from_residual-in_err-supply-in-Fetch.result c.from_residual-in_err-supply-in-Fetch.ensures.1 in
-    told_out c.from_residual-in_err-supply-in-Fetch.result _ exit.0 OutOfMemory exit.1 exit.2 (inl refl)
+    reported_out c.from_residual-in_err-supply-in-Fetch.result _ exit.0 OutOfMemory exit.1 exit.2 (inl refl)
 
 pub returns-in_err-answers-in-FetchAll-clause-stops : goal.returns-in_err-answers-in-FetchAll-clause-stops
 returns-in_err-answers-in-FetchAll-clause-stops g c =
     let exit = err_from_is_err_and c.from_residual-in_err-answers-in-FetchAll.result c.from_residual-in_err-answers-in-FetchAll.ensures.1 in
-    told_out c.from_residual-in_err-answers-in-FetchAll.result _ exit.0 c.in_err-answers-in-FetchAll.field-0.0 exit.1 exit.2
+    reported_out c.from_residual-in_err-answers-in-FetchAll.result _ exit.0 c.in_err-answers-in-FetchAll.field-0.0 exit.1 exit.2
     (list_stops g.R.RunOfJobs.before c.args.job.now (state_of c.args.attempt.now c.args.seen.now) c.in-FetchAll.keys _ _ _ (sym c.in_ok-next.ensures.next ∙ c.in-FetchAll.is)
     (subst (λ (l : List (List ℕ)). (c.in_err-answers-in-FetchAll.field-0.0 ≡ OutOfMemory) ⊎ AreUnanswered g.R.RunOfJobs.before c.args.seen.now l c.in_err-answers-in-FetchAll.field-0.0)
     c.as_slice.ensures c.in_err-answers-in-FetchAll.ensures.refused)
@@ -148,4 +148,4 @@ returns-in_err-answers-in-FetchAll-clause-stops g c =
 pub returns-in_err-supply_all-in-FetchAll-clause-stops : goal.returns-in_err-supply_all-in-FetchAll-clause-stops
 returns-in_err-supply_all-in-FetchAll-clause-stops g c =
     let exit = err_from_is_err_and c.from_residual-in_err-supply_all-in-FetchAll.result c.from_residual-in_err-supply_all-in-FetchAll.ensures.1 in
-    told_out c.from_residual-in_err-supply_all-in-FetchAll.result _ exit.0 OutOfMemory exit.1 exit.2 (inl refl)
+    reported_out c.from_residual-in_err-supply_all-in-FetchAll.result _ exit.0 OutOfMemory exit.1 exit.2 (inl refl)

@@ -10,4 +10,4 @@ returns-in-Ok-clause-came g c = inl c.in-Ok.ensures.ends
 
 pub returns-in-Err-clause-came : goal.returns-in-Err-clause-came
 returns-in-Err-clause-came g c =
-    IfOk-weaker c.end.result _ _ (λ end told. ends_by_stop g.R.RunOfJobs.before _ _ _ _ c.in-Err.stop end told c.in-Err.ensures.stops) c.end.ensures.told
+    IfOk-weaker c.end.result _ _ (λ end reported. ends_by_stop g.R.RunOfJobs.before _ _ _ _ c.in-Err.stop end reported c.in-Err.ensures.stops) c.end.ensures.reported

@@ -3,7 +3,7 @@ use Rattle.std.proofs.lemmas.Result.{err_from_is_err_and}
 use Rattle.stm_attempt.specs.ReadyRun.{ReadyRun}
 use Rattle.stm_workers.specs.declared.stop.Stop.TheVariants.{OutOfMemory}
 use Rattle.stm_workers.specs.Calls.{JudgedInSomeHall, is_run_of_some}
-use Rattle.stm_workers.proofs.AttemptLemmas.{told_out, judged_so}
+use Rattle.stm_workers.proofs.AttemptLemmas.{reported_out, judged_so}
 use Rattle.stm_workers.proofs.executor.Executor.send.Goals as goal
 
 -- what was prepared is the attempt
@@ -14,7 +14,7 @@ commit-verdict-requires-clause-of_a_job g c =
 pub returns-in_err-prepared-clause-refused : goal.returns-in_err-prepared-clause-refused
 returns-in_err-prepared-clause-refused g c =
     let exit = err_from_is_err_and c.from_residual.result c.from_residual.ensures.1 in
-    told_out c.from_residual.result _ exit.0 OutOfMemory exit.1 exit.2 (inl refl)
+    reported_out c.from_residual.result _ exit.0 OutOfMemory exit.1 exit.2 (inl refl)
 
 pub returns-in-Ok-clause-judged : goal.returns-in-Ok-clause-judged
 returns-in-Ok-clause-judged g c =
@@ -27,5 +27,5 @@ returns-in-Err-clause-refused g c = inr (record {
   cause = c.in-Err.refusal;
   by_hall = judged_so g.R.RunOfJobs.before c.args.ready c.commit-verdict.result (Err c.in-Err.refusal) c.in-Err.is
       (subst (λ (r : ReadyRun). JudgedInSomeHall g.R.RunOfJobs.before r c.commit-verdict.result) c.in_ok-prepared.ensures c.commit-verdict.ensures.judged);
-  told = c.of_commit.ensures;
+  reported = c.of_commit.ensures;
 })

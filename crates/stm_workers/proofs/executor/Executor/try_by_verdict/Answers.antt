@@ -22,7 +22,7 @@ returns-clause-stopped g c =
 -- ---- what it comes to
 
 pub returns-clause-ends : goal.returns-clause-ends
-returns-clause-ends g c = ends_by g.R.RunOfJobs.before _ _ _ _ _ _ c.in_ok-verdict.ensures.tried c.after_verdict.ensures.told
+returns-clause-ends g c = ends_by g.R.RunOfJobs.before _ _ _ _ _ _ c.in_ok-verdict.ensures.tried c.after_verdict.ensures.reported
 
 pub returns-clause-fails : goal.returns-clause-fails
 returns-clause-fails g c = fails_by g.R.RunOfJobs.before _ _ _ _ _ _ c.in_ok-verdict.ensures.tried c.after_verdict.ensures.next

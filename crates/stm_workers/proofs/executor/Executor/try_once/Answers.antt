@@ -1,6 +1,6 @@
 use Rattle.std.proofs.lemmas.Result.{err_from_is_err_and}
 use Rattle.stm_workers.specs.Attempts.{state_of}
-use Rattle.stm_workers.proofs.AttemptLemmas.{told_out, commit_stops}
+use Rattle.stm_workers.proofs.AttemptLemmas.{reported_out, commit_stops}
 use Rattle.stm_workers.proofs.LockedLemmas.{ready_of_some}
 use Rattle.stm_workers.proofs.executor.Executor.try_once.Goals as goal
 
@@ -26,6 +26,6 @@ returns-clause-tried g c = record {
 pub returns-in_err-verdict-clause-stops : goal.returns-in_err-verdict-clause-stops
 returns-in_err-verdict-clause-stops g c =
     let exit = err_from_is_err_and c.from_residual-in_err-verdict.result c.from_residual-in_err-verdict.ensures.1 in
-    told_out c.from_residual-in_err-verdict.result _ exit.0 c.in_err-verdict.field-0.0 exit.1 exit.2
+    reported_out c.from_residual-in_err-verdict.result _ exit.0 c.in_err-verdict.field-0.0 exit.1 exit.2
     (commit_stops g.R.RunOfJobs.before c.args.job.now (state_of c.args.attempt.now c.args.seen.now) c.in_ok-ready.ready c.in_err-verdict.field-0.0 c.evaluate.new.seen
     c.in_ok-ready.ensures.evaluated c.in_err-verdict.ensures.refused)

@@ -1,7 +1,0 @@
-use Rattle.std.proofs.Common.{◌≡◌, take, map}
-use Rattle.stm_retry.specs.RunnerTells.{key_read}
-use Rattle.stm_retry.proofs.runner_steps.reads_told.Given as goal
-
--- the answers so far are told
-abbrev pub invariant-loop-answer : goal.invariant-loop-answer
-invariant-loop-answer l = l.reads ≡ map key_read (take l.answer-index l.answers)

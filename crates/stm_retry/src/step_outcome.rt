@@ -1,0 +1,11 @@
+//! What a step of a runner tells.
+use stm_world::Reply;
+
+/// The reply to a step of a runner.
+#[derive(Drop)]
+pub(crate) enum StepOutcome {
+    /// The run goes on.
+    GoesOn(Reply),
+    /// The run is over.
+    Ends(Reply),
+}

@@ -1,0 +1,247 @@
+-- What a watcher is told once the oldest revisions are dropped, and once it was told more.
+use Rattle.std.proofs.Common.{◌≡◌, ℕ, zero, suc, ◌-◌, ◌≤◌, ◌<◌, max, Bool, true, false, cond, List, [], ◌∷◌, ◌++◌, length, map, take, Option, Some, None}
+use Rattle.std.proofs.Common.{refl, sym, ◌∙◌, ap, arith, inl, inr}
+use Rattle.std.specs.Prelude.{nat_lt, nat_le}
+use Rattle.std.proofs.lemmas.Bool.{cases_lt, lt-ltb, le-ltb, ltb-true, ltb-false}
+use Rattle.stm_history.specs.declared.change.Change.{Change}
+use Rattle.stm_history.specs.declared.change.Change.TheVariants.{Put, Del}
+use Rattle.stm_history.specs.declared.key_state.KeyState.{KeyState}
+use Rattle.stm_history.specs.Opening.{Opening, opened_state}
+use Rattle.stm_history.specs.History.{History, number_of_last, now, key_after, revisions_up_to, state_after_put}
+use Rattle.stm_history.specs.Cut.{revisions_above, opening_of_cut, cut}
+use Rattle.stm_history.proofs.HistoryLaws.{last_is_above}
+use Rattle.stm_history.proofs.CutLaws.{taken_above, none_above, next_number, cut_key, cut_off, cut_at_the_opening, opened_by_cut}
+use Rattle.stm_keys.specs.declared.event.Event.{Event}
+use Rattle.stm_keys.specs.declared.event.Event.TheVariants.{Put as PutEvent}
+use Rattle.stm_keys.specs.Events.{event_of, events_above}
+use Rattle.stm_watch.specs.declared.pending_revision.PendingRevision.{PendingRevision}
+use Rattle.stm_watch.specs.declared.watched.Watched.{Watched}
+use Rattle.stm_watch.specs.Watching.{Watching}
+use Rattle.stm_watch.specs.Places.{is_lost}
+use Rattle.stm_watch.specs.Pending.{matching, pending_of_revision, pending_above, pending, number_of_first, first_pending, last_number, batch_of, after_poll}
+use Rattle.stm_watch.proofs.Notifying.{nothing_above, from_the_later, head_is}
+
+-- what is told of a revision with these events
+abbrev part_of : ℕ → Watched → List Event → Bool → List PendingRevision
+part_of number watched events above = cond above (pending_of_revision number (matching watched events)) []
+
+-- ---- a history without its oldest revisions
+
+same_event : (number : ℕ) (old new : List ℕ → Option KeyState) (c : Change) → ((key : List ℕ) → old key ≡ new key) → event_of number old c ≡ event_of number new c
+same_event number old new (Put key value lease) same = ap (λ (s : Option KeyState). PutEvent key (state_after_put number value lease s)) (same key)
+same_event number old new (Del key) same = refl
+
+same_events : (number : ℕ) (old new : List ℕ → Option KeyState) (cs : List Change) → ((key : List ℕ) → old key ≡ new key)
+    → map (event_of number old) cs ≡ map (event_of number new) cs
+same_events number old new [] same = refl
+same_events number old new (c ∷ cs) same =
+    ap (λ (e : Event). e ∷ map (event_of number old) cs) (same_event number old new c same)
+    ∙ ap (λ (es : List Event). event_of number new c ∷ es) (same_events number old new cs same)
+
+-- above a number that both are below, it does not matter which one was seen
+same_test : (seen below number : ℕ) → below < number → nat_lt seen number ≡ nat_lt (max seen below) number
+same_test seen below number less = elim (cases_lt seen number) [
+  | inl before ↦ lt-ltb seen number before ∙ sym (lt-ltb (max seen below) number (omega (arith, before, less)))
+  | inr after ↦ le-ltb seen number after ∙ sym (le-ltb (max seen below) number (omega (arith, after)))
+]
+
+-- one opening above another, on the way of these revisions
+module _ (old new : Opening) (above : old.number ≤ new.number) (seen : ℕ) (watched : Watched) where
+  reported_above_cut : (revisions : List (List Change)) → new.number ≤ number_of_last old revisions
+      → ((key : List ℕ) → opened_state new key ≡ key_after old key (revisions_up_to old new.number revisions))
+      → pending_above new seen watched (revisions_above old new.number revisions) ≡ pending_above old (max seen new.number) watched revisions
+  reported_above_cut [] reached opened = refl
+  reported_above_cut (changes ∷ older) reached opened =
+      let part : List (List Change) = revisions_above old new.number older in
+      let n : ℕ = number_of_last old (changes ∷ older) in
+      let before : List PendingRevision = pending_above old (max seen new.number) watched older in
+      elim (cases_lt new.number n) [
+        | inl less ↦
+            let still : (key : List ℕ) → opened_state new key ≡ key_after old key (revisions_up_to old new.number older) =
+            λ key. opened key ∙ ap (key_after old key) (last_is_above old new.number changes older less) in
+            ap (pending_above new seen watched) (taken_above old new.number changes older less)
+            ∙ ap (λ (ts : List PendingRevision). ts ++ part_of (number_of_last new (changes ∷ part)) watched (events_above new changes part)
+            (nat_lt seen (number_of_last new (changes ∷ part))))
+            (reported_above_cut older (omega (arith, less)) still)
+            ∙ ap (λ (m : ℕ). before ++ part_of m watched (map (event_of m (λ key. key_after new key part)) changes) (nat_lt seen m))
+            (next_number old new above changes older (omega (arith, less)))
+            ∙ ap (λ (es : List Event). before ++ part_of n watched es (nat_lt seen n))
+            (same_events n (λ key. key_after new key part) (λ key. key_after old key older) changes
+            (λ key. cut_key old new above key older (omega (arith, less)) (still key)))
+            ∙ ap (λ b. before ++ part_of n watched (events_above old changes older) b) (same_test seen new.number n less)
+        | inr more ↦
+            ap (pending_above new seen watched) (none_above old new.number changes older more)
+            ∙ sym (nothing_above old (max seen new.number) watched (changes ∷ older) (omega (arith, more)))
+      ]
+
+-- A history that was cut tells what the whole one tells above the cut.
+pub reported_cut : (h : History) (number seen : ℕ) (watched : Watched) → number ≤ now h →
+    pending_above (cut number h).opening seen watched (cut number h).revisions ≡ pending_above h.opening (max seen number) watched h.revisions
+reported_cut h number seen watched reached = elim (cases_lt h.opening.number number) [
+  | inl less ↦
+      ap (λ (g : History). pending_above g.opening seen watched g.revisions) (cut_off number h less)
+      ∙ reported_above_cut h.opening (opening_of_cut number h) (omega (arith, less)) seen watched h.revisions reached
+      (λ key. opened_by_cut number h key (omega (arith, less)))
+  | inr more ↦
+      let same : max seen h.opening.number ≡ max (max seen number) h.opening.number = omega (arith, more) in
+      ap (λ (g : History). pending_above g.opening seen watched g.revisions) (cut_at_the_opening h number more)
+      ∙ from_the_later h.opening seen watched h.revisions
+      ∙ ap (λ (n : ℕ). pending_above h.opening n watched h.revisions) same
+      ∙ sym (from_the_later h.opening (max seen number) watched h.revisions)
+]
+
+-- ---- a watcher that is not lost
+
+first_part : (floor : ℕ) (ts us : List PendingRevision) → is_lost floor (number_of_first (ts ++ us)) ≡ false → is_lost floor (number_of_first ts) ≡ false
+first_part floor [] us not = refl
+first_part floor (t ∷ ts) us not = not
+
+none_below : (floor number : ℕ) (es : List Event) (b : Bool) → number < floor → is_lost floor (number_of_first (cond b (pending_of_revision number es) [])) ≡ false
+    → cond b (pending_of_revision number es) [] ≡ []
+none_below floor number [] true less not = refl
+none_below floor number [] false less not = refl
+none_below floor number (e ∷ es) true less not = let is : nat_lt number floor ≡ true = lt-ltb number floor less in absurd (cc)
+none_below floor number (e ∷ es) false less not = refl
+
+-- what is below the floor is passed over
+passed_over : (floor : ℕ) (opening : Opening) (seen below : ℕ) (watched : Watched) (revisions : List (List Change)) → below < floor
+    → is_lost floor (number_of_first (pending_above opening seen watched revisions)) ≡ false
+    → pending_above opening (max seen below) watched revisions ≡ pending_above opening seen watched revisions
+passed_over floor opening seen below watched [] less not = refl
+passed_over floor opening seen below watched (changes ∷ older) less not =
+    let n : ℕ = number_of_last opening (changes ∷ older) in
+    let shown : List Event = events_above opening changes older in
+    let before : List PendingRevision = pending_above opening seen watched older in
+    let same : pending_above opening (max seen below) watched older ≡ before =
+    passed_over floor opening seen below watched older less (first_part floor before (part_of n watched shown (nat_lt seen n)) not) in
+    elim (cases_lt below n) [
+      | inl above ↦
+          ap (λ (ts : List PendingRevision). ts ++ part_of n watched shown (nat_lt (max seen below) n)) same
+          ∙ ap (λ b. before ++ part_of n watched shown b) (sym (same_test seen below n above))
+      | inr within ↦
+          let none : before ≡ [] = sym same ∙ nothing_above opening (max seen below) watched older (omega (arith, within)) in
+          let not_last : is_lost floor (number_of_first (part_of n watched shown (nat_lt seen n))) ≡ false =
+          ap (λ (ts : List PendingRevision). is_lost floor (number_of_first (ts ++ part_of n watched shown (nat_lt seen n)))) (sym none) ∙ not in
+          nothing_above opening (max seen below) watched (changes ∷ older) (omega (arith, within))
+          ∙ sym (ap (λ (ts : List PendingRevision). ts ++ part_of n watched shown (nat_lt seen n)) none
+          ∙ none_below floor n (matching watched shown) (nat_lt seen n) (omega (arith, within, less)) not_last)
+    ]
+
+-- A watcher that is not lost at a floor is told the same once the revisions below the floor are dropped.
+pub followed_cut : (h : History) (floor seen : ℕ) (watched : Watched) → floor ≤ now h
+    → is_lost floor (number_of_first (pending_above h.opening seen watched h.revisions)) ≡ false
+    → pending_above (cut (floor - 1) h).opening seen watched (cut (floor - 1) h).revisions ≡ pending_above h.opening seen watched h.revisions
+followed_cut h floor seen watched reached not = elim (cases_lt 0 floor) [
+  | inl some ↦
+      reported_cut h (floor - 1) seen watched (omega (arith, reached))
+      ∙ passed_over floor h.opening seen (floor - 1) watched h.revisions (omega (arith, some)) not
+  | inr none ↦
+      let same : max seen (floor - 1) ≡ seen = omega (arith, none) in
+      reported_cut h (floor - 1) seen watched (omega (arith, reached)) ∙ ap (λ (n : ℕ). pending_above h.opening n watched h.revisions) same
+]
+
+-- nothing is pending of revisions up to the one that was seen
+first_case : (floor : ℕ) (opening : Opening) (seen : ℕ) (watched : Watched) (revisions : List (List Change)) (o : Option ℕ) → floor ≤ suc seen
+    → number_of_first (pending_above opening seen watched revisions) ≡ o → is_lost floor o ≡ false
+first_case floor opening seen watched revisions None le is = refl
+first_case floor opening seen watched revisions (Some number) le is =
+    le-ltb number floor (omega (arith, le, (head_is opening seen watched revisions number is).later))
+
+pub seen_not_lost : (floor : ℕ) (opening : Opening) (seen : ℕ) (watched : Watched) (revisions : List (List Change)) → floor ≤ suc seen
+    → is_lost floor (number_of_first (pending_above opening seen watched revisions)) ≡ false
+seen_not_lost floor opening seen watched revisions le =
+    first_case floor opening seen watched revisions (number_of_first (pending_above opening seen watched revisions)) le refl
+
+-- ---- a watcher that was told more
+
+both_parts : (floor : ℕ) (ts us : List PendingRevision) → is_lost floor (number_of_first ts) ≡ false → is_lost floor (number_of_first us) ≡ false
+    → is_lost floor (number_of_first (ts ++ us)) ≡ false
+both_parts floor [] us first second = second
+both_parts floor (t ∷ ts) us first second = first
+
+low_part : (floor number : ℕ) (es : List Event) (b : Bool) → nat_lt number floor ≡ false → is_lost floor (number_of_first (cond b (pending_of_revision number es) [])) ≡ false
+low_part floor number [] true not = refl
+low_part floor number [] false not = refl
+low_part floor number (e ∷ es) true not = not
+low_part floor number (e ∷ es) false not = refl
+
+module _ (floor : ℕ) (opening : Opening) (seen later : ℕ) (watched : Watched) (le : seen ≤ later) where
+  last_not_lost : (changes : List Change) (older : List (List Change)) (before : List PendingRevision) → pending_above opening seen watched older ≡ before
+      → is_lost floor (number_of_first (before
+      ++ part_of (number_of_last opening (changes ∷ older)) watched (events_above opening changes older) (nat_lt seen (number_of_last opening (changes ∷ older)))))
+      ≡ false
+      → is_lost floor (number_of_first (part_of (number_of_last opening (changes ∷ older)) watched (events_above opening changes older)
+      (nat_lt later (number_of_last opening (changes ∷ older))))) ≡ false
+  last_not_lost changes older [] is not =
+      let n : ℕ = number_of_last opening (changes ∷ older) in
+      elim (cases_lt later n) [
+        | inl less ↦
+            ap (λ b. is_lost floor (number_of_first (part_of n watched (events_above opening changes older) b)))
+            (lt-ltb later n less ∙ sym (lt-ltb seen n (omega (arith, le, less))))
+            ∙ not
+        | inr more ↦ ap (λ b. is_lost floor (number_of_first (part_of n watched (events_above opening changes older) b))) (le-ltb later n more)
+      ]
+  last_not_lost changes older (t ∷ ts) is not =
+      let n : ℕ = number_of_last opening (changes ∷ older) in
+      let reached = (head_is opening seen watched older t.number (ap number_of_first is)).reached in
+      low_part floor n (matching watched (events_above opening changes older)) (nat_lt later n)
+      (le-ltb n floor (omega (arith, reached, ltb-false t.number floor not)))
+
+  -- it stays so
+  not_lost_later : (revisions : List (List Change)) → is_lost floor (number_of_first (pending_above opening seen watched revisions)) ≡ false
+      → is_lost floor (number_of_first (pending_above opening later watched revisions)) ≡ false
+  not_lost_later [] not = refl
+  not_lost_later (changes ∷ older) not =
+      let n : ℕ = number_of_last opening (changes ∷ older) in
+      let shown : List Event = events_above opening changes older in
+      both_parts floor (pending_above opening later watched older) (part_of n watched shown (nat_lt later n))
+      (not_lost_later older (first_part floor (pending_above opening seen watched older) (part_of n watched shown (nat_lt seen n)) not))
+      (last_not_lost changes older (pending_above opening seen watched older) refl not)
+
+-- ---- up to where a poll tells
+
+abbrev AreAbove : ℕ → List PendingRevision → Type 0
+AreAbove seen [] = Unit {0}
+AreAbove seen (t ∷ ts) = (seen < t.number) × AreAbove seen ts
+
+above_append : (seen : ℕ) (ts us : List PendingRevision) → AreAbove seen ts → AreAbove seen us → AreAbove seen (ts ++ us)
+above_append seen [] us first second = second
+above_append seen (t ∷ ts) us first second = (first.0, above_append seen ts us first.1 second)
+
+above_part : (seen number : ℕ) (es : List Event) (b : Bool) → nat_lt seen number ≡ b → AreAbove seen (cond b (pending_of_revision number es) [])
+above_part seen number [] true less = tt
+above_part seen number [] false less = tt
+above_part seen number (e ∷ es) true less = (ltb-true seen number less, tt)
+above_part seen number (e ∷ es) false less = tt
+
+reported_are_above : (opening : Opening) (seen : ℕ) (watched : Watched) (revisions : List (List Change)) → AreAbove seen (pending_above opening seen watched revisions)
+reported_are_above opening seen watched [] = tt
+reported_are_above opening seen watched (changes ∷ older) =
+    let n : ℕ = number_of_last opening (changes ∷ older) in
+    let shown : List Event = events_above opening changes older in
+    above_append seen (pending_above opening seen watched older) (part_of n watched shown (nat_lt seen n)) (reported_are_above opening seen watched older)
+    (above_part seen n (matching watched shown) (nat_lt seen n) refl)
+
+above_take : (seen most : ℕ) (ts : List PendingRevision) → AreAbove seen ts → AreAbove seen (take most ts)
+above_take seen zero ts above = tt
+above_take seen (suc most) [] above = tt
+above_take seen (suc most) (t ∷ ts) above = (above.0, above_take seen most ts above.1)
+
+last_later : (seen last : ℕ) (ts : List PendingRevision) → seen ≤ last → AreAbove seen ts → seen ≤ last_number last ts
+last_later seen last [] le above = le
+last_later seen last (t ∷ ts) le above = last_later seen t.number ts (omega (arith, above.0)) above.1
+
+upto_later : (most : ℕ) (h : History) (w : Watching) → w.seen ≤ (batch_of most h w).upto
+upto_later most h w = by_test (nat_le (length (pending h w)) most)
+  where
+    by_test : (b : Bool) → w.seen ≤ cond b (max w.seen (now h)) (last_number w.seen (take most (pending h w)))
+    by_test true = omega arith
+    by_test false =
+        last_later w.seen w.seen (take most (pending h w)) (omega arith)
+        (above_take w.seen most (pending h w) (reported_are_above h.opening w.seen w.watched h.revisions))
+
+-- A poll loses no watcher.
+pub polled_not_lost : (floor most : ℕ) (h : History) (w : Watching) → is_lost floor (first_pending h w) ≡ false
+    → is_lost floor (first_pending h (after_poll most h w)) ≡ false
+polled_not_lost floor most h w not =
+    not_lost_later floor h.opening w.seen (batch_of most h w).upto w.watched (upto_later most h w) h.revisions not

@@ -1,0 +1,83 @@
+//! What watchers are told of a revision.
+ghost use Rattle.std.specs.Prelude.{◌≡◌, ◌++◌, [], ◌∷◌, IfOk, OnOk};
+ghost use Rattle.stm_watch.specs.Pending.{matching, is_any_pending, pending_of_revision};
+ghost use Rattle.stm_watch.specs.Walk.{first_above};
+
+use crate::watched::Watched;
+use std::alloc::{AllocError, Global};
+use stm_keys::{Event, Keys, Sequence};
+
+/// A revision's events for a watcher, in the order of operations.
+#[derive(Debug, Drop)]
+pub struct PendingRevision {
+    /// The revision's number.
+    pub number: u64,
+    /// Its events that match.
+    pub events: Sequence<Event>,
+}
+
+/// Whether one of these events is of a key that is watched.
+fn has_any(watched: &Watched, events: &[Event]) -> bool
+    ensures { result ≡ is_any_pending (pending_of_revision 0 (matching watched.now events.now)) }
+{
+    for event in events {
+        if watched.has(event.key()) {
+            return true;
+        }
+    }
+    false
+}
+
+/// Puts a copy of an event behind these, where it is of a key that is watched.
+fn push_matching(
+    copies: &mut Vec<Event>,
+    watched: &Watched,
+    event: &Event,
+) -> Result<(), AllocError>
+    ensures { OnOk result (copies.new.items ≡ copies.old.items ++ matching watched.now (event.now ∷ [])) }
+{
+    if watched.has(event.key()) {
+        copies.push(event.clone()?)?;
+    }
+    Ok(())
+}
+
+/// Copies of those of these events that are of keys that are watched.
+pub(crate) fn copy_matching(
+    alloc: Global,
+    watched: &Watched,
+    events: &[Event],
+) -> Result<Vec<Event>, AllocError>
+    ensures { IfOk result (λ copies. copies.items ≡ matching watched.now events.now) }
+{
+    let mut copies = Vec::new(alloc);
+    for event in events {
+        push_matching(&mut copies, watched, event)?;
+    }
+    Ok(copies)
+}
+
+/// The first revision above one of which a watcher of a range is told something. It takes no memory.
+fn next_in_range(keys: &Keys, watched: &Watched, above: u64) -> Option<u64>
+    ensures { result ≡ first_above keys.now.history watched.now above }
+{
+    let mut passed = above.max(keys.below());
+    while passed < keys.revision() {
+        passed += 1;
+        if has_any(watched, keys.events_at(passed)) {
+            return Some(passed);
+        }
+    }
+    None
+}
+
+/// The first revision above one of which a watcher is told something: of a key by halves among the revisions that
+/// changed it, of a range by a walk over all. It takes no memory.
+pub(crate) fn next_number(keys: &Keys, watched: &Watched, above: u64) -> Option<u64>
+    ensures { result ≡ first_above keys.now.history watched.now above }
+{
+    match watched {
+        Watched::Key(key) => keys.next_change(key.as_str(), above),
+        Watched::Range { .. } => next_in_range(keys, watched, above),
+    }
+}

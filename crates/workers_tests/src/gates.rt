@@ -1,0 +1,453 @@
+//! Two workers are at work at once, and the lock is not held where a fetch or a commit is about to be made: job 0 is held there until
+//! job 1's commit was answered, which can't be on one thread. A job whose commit failed is attempted again, each end stands at the place of
+//! its job, and what a job at a serializable level reads is of one revision.
+ghost use Rattle.std.specs.Prelude.{◌≤◌};
+ghost use Rattle.stm_workers.specs.declared.run.TheConstants.{MOST_WORKERS};
+
+use crate::ends::report_end;
+use crate::making::add_job;
+use std::alloc::{AllocError, Global};
+use std::process::Abort;
+use std::sync::Wait;
+use std::sync::atomic::{AtomicBool, AtomicU64, Ordering};
+use std::test::Fail;
+use std::thread;
+use std::thread::Threads;
+use stm_program::Level;
+use stm_txn::Store;
+use stm_workers::{Gate, Gathered, Hall, Job, JobEnd, run_workers};
+
+/// How often a job that is held looks whether it may go on, where the sign is to come.
+const MANY_TURNS: u32 = 1000000;
+
+/// The same, where it can't come.
+const FEW_TURNS: u32 = 1000;
+
+/// Where job 0 is held until job 1's commit was answered.
+#[derive(Clone, Copy)]
+enum Place {
+    /// Before its fetch.
+    Fetch,
+    /// Before its commit.
+    Commit,
+    /// Before its commit; and job 1 before its own until job 0 stands there: so whatever job 0 reads, it reads before job 1's commit,
+    /// and sends its own after it.
+    CommitOnceBothStand,
+    /// Before its second fetch; and job 1 before its commit until job 0 stands there.
+    SecondFetch,
+}
+
+/// Holds the jobs, by what they tell each other.
+#[derive(Drop)]
+struct Holding {
+    place: Place,
+    /// How often a job that is held looks for a sign.
+    turns: u32,
+    /// Job 0 stands where it is held.
+    standing: AtomicBool,
+    /// Job 1's commit was answered.
+    answered: AtomicBool,
+    /// A sign that was waited for never came.
+    serial: AtomicBool,
+    /// How often job 0 has fetched a key or a list.
+    fetches: AtomicU64,
+}
+
+impl Holding {
+    fn new(place: Place, turns: u32) -> Holding {
+        Holding {
+            place,
+            turns,
+            standing: AtomicBool::new(false),
+            answered: AtomicBool::new(false),
+            serial: AtomicBool::new(false),
+            fetches: AtomicU64::new(0),
+        }
+    }
+
+    /// Waits for a sign, and remembers if it never came.
+    fn wait_for(&self, sign: &AtomicBool) {
+        for _ in 0..self.turns {
+            if sign.load(Ordering::SeqCst) {
+                return;
+            }
+            thread::yield_now();
+        }
+        self.serial.store(true, Ordering::SeqCst);
+    }
+
+    /// Holds job 0 where it is, until job 1's commit was answered.
+    fn hold(&self) {
+        self.standing.store(true, Ordering::SeqCst);
+        self.wait_for(&self.answered);
+    }
+
+    /// Holds job 0 before its commit.
+    fn hold_commit(&self) {
+        if matches!(self.place, Place::Commit | Place::CommitOnceBothStand) {
+            self.hold();
+        }
+    }
+
+    /// Holds job 0 before a fetch, before which it has made so many.
+    fn hold_fetch(&self, made: u64) {
+        if matches!(self.place, Place::Fetch)
+            || (made == 1 && matches!(self.place, Place::SecondFetch))
+        {
+            self.hold();
+        }
+    }
+
+    /// Whether the jobs were at work at once.
+    fn manner(&self) -> &'static str {
+        if self.serial.load(Ordering::SeqCst) {
+            "serial"
+        } else {
+            "at once"
+        }
+    }
+}
+
+impl Gate for Holding {
+    fn before_fetch(&self, job: usize) {
+        if job != 0 {
+            return;
+        }
+        let made = self.fetches.fetch_add(1, Ordering::SeqCst);
+        self.hold_fetch(made);
+    }
+
+    fn before_commit(&self, job: usize) {
+        if job == 0 {
+            self.hold_commit();
+        } else if matches!(self.place, Place::CommitOnceBothStand | Place::SecondFetch) {
+            self.wait_for(&self.standing);
+        }
+    }
+
+    fn after_commit(&self, job: usize) {
+        if job == 1 {
+            self.answered.store(true, Ordering::SeqCst);
+        }
+    }
+}
+
+/// Adds two jobs, of which each may send so many commits.
+fn add_two(alloc: Global, jobs: &mut Vec<Job>, texts: (&str, &str), limit: u32) -> Result<(), Fail>
+    requires { 1 ≤ limit }
+{
+    add_job(alloc, jobs, Level::SerializableSnapshot, texts.0, limit)?;
+    add_job(alloc, jobs, Level::SerializableSnapshot, texts.1, limit)
+}
+
+/// How job 0 ended.
+fn report_first(reported: &mut String, ends: &[JobEnd]) -> Result<(), AllocError> {
+    match ends.first() {
+        Some(end) => report_end(reported, end),
+        None => Ok(()),
+    }
+}
+
+/// How many attempts of job 0 were made.
+fn attempts_of_first(attempts: &[u32]) -> u32 {
+    match attempts.first() {
+        Some(made) => *made,
+        None => 0,
+    }
+}
+
+/// Whether `p` is "1" now.
+fn has_put_p(hall: &Hall) -> Result<bool, AllocError> {
+    let state = hall.state()?;
+    match state.get("p") {
+        None => Ok(false),
+        Some(entry) => Ok(entry.value.as_str() == "1"),
+    }
+}
+
+/// The same, as it is told.
+fn p_now(hall: &Hall) -> Result<&'static str, AllocError> {
+    if has_put_p(hall)? {
+        Ok("is 1")
+    } else {
+        Ok("is not 1")
+    }
+}
+
+/// What is told of a run, in a line: whether the jobs were at work at once, how many committed, the store's revision, whether `p` is
+/// "1", and of job 0 how many keys it fetched, how many attempts of it were made, and how it ended.
+fn report_run(
+    reported: &mut String,
+    holding: &Holding,
+    gathered: &Gathered,
+) -> Result<(), AllocError> {
+    let put = p_now(&gathered.hall)?;
+    write!(
+        reported,
+        "{}: {} committed, revision {}, p {put}, {} fetched, {} attempts, ",
+        holding.manner(),
+        gathered.committed,
+        gathered.hall.revision(),
+        holding.fetches.load(Ordering::SeqCst),
+        attempts_of_first(gathered.attempts.as_slice())
+    )?;
+    report_first(reported, gathered.ends.as_slice())
+}
+
+/// What jobs come to on an empty hall.
+fn report_jobs<W: Threads + Wait + Sync>(
+    rt: &W,
+    alloc: Global,
+    reported: &mut String,
+    jobs: &[Job],
+    workers: usize,
+    holding: &Holding,
+) -> Result<(), Fail>
+    requires { (1 ≤ workers) × (workers ≤ MOST_WORKERS) }
+{
+    let store = Store::new(alloc)?;
+    match run_workers(rt, alloc, jobs, workers, Hall::new(alloc, store), holding) {
+        Ok(gathered) => {
+            let done = report_run(reported, holding, &gathered);
+            drop(gathered);
+            Ok(done?)
+        }
+        Err(fault) => {
+            drop(fault);
+            Err(Fail::from("the run was broken off"))
+        }
+    }
+}
+
+/// Adds two jobs, of which each may send so many commits, and tells what they come to.
+fn report_two<W: Threads + Wait + Sync>(
+    rt: &W,
+    alloc: Global,
+    reported: &mut String,
+    jobs: &mut Vec<Job>,
+    texts: (&str, &str),
+    limit: u32,
+    workers: usize,
+    holding: &Holding,
+) -> Result<(), Fail>
+    requires { (1 ≤ limit) × (1 ≤ workers) × (workers ≤ MOST_WORKERS) }
+{
+    add_two(alloc, jobs, texts, limit)?;
+    report_jobs(rt, alloc, reported, jobs.as_slice(), workers, holding)
+}
+
+fn reported_of_two<W: Threads + Wait + Sync>(
+    rt: &W,
+    alloc: Global,
+    texts: (&str, &str),
+    limit: u32,
+    workers: usize,
+    holding: &Holding,
+) -> Result<String, Fail>
+    requires { (1 ≤ limit) × (1 ≤ workers) × (workers ≤ MOST_WORKERS) }
+{
+    let mut reported = String::new(alloc);
+    let mut jobs = Vec::new(alloc);
+    let done = report_two(
+        rt,
+        alloc,
+        &mut reported,
+        &mut jobs,
+        texts,
+        limit,
+        workers,
+        holding,
+    );
+    drop(jobs);
+    done?;
+    Ok(reported)
+}
+
+/// Asserts what two jobs come to on an empty hall, of which each may send so many commits.
+fn is_reported<W: Threads + Wait + Sync + Abort>(
+    rt: &W,
+    alloc: Global,
+    holding: &Holding,
+    texts: (&str, &str),
+    limit: u32,
+    workers: usize,
+    expected: &str,
+) -> Result<(), Fail>
+    requires { (1 ≤ limit) × (1 ≤ workers) × (workers ≤ MOST_WORKERS) }
+{
+    let reported = reported_of_two(rt, alloc, texts, limit, workers, holding)?;
+    assert_eq!(rt; reported.as_str(), expected);
+    Ok(())
+}
+
+const PUT_P: &str = r#"[["put","p","1",0]]"#;
+
+const PUT_Q: &str = r#"[["put","q","1",0]]"#;
+
+const READ_Q: &str = r#"[["put","p",["get","q"],0]]"#;
+
+const EXTEND_P: &str = r#"[["put","p",["cat",["get","p"],"x"],0]]"#;
+
+const LISTED_P: &str = r#"[["prefetch",["p"]],["put","p","1",0]]"#;
+
+const LISTED_Q: &str = r#"[["prefetch",["q"]],["put","q","1",0]]"#;
+
+const LISTED_READS: &str = r#"[["prefetch",["q","r"]],["put","p",["get","q"],0]]"#;
+
+const PUT_BOTH: &str = r#"[["put","a","1",0],["put","b","1",0]]"#;
+
+const READ_BOTH: &str = r#"[["abort",["cat",["get","a"],["get","b"]]]]"#;
+
+#[test]
+fn two_workers_are_at_work_at_once(rt: HostRuntime) -> Result<(), Fail> {
+    let holding = Holding::new(Place::Commit, MANY_TURNS);
+    let expected =
+        "at once: 2 committed, revision 3, p is 1, 0 fetched, 1 attempts, commit 1 at 3; ";
+    is_reported(&rt, rt.alloc(), &holding, (PUT_P, PUT_Q), 1, 2, expected)
+}
+
+#[test]
+fn one_worker_runs_one_job_after_another(rt: HostRuntime) -> Result<(), Fail> {
+    let holding = Holding::new(Place::Commit, FEW_TURNS);
+    let expected =
+        "serial: 2 committed, revision 3, p is 1, 0 fetched, 1 attempts, commit 0 at 2; ";
+    is_reported(&rt, rt.alloc(), &holding, (PUT_P, PUT_Q), 1, 1, expected)
+}
+
+// Each job has a list of one key, which is fetched before its commit.
+#[test]
+fn two_workers_with_lists_are_at_work_at_once(rt: HostRuntime) -> Result<(), Fail> {
+    let holding = Holding::new(Place::Commit, MANY_TURNS);
+    let expected =
+        "at once: 2 committed, revision 3, p is 1, 1 fetched, 1 attempts, commit 1 at 3; ";
+    is_reported(
+        &rt,
+        rt.alloc(),
+        &holding,
+        (LISTED_P, LISTED_Q),
+        1,
+        2,
+        expected,
+    )
+}
+
+#[test]
+fn one_worker_runs_one_job_with_a_list_after_another(rt: HostRuntime) -> Result<(), Fail> {
+    let holding = Holding::new(Place::Commit, FEW_TURNS);
+    let expected =
+        "serial: 2 committed, revision 3, p is 1, 1 fetched, 1 attempts, commit 0 at 2; ";
+    is_reported(
+        &rt,
+        rt.alloc(),
+        &holding,
+        (LISTED_P, LISTED_Q),
+        1,
+        1,
+        expected,
+    )
+}
+
+// No lock is held before the fetch of a list, which is one fetch for all its keys. Job 0 reads what job 1 put.
+#[test]
+fn no_lock_is_held_before_the_fetch_of_a_list(rt: HostRuntime) -> Result<(), Fail> {
+    let holding = Holding::new(Place::Fetch, MANY_TURNS);
+    let expected =
+        "at once: 2 committed, revision 3, p is 1, 1 fetched, 1 attempts, commit 1 at 3; ";
+    is_reported(
+        &rt,
+        rt.alloc(),
+        &holding,
+        (LISTED_READS, PUT_Q),
+        1,
+        2,
+        expected,
+    )
+}
+
+// Job 1 puts a key of the list of job 0 before that sends its commit. The next attempt has the list from the answers that came with the failed
+// commit, so it is fetched once.
+#[test]
+fn a_list_is_taken_from_the_answers_of_a_failed_commit(rt: HostRuntime) -> Result<(), Fail> {
+    let holding = Holding::new(Place::CommitOnceBothStand, MANY_TURNS);
+    let expected =
+        "at once: 2 committed, revision 3, p is 1, 1 fetched, 2 attempts, commit 1 at 3; ";
+    is_reported(
+        &rt,
+        rt.alloc(),
+        &holding,
+        (LISTED_READS, PUT_Q),
+        2,
+        2,
+        expected,
+    )
+}
+
+// Job 0 is about to fetch while job 1 commits, so no lock is held there. It reads what job 1 put.
+#[test]
+fn no_lock_is_held_before_a_fetch(rt: HostRuntime) -> Result<(), Fail> {
+    let holding = Holding::new(Place::Fetch, MANY_TURNS);
+    let expected =
+        "at once: 2 committed, revision 3, p is 1, 1 fetched, 1 attempts, commit 1 at 3; ";
+    is_reported(&rt, rt.alloc(), &holding, (READ_Q, PUT_Q), 1, 2, expected)
+}
+
+// With one worker nobody commits while job 0 stands before its fetch: so it is held there, in vain, and reads an absent key.
+#[test]
+fn one_worker_waits_before_its_fetch(rt: HostRuntime) -> Result<(), Fail> {
+    let holding = Holding::new(Place::Fetch, FEW_TURNS);
+    let expected =
+        "serial: 2 committed, revision 3, p is not 1, 1 fetched, 1 attempts, commit 0 at 2; ";
+    is_reported(&rt, rt.alloc(), &holding, (READ_Q, PUT_Q), 1, 1, expected)
+}
+
+// Job 0 reads a key that job 1 puts before job 0's commit is sent. It may send no more.
+#[test]
+fn a_job_gives_up_over_a_key_that_another_put(rt: HostRuntime) -> Result<(), Fail> {
+    let holding = Holding::new(Place::CommitOnceBothStand, MANY_TURNS);
+    let expected =
+        "at once: 1 committed, revision 2, p is not 1, 1 fetched, 1 attempts, gave up over q; ";
+    is_reported(&rt, rt.alloc(), &holding, (READ_Q, PUT_Q), 1, 2, expected)
+}
+
+// The same, but it may send one more: that one is evaluated on the answer that came with the failed commit, so the key is fetched once.
+#[test]
+fn a_job_is_sent_again_without_a_fetch(rt: HostRuntime) -> Result<(), Fail> {
+    let holding = Holding::new(Place::CommitOnceBothStand, MANY_TURNS);
+    let expected =
+        "at once: 2 committed, revision 3, p is 1, 1 fetched, 2 attempts, commit 1 at 3; ";
+    is_reported(&rt, rt.alloc(), &holding, (READ_Q, PUT_Q), 2, 2, expected)
+}
+
+// Both jobs have one program: job 1 commits first, and job 0 gives up. So their ends could be exchanged, and would still stand.
+#[test]
+fn ends_of_one_program_are_not_exchanged(rt: HostRuntime) -> Result<(), Fail> {
+    let holding = Holding::new(Place::CommitOnceBothStand, MANY_TURNS);
+    let expected =
+        "at once: 1 committed, revision 2, p is not 1, 1 fetched, 1 attempts, gave up over p; ";
+    is_reported(
+        &rt,
+        rt.alloc(),
+        &holding,
+        (EXTEND_P, EXTEND_P),
+        1,
+        2,
+        expected,
+    )
+}
+
+// Job 1 puts both keys between the two fetches of job 0. That reads them as they were together, and aborts with what it has read: nothing.
+#[test]
+fn an_abort_is_of_one_revision(rt: HostRuntime) -> Result<(), Fail> {
+    let holding = Holding::new(Place::SecondFetch, MANY_TURNS);
+    let expected =
+        "at once: 1 committed, revision 2, p is not 1, 2 fetched, 1 attempts, abort  on a of 1 on b of 1; ";
+    is_reported(
+        &rt,
+        rt.alloc(),
+        &holding,
+        (READ_BOTH, PUT_BOTH),
+        1,
+        2,
+        expected,
+    )
+}

@@ -8,7 +8,7 @@ use Rattle.stm_history.specs.History.{History, now}
 use Rattle.stm_program.specs.Syntax.{ProgramTree}
 use Rattle.stm_program.specs.declared.level.Level.{Level}
 use Rattle.stm_outcome.specs.Commits.{revision_read}
-use Rattle.stm_compile.specs.Levels.{is_serializable}
+use Rattle.stm_program.specs.Levels.{is_serializable}
 use Rattle.stm_attempt.specs.Known.{serving}
 use Rattle.stm_attempt.specs.Settled.{run_on, wanted, answer_for, served}
 use Rattle.stm_attempt.specs.Fetches.{base_of, at_of, AllShow, HaveOneBase}

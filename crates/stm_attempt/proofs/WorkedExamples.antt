@@ -4,8 +4,8 @@ use Rattle.std.specs.Prelude.{codes, Some, None}
 use Rattle.stm_history.specs.declared.key_state.ReadAnswer.{ReadAnswer}
 use Rattle.stm_program.specs.Syntax.{ProgramTree, of_statements, Text, Get, Emit, End, Then}
 use Rattle.stm_program.specs.declared.level.Level.TheVariants.{Serializable}
-use Rattle.stm_meaning.specs.declared.value.Value.{Value}
-use Rattle.stm_meaning.specs.declared.value.Value.TheVariants.{Text as TextValue}
+use Rattle.stm_steps.specs.declared.value.Value.{Value}
+use Rattle.stm_steps.specs.declared.value.Value.TheVariants.{Text as TextValue}
 use Rattle.stm_steps.specs.Values.{key_in}
 use Rattle.stm_program.specs.Writes.{last_write}
 use Rattle.stm_steps.specs.Session.{fresh}

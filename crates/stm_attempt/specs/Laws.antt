@@ -4,7 +4,7 @@ use Rattle.stm_history.specs.declared.key_state.ReadAnswer.{ReadAnswer}
 use Rattle.stm_history.specs.History.{History, now}
 use Rattle.stm_program.specs.Syntax.{ProgramTree}
 use Rattle.stm_program.specs.declared.level.Level.{Level}
-use Rattle.stm_compile.specs.Levels.{is_serializable}
+use Rattle.stm_program.specs.Levels.{is_serializable}
 use Rattle.stm_outcome.specs.Commits.{revision_read}
 use Rattle.stm_attempt.specs.declared.next.Next.TheVariants.{Ready}
 use Rattle.stm_attempt.specs.Known.{Known}

@@ -7,7 +7,7 @@ pub mod AttemptState
 pub mod Next
 pub mod Progress
 pub mod Laws
-pub use Rattle.stm_compile.specs.Levels
+pub use Rattle.stm_program.specs.Levels
 pub use Rattle.stm_compile.specs.Answers
 pub use Rattle.stm_outcome.specs.Numbers
 pub mod Leaving

@@ -5,11 +5,11 @@ use Rattle.stm_program.specs.Syntax.{ProgramTree}
 use Rattle.stm_program.specs.declared.level.Level.{Level}
 use Rattle.stm_program.specs.declared.write.Write.{Write}
 use Rattle.stm_program.specs.Writes.{latest_writes}
-use Rattle.stm_meaning.specs.declared.value.Value.{Value}
-use Rattle.stm_meaning.specs.declared.trace_item.TraceItem.{TraceItem}
-use Rattle.stm_meaning.specs.declared.run.End.TheVariants.{Done}
-use Rattle.stm_meaning.specs.declared.run.Run.{Run}
-use Rattle.stm_meaning.specs.declared.run.Answered.TheVariants.{Ended}
+use Rattle.stm_steps.specs.declared.value.Value.{Value}
+use Rattle.stm_steps.specs.declared.trace_item.TraceItem.{TraceItem}
+use Rattle.stm_steps.specs.declared.run.End.TheVariants.{Done}
+use Rattle.stm_steps.specs.declared.run.Run.{Run}
+use Rattle.stm_steps.specs.declared.run.Answered.TheVariants.{Ended}
 use Rattle.stm_attempt.specs.Settled.{run_on}
 
 -- a program with its level, what it read, and what its run on that came to: its output, its trace, and the last write of each

@@ -2,7 +2,7 @@
 ghost use Rattle.std.specs.Prelude.{◌≡◌, true, None, Some, [], All, take, map, IfOk, OnOk, OnErr};
 ghost use Rattle.stm_history.specs.declared.key_state.ReadAnswer.{ReadAnswer as Answer};
 ghost use Rattle.stm_outcome.specs.Numbers.{ReadFits};
-ghost use Rattle.stm_compile.specs.Levels.{is_serializable};
+ghost use Rattle.stm_program.specs.Levels.{is_serializable};
 ghost use Rattle.stm_attempt.specs.Known.{HaveDistinctKeys};
 ghost use Rattle.stm_attempt.specs.Fetches.{ShowOneRevision};
 

@@ -3,9 +3,9 @@ ghost use Rattle.std.specs.Prelude.{◌≡◌, true, List, None, Some, IfOk, IfS
 ghost use Rattle.stm_history.specs.declared.key_state.ReadAnswer.{ReadAnswer};
 ghost use Rattle.stm_program.specs.Syntax.{ProgramTree};
 ghost use Rattle.stm_program.specs.Writes.{latest_writes};
-ghost use Rattle.stm_meaning.specs.declared.run.End.TheVariants.{Done};
-ghost use Rattle.stm_meaning.specs.declared.run.Run.{Run as FinishedRun};
-ghost use Rattle.stm_meaning.specs.declared.run.Answered.TheVariants.{Ended as EndedRun};
+ghost use Rattle.stm_steps.specs.declared.run.End.TheVariants.{Done};
+ghost use Rattle.stm_steps.specs.declared.run.Run.{Run as FinishedRun};
+ghost use Rattle.stm_steps.specs.declared.run.Answered.TheVariants.{Ended as EndedRun};
 ghost use Rattle.stm_machine.specs.State.{key_asked, started};
 ghost use Rattle.stm_machine.specs.Steps.{Stands};
 ghost use Rattle.stm_compile.specs.Answers.{look_up};

@@ -4,7 +4,7 @@
 use Rattle.std.specs.Prelude.{◌≡◌, ℕ, Bool, if◌then◌else◌, List, Option, None, Some}
 use Rattle.stm_history.specs.declared.key_state.KeyState.{KeyState}
 use Rattle.stm_history.specs.History.{History, key_now}
-use Rattle.stm_meaning.specs.declared.state.StateEntry.{StateEntry}
+use Rattle.stm_steps.specs.declared.state.StateEntry.{StateEntry}
 use Rattle.stm_meaning.specs.States.{find_entry}
 
 -- what the state has under a key

@@ -3,8 +3,8 @@ ghost use Rattle.std.specs.Prelude.{◌≡◌, ◌<◌, ◌≤◌, All, length, 
 ghost use Rattle.stm_history.specs.declared.key_state.ReadAnswer.{ReadAnswer as Answer};
 ghost use Rattle.stm_history.specs.declared.revisions.TheConstants.{HIGHEST_NUMBER};
 ghost use Rattle.stm_history.specs.History.{mod_of};
-ghost use Rattle.stm_meaning.specs.declared.run.Run.{Run};
-ghost use Rattle.stm_meaning.specs.declared.run.Answered.TheVariants.{Ended};
+ghost use Rattle.stm_steps.specs.declared.run.Run.{Run};
+ghost use Rattle.stm_steps.specs.declared.run.Answered.TheVariants.{Ended};
 ghost use Rattle.stm_outcome.specs.Numbers.{StateFits};
 ghost use Rattle.stm_compile.specs.Conflicts.{seen_by};
 ghost use Rattle.stm_attempt.specs.Settled.{run_on};

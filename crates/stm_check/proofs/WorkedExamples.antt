@@ -5,8 +5,8 @@ use Rattle.stm_program.specs.Syntax.{ProgramTree, of_statements, End as EndBlock
 use Rattle.stm_program.specs.Syntax.{Put as PutStatement, If, Less, Number, Text, Get, NumOf, Arithmetic}
 use Rattle.stm_program.specs.declared.operator.Operator.TheVariants.{Add}
 use Rattle.stm_program.specs.declared.level.Level.TheVariants.{Serializable}
-use Rattle.stm_meaning.specs.declared.trace_item.TraceItem.{TraceItem}
-use Rattle.stm_meaning.specs.declared.trace_item.TraceItem.TheVariants as seen
+use Rattle.stm_steps.specs.declared.trace_item.TraceItem.{TraceItem}
+use Rattle.stm_steps.specs.declared.trace_item.TraceItem.TheVariants as seen
 use Rattle.stm_outcome.specs.declared.txn.Op.{Op}
 use Rattle.stm_outcome.specs.declared.txn.Op.TheVariants.{Put, Get as GetOperation}
 use Rattle.stm_world.specs.declared.event.WorldEvent.{WorldEvent}

@@ -3,9 +3,9 @@ ghost use Rattle.std.specs.Prelude.{◌≡◌, ◌≢◌, ◌↔◌, ◌+◌, �
 ghost use Rattle.stm_outcome.specs.declared.refusal.Refusal.TheVariants.{OutOfMemory};
 ghost use Rattle.stm_compile.specs.Answers.{look_up};
 ghost use Rattle.stm_compile.specs.Now.{as_change};
-ghost use Rattle.stm_meaning.specs.declared.run.End.TheVariants.{Done as DoneEnd};
+ghost use Rattle.stm_steps.specs.declared.run.End.TheVariants.{Done as DoneEnd};
 ghost use Rattle.stm_outcome.specs.Numbers.{StatesFit};
-ghost use Rattle.stm_compile.specs.Levels.{is_comparing};
+ghost use Rattle.stm_program.specs.Levels.{is_comparing};
 ghost use Rattle.stm_entries.specs.Alone.{applied_run};
 ghost use Rattle.stm_entries.specs.Replayed.{without_moment};
 ghost use Rattle.stm_entries.specs.declared.entry.Entry.TheVariants.{Program as ProgramEntry};

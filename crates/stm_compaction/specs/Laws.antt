@@ -5,7 +5,7 @@ use Rattle.stm_history.specs.declared.change.Change.{Change}
 use Rattle.stm_history.specs.declared.key_state.ReadAnswer.{ReadAnswer}
 use Rattle.stm_history.specs.History.{now}
 use Rattle.stm_program.specs.declared.level.Level.{Level}
-use Rattle.stm_meaning.specs.declared.run.Run.{Run}
+use Rattle.stm_steps.specs.declared.run.Run.{Run}
 use Rattle.stm_watch.specs.declared.watched.Watched.{Watched}
 use Rattle.stm_outcome.specs.declared.txn.Txn.{Txn}
 use Rattle.stm_outcome.specs.declared.advance.Expired.{Expired}

@@ -15,14 +15,14 @@ use Rattle.stm_program.proofs.WriteLemmas.{bytes_eq-same}
 use Rattle.stm_meaning.specs.Answer.{Answer, Lookup}
 use Rattle.stm_meaning.specs.Laws.{AgreesWith, IsContinuedBy}
 use Rattle.stm_meaning.specs.Meaning.{run_over}
-use Rattle.stm_meaning.specs.declared.run.Answered.{Answered}
+use Rattle.stm_steps.specs.declared.run.Answered.{Answered}
 use Rattle.stm_meaning.proofs.RunLaws.{answers_give_the_run}
 use Rattle.stm_outcome.specs.declared.txn.Compare.{Compare}
 use Rattle.stm_outcome.specs.declared.answer.FailedCompare.{FailedCompare}
 use Rattle.stm_outcome.specs.Compares.{holds, first_failed}
 use Rattle.stm_outcome.specs.Outcome.{with_changes}
 use Rattle.stm_outcome.proofs.Applying.{mod_compares}
-use Rattle.stm_compile.specs.Levels.{is_comparing}
+use Rattle.stm_program.specs.Levels.{is_comparing}
 use Rattle.stm_compile.specs.Answers.{answer_in, seen_of, said, look_up, state_now, state_as_of, AreTrue, answer_now}
 use Rattle.stm_compile.specs.CommitTxn.{first_carried, is_as_read, is_unmodified}
 use Rattle.stm_compile.specs.Committed.{conflict_now}

@@ -18,7 +18,7 @@ use Rattle.stm_program.specs.Writes.{key_of, latest_writes}
 use Rattle.stm_program.proofs.WriteLemmas.{bytes_eq-flip}
 use Rattle.stm_program.proofs.LatestLemmas.{latest_writes-distinct}
 use Rattle.stm_meaning.specs.Writes.{changes, effect}
-use Rattle.stm_meaning.specs.declared.run.Run.{Run}
+use Rattle.stm_steps.specs.declared.run.Run.{Run}
 use Rattle.stm_outcome.specs.declared.txn.Compare.{Compare}
 use Rattle.stm_outcome.specs.declared.answer.FailedCompare.{FailedCompare}
 use Rattle.stm_outcome.specs.declared.answer.OpAnswer.TheVariants.{Get as GetAnswer}

@@ -19,7 +19,7 @@ use Rattle.stm_outcome.specs.declared.txn.Compare.{Compare}
 use Rattle.stm_outcome.specs.declared.txn.Op.{Op}
 use Rattle.stm_outcome.specs.declared.txn.Op.TheVariants.{Put as PutOp, Del as DelOp}
 use Rattle.stm_outcome.specs.Commits.{mod_is, mod_is_below, read_now}
-use Rattle.stm_compile.specs.Levels.{is_serializable}
+use Rattle.stm_program.specs.Levels.{is_serializable}
 
 -- the least store revision that the answers carry; the highest one where nothing was read
 abbrev pub first_carried : List ReadAnswer → ℕ

@@ -1,4 +1,3 @@
-pub mod Levels
 pub mod Answers
 pub mod Places
 pub mod Now

@@ -2,7 +2,7 @@
 use Rattle.std.proofs.Common.{◌≡◌, ◌∙◌, inl, ℕ, suc, Bool, true, false, List, Option, None, Some, refl, sym, ap, subst, arith}
 use Rattle.std.specs.Option.{option_or}
 use Rattle.stm_program.specs.Syntax.{ProgramTree}
-use Rattle.stm_meaning.specs.declared.run.End.{End}
+use Rattle.stm_steps.specs.declared.run.End.{End}
 use Rattle.stm_world.specs.World.{World}
 use Rattle.stm_schedules.specs.declared.moves.Move.{Move}
 use Rattle.stm_schedules.specs.Places.{Place}

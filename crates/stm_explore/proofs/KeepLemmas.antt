@@ -4,9 +4,9 @@ use mathlib.Core.Path.{fun_ext}
 use Rattle.stm_history.specs.declared.key_state.KeyState.{KeyState}
 use Rattle.stm_history.specs.History.{History, key_now}
 use Rattle.stm_program.specs.Syntax.{ProgramTree}
-use Rattle.stm_meaning.specs.declared.run.Run.{Run}
-use Rattle.stm_meaning.specs.declared.run.Answered.TheVariants.{Ended}
-use Rattle.stm_meaning.specs.declared.state.StateEntry.{StateEntry}
+use Rattle.stm_steps.specs.declared.run.Run.{Run}
+use Rattle.stm_steps.specs.declared.run.Answered.TheVariants.{Ended}
+use Rattle.stm_steps.specs.declared.state.StateEntry.{StateEntry}
 use Rattle.stm_meaning.specs.Answer.{Lookup}
 use Rattle.stm_meaning.specs.Meaning.{run_over}
 use Rattle.stm_meaning.specs.States.{answer_of, state_answers}

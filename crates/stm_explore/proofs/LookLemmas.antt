@@ -6,7 +6,7 @@ use Rattle.std.specs.Option.{option_or}
 use Rattle.std.specs.List.{list_any}
 use Rattle.std.proofs.lemmas.List.{at_drop_more, at_drop_all, get_or_default}
 use Rattle.stm_program.specs.Syntax.{ProgramTree}
-use Rattle.stm_meaning.specs.declared.run.End.{End}
+use Rattle.stm_steps.specs.declared.run.End.{End}
 use Rattle.stm_world.specs.World.{World}
 use Rattle.stm_schedules.specs.declared.moves.Move.{Move}
 use Rattle.stm_schedules.specs.Places.{Place, moves, moved}

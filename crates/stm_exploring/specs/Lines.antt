@@ -8,8 +8,8 @@ use Rattle.std.specs.Ordering.{nat_cmp}
 use Rattle.std.specs.Cmp.Lexicographic.{slice_cmp}
 use Rattle.serde_json.specs.Data.{Data, string}
 use Rattle.stm_reports.specs.LineData.{list, whole, value_data}
-use Rattle.stm_meaning.specs.declared.run.End.{End}
-use Rattle.stm_meaning.specs.declared.run.End.TheVariants.{Done, Aborted as ByAbort, Faulted as ByFault}
+use Rattle.stm_steps.specs.declared.run.End.{End}
+use Rattle.stm_steps.specs.declared.run.End.TheVariants.{Done, Aborted as ByAbort, Faulted as ByFault}
 use Rattle.stm_meaning.specs.Faults.{fault_name}
 use Rattle.stm_outcome.specs.Names.{refusal_name}
 use Rattle.stm_reports.specs.Text.{line_text, lines_text}

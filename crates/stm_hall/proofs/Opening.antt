@@ -14,11 +14,11 @@ use Rattle.stm_history.proofs.HistoryLaws.{all_up_to, last_is_above}
 use Rattle.stm_leases.specs.LeaseLog.{Term}
 use Rattle.stm_leases.specs.Live.{Live, is_live_in}
 use Rattle.stm_leases.proofs.Tables.{test_number}
-use Rattle.stm_meaning.specs.declared.run.End.{End}
-use Rattle.stm_meaning.specs.declared.run.End.TheVariants.{Done as DoneEnd, Aborted, Faulted}
-use Rattle.stm_meaning.specs.declared.run.Run.{Run}
-use Rattle.stm_meaning.specs.declared.run.Answered.{Answered}
-use Rattle.stm_meaning.specs.declared.run.Answered.TheVariants.{Ended, Wants}
+use Rattle.stm_steps.specs.declared.run.End.{End}
+use Rattle.stm_steps.specs.declared.run.End.TheVariants.{Done as DoneEnd, Aborted, Faulted}
+use Rattle.stm_steps.specs.declared.run.Run.{Run}
+use Rattle.stm_steps.specs.declared.run.Answered.{Answered}
+use Rattle.stm_steps.specs.declared.run.Answered.TheVariants.{Ended, Wants}
 use Rattle.stm_meaning.specs.Meaning.{run_over}
 use Rattle.stm_txn.specs.Standing.{Standing}
 use Rattle.stm_entries.specs.declared.entry.Entry.{Entry}

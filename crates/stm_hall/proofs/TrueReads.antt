@@ -10,7 +10,7 @@ use Rattle.stm_program.specs.declared.level.Level.TheVariants.{SerializableSnaps
 use Rattle.stm_program.specs.declared.write.Write.{Write}
 use Rattle.stm_program.proofs.WriteLemmas.{bytes_eq-self}
 use Rattle.stm_meaning.specs.Answer.{Answer}
-use Rattle.stm_compile.specs.Levels.{is_comparing}
+use Rattle.stm_program.specs.Levels.{is_comparing}
 use Rattle.stm_compile.specs.Answers.{seen_of, said, AreTrue}
 use Rattle.stm_compile.specs.Committed.{conflict_now}
 use Rattle.stm_compile.proofs.AgreeLemmas.{true_reads_are_now}

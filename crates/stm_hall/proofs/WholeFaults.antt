@@ -28,7 +28,7 @@ use Rattle.stm_outcome.specs.Commits.{read_now}
 use Rattle.stm_outcome.specs.Effect.{op_of}
 use Rattle.stm_outcome.proofs.Branching.{apart_case, apart_back}
 use Rattle.stm_compile.specs.Answers.{look_up}
-use Rattle.stm_compile.specs.Levels.{is_comparing}
+use Rattle.stm_program.specs.Levels.{is_comparing}
 use Rattle.stm_compile.specs.Now.{as_change}
 use Rattle.stm_compile.specs.CommitTxn.{first_carried, is_as_read, is_unmodified, write_op, compares_of, reread_keys, commit_of}
 use Rattle.stm_compile.proofs.OutcomeLemmas.{changes_are_distinct}

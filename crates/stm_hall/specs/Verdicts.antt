@@ -18,7 +18,7 @@ use Rattle.stm_outcome.specs.Checks.{fault_of}
 use Rattle.stm_outcome.specs.Compares.{first_failed}
 use Rattle.stm_outcome.specs.Outcome.{Done, outcome}
 use Rattle.stm_txn.specs.Standing.{Standing, with_history, terms_of}
-use Rattle.stm_compile.specs.Levels.{is_comparing}
+use Rattle.stm_program.specs.Levels.{is_comparing}
 use Rattle.stm_compile.specs.Answers.{answer_now}
 use Rattle.stm_compile.specs.CommitTxn.{commit_of, reread_keys}
 use Rattle.stm_compile.specs.Conflicts.{Seen, seen_by}

@@ -4,7 +4,7 @@ ghost use Rattle.std.specs.List.{list_any};
 ghost use Rattle.stm_history.specs.declared.key_state.ReadAnswer.{ReadAnswer as Answer};
 ghost use Rattle.stm_outcome.specs.Checks.{fault_of, has_too_many, has_empty_key, is_empty_key};
 ghost use Rattle.stm_compile.specs.CommitTxn.{commit_of};
-ghost use Rattle.stm_compile.specs.Levels.{is_comparing as compares};
+ghost use Rattle.stm_program.specs.Levels.{is_comparing as compares};
 ghost use Rattle.stm_hall.specs.Verdicts.{txn_of};
 
 use crate::vouching::is_comparing;

@@ -3,7 +3,7 @@ ghost use Rattle.std.specs.Prelude.{◌≡◌};
 ghost use Rattle.std.specs.List.{find};
 ghost use Rattle.std.specs.Option.{option_copied};
 ghost use Rattle.stm_history.specs.History.{value_of, key_now};
-ghost use Rattle.stm_compile.specs.Levels.{is_comparing};
+ghost use Rattle.stm_program.specs.Levels.{is_comparing};
 ghost use Rattle.stm_hall.specs.Verdicts.{has_other_value, first_unvouched};
 
 use stm_attempt::Ready;

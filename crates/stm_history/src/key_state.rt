@@ -1,4 +1,7 @@
 //! What a store has under a key, and what a read answers.
+ghost use Rattle.std.specs.Prelude.{◌≡◌};
+ghost use Rattle.stm_history.specs.History.{mod_of, value_of};
+
 use crate::text::Text;
 
 /// What a store has under a present key: etcd's `KeyValue` without the key itself.
@@ -29,4 +32,24 @@ pub struct ReadAnswer {
     pub of_rev: u64,
     /// The store's revision that the answer carries, as the header of etcd's response does.
     pub revision: u64,
+}
+
+/// The value of a key's state, "" where the key is absent.
+pub fn value_of(kv: &Option<KeyState>) -> &str
+    ensures { result.now ≡ value_of kv.now }
+{
+    match kv {
+        None => "",
+        Some(state) => state.value.as_str(),
+    }
+}
+
+/// The modification revision of a key's state, 0 where the key is absent.
+pub fn mod_rev_of(kv: &Option<KeyState>) -> u64
+    ensures { result ≡ mod_of kv.now }
+{
+    match kv {
+        None => 0,
+        Some(state) => state.mod_rev,
+    }
 }

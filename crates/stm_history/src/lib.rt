@@ -13,7 +13,7 @@ mod sequence;
 mod text;
 
 pub use change::{Change, find_change};
-pub use key_state::{KeyState, ReadAnswer};
+pub use key_state::{KeyState, ReadAnswer, mod_rev_of, value_of};
 pub use revision::Revision;
 pub use revisions::{HIGHEST_NUMBER, HIGHEST_REVISION, Revisions};
 pub use sequence::Sequence;

@@ -2,7 +2,7 @@
 use Rattle.std.proofs.Common.{◌≡◌, ℕ, zero, suc, ◌+◌, ◌<◌, ◌≤◌, List, [], ◌∷◌, ◌++◌, length, drop, slice_get}
 use Rattle.std.proofs.Common.{Some, refl, sym, ap, ◌∙◌, append_assoc, append-nil, arith}
 use Rattle.std.proofs.lemmas.List.{drop_all}
-use Rattle.stm_meaning.specs.declared.state.StateEntry.{StateEntry}
+use Rattle.stm_steps.specs.declared.state.StateEntry.{StateEntry}
 use Rattle.stm_meaning.specs.States as states
 use Rattle.stm_reports.specs.Text.{line_text, lines_text}
 use Rattle.serde_json.specs.Data.{Data}

@@ -4,7 +4,7 @@
 use Rattle.std.specs.Prelude.{◌≡◌, ℕ, suc, Bool, true, false, List, [], ◌∷◌, ◌++◌, map, slice_index, codes}
 use Rattle.serde_json.specs.Data.{Data, string}
 use Rattle.stm_history.specs.History.{History, now}
-use Rattle.stm_meaning.specs.declared.state.StateEntry.{StateEntry}
+use Rattle.stm_steps.specs.declared.state.StateEntry.{StateEntry}
 use Rattle.stm_meaning.specs.Faults.{fault_name}
 use Rattle.stm_outcome.specs.Names.{refusal_name}
 use Rattle.stm_job.specs.declared.job_end.JobEnd.{JobEnd}

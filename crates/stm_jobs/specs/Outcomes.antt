@@ -11,8 +11,8 @@ use Rattle.std.specs.Ordering.{nat_cmp}
 use Rattle.std.specs.Cmp.Lexicographic.{slice_cmp}
 use Rattle.serde_json.specs.Data.{Data, string}
 use Rattle.serde_json.specs.Written.{compact_text}
-use Rattle.stm_meaning.specs.declared.state.StateEntry.{StateEntry}
-use Rattle.stm_meaning.specs.declared.value.Value.{Value}
+use Rattle.stm_steps.specs.declared.state.StateEntry.{StateEntry}
+use Rattle.stm_steps.specs.declared.value.Value.{Value}
 use Rattle.stm_meaning.specs.Faults.{fault_name}
 use Rattle.stm_meaning.specs.States.{IsAscending}
 use Rattle.stm_entries.specs.declared.entry.Entry.{Entry}

@@ -39,13 +39,13 @@ found_by [] key = refl
 found_by (e ∷ es) key = ap (cond (bytes_eq key (string_bytes e.0)) (Some e.1)) (found_by es key)
 
 -- the lease that a key hangs on, under the key
-abbrev attached : List ℕ × Attachment → List ℕ × ℕ
-attached e = (e.0, e.1.lease)
+abbrev with_lease : List ℕ × Attachment → List ℕ × ℕ
+with_lease e = (e.0, e.1.lease)
 
 abbrev attached_text : {A : Type 0} → String A × Attachment → List ℕ × ℕ
 attached_text e = (string_bytes e.0, e.1.lease)
 
-shown_by : {A : Type 0} (es : List (String A × Attachment)) → map attached_text es ≡ map attached (map by_bytes es)
+shown_by : {A : Type 0} (es : List (String A × Attachment)) → map attached_text es ≡ map with_lease (map by_bytes es)
 shown_by [] = refl
 shown_by (e ∷ es) = ap (λ (more : List (List ℕ × ℕ)). attached_text e ∷ more) (shown_by es)
 
@@ -67,7 +67,7 @@ module _ {A S R : Type 0} (leases new_leases : IndexMap ℕ Lease S) (attached n
   view_copied spare now seen =
       ap (λ (live : List (ℕ × Term)). tables live (map attached_text new_attached.entries)) (ap (map live_term) same)
       ∙ ap (λ (attached : List (List ℕ × ℕ)). tables (map live_term leases.entries) attached)
-      (shown_by new_attached.entries ∙ ap (map attached) bytes ∙ sym (shown_by attached.entries))
+      (shown_by new_attached.entries ∙ ap (map with_lease) bytes ∙ sym (shown_by attached.entries))
       ∙ ap (λ (s : Leases). record s { spare = 0 }) seen
 
 -- ---- the lists of keys

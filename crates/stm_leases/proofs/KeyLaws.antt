@@ -57,8 +57,8 @@ module _ (attached : Attached) (id : ℕ) where
       by_test true same is = ap Some (eqb-true lease id same)
       by_test false same is = absurd (cc)
 
-  attached : (o : Option ℕ) → o ≡ Some id → is_some (cond (is_on id o) o None) ≡ true
-  attached o is = subst (λ (p : Option ℕ). is_some (cond (is_on id p) p None) ≡ true) (sym is) (ap (λ b. is_some (cond b (Some id) None)) (nat_eq_equiv.refl id))
+  is_attached : (o : Option ℕ) → o ≡ Some id → is_some (cond (is_on id o) o None) ≡ true
+  is_attached o is = subst (λ (p : Option ℕ). is_some (cond (is_on id p) p None) ≡ true) (sym is) (ap (λ b. is_some (cond b (Some id) None)) (nat_eq_equiv.refl id))
 
   is_member : (key : List ℕ)
       → is_some (cond (is_on id (finmap.get attached key)) (finmap.get attached key) None) ≡ list_any (eq_by_cmp (slice_cmp nat_cmp) key) (keys_on attached id)
@@ -70,7 +70,7 @@ module _ (attached : Attached) (id : ℕ) where
         (finmap.entries_sorted (finmap.retain_keys attached (λ k. is_on id (finmap.get attached k))));
     each = λ key. (
       λ among. attaches (finmap.get attached key) (is_member key ∙ list_any-from_Contains (eq_by_cmp_equiv nat_list_cmp_total) key (keys_on attached id) among),
-      λ is. Contains-from_any same_text key (keys_on attached id) (sym (is_member key) ∙ attached (finmap.get attached key) is),
+      λ is. Contains-from_any same_text key (keys_on attached id) (sym (is_member key) ∙ is_attached (finmap.get attached key) is),
     );
   }
 

@@ -3,7 +3,7 @@ ghost use Rattle.std.specs.Prelude.{◌≡◌, ◌++◌, [], ◌∷◌, map, IfO
 ghost use Rattle.serde_json.specs.Data.{Data};
 ghost use Rattle.serde_json.specs.View.{view};
 ghost use Rattle.stm_history.specs.History.{mod_of};
-ghost use Rattle.stm_meaning.specs.declared.trace_item.TraceItem.TheVariants.{Get, Rev};
+ghost use Rattle.stm_steps.specs.declared.trace_item.TraceItem.TheVariants.{Get, Rev};
 ghost use Rattle.stm_keys.specs.declared.event.Event.TheVariants.{Put as PutEvent, Delete as DeleteEvent};
 ghost use Rattle.stm_reports.specs.LineData.{list, value_data, trace_data, answer_data, read_data as reported_read_data, expired_data, event_data};
 ghost use Rattle.stm_lines.specs.Lines.{answer_reported, key_read_reported, event_reported, read_data, key_read_data, shown_data};

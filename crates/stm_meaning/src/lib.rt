@@ -17,28 +17,3 @@ pub use stm_steps::{
     are_equal, combine, deletion, is_below, join, number_of, put, spell, turns, wanted_key,
     wanted_text,
 };
-
-/// What a run gives, under the path that specs above cite.
-pub mod run {
-    pub use stm_steps::{Answered, End, Run};
-}
-
-/// States, under the path that specs above cite.
-pub mod state {
-    pub use stm_steps::{State, StateEntry};
-}
-
-/// What a run saw, under the path that specs above cite.
-pub mod trace_item {
-    pub use stm_steps::TraceItem;
-}
-
-/// Values, under the path that specs above cite.
-pub mod value {
-    pub use stm_steps::Value;
-}
-
-/// Faults, under the path that specs above cite.
-pub mod fault {
-    pub use stm_steps::Fault;
-}

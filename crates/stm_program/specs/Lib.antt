@@ -7,6 +7,7 @@ pub mod StatementView
 pub mod BlockView
 pub mod Held
 pub mod Weight
+pub mod Levels
 pub mod Limits
 pub mod Writes
 pub mod SameProgram

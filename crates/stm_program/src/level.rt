@@ -1,5 +1,6 @@
 //! The isolation levels.
 ghost use Rattle.std.specs.Prelude.{◌≡◌, ◌↔◌, IsTrue};
+ghost use Rattle.stm_program.specs.Levels.{is_comparing, is_serializable};
 
 /// The isolation level that a run of a program is committed at, from the one that compares most to the one that compares nothing.
 ///
@@ -22,5 +23,29 @@ impl Level {
         ensures { IsTrue result ↔ self ≡ other }
     {
         self == other
+    }
+
+    /// Whether a commit at this level compares what was read.
+    pub fn is_comparing(self) -> bool
+        ensures { result ≡ is_comparing self }
+    {
+        match self {
+            Level::SerializableSnapshot => true,
+            Level::Serializable => true,
+            Level::RepeatableReads => true,
+            Level::ReadCommitted => false,
+        }
+    }
+
+    /// Whether all reads of an attempt at this level are of one revision.
+    pub fn is_serializable(self) -> bool
+        ensures { result ≡ is_serializable self }
+    {
+        match self {
+            Level::SerializableSnapshot => true,
+            Level::Serializable => true,
+            Level::RepeatableReads => false,
+            Level::ReadCommitted => false,
+        }
     }
 }

@@ -15,9 +15,9 @@ use Rattle.stm_program.proofs.WriteLemmas.{bytes_eq-same, bytes_eq-self, or_else
 use Rattle.stm_steps.specs.declared.fault.Fault.{Fault}
 use Rattle.stm_steps.specs.declared.fault.Fault.TheVariants.{Overflow}
 use Rattle.stm_steps.specs.Values.{written_number, is_in_range}
-use Rattle.stm_meaning.specs.declared.run.Run.{Run}
-use Rattle.stm_meaning.specs.declared.run.End.TheVariants.{Done as DoneEnd, Aborted as AbortedEnd, Faulted as FaultedEnd}
-use Rattle.stm_meaning.specs.declared.state.StateEntry.{StateEntry}
+use Rattle.stm_steps.specs.declared.run.Run.{Run}
+use Rattle.stm_steps.specs.declared.run.End.TheVariants.{Done as DoneEnd, Aborted as AbortedEnd, Faulted as FaultedEnd}
+use Rattle.stm_steps.specs.declared.state.StateEntry.{StateEntry}
 use Rattle.stm_meaning.specs.Leaves.{value_in, value_after}
 use Rattle.stm_compile.specs.Answers.{state_now}
 use Rattle.stm_calls.specs.StateOf.{IsStateOf, entry_now}

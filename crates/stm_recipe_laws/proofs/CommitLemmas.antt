@@ -5,10 +5,10 @@ use Rattle.stm_history.specs.declared.change.Change.{Change}
 use Rattle.stm_history.specs.History.{History}
 use Rattle.stm_program.specs.Syntax.{Block}
 use Rattle.stm_program.specs.Writes.{latest_writes}
-use Rattle.stm_meaning.specs.declared.run.End.{End}
-use Rattle.stm_meaning.specs.declared.run.End.TheVariants.{Done as DoneEnd}
-use Rattle.stm_meaning.specs.declared.run.Run.{Run}
-use Rattle.stm_meaning.specs.declared.run.Answered.TheVariants.{Ended}
+use Rattle.stm_steps.specs.declared.run.End.{End}
+use Rattle.stm_steps.specs.declared.run.End.TheVariants.{Done as DoneEnd}
+use Rattle.stm_steps.specs.declared.run.Run.{Run}
+use Rattle.stm_steps.specs.declared.run.Answered.TheVariants.{Ended}
 use Rattle.stm_meaning.specs.Answer.{Lookup}
 use Rattle.stm_meaning.specs.Laws.{KnowsEachKey}
 use Rattle.stm_meaning.specs.Meaning.{run_over}
@@ -17,7 +17,7 @@ use Rattle.stm_outcome.specs.Outcome.{Done, with_changes, is_used_up}
 use Rattle.stm_outcome.specs.Commits.{applied, effective, is_on_dead_lease}
 use Rattle.stm_outcome.specs.Terms.{Terms}
 use Rattle.stm_compile.specs.Answers.{state_now, look_up}
-use Rattle.stm_compile.specs.Levels.{is_comparing}
+use Rattle.stm_program.specs.Levels.{is_comparing}
 use Rattle.stm_compile.specs.Now.{as_change}
 use Rattle.stm_entries.specs.declared.entry.Entry.{Entry}
 use Rattle.stm_entries.specs.declared.entry.Entry.TheVariants.{Program, Foreign, Grant, Renew, Revoke, Expire}

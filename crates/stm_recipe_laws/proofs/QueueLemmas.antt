@@ -18,8 +18,8 @@ use Rattle.stm_steps.specs.declared.fault.Fault.TheVariants.{Overflow, TextTooLo
 use Rattle.stm_steps.specs.declared.value.Value.{Value}
 use Rattle.stm_steps.specs.declared.value.Value.TheVariants.{Text}
 use Rattle.stm_steps.specs.Values.{written_number, is_in_range, longest_text}
-use Rattle.stm_meaning.specs.declared.run.Run.{Run}
-use Rattle.stm_meaning.specs.declared.run.End.TheVariants.{Done as DoneEnd, Aborted as AbortedEnd, Faulted as FaultedEnd}
+use Rattle.stm_steps.specs.declared.run.Run.{Run}
+use Rattle.stm_steps.specs.declared.run.End.TheVariants.{Done as DoneEnd, Aborted as AbortedEnd, Faulted as FaultedEnd}
 use Rattle.stm_meaning.specs.Leaves.{value_in}
 use Rattle.stm_compile.specs.Answers.{state_now}
 use Rattle.stm_entries.specs.declared.entry.Entry.{Entry}

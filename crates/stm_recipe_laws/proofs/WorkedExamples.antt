@@ -17,11 +17,11 @@ use Rattle.stm_program.specs.declared.write.Write.TheVariants.{Put as PutWrite, 
 use Rattle.stm_steps.specs.Session.{fresh}
 use Rattle.stm_steps.specs.Steps.{get_key, rev_key}
 use Rattle.stm_steps.specs.Values.{arithmetic, computed, concatenated, text_of, num_of, written_number, key_in, put_of, del_of, equal, less}
-use Rattle.stm_meaning.specs.declared.run.End.TheVariants.{Done as DoneEnd}
-use Rattle.stm_meaning.specs.declared.state.StateEntry.{StateEntry}
-use Rattle.stm_meaning.specs.declared.trace_item.TraceItem.TheVariants as seen
-use Rattle.stm_meaning.specs.declared.value.Value.{Value}
-use Rattle.stm_meaning.specs.declared.value.Value.TheVariants.{Text}
+use Rattle.stm_steps.specs.declared.run.End.TheVariants.{Done as DoneEnd}
+use Rattle.stm_steps.specs.declared.state.StateEntry.{StateEntry}
+use Rattle.stm_steps.specs.declared.trace_item.TraceItem.TheVariants as seen
+use Rattle.stm_steps.specs.declared.value.Value.{Value}
+use Rattle.stm_steps.specs.declared.value.Value.TheVariants.{Text}
 use Rattle.stm_meaning.specs.Meaning.{evaluate, holds, run_block, run_over}
 use Rattle.stm_outcome.specs.declared.answer.OpAnswer.TheVariants.{Put as PutAnswer, Del as DelAnswer}
 use Rattle.stm_outcome.specs.declared.refusal.Refusal.{Refusal}

@@ -10,9 +10,9 @@ use Rattle.stm_program.specs.declared.level.Level.TheVariants.{SerializableSnaps
 use Rattle.stm_steps.specs.Session.{fresh}
 use Rattle.stm_steps.specs.Steps.{get_key, rev_key}
 use Rattle.stm_steps.specs.Values.{arithmetic, computed, concatenated, text_of, num_of, written_number, key_in, text_in, put_of, del_of, equal, less}
-use Rattle.stm_meaning.specs.declared.trace_item.TraceItem.{TraceItem}
-use Rattle.stm_meaning.specs.declared.trace_item.TraceItem.TheVariants as seen
-use Rattle.stm_meaning.specs.declared.value.Value.TheVariants.{Text}
+use Rattle.stm_steps.specs.declared.trace_item.TraceItem.{TraceItem}
+use Rattle.stm_steps.specs.declared.trace_item.TraceItem.TheVariants as seen
+use Rattle.stm_steps.specs.declared.value.Value.TheVariants.{Text}
 use Rattle.stm_meaning.specs.Meaning.{evaluate, holds, run_block, run_over}
 use Rattle.stm_outcome.specs.declared.txn.Txn.{Txn}
 use Rattle.stm_outcome.specs.declared.txn.Op.TheVariants.{Put}

@@ -8,8 +8,8 @@ use Rattle.stm_history.specs.declared.key_state.KeyState.{KeyState}
 use Rattle.stm_history.specs.History.{History, key_now, value_of as value_now}
 use Rattle.stm_program.specs.declared.write.Write.TheVariants.{Del}
 use Rattle.stm_steps.specs.Values.{written_number}
-use Rattle.stm_meaning.specs.declared.run.Run.{Run}
-use Rattle.stm_meaning.specs.declared.run.End.TheVariants.{Done as DoneEnd, Aborted as AbortedEnd}
+use Rattle.stm_steps.specs.declared.run.Run.{Run}
+use Rattle.stm_steps.specs.declared.run.End.TheVariants.{Done as DoneEnd, Aborted as AbortedEnd}
 use Rattle.stm_meaning.specs.Leaves.{value_in}
 use Rattle.stm_compile.specs.Answers.{state_now}
 use Rattle.stm_entries.specs.declared.entry.Entry.{Entry}

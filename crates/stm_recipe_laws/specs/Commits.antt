@@ -1,7 +1,7 @@
 -- Entries that are commits of a program.
 use Rattle.std.specs.Prelude.{◌≡◌, true}
 use Rattle.stm_program.specs.Syntax.{Block}
-use Rattle.stm_compile.specs.Levels.{is_comparing}
+use Rattle.stm_program.specs.Levels.{is_comparing}
 use Rattle.stm_entries.specs.declared.entry.Entry.{Entry}
 use Rattle.stm_entries.specs.declared.entry.Entry.TheVariants.{Program, Revoke, Expire}
 

@@ -1,7 +1,7 @@
 -- What the readers of a state tell of the queues and slots that the laws of entries speak of.
 use Rattle.std.specs.Prelude.{◌≡◌, ◌↔◌, ℕ, ◌^◌, ◌<◌, is_some, List, Some}
 use Rattle.stm_history.specs.History.{History}
-use Rattle.stm_meaning.specs.declared.state.StateEntry.{StateEntry}
+use Rattle.stm_steps.specs.declared.state.StateEntry.{StateEntry}
 use Rattle.stm_entries.specs.Replayed.{Replayed}
 use Rattle.stm_calls.specs.StateOf.{IsStateOf}
 use Rattle.stm_recipes.specs.Names.{head_key, tail_key}

@@ -4,8 +4,8 @@ use Rattle.std.proofs.Common.{Option, Some, None, is_some, Ok, Err, refl, sym, �
 use Rattle.std.specs.Prelude.{Result, nat_eq, ◌&&◌}
 use Rattle.stm_history.specs.declared.key_state.ReadAnswer.{ReadAnswer}
 use Rattle.stm_history.specs.History.{History}
-use Rattle.stm_meaning.specs.declared.value.Value.{Value}
-use Rattle.stm_meaning.specs.declared.trace_item.TraceItem.{TraceItem}
+use Rattle.stm_steps.specs.declared.value.Value.{Value}
+use Rattle.stm_steps.specs.declared.trace_item.TraceItem.{TraceItem}
 use Rattle.stm_txn.specs.Standing.{Standing, transacted, granted, kept_alive, revoked, advanced, watched, polled, cancelled, raised}
 use Rattle.stm_txn.specs.Standing.{Setup}
 use Rattle.stm_watch.specs.declared.watched.Watched.TheVariants.{Key, Range}

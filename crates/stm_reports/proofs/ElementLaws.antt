@@ -10,8 +10,8 @@ use Rattle.stm_json.specs.Elements.{worded, one_of, two_of, four_of, number_up_t
 use Rattle.stm_json.specs.Outcome.{Outcome, bad}
 use Rattle.stm_json.proofs.ElementLemmas.{worded-is}
 use Rattle.stm_json.proofs.OutcomeLemmas.{bind_ok}
-use Rattle.stm_meaning.specs.declared.trace_item.TraceItem.{TraceItem}
-use Rattle.stm_meaning.specs.declared.trace_item.TraceItem.TheVariants as trace
+use Rattle.stm_steps.specs.declared.trace_item.TraceItem.{TraceItem}
+use Rattle.stm_steps.specs.declared.trace_item.TraceItem.TheVariants as trace
 use Rattle.stm_outcome.specs.declared.advance.Expired.{Expired}
 use Rattle.stm_json.specs.Faults.{AnyText, NumberIn, By, first_of, faults_by, sorted_faults, worded_faults, any_number}
 use Rattle.stm_json.specs.Parts.{SpellsEach, same}

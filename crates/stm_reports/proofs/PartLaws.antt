@@ -10,10 +10,10 @@ use Rattle.stm_json.specs.Elements.{SpellsNumber, is_64_bit, in_64_bits, whole_n
 use Rattle.stm_json.specs.Outcome.{Outcome, bad, ◌>>=◌}
 use Rattle.stm_json.proofs.ElementLemmas.{is_64_bit-fits, whole_number-is, number_up_to-is, whole_number-reads, number_up_to-reads}
 use Rattle.stm_json.proofs.OutcomeLemmas.{bind_ok}
-use Rattle.stm_meaning.specs.declared.fault.Fault.{Fault}
+use Rattle.stm_steps.specs.declared.fault.Fault.{Fault}
 use Rattle.stm_meaning.specs.Faults.{fault_name}
-use Rattle.stm_meaning.specs.declared.value.Value.{Value}
-use Rattle.stm_meaning.specs.declared.value.Value.TheVariants.{Text, Number}
+use Rattle.stm_steps.specs.declared.value.Value.{Value}
+use Rattle.stm_steps.specs.declared.value.Value.TheVariants.{Text, Number}
 use Rattle.stm_json.specs.Faults.{Faults, first_of, wrong, at, AnyText, WordOf, NumberIn, By, faults_by}
 use Rattle.stm_json.specs.Parts.{SpellsEach, text_of, each_from, list_of}
 use Rattle.stm_json.proofs.FaultLemmas.{fault_of, wrong_is, part_then, made, text_faulted, number_up_faulted}

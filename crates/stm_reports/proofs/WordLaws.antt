@@ -3,8 +3,8 @@ use Rattle.std.proofs.Common.{◌≡◌, ℕ, List, [], ◌∷◌, map, Bool, tr
 use Rattle.std.proofs.lemmas.Slice.Eq.{bytes_eq-Decides}
 use Rattle.stm_json.specs.declared.cause.Cause.TheVariants.{Shape}
 use Rattle.stm_json.specs.Outcome.{bad}
-use Rattle.stm_meaning.specs.declared.fault.Fault.{Fault}
-use Rattle.stm_meaning.specs.declared.fault.Fault.TheVariants.{Kind}
+use Rattle.stm_steps.specs.declared.fault.Fault.{Fault}
+use Rattle.stm_steps.specs.declared.fault.Fault.TheVariants.{Kind}
 use Rattle.stm_meaning.specs.Faults.{fault_name}
 use Rattle.stm_json.specs.Faults.{Sort, first_of, wrong, is_word_of, word_faults, sorts_of}
 use Rattle.stm_json.specs.Parts.{on_text, same}

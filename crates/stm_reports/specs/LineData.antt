@@ -7,10 +7,10 @@ use Rattle.serde_json.specs.Data.{Data, null, boolean, number, string, array, un
 use Rattle.serde_json.specs.Find.{of_integer}
 use Rattle.serde_json.specs.View.{items_of}
 use Rattle.stm_history.specs.declared.key_state.KeyState.{KeyState}
-use Rattle.stm_meaning.specs.declared.value.Value.{Value}
-use Rattle.stm_meaning.specs.declared.value.Value.TheVariants.{Text, Number}
-use Rattle.stm_meaning.specs.declared.trace_item.TraceItem.{TraceItem}
-use Rattle.stm_meaning.specs.declared.trace_item.TraceItem.TheVariants as trace
+use Rattle.stm_steps.specs.declared.value.Value.{Value}
+use Rattle.stm_steps.specs.declared.value.Value.TheVariants.{Text, Number}
+use Rattle.stm_steps.specs.declared.trace_item.TraceItem.{TraceItem}
+use Rattle.stm_steps.specs.declared.trace_item.TraceItem.TheVariants as trace
 use Rattle.stm_meaning.specs.Faults.{fault_name}
 use Rattle.stm_outcome.specs.declared.advance.Expired.{Expired}
 use Rattle.stm_reports.specs.declared.line.ReportLine.{ReportLine}

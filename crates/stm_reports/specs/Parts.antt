@@ -7,11 +7,11 @@ use Rattle.stm_history.specs.declared.revisions.TheConstants.{HIGHEST_NUMBER}
 use Rattle.stm_json.specs.declared.cause.Cause.TheVariants.{Shape}
 use Rattle.stm_json.specs.Elements.{worded, one_of, two_of, four_of, number_up_to, whole_number}
 use Rattle.stm_json.specs.Outcome.{Outcome, bad, ◌>>=◌, within}
-use Rattle.stm_meaning.specs.declared.fault.Fault.{Fault}
-use Rattle.stm_meaning.specs.declared.value.Value.{Value}
-use Rattle.stm_meaning.specs.declared.value.Value.TheVariants.{Text, Number}
-use Rattle.stm_meaning.specs.declared.trace_item.TraceItem.{TraceItem}
-use Rattle.stm_meaning.specs.declared.trace_item.TraceItem.TheVariants as trace
+use Rattle.stm_steps.specs.declared.fault.Fault.{Fault}
+use Rattle.stm_steps.specs.declared.value.Value.{Value}
+use Rattle.stm_steps.specs.declared.value.Value.TheVariants.{Text, Number}
+use Rattle.stm_steps.specs.declared.trace_item.TraceItem.{TraceItem}
+use Rattle.stm_steps.specs.declared.trace_item.TraceItem.TheVariants as trace
 use Rattle.stm_outcome.specs.declared.advance.Expired.{Expired}
 use Rattle.stm_json.specs.Parts.{on_text, text_of, same}
 use Rattle.stm_reports.specs.declared.causes.RefusalName.{RefusalName}

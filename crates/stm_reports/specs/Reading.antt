@@ -6,8 +6,8 @@ use Rattle.serde_json.specs.Find.{as_str, as_array}
 use Rattle.stm_json.specs.declared.cause.Cause.TheVariants.{NotJson, Shape, TooLong}
 use Rattle.stm_json.specs.Elements.{first_word, one_of, two_of, three_of, four_of}
 use Rattle.stm_json.specs.Outcome.{Outcome, bad, ◌>>=◌, within}
-use Rattle.stm_meaning.specs.declared.value.Value.{Value}
-use Rattle.stm_meaning.specs.declared.trace_item.TraceItem.{TraceItem}
+use Rattle.stm_steps.specs.declared.value.Value.{Value}
+use Rattle.stm_steps.specs.declared.trace_item.TraceItem.{TraceItem}
 use Rattle.stm_outcome.specs.declared.advance.Expired.{Expired}
 use Rattle.stm_json.specs.Parts.{text_of, list_of}
 use Rattle.stm_reports.specs.declared.line.ReportLine.{ReportLine}

@@ -3,10 +3,10 @@ use Rattle.std.specs.Prelude.{◌≡◌, ℕ, ◌+◌, nat_lt, Bool, false, if�
 use Rattle.stm_history.specs.declared.key_state.ReadAnswer.{ReadAnswer}
 use Rattle.stm_history.specs.History.{mod_of}
 use Rattle.std.specs.declared.alloc.AllocError.{AllocError}
-use Rattle.stm_meaning.specs.declared.run.End.{End}
-use Rattle.stm_meaning.specs.declared.run.End.TheVariants.{Done, Aborted as AbortedEnd, Faulted as FaultedEnd}
-use Rattle.stm_meaning.specs.declared.run.Run.{Run}
-use Rattle.stm_meaning.specs.declared.run.Answered.TheVariants.{Ended as EndedRun}
+use Rattle.stm_steps.specs.declared.run.End.{End}
+use Rattle.stm_steps.specs.declared.run.End.TheVariants.{Done, Aborted as AbortedEnd, Faulted as FaultedEnd}
+use Rattle.stm_steps.specs.declared.run.Run.{Run}
+use Rattle.stm_steps.specs.declared.run.Answered.TheVariants.{Ended as EndedRun}
 use Rattle.stm_outcome.specs.declared.refusal.Refusal.{Refusal as StoreRefusal}
 use Rattle.stm_txn.specs.Standing.{Standing}
 use Rattle.stm_attempt.specs.Settled.{run_on}

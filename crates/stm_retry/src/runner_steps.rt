@@ -2,12 +2,12 @@
 ghost use Rattle.std.specs.Prelude.{◌≡◌, ◌≢◌, ◌<◌, ◌≤◌, ◌∷◌, ◌++◌, [], Some, Ok, true, false, length, map, All, IfOk, OnOk, OnErr, vec_len, vec_capacity};
 ghost use Rattle.stm_history.specs.declared.key_state.ReadAnswer.{ReadAnswer as Answer};
 ghost use Rattle.stm_history.specs.History.{now, mod_of};
-ghost use Rattle.stm_meaning.specs.declared.run.End.TheVariants.{Done};
-ghost use Rattle.stm_meaning.specs.declared.run.Run.{Run as ARun};
+ghost use Rattle.stm_steps.specs.declared.run.End.TheVariants.{Done};
+ghost use Rattle.stm_steps.specs.declared.run.Run.{Run as ARun};
 ghost use Rattle.stm_outcome.specs.declared.refusal.Refusal.TheVariants.{OutOfMemory};
 ghost use Rattle.stm_outcome.specs.Numbers.{ReadFits};
 ghost use Rattle.stm_outcome.specs.Commits.{AreNamed as KeysAreNamed};
-ghost use Rattle.stm_compile.specs.Levels.{is_serializable};
+ghost use Rattle.stm_program.specs.Levels.{is_serializable};
 ghost use Rattle.stm_attempt.specs.Known.{HaveDistinctKeys};
 ghost use Rattle.stm_attempt.specs.Fetches.{ShowOneRevision, at_of};
 ghost use Rattle.stm_calls.specs.Fetched.{fetch_reported, fetch_all_reported};

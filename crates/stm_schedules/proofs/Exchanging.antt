@@ -6,11 +6,11 @@ use Rattle.std.specs.Prelude.{nat_lt, not, slice_get}
 use Rattle.stm_history.specs.declared.key_state.ReadAnswer.{ReadAnswer}
 use Rattle.stm_history.specs.History.{now, key_at, mod_of}
 use Rattle.stm_program.specs.Writes.{latest_writes}
-use Rattle.stm_meaning.specs.declared.run.End.{End}
-use Rattle.stm_meaning.specs.declared.run.End.TheVariants.{Done as DoneEnd, Aborted as AbortedEnd, Faulted as FaultedEnd}
-use Rattle.stm_meaning.specs.declared.run.Run.{Run}
-use Rattle.stm_meaning.specs.declared.run.Answered.{Answered}
-use Rattle.stm_meaning.specs.declared.run.Answered.TheVariants.{Ended as EndedRun, Wants}
+use Rattle.stm_steps.specs.declared.run.End.{End}
+use Rattle.stm_steps.specs.declared.run.End.TheVariants.{Done as DoneEnd, Aborted as AbortedEnd, Faulted as FaultedEnd}
+use Rattle.stm_steps.specs.declared.run.Run.{Run}
+use Rattle.stm_steps.specs.declared.run.Answered.{Answered}
+use Rattle.stm_steps.specs.declared.run.Answered.TheVariants.{Ended as EndedRun, Wants}
 use Rattle.stm_outcome.specs.declared.answer.FailedCompare.{FailedCompare}
 use Rattle.stm_outcome.specs.declared.refusal.Refusal.{Refusal as StoreRefusal}
 use Rattle.stm_outcome.specs.declared.refusal.Refusal.TheVariants.{TooManyOps as TooManyOpsRefusal, Compacted as CompactedRefusal}

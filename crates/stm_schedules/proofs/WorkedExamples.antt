@@ -7,7 +7,7 @@ use Rattle.stm_program.specs.declared.level.Level.TheVariants.{SerializableSnaps
 use Rattle.stm_steps.specs.Session.{fresh}
 use Rattle.stm_steps.specs.Steps.{get_key, rev_key}
 use Rattle.stm_steps.specs.Values.{key_in, text_in, less, put_of, del_of}
-use Rattle.stm_meaning.specs.declared.run.End.TheVariants.{Aborted as AbortedEnd}
+use Rattle.stm_steps.specs.declared.run.End.TheVariants.{Aborted as AbortedEnd}
 use Rattle.stm_meaning.specs.Meaning.{evaluate, holds, run_block, run_over}
 use Rattle.stm_attempt.specs.Settled.{settle}
 use Rattle.stm_outcome.specs.declared.txn.Op.TheVariants.{Put}

@@ -3,10 +3,10 @@ use Rattle.std.specs.Prelude.{◌≡◌, ◌↔◌, ◌≤◌, ℕ, zero, suc, B
 use Rattle.std.specs.List.{list_any}
 use Rattle.std.specs.Option.{option_or}
 use Rattle.stm_program.specs.Syntax.{ProgramTree}
-use Rattle.stm_meaning.specs.declared.run.End.{End}
-use Rattle.stm_meaning.specs.declared.run.End.TheVariants.{Done, Aborted, Faulted}
-use Rattle.stm_meaning.specs.declared.run.Answered.{Answered}
-use Rattle.stm_meaning.specs.declared.run.Answered.TheVariants.{Ended, Wants}
+use Rattle.stm_steps.specs.declared.run.End.{End}
+use Rattle.stm_steps.specs.declared.run.End.TheVariants.{Done, Aborted, Faulted}
+use Rattle.stm_steps.specs.declared.run.Answered.{Answered}
+use Rattle.stm_steps.specs.declared.run.Answered.TheVariants.{Ended, Wants}
 use Rattle.stm_meaning.specs.Meaning.{run_over}
 use Rattle.stm_compile.specs.Answers.{state_now}
 use Rattle.stm_world.specs.World.{World}

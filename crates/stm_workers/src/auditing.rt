@@ -1,6 +1,6 @@
 //! The look at the ends of jobs, once nobody is at the hall.
 ghost use Rattle.std.specs.Prelude.{◌≡◌, ◌+◌, ◌<◌, ◌≤◌, ◌↔◌, ◌||◌, ℕ, true, false, length, get_or, set, slice_get, IfOk, IfSome, IfNone, IsTrue, Some};
-ghost use Rattle.stm_compile.specs.Levels.{is_comparing};
+ghost use Rattle.stm_program.specs.Levels.{is_comparing};
 ghost use Rattle.stm_hall.specs.Showing.{IsShown, AreShownAt};
 ghost use Rattle.stm_workers.specs.Ends.{AreOfOneState, MayHaveStopped};
 ghost use Rattle.stm_workers.specs.Ends.{entry_named, names_entry, IsCommitOf, IsGivenUp, IsBorneOut, BorneOutAt, StandsAt, AllStand};

@@ -1,6 +1,6 @@
 //! Why a job goes no further.
 ghost use Rattle.std.specs.Prelude.{◌≡◌, ◌≢◌, ◌↔◌, false, Some, IfOk, IfErr, OnOk, IsTrue};
-ghost use Rattle.stm_meaning.specs.declared.run.End.TheVariants.{Done};
+ghost use Rattle.stm_steps.specs.declared.run.End.TheVariants.{Done};
 ghost use Rattle.stm_outcome.specs.declared.refusal.Refusal.TheVariants.{OutOfMemory as Want};
 ghost use Rattle.stm_hall.specs.declared.refusal.FetchRefusal.TheVariants.{Store as FetchRefused};
 ghost use Rattle.stm_hall.specs.declared.refusal.CommitRefusal.TheVariants.{Store as CommitRefused};

@@ -5,16 +5,16 @@ use Rattle.stm_history.specs.declared.change.Change.{Change}
 use Rattle.stm_history.specs.declared.key_state.ReadAnswer.{ReadAnswer}
 use Rattle.stm_history.specs.History.{History, now}
 use Rattle.stm_program.specs.Writes.{latest_writes}
-use Rattle.stm_meaning.specs.declared.run.End.{End}
-use Rattle.stm_meaning.specs.declared.run.End.TheVariants.{Done as DoneEnd}
-use Rattle.stm_meaning.specs.declared.run.Run.{Run}
-use Rattle.stm_meaning.specs.declared.run.Answered.TheVariants.{Ended as EndedRun}
+use Rattle.stm_steps.specs.declared.run.End.{End}
+use Rattle.stm_steps.specs.declared.run.End.TheVariants.{Done as DoneEnd}
+use Rattle.stm_steps.specs.declared.run.Run.{Run}
+use Rattle.stm_steps.specs.declared.run.Answered.TheVariants.{Ended as EndedRun}
 use Rattle.stm_meaning.specs.Meaning.{run_over}
 use Rattle.stm_outcome.specs.Outcome.{Done, with_changes}
 use Rattle.stm_outcome.specs.Commits.{applied, effective}
 use Rattle.stm_txn.specs.Standing.{Standing, HasKept, with_history, terms_of}
 use Rattle.stm_outcome.specs.Terms.{Terms}
-use Rattle.stm_compile.specs.Levels.{is_comparing}
+use Rattle.stm_program.specs.Levels.{is_comparing}
 use Rattle.stm_compile.specs.Answers.{AreTrue, look_up, state_now}
 use Rattle.stm_compile.specs.Now.{as_change}
 use Rattle.stm_compile.specs.Committed.{conflict_now, committed}

@@ -10,7 +10,7 @@ use Rattle.stm_txn.specs.Standing.{Standing, Step as StoreStep, Advance as Store
 use Rattle.stm_txn.specs.Standing.{watched, polled, cancelled, raised}
 use Rattle.stm_txn.specs.Standing.{Setup}
 use Rattle.stm_watch.specs.declared.watched.Watched.TheVariants.{Key, Range}
-use Rattle.stm_compile.specs.Levels.{is_serializable}
+use Rattle.stm_program.specs.Levels.{is_serializable}
 use Rattle.stm_program.specs.Limits.{has_repeat}
 use Rattle.stm_attempt.specs.Known.{HaveDistinctKeys}
 use Rattle.stm_entries.specs.declared.entry.Entry.{Entry}

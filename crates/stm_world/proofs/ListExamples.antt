@@ -10,9 +10,9 @@ use Rattle.stm_program.specs.declared.level.Level.TheVariants.{SerializableSnaps
 use Rattle.stm_steps.specs.Session.{fresh}
 use Rattle.stm_steps.specs.Steps.{get_key}
 use Rattle.stm_steps.specs.Values.{key_in, put_of}
-use Rattle.stm_meaning.specs.declared.value.Value.TheVariants.{Text as TextValue}
-use Rattle.stm_meaning.specs.declared.trace_item.TraceItem.{TraceItem}
-use Rattle.stm_meaning.specs.declared.trace_item.TraceItem.TheVariants as seen
+use Rattle.stm_steps.specs.declared.value.Value.TheVariants.{Text as TextValue}
+use Rattle.stm_steps.specs.declared.trace_item.TraceItem.{TraceItem}
+use Rattle.stm_steps.specs.declared.trace_item.TraceItem.TheVariants as seen
 use Rattle.stm_meaning.specs.Meaning.{evaluate, run_block, run_over}
 use Rattle.stm_attempt.specs.Settled.{settle}
 use Rattle.stm_outcome.specs.declared.txn.Op.TheVariants.{Put}

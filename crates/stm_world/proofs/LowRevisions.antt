@@ -6,11 +6,11 @@ use Rattle.stm_history.specs.declared.change.Change.{Change}
 use Rattle.stm_history.specs.declared.revisions.TheConstants.{HIGHEST_REVISION}
 use Rattle.stm_history.specs.History.{History, now, key_now}
 use Rattle.stm_program.specs.Writes.{latest_writes}
-use Rattle.stm_meaning.specs.declared.run.End.{End}
-use Rattle.stm_meaning.specs.declared.run.End.TheVariants.{Done as DoneEnd, Aborted, Faulted}
-use Rattle.stm_meaning.specs.declared.run.Run.{Run}
-use Rattle.stm_meaning.specs.declared.run.Answered.{Answered}
-use Rattle.stm_meaning.specs.declared.run.Answered.TheVariants.{Ended, Wants}
+use Rattle.stm_steps.specs.declared.run.End.{End}
+use Rattle.stm_steps.specs.declared.run.End.TheVariants.{Done as DoneEnd, Aborted, Faulted}
+use Rattle.stm_steps.specs.declared.run.Run.{Run}
+use Rattle.stm_steps.specs.declared.run.Answered.{Answered}
+use Rattle.stm_steps.specs.declared.run.Answered.TheVariants.{Ended, Wants}
 use Rattle.stm_meaning.specs.Meaning.{run_over}
 use Rattle.stm_outcome.specs.declared.txn.Txn.{Txn}
 use Rattle.stm_outcome.specs.declared.txn.Op.{Op}

@@ -9,7 +9,7 @@ use Rattle.stm_program.specs.Syntax.{ProgramTree}
 use Rattle.stm_program.specs.declared.level.Level.{Level}
 use Rattle.stm_outcome.specs.Outcome.{with_changes}
 use Rattle.stm_outcome.specs.Commits.{revision_read}
-use Rattle.stm_compile.specs.Levels.{is_serializable}
+use Rattle.stm_program.specs.Levels.{is_serializable}
 use Rattle.stm_compile.specs.Answers.{AreTrue, answer_in, answer_now}
 use Rattle.stm_compile.specs.CommitTxn.{reread_keys}
 use Rattle.stm_compile.proofs.AgreeLemmas.{true_answers_stay, now_are_true}

@@ -17,13 +17,13 @@ use Rattle.stm_program.specs.declared.write.Write.TheVariants.{Put as PutWrite}
 use Rattle.stm_steps.specs.Session.{fresh}
 use Rattle.stm_steps.specs.Steps.{get_key}
 use Rattle.stm_steps.specs.Values.{text_in, key_in, num_of, written_number, arithmetic, computed, put_of}
-use Rattle.stm_meaning.specs.declared.fault.Fault.TheVariants.{ZeroDivisor}
-use Rattle.stm_meaning.specs.declared.value.Value.TheVariants.{Number as NumberValue}
-use Rattle.stm_meaning.specs.declared.trace_item.TraceItem.{TraceItem}
-use Rattle.stm_meaning.specs.declared.trace_item.TraceItem.TheVariants as seen
-use Rattle.stm_meaning.specs.declared.run.End.TheVariants.{Done, Aborted as AbortedEnd, Faulted as FaultedEnd}
-use Rattle.stm_meaning.specs.declared.run.Run.{Run}
-use Rattle.stm_meaning.specs.declared.run.Answered.TheVariants.{Ended as EndedRun}
+use Rattle.stm_steps.specs.declared.fault.Fault.TheVariants.{ZeroDivisor}
+use Rattle.stm_steps.specs.declared.value.Value.TheVariants.{Number as NumberValue}
+use Rattle.stm_steps.specs.declared.trace_item.TraceItem.{TraceItem}
+use Rattle.stm_steps.specs.declared.trace_item.TraceItem.TheVariants as seen
+use Rattle.stm_steps.specs.declared.run.End.TheVariants.{Done, Aborted as AbortedEnd, Faulted as FaultedEnd}
+use Rattle.stm_steps.specs.declared.run.Run.{Run}
+use Rattle.stm_steps.specs.declared.run.Answered.TheVariants.{Ended as EndedRun}
 use Rattle.stm_meaning.specs.Meaning.{evaluate, run_block, run_over}
 use Rattle.stm_compile.specs.Answers.{state_now}
 use Rattle.stm_attempt.specs.Settled.{settle}

@@ -19,10 +19,10 @@ use Rattle.stm_program.specs.declared.write.Write.{Write}
 use Rattle.stm_program.specs.Writes.{key_of, last_write, is_written, latest_writes}
 use Rattle.stm_program.proofs.WriteLemmas.{bytes_eq-self, or_else, last_write-append, last_write-one}
 use Rattle.stm_program.proofs.LatestLemmas.{latest_writes-last}
-use Rattle.stm_meaning.specs.declared.run.End.TheVariants.{Done as DoneEnd}
-use Rattle.stm_meaning.specs.declared.run.Run.{Run}
-use Rattle.stm_meaning.specs.declared.trace_item.TraceItem.{TraceItem}
-use Rattle.stm_meaning.specs.declared.run.Answered.TheVariants.{Ended as EndedRun, Wants}
+use Rattle.stm_steps.specs.declared.run.End.TheVariants.{Done as DoneEnd}
+use Rattle.stm_steps.specs.declared.run.Run.{Run}
+use Rattle.stm_steps.specs.declared.trace_item.TraceItem.{TraceItem}
+use Rattle.stm_steps.specs.declared.run.Answered.TheVariants.{Ended as EndedRun, Wants}
 use Rattle.stm_meaning.specs.Meaning.{run_over}
 use Rattle.stm_outcome.specs.declared.txn.Compare.{Compare}
 use Rattle.stm_outcome.specs.declared.answer.FailedCompare.{FailedCompare}
@@ -30,7 +30,7 @@ use Rattle.stm_outcome.specs.Compares.{holds}
 use Rattle.stm_outcome.specs.Commits.{revision_read}
 use Rattle.stm_outcome.specs.Laws.{FailsAt}
 use Rattle.stm_outcome.proofs.Applying.{mod_compares, failed_has_its_place}
-use Rattle.stm_compile.specs.Levels.{is_serializable}
+use Rattle.stm_program.specs.Levels.{is_serializable}
 use Rattle.stm_compile.specs.Answers.{answer_in, answer_now, state_as_of}
 use Rattle.stm_compile.specs.CommitTxn.{first_carried, is_as_read, is_unmodified, compares_of, reread_keys}
 use Rattle.stm_compile.specs.Committed.{conflict_now}

@@ -10,14 +10,14 @@ use Rattle.stm_history.specs.History.{History, now, key_now, mod_of}
 use Rattle.stm_program.specs.declared.level.Level.{Level}
 use Rattle.stm_program.specs.declared.write.Write.{Write}
 use Rattle.stm_program.specs.Writes.{latest_writes}
-use Rattle.stm_meaning.specs.declared.run.End.{End}
-use Rattle.stm_meaning.specs.declared.run.End.TheVariants.{Done as DoneEnd, Aborted as AbortedEnd, Faulted as FaultedEnd}
-use Rattle.stm_meaning.specs.declared.run.Run.{Run}
-use Rattle.stm_meaning.specs.declared.run.Answered.TheVariants.{Ended as EndedRun}
+use Rattle.stm_steps.specs.declared.run.End.{End}
+use Rattle.stm_steps.specs.declared.run.End.TheVariants.{Done as DoneEnd, Aborted as AbortedEnd, Faulted as FaultedEnd}
+use Rattle.stm_steps.specs.declared.run.Run.{Run}
+use Rattle.stm_steps.specs.declared.run.Answered.TheVariants.{Ended as EndedRun}
 use Rattle.stm_meaning.specs.Meaning.{run_over}
 use Rattle.stm_outcome.specs.declared.answer.FailedCompare.{FailedCompare}
 use Rattle.stm_outcome.specs.Commits.{revision_read}
-use Rattle.stm_compile.specs.Levels.{is_serializable}
+use Rattle.stm_program.specs.Levels.{is_serializable}
 use Rattle.stm_compile.specs.Committed.{conflict_now}
 use Rattle.stm_compile.specs.Answers.{state_as_of}
 use Rattle.stm_compile.specs.Conflicts.{Seen, seen_by, IsChangedAbove}

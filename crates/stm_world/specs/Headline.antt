@@ -4,7 +4,7 @@ use Rattle.stm_history.specs.declared.key_state.ReadAnswer.{ReadAnswer}
 use Rattle.stm_history.specs.History.{History}
 use Rattle.stm_meaning.specs.Laws.{IsContinuedBy}
 use Rattle.stm_meaning.specs.Meaning.{run_over}
-use Rattle.stm_compile.specs.Levels.{is_serializable}
+use Rattle.stm_program.specs.Levels.{is_serializable}
 use Rattle.stm_compile.specs.Answers.{AreTrue, state_as_of}
 use Rattle.stm_program.specs.Limits.{has_repeat}
 use Rattle.stm_attempt.specs.Known.{HaveDistinctKeys}

@@ -4,9 +4,9 @@
 -- values, since what a runner knows is true, is our own; a hall, to which any caller commits, has to look at the values too.
 use Rattle.std.specs.Prelude.{◌≡◌, true, None, Some}
 use Rattle.stm_program.specs.Writes.{latest_writes}
-use Rattle.stm_meaning.specs.declared.run.Run.{Run}
-use Rattle.stm_meaning.specs.declared.run.Answered.TheVariants.{Ended as EndedRun}
-use Rattle.stm_compile.specs.Levels.{is_comparing}
+use Rattle.stm_steps.specs.declared.run.Run.{Run}
+use Rattle.stm_steps.specs.declared.run.Answered.TheVariants.{Ended as EndedRun}
+use Rattle.stm_program.specs.Levels.{is_comparing}
 use Rattle.stm_compile.specs.Committed.{conflict_now}
 use Rattle.stm_compile.specs.Laws.{AreNow}
 use Rattle.stm_attempt.specs.Settled.{run_on}

@@ -1,5 +1,5 @@
 use Rattle.std.proofs.Common.{sym, ◌∙◌, ◌≡◌}
-use Rattle.stm_meaning.specs.declared.run.End.TheVariants.{Done, Aborted, Faulted}
+use Rattle.stm_steps.specs.declared.run.End.TheVariants.{Done, Aborted, Faulted}
 use Rattle.stm_attempt.proofs.ProgressLemmas.{left_untold}
 use Rattle.stm_attempt.proofs.progress.give_end.Goals as goal
 

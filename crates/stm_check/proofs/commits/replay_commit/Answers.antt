@@ -1,7 +1,7 @@
 use Rattle.std.proofs.Common.{Option, subst}
 use Rattle.std.proofs.lemmas.Result.{IfOk-weaker}
 use Rattle.stm_history.specs.History.{History}
-use Rattle.stm_meaning.specs.declared.run.Run.{Run}
+use Rattle.stm_steps.specs.declared.run.Run.{Run}
 use Rattle.stm_txn.specs.Standing.{Standing}
 use Rattle.stm_check.specs.Runs.{IsRunReported, IsFound}
 use Rattle.stm_check.proofs.CommitLemmas.{run_right}

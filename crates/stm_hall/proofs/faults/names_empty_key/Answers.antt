@@ -1,5 +1,5 @@
 use Rattle.std.proofs.Common.{◌&&◌, sym, ◌∙◌, ap, subst}
-use Rattle.stm_compile.specs.Levels.{is_comparing}
+use Rattle.stm_program.specs.Levels.{is_comparing}
 use Rattle.stm_attempt.specs.ReadyRun.{ReadyRun, IsRunOnItsAnswers}
 use Rattle.stm_hall.proofs.WholeFaults.{reads_nothing, ready_names}
 use Rattle.stm_hall.proofs.faults.names_empty_key.Goals as goal

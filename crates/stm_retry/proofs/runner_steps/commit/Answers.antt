@@ -1,5 +1,5 @@
 use Rattle.std.proofs.Common.{List, ◌++◌, ◌∷◌, [], Ok, refl, sym, ◌∙◌, ap, subst}
-use Rattle.stm_meaning.specs.declared.run.Run.{Run}
+use Rattle.stm_steps.specs.declared.run.Run.{Run}
 use Rattle.stm_txn.specs.Standing.{Standing}
 use Rattle.stm_attempt.specs.ReadyRun.{ReadyRun}
 use Rattle.stm_entries.specs.declared.entry.Entry.{Entry}

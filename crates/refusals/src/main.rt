@@ -1,7 +1,7 @@
 //! Runs in which a growth of memory, or the start of a thread, may be refused. The one word of the command line says which.
 //!
 //! A call that is refused for want of memory is made once more, so that a run prints the same lines on standard output whether a
-//! growth was refused in it or not. A second refusal, or another one than is expected, ends it with status 1. Where the refused call
+//! allocation failed in it or not. A second refusal, or another one than is expected, ends it with status 1. Where the refused call
 //! had done a part of its work, that is told on standard error.
 //!
 //! `bench/refusals` refuses the growths from outside, each in a run of its own.

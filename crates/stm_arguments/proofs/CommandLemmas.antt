@@ -1,4 +1,4 @@
--- What `clap` tells of words, said of the command stmrun.
+-- What the clauses of `clap` say of words, stated for the command stmrun.
 use Rattle.std.proofs.Common.{◌≡◌, ◌∙◌, ◌^◌, ◌<◌, ◌≤◌, ℕ, List, [], ◌∷◌, Option, Some, None, IfNone, IfSome, IsSomeAnd, Ok, Err, true, codes, refl, sym, ap, subst}
 use Rattle.std.proofs.Common.{⊎_elim, arith}
 use Rattle.std.specs.Prelude.{ℤ, pos}

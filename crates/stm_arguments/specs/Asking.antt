@@ -49,10 +49,10 @@ abbrev pub RunsAt : Option Text → Option ℕ → Type 0
 RunsAt None runs = runs ≡ None
 RunsAt (Some text) runs = IsSomeAnd runs (λ n. (1 ≤ n) × (n ≤ MOST_RUNS) × NamesNumber text n)
 
--- a command of this name, with what stands in the places of its arguments, asks for a script of its file, or of standard
--- input where it names none, in the format that it names, for a check of its files, a whole one where that flag is set, for a run of its file by so many
--- threads, from 1 to 16, with the ends of its jobs where that flag is set, or for so many runs where their number is named, for the recipe of its words, or for a
--- search of its files, at the level of a name, with so many events at most; each but a recipe with its fault explained, where that flag is set
+-- a command of this name, with what stands in the places of its arguments, asks for a script of its file, or of standard input where it names none,
+-- in the format that it names, for a check of its files, a whole one where that flag is set, for a run of its file by the number of threads that it
+-- names, 1 to 16, with the ends of its jobs where that flag is set, or for as many runs as it names, for the recipe of its words, or for a search of
+-- its files, at the level of a name, with at most the events that it names; each but a recipe with its fault explained, where that flag is set
 abbrev pub AsksAt : Text → List Row → Asked → Type 0
 AsksAt name rows (Script file format explain) =
     (name ≡ codes "script") × (first_of (codes "FILE") rows ≡ option_map (λ path. path.now) file)
@@ -104,7 +104,7 @@ HasName rows = IsSome (first_of (codes "NAME") rows)
 abbrev pub HasSearch : List Row → Type 0
 HasSearch rows = IsSome (first_of (codes "SCENARIO") rows) × IfSome (first_of (codes "budget") rows) (IsUnsignedIn 0 18446744073709551615)
 
--- what is found of the command that the words name is that of a script, of a check with its files, of a run by so many threads, of
+-- what is found of the command that the words name is that of a script, of a check with its files, of a run by a number of threads, of
 -- a recipe with a name, or of a search
 abbrev pub IsWhole : Option (Text × List Row) → Type 0
 IsWhole None = ⊥

@@ -86,7 +86,7 @@ stmrun_app =
     recipe_app.top)
     explore_app.top
 
--- 0 for help and the version, 3 for want of memory and 2 for usage
+-- 0 for help and the version, 3 where memory ran out and 2 for usage
 abbrev pub status_of_kind : ErrorKind → ℕ
 status_of_kind DisplayHelp = 0
 status_of_kind DisplayVersion = 0
@@ -101,6 +101,6 @@ IsReportedBy kind status = (status ≡ status_of_kind kind) ⊎ (((kind ≡ Disp
 abbrev pub faults_of : List Text → Kinds
 faults_of words = fault_of stmrun_app words
 
--- the status is that of a fault of one of these kinds, or of want of memory
+-- the status is that of a fault of one of these kinds, or of running out of memory
 abbrev pub IsStatusOf : Kinds → ℕ → Type 0
 IsStatusOf kinds status = (kind : ErrorKind) × ((kind ≡ OutOfMemory) ⊎ IsAmong kind kinds) × IsReportedBy kind status

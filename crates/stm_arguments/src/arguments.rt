@@ -34,13 +34,13 @@ pub enum Asked<'a> {
         /// Whether a fault is explained.
         explain: bool,
     },
-    /// A run of the scenario's jobs by so many threads, by the path of the scenario; of standard input, where there is none. The end of each
+    /// A run of the scenario's jobs by this many threads, by the path of the scenario; of standard input, where there is none. The end of each
     /// job is shown, or is not.
     Threads {
         scenario: Option<&'a str>,
         workers: usize,
         ends: bool,
-        /// Where a number is named: so many runs are made, and what they come to is shown.
+        /// Where a number is named: that many runs are made, and what they come to is shown.
         repeat: Option<u32>,
         /// Whether a fault is explained.
         explain: bool,
@@ -54,7 +54,7 @@ pub enum Asked<'a> {
         keeps: Option<&'a str>,
         /// The name of the level of each start, where one is named.
         level: Option<&'a str>,
-        /// At most so many events are taken.
+        /// At most this many events are taken.
         budget: u64,
         /// Whether a fault is explained.
         explain: bool,
@@ -65,7 +65,7 @@ pub enum Asked<'a> {
 
 /// Why the words of the command line could not be read.
 enum WordsFault {
-    /// A growth was refused.
+    /// An allocation failed.
     OutOfMemory,
     /// One of them is not UTF-8.
     NotText,
@@ -74,7 +74,7 @@ enum WordsFault {
 /// How many threads may run jobs, at most.
 const MOST_WORKERS: usize = 16;
 
-/// What `--version` prints behind the name: the program's version, and the kit that it is proved with.
+/// What `--version` prints after the name: the program's version, and the kit that it is proved with.
 const VERSION: &str = "0.1.0 (rattle-kit-13f)";
 
 const EXAMPLE: &str = "A scenario is a JSON array of events, in their order:
@@ -435,7 +435,7 @@ fn command<'a>(alloc: Global) -> Result<Command<'a>, AllocError>
 }
 
 /// The status of a command line that is refused, or that asks for help or the version, once its text is printed: 0 for help and
-/// version that were printed, 3 for want of memory and where they could not be printed, and 2 for usage, printed or not.
+/// version that were printed, 3 where an allocation failed or they could not be printed, and 2 for usage, printed or not.
 fn reported<R: Print + Eprint>(rt: &R, error: &Error) -> u8
     ensures { IsReportedBy (kind_of error.now) result }
 {
@@ -616,7 +616,7 @@ fn asked_by<'a>(matches: &ArgMatches<'a>) -> Option<Asked<'a>>
 /// What these words ask for, of which the first is the program's name.
 ///
 /// Where they are refused, or ask for help or the version, that was printed, and nothing more is asked for: the status is 0 for help and
-/// version, 2 for usage, printed or not, and 3 for want of memory and where help or version could not be printed.
+/// version, 2 for usage, printed or not, and 3 where an allocation failed or help or version could not be printed.
 pub fn asked_of<'a, R: Print + Eprint>(rt: &R, alloc: Global, words: &'a [String]) -> Asked<'a>
     ensures { Asks (map string_bytes words.now) result }
 {
@@ -633,7 +633,7 @@ pub fn asked_of<'a, R: Print + Eprint>(rt: &R, alloc: Global, words: &'a [String
 }
 
 /// The words of this process's command line, or the status where they cannot be read, which was printed: 2 where one of
-/// them is not UTF-8, and 3 for want of memory.
+/// them is not UTF-8, and 3 where an allocation failed.
 pub fn read_words<R: Eprint + Env + AllocGlobal>(rt: &R) -> Result<Vec<String>, u8>
     ensures { IfErr result (λ status. (status ≡ 2) ⊎ (status ≡ 3)) }
 {

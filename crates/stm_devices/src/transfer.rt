@@ -5,7 +5,7 @@ ghost use Rattle.stm_devices.specs.Transfers.{HasTaken, HasRead, HasWritten};
 use crate::devices::{DeviceFault, Sink, Source};
 use std::alloc::{AllocError, Global};
 
-/// So many bytes `read_all` reads at most, in at most so many reads: one more than a scenario may have bytes.
+/// `read_all` reads at most this many bytes, in at most this many reads: one byte more than a scenario may have.
 pub const MOST_READ: usize = 16777217;
 
 /// So many bytes are read at a time.
@@ -14,7 +14,7 @@ const PIECE: usize = 4096;
 /// Why reading stopped.
 #[derive(Clone, Copy, Debug, PartialEq, Eq)]
 pub enum ReadFault {
-    /// A growth was refused.
+    /// An allocation failed.
     OutOfMemory,
     /// The source failed.
     Device,
@@ -42,7 +42,7 @@ impl From<DeviceFault> for ReadFault {
     }
 }
 
-/// Reads a piece of at most so many bytes through the buffer, puts it behind the bytes, and tells its length: 0 only at the end.
+/// Reads a piece of at most `most` bytes through the buffer, appends it to the bytes, and returns its length: 0 only at the end.
 fn read_piece<S: Source>(
     source: &mut S,
     buffer: &mut [u8; PIECE],
@@ -60,9 +60,9 @@ fn read_piece<S: Source>(
     Ok(count)
 }
 
-/// All bytes of a source, up to so many as `MOST_READ`.
+/// All bytes of a source, up to `MOST_READ` of them.
 ///
-/// It fails as `OutOfMemory` where a growth was refused, and as `Device` exactly where the source has failed. What
+/// It fails as `OutOfMemory` where an allocation failed, and as `Device` exactly where the source has failed. What
 /// was read until then is lost. The source is read at most `MOST_READ` times, also by a call that fails.
 pub fn read_all<S: Source>(alloc: Global, source: &mut S) -> Result<Vec<u8>, ReadFault>
     requires { S.failed source.old ≡ false }

@@ -33,7 +33,7 @@ mark-small text m is =
     let small = place-small (1, 1) (take m.offset text) (omega arith) in
     subst (λ (p : ℕ × ℕ). IsSmall p (m.offset + 2)) (sym is.1) (omega (arith, small.0, length-take-le m.offset text is.0), small.1)
 
--- the mark of an offset behind another one
+-- the mark of an offset after another one
 pub mark-on : (text : List ℕ) (m next : Mark) → IsMark text m → m.offset ≤ next.offset → next.offset ≤ length text →
     (next.at.line, next.at.column) ≡ place_from (m.at.line, m.at.column) (take (next.offset - m.offset) (drop m.offset text)) → IsMark text next
 mark-on text m next is behind within on =

@@ -10,7 +10,7 @@ use strsim::levenshtein;
 /// A word of more bytes than this is near to none.
 const MOST_NEAR: usize = 60;
 
-/// What stands behind a word, where it is one of these.
+/// The elements that follow a word, where it is one of these.
 fn behind(forms: &[(&str, Parts)], word: &str) -> Option<Parts> {
     for form in forms {
         if form.0 == word {
@@ -20,7 +20,7 @@ fn behind(forms: &[(&str, Parts)], word: &str) -> Option<Parts> {
     None
 }
 
-/// What stands behind a word in such a place, where the word is allowed there.
+/// The elements that follow a word in such a place, where the word is allowed there.
 pub(crate) fn parts_behind(part: Part, word: &str) -> Option<Parts> {
     match part {
         Part::Event => behind(&EVENTS, word),

@@ -13,7 +13,7 @@ use serde_json::Value;
 use std::alloc::{AllocError, Global};
 use stm_json::{BadInput, Cause, worded_array};
 
-/// What is told of a fault.
+/// What is said of a fault.
 #[derive(Drop)]
 pub(crate) struct Explained {
     /// Where in the text it stands.
@@ -73,7 +73,7 @@ fn unknown(alloc: Global, part: Part, word: &str, value: &Value) -> Result<Strin
     format!(in alloc; "unknown {noun} {word_shown}: {allowed}")
 }
 
-/// What is said of an array whose word is known and wants so many elements behind it.
+/// What is said of an array whose word is known and that has another number of elements after it than the word takes.
 fn miscounted(
     alloc: Global,
     input: Input,
@@ -129,7 +129,7 @@ fn misshaped(alloc: Global, input: Input, found: Found<'_>) -> Result<String, Al
     }
 }
 
-/// The word of a line of a report, its first element or the one behind a number.
+/// The word of a line of a report: its first element, or the one after a number.
 fn word_of_line(line: &Value) -> Option<&Value> {
     let first = line.get(0)?;
     if first.is_number() {
@@ -184,7 +184,7 @@ fn words_of(
     }
 }
 
-/// What is told of a fault of a text that is JSON.
+/// What is said of a fault of a text that is JSON.
 fn reported_of_value(
     alloc: Global,
     input: Input,
@@ -206,7 +206,7 @@ fn reported_of_value(
     }
 }
 
-/// What is told of a fault of a text; of one that is no JSON, that.
+/// What is said of a fault of a text; where the text is no JSON, that it is none.
 fn reported_in(
     alloc: Global,
     input: Input,
@@ -225,7 +225,7 @@ fn reported_in(
     }
 }
 
-/// The same of a fault in a line of a text, at so many bytes from the text's front.
+/// The same of a fault in one line of a report; the offset is counted from the text's front.
 fn reported_in_line(
     alloc: Global,
     text: &[u8],
@@ -248,7 +248,7 @@ fn reported_in_line(
     })
 }
 
-/// What is told of a fault of an input.
+/// What is said of a fault of an input.
 fn reported_of(
     alloc: Global,
     input: Input,
@@ -267,7 +267,7 @@ fn reported_of(
     }
 }
 
-/// What is told of a fault of the whole input.
+/// What is said of a fault of the whole input.
 fn reported_of_whole(
     alloc: Global,
     input: Input,
@@ -285,7 +285,7 @@ fn reported_of_whole(
 /// The explanation of a fault that a reader found in a text of this kind, as one line: `NAME:LINE:COLUMN: WORDS` and a line feed.
 ///
 /// The name is that of the text's file, line and column are those of an offset in the text. The words say what was found there and what is
-/// allowed, or why the text is no JSON. It fails where a growth was refused.
+/// allowed, or why the text is no JSON. It fails where an allocation failed.
 pub fn explain(
     alloc: Global,
     input: Input,
@@ -302,7 +302,7 @@ pub fn explain(
 }
 
 /// The explanation of what stands in a text of JSON at the place that these indices lead to, as one line: `NAME:LINE:COLUMN: WORDS` and a line
-/// feed. It fails where a growth was refused.
+/// feed. It fails where an allocation failed.
 pub fn explained_at(
     alloc: Global,
     name: &str,

@@ -1,4 +1,4 @@
-//! The grammar of inputs as tables: the words that an array can begin with, and what stands behind each.
+//! The grammar of inputs as tables: the words that an array can begin with, and which elements follow each.
 
 /// What is read as an input.
 #[derive(Clone, Copy, Debug, PartialEq, Eq)]
@@ -74,7 +74,7 @@ pub enum Part {
     OfLine,
 }
 
-/// What stands behind the word of an array.
+/// The elements that follow the word of an array.
 #[derive(Clone, Copy, Debug, PartialEq, Eq)]
 pub enum Parts {
     /// Nothing, or nothing that is said here.
@@ -92,7 +92,7 @@ pub enum Parts {
 }
 
 impl Parts {
-    /// Whether so many elements may stand behind the word.
+    /// Whether this many elements may follow the word.
     pub(crate) fn are_so_many(self, count: usize) -> bool {
         match self {
             Parts::Nothing => count == 0,
@@ -104,7 +104,7 @@ impl Parts {
         }
     }
 
-    /// How many elements stand behind the word, in words.
+    /// How many elements follow the word, in words.
     pub(crate) fn number(self) -> &'static str {
         match self {
             Parts::Nothing => "0",
@@ -128,7 +128,7 @@ impl Parts {
         }
     }
 
-    /// Those behind the first.
+    /// Those after the first.
     fn rest(self) -> Parts {
         match self {
             Parts::Nothing | Parts::One(_) => Parts::Nothing,
@@ -275,7 +275,7 @@ pub const OPERATIONS: [(&str, Parts); 3] = [
     ("del", Parts::One(Part::Text)),
 ];
 
-/// The lines of a report, by their word. What stands behind it is not said here.
+/// The lines of a report, by their word. Their elements are not described here.
 pub const LINES: [(&str, Parts); 23] = [
     ("started", Parts::Nothing),
     ("prefetched", Parts::Nothing),

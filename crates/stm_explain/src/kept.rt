@@ -17,7 +17,7 @@ pub struct Kept<'a, S> {
     pub source: S,
     /// What was read, in order.
     pub bytes: Vec<u8>,
-    /// Whether bytes are missing there, since a growth was refused.
+    /// Whether bytes are missing there, since an allocation failed.
     pub is_cut: bool,
 }
 
@@ -34,7 +34,7 @@ impl<'a, S> Kept<'a, S> {
         }
     }
 
-    /// The explanation of a fault that a reader found in what was read, as a line; nothing where a growth was refused, now or before.
+    /// The explanation of a fault that a reader found in what was read, as a line; nothing where an allocation failed, now or before.
     pub fn explanation(&self, alloc: Global, input: Input, bad: &BadInput) -> String
         ensures { ExplainsOrNothing self.now.name.now self.now.bytes.items (string_bytes result) }
     {
@@ -47,7 +47,7 @@ impl<'a, S> Kept<'a, S> {
         }
     }
 
-    /// What was read, as text; nothing where it is none, or where a growth was refused before.
+    /// What was read, as text; nothing where it is none, or where an allocation failed before.
     pub fn text(&self) -> Option<&str>
         ensures { IfSome result (λ text. text.now ≡ self.now.bytes.items) }
     {

@@ -42,7 +42,7 @@ fn front(text: &[u8]) -> Mark
     }
 }
 
-/// The mark of an offset, counted on from the mark before it; that mark, where it is no offset behind it.
+/// The mark of an offset, counted on from the mark before it; where the offset is not after that mark or not in the text, the mark before it.
 fn mark_at(text: &[u8], mark: Mark, offset: usize) -> Mark
     requires { IsMark text.now mark }
     ensures { IsMark text.now result }
@@ -54,7 +54,7 @@ fn mark_at(text: &[u8], mark: Mark, offset: usize) -> Mark
     Mark { offset, at }
 }
 
-/// The marks of the first elements of a text's array, which has so many.
+/// The marks of the elements of a text's array, which has this many.
 fn marks_of(
     alloc: Global,
     text: &[u8],
@@ -75,7 +75,7 @@ fn marks_of(
 }
 
 impl<'a> Marked<'a> {
-    /// A text under a name, with marks at so many elements of its array.
+    /// A text under a name, with marks at the first `elements` elements of its array.
     pub fn new(
         alloc: Global,
         name: &'a str,
@@ -91,7 +91,7 @@ impl<'a> Marked<'a> {
         Ok(Marked { name, text, marks })
     }
 
-    /// Where the element behind this one begins, or the text's end.
+    /// Where the element after this one begins, or the text's end.
     fn end_of(&self, element: usize) -> usize {
         match self.marks.get(element.saturating_add(1)) {
             Some(next) => next.offset,
@@ -136,7 +136,7 @@ impl<'a> Marked<'a> {
     }
 
     /// The explanation of what stands at the place that these indices lead to, as one line: `NAME:LINE:COLUMN: WORDS` and a line feed. It fails
-    /// where a growth was refused.
+    /// where an allocation failed.
     pub fn explained_at(
         &self,
         alloc: Global,

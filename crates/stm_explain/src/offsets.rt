@@ -4,7 +4,7 @@ ghost use Rattle.std.specs.Prelude.{◌≤◌, length, IfOk};
 use json::{MAX_DEPTH, Reader, Scratch};
 use std::alloc::{AllocError, Global};
 
-/// Goes into an array, and past so many of its elements.
+/// Goes into an array, to its element at this index.
 fn enter(reader: &mut Reader<'_>, index: usize) {
     let _ = reader.next();
     for _ in 0..index {

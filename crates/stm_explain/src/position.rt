@@ -7,11 +7,11 @@ ghost use Rattle.stm_explain.specs.Positions.{next as next_place, place_behind, 
 pub struct Position {
     /// Its line, counted from 1.
     pub line: usize,
-    /// Its column, counted from 1: so many bytes stand before it in its line, and 1.
+    /// Its column: the number of bytes before it in its line, plus 1.
     pub column: usize,
 }
 
-/// The line and the column behind a byte, by those of the byte.
+/// The line and the column after a byte, by those of the byte.
 fn next(line: usize, column: usize, byte: u8) -> (usize, usize)
     requires small { line + column ≤ 2 ^ 63 + 1 }
     requires counted { 1 ≤ column }
@@ -26,7 +26,7 @@ fn next(line: usize, column: usize, byte: u8) -> (usize, usize)
     }
 }
 
-/// The position behind these bytes, of which the first stands at this one.
+/// The position after these bytes, of which the first stands at this one.
 pub(crate) fn position_from(at: Position, bytes: &[u8]) -> Position
     requires small { at.line + at.column + length bytes.now ≤ 2 ^ 63 + 1 }
     requires counted { 1 ≤ at.column }
@@ -53,7 +53,7 @@ impl Position {
 
 /// The position of the byte at an offset of a text, or of the text's end.
 ///
-/// The line is the number of line feeds before it and 1, the column the number of bytes behind the last of them and 1.
+/// The line is one more than the number of line feeds before it, the column one more than the number of bytes since the last of them.
 pub fn position_of(text: &[u8], offset: usize) -> Position
     requires { offset ≤ length text.now }
     ensures { (result.line, result.column) ≡ place_behind (take offset text.now) }

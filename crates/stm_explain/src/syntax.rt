@@ -9,7 +9,7 @@ use std::alloc::{AllocError, Global};
 /// Arrays and objects nest at most so deep.
 const MOST_DEPTH: usize = 127;
 
-/// How many arrays and objects are open behind these bytes.
+/// How many arrays and objects are still open after these bytes.
 fn depth_behind(bytes: &[u8]) -> usize {
     let mut depth = 0usize;
     let mut is_text = false;

@@ -1,4 +1,4 @@
--- A walk back over the revisions of a key tells what the key is after all of them.
+-- A walk back over the revisions of a key finds what the key is after all of them.
 use Rattle.std.proofs.Common.{◌≡◌, ℕ, ◌+◌, ◌-◌, ◌≤◌, ◌<◌, zero, Bool, true, false, cond, List, [], ◌∷◌, length, reverse, take, get_or, Option, Some, None}
 use Rattle.std.proofs.Common.{suc, refl, sym, ◌∙◌, ap, arith}
 use Rattle.std.proofs.Math.Seq.{take-suc}
@@ -39,7 +39,7 @@ continued_end s =
     let same : s.version + 0 ≡ s.version = omega arith in
     ap (λ (n : ℕ). Some (let k : KeyState = record { value = s.value; create_rev = s.create_rev; mod_rev = s.mod_rev; version = n; lease = s.lease } in k)) same
 
--- what a walk tells that has found a state, or none yet, and is left with these revisions of a store that opened without a key
+-- the answer of a walk that has found a state, or none yet, when these revisions are left of a store that opened without a key
 abbrev pub walked : ℕ → List ℕ → Option KeyState → List (List Change) → Option KeyState
 walked opening key None older = key_after (opening_at opening) key older
 walked opening key (Some s) older = Some (continued s (puts_since_deletion (changes_of (opening_at opening) key older)))

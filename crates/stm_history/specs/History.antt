@@ -138,7 +138,7 @@ state_after opened dated = state_after_puts (state_before_puts opened dated) (pu
 abbrev pub key_after : Opening → List ℕ → List (List Change) → Option KeyState
 key_after opening key revisions = state_after (opened_state opening key) (changes_of opening key revisions)
 
--- The key at a revision. What it was below the opening is not known: it is told there as it is at the opening.
+-- The key at a revision. What it was below the opening is not known: there it counts as it is at the opening.
 abbrev pub key_at : History → List ℕ → ℕ → Option KeyState
 key_at h key r = key_after h.opening key (revisions_up_to h.opening r h.revisions)
 

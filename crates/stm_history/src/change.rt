@@ -8,7 +8,7 @@ use std::marker::Model;
 /// One change of one key.
 #[derive(Debug, Drop, Clone)]
 pub enum Change {
-    /// The key gets this value, and hangs on this lease (0 for none).
+    /// The key gets this value, and is attached to this lease (0 for none).
     Put { key: Text, value: Text, lease: u64 },
     /// The key is deleted.
     Del { key: Text },

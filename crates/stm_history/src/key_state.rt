@@ -6,7 +6,7 @@ use crate::text::Text;
 
 /// What a store has under a present key: etcd's `KeyValue` without the key itself.
 ///
-/// The revisions are those of the store's one counter. `lease` is 0 where the key hangs on none.
+/// The revisions are those of the store's one counter. `lease` is 0 where the key is attached to none.
 #[derive(Debug, Drop, Clone)]
 pub struct KeyState {
     /// The value of the last put.

@@ -14,7 +14,7 @@ use std::marker::Model;
 /// The highest revision of a store. No change is made above it.
 pub const HIGHEST_REVISION: u64 = 9223372036854775806;
 
-/// The highest number of 64 bits with a sign. No number that a user gives or is told is above it: a
+/// The highest number of 64 bits with a sign. No number that a user gives or gets is above it: a
 /// revision, a version, a lease's id, a moment or a runner.
 pub const HIGHEST_NUMBER: u64 = 9223372036854775807;
 
@@ -176,7 +176,7 @@ impl Revisions {
 
     /// Adds a revision, whose number is the next one.
     ///
-    /// Want of memory leaves the history as it was.
+    /// An allocation failure leaves the history as it was.
     pub fn add(&mut self, revision: Revision) -> Result<u64, AllocError>
         requires { now self.old < HIGHEST_REVISION }
         ensures number { IfOk result (λ number. number ≡ now self.new) }

@@ -57,7 +57,7 @@ impl<T> Sequence<T> {
         self.items.as_slice()
     }
 
-    /// Adds an element at the end. Want of memory leaves the list as it was.
+    /// Adds an element at the end. An allocation failure leaves the list as it was.
     pub fn push(&mut self, item: T) -> Result<(), AllocError>
     where
         T: Drop,

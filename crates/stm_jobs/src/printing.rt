@@ -191,7 +191,7 @@ fn push_values(alloc: Global, text: &mut String, state: &State) -> Result<(), Al
 /// What is printed of a run of so many jobs: how many there are and how many of them committed, a line for the end of each and its attempts, where these
 /// are to be shown, one for each key that is present with its value, ascending by bytes, and the store's revision.
 ///
-/// Each line is a compact JSON array and a line feed. It fails where a growth was refused.
+/// Each line is a compact JSON array and a line feed. It fails where an allocation failed.
 pub fn lines(
     alloc: Global,
     jobs: usize,

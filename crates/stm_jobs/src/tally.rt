@@ -21,7 +21,7 @@ fn times_of(tally: &BTreeMap<Text, u64>, text: &Text) -> u64
     }
 }
 
-/// Counts one more of a text. So many were counted before. Where a growth is refused nothing is said of the tally.
+/// Counts one more of a text. So many were counted before. Where an allocation fails nothing is said of the tally.
 pub fn count_one(tally: &mut BTreeMap<Text, u64>, text: Text, before: u32) -> Result<(), AllocError>
     requires { sum (values_of tally.old.entries) ≡ before }
     ensures { OnOk result ((texts : List (List ℕ)) → Counts texts tally.old.entries → Counts (texts ++ text ∷ []) tally.new.entries) }

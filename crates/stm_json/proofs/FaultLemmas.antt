@@ -28,7 +28,7 @@ fault_of p (Err f) = fault_at (p ++ f.place) f.cause
 pub wrong_is : {A : Type 0} (p : List ℕ) (cause : Cause) (reading : Outcome A) → reading ≡ bad cause → first_of (wrong p cause) ≡ fault_of p reading
 wrong_is p cause reading e = rw e (ap (λ (q : List ℕ). fault_at q cause) (sym (append-nil p)))
 
--- a function tells the first fault, where that is the one which reading answers
+-- the function reports the first fault, where that is the one which reading answers
 pub reported_faults : {X A : Type 0} (see : X → A) (first : Option BadInput) (r : Result X ReadError) (reading : Outcome A) → first ≡ fault_of [] reading
     → Returns see r reading → MatchResult r (λ x. first ≡ None) (IsFirstFault first)
 reported_faults see first (Ok x) reading is h = is ∙ ap (fault_of []) h

@@ -1,4 +1,4 @@
--- What is known where reading answers a value, and what a function tells of an element.
+-- What is known where reading answers a value, and what a function returns for an element.
 use Rattle.std.proofs.Common.{◌≡◌, inl, inr, ℕ, Bool, true, false, cond, Result, Ok, Err, refl, subst, IfOk}
 use Rattle.stm_json.specs.declared.cause.Cause.{Cause}
 use Rattle.stm_json.specs.declared.read_error.ReadError.{ReadError}
@@ -26,7 +26,7 @@ Returns-within see index (Err OutOfMemory) result reading reported wrapped = rw 
 Returns-within see index (Err (Bad f)) result reading reported (inl e) = rw e tt
 Returns-within see index (Err (Bad f)) result reading reported (inr e) = rw (e, reported) refl
 
--- ---- what a function tells, in other words than those of reading
+-- ---- what a function returns, in other words than those of reading
 
 -- what was read is so
 pub reported_means : {X A : Type 0} (see : X → A) (P : A → Type 0) (r : Result X ReadError) (reading : Outcome A) → ((x : A) → reading ≡ Ok x → P x)

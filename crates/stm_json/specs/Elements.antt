@@ -10,11 +10,11 @@ abbrev pub first_word : Items → Option (List ℕ × Items)
 first_word no_items = None
 first_word (item d ds) = option_map (λ w. (w, ds)) (as_str d)
 
--- the first word of an array, and the elements behind it
+-- the first word of an array, and the elements after it
 abbrev pub worded : Data → Option (List ℕ × Items)
 worded d = option_and_then first_word (as_array d)
 
--- the elements, where there are so many
+-- the elements, where there are exactly that many
 
 abbrev pub one_of : Items → Option Data
 one_of no_items = None

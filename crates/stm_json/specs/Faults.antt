@@ -1,5 +1,5 @@
--- The faults of arrays of a word and parts, apart from reading: a table says which sorts of parts stand behind each word, and
--- all faults are listed in the order of reading, none left out behind another.
+-- The faults of arrays of a word and parts, apart from reading: a table says which sorts of parts follow each word, and
+-- all faults are listed in the order of reading, and none is left out after another.
 use Rattle.std.specs.Prelude.{◌≡◌, ℕ, suc, ℤ, pos, negsuc, List, [], ◌∷◌, ◌++◌, Bool, true, false, Option, Some, None, if◌then◌else◌, ◌&&◌, nat_le}
 use Rattle.std.specs.Prelude.{option_and_then}
 use Rattle.serde_json.specs.Data.{Data, string, array, Items, no_items, item}
@@ -20,7 +20,7 @@ abbrev pub first_of : Faults → Option BadInput
 first_of [] = None
 first_of (f ∷ fs) = Some f
 
--- the error is the first fault, or want of memory
+-- the error is the first fault, or says that memory ran out
 abbrev pub IsFirstFault : Option BadInput → ReadError → Type 0
 IsFirstFault first OutOfMemory = Unit {0}
 IsFirstFault first (Bad f) = first ≡ Some f
@@ -32,7 +32,7 @@ wrong p cause = record { place = p; cause = cause } ∷ []
 abbrev pub at : List ℕ → ℕ → List ℕ
 at p index = p ++ step index
 
--- ---- what may stand behind a word
+-- ---- what may follow a word
 
 -- any text, one of some words, a whole number from a least to a most, and what has faults by a definition of its own
 pub data Sort : Type 0 where
@@ -66,7 +66,7 @@ faults_by (By faults) p d = faults p d
 
 -- ---- arrays of a word and parts
 
--- words with the sorts of the parts behind them
+-- words with the sorts of the parts that follow them
 abbrev pub Table : Type 0
 Table = List (List ℕ × List Sort)
 

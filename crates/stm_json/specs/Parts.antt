@@ -30,7 +30,7 @@ abbrev pub list_of : {A : Type 0} → (Data → Outcome A) → Option Items → 
 list_of read None = bad Shape
 list_of read (Some ds) = each_from read 0 ds
 
--- an array of a word and the parts behind it
+-- an array of a word and the parts after it
 abbrev pub spelled : List ℕ → List Data → Data
 spelled word parts = array (item (string word) (items_of parts))
 

@@ -4,7 +4,7 @@ use Rattle.stm_json.specs.declared.read_error.ReadError.{ReadError}
 use Rattle.stm_json.specs.declared.read_error.ReadError.TheVariants.{OutOfMemory, Bad}
 use Rattle.stm_json.specs.Outcome.{Outcome, inside}
 
--- the error is the fault that reading answers, or want of memory
+-- the error is the fault that reading answers, or says that memory ran out
 abbrev pub ReturnsFault : {A : Type 0} → ReadError → Outcome A → Type 0
 ReturnsFault OutOfMemory reading = Unit {0}
 ReturnsFault (Bad fault) reading = reading ≡ Err fault

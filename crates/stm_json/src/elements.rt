@@ -10,7 +10,7 @@ use crate::read_error::ReadError;
 use serde_json::Value;
 use std::alloc::Global;
 
-/// The first word of an array, and the elements behind it; `None` where the value is no such array.
+/// The first word of an array, and the elements after it; `None` where the value is no such array.
 pub fn worded_array(value: &Value) -> Option<(&str, &[Value])>
     ensures { option_map (λ p. (p.0.now, items_view p.1.now)) result ≡ worded (view value.now) }
 {

@@ -1,6 +1,6 @@
 //! Reading JSON: what a reader answers, where a fault stands, and looking into values.
 //!
-//! A reader answers a value, or the first fault with its place and cause, or want of memory. The crates
+//! A reader answers a value, or the first fault with its place and cause, or that it is out of memory. The crates
 //! that read programs and scenarios stand on these.
 #![tactic(auto)]
 

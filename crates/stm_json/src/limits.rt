@@ -1,4 +1,4 @@
 //! How much is read.
 
-/// A text that is read, a scenario or a report, has at most so many bytes.
+/// The most bytes that a text to be read, a scenario or a report, may have.
 pub const MOST_BYTES: usize = 16777216;

@@ -18,10 +18,10 @@ fn place_within(alloc: Global, index: usize, place: &Text) -> Result<Text, Alloc
     Ok(Text::new(string))
 }
 
-/// The outcome at an element, as an outcome of its array: a fault's place is put behind the index.
+/// The outcome at an element, as an outcome of its array: the index is put in front of a fault's place.
 ///
-/// A value stays as it is, and so does want of memory. The place needs memory; where that is refused,
-/// the outcome is want of memory in the fault's stead.
+/// A value stays as it is, and so does `OutOfMemory`. The new place is allocated; where that fails,
+/// the result is `OutOfMemory` instead of the fault.
 pub fn within<T>(alloc: Global, index: usize, outcome: Result<T, ReadError>) -> Result<T, ReadError>
     ensures { Wraps index outcome result }
 {

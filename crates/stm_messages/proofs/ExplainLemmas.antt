@@ -1,4 +1,4 @@
--- What is said of a fault and behind it.
+-- What is said of a fault, and the explanation after it.
 use Rattle.std.proofs.Common.{◌++◌, ◌∙◌, List, [], ℕ, Bool, true, false, Option, Result, Ok, Err, sym, true≢false, append-nil}
 use Rattle.stm_devices.specs.Transfers.{HasWritten}
 use Rattle.stm_messages.specs.Saying.{Says, IsExplained, SaysMore}

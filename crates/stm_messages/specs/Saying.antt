@@ -6,7 +6,7 @@ use Rattle.stm_json.specs.CauseNames.{cause_name}
 use Rattle.stm_devices.specs.Transfers.{WritesFront}
 use Rattle.stm_explain.specs.Explaining.{ExplainsOrNothing}
 
--- place and cause of the first fault of an input, behind this
+-- place and cause of the first fault of an input, after this
 abbrev pub bad_input : List ℕ → BadInput → List ℕ
 bad_input begin bad = begin ++ bad.place ++ codes ": " ++ cause_name bad.cause ++ codes "\n"
 
@@ -18,7 +18,7 @@ Says before after failed text = WritesFront before after text × (failed ≡ fal
 abbrev pub IsExplained : List ℕ → Type 0
 IsExplained more = (name text : List ℕ) × ExplainsOrNothing name text more
 
--- a message was written and its explanation behind it, or a front of the two where the sink then has failed
+-- a message was written and its explanation after it, or a front of the two where the sink then has failed
 abbrev pub SaysMore : Option (List ℕ) → Option (List ℕ) → Bool → List ℕ → Type 0
 SaysMore before after failed message = (more : List ℕ) × IsExplained more × Says before after failed (message ++ more)
 

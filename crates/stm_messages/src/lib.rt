@@ -1,4 +1,4 @@
-//! What the commands say on standard error of a fault: texts in pieces, which take no memory, and what stands behind them to explain it.
+//! What the commands say on standard error of a fault: texts in pieces, which take no memory, and the explanation that follows them.
 #![tactic(auto)]
 
 mod messages;

@@ -14,7 +14,7 @@ pub fn write_text<E: Sink>(err: &mut E, text: &str) -> Result<(), DeviceFault>
     write_all(err, text.as_bytes())
 }
 
-/// Writes two texts, one behind the other. Where the sink fails, a front of them was written.
+/// Writes two texts, one after the other. Where the sink fails, a front of them was written.
 pub fn write_both<E: Sink>(err: &mut E, first: &str, second: &str) -> Result<(), DeviceFault>
     requires { E.failed err.old ≡ false }
     ensures { HasWritten (E.held err.old) (E.held err.new) (E.failed err.new) result (first.now ++ second.now) }
@@ -24,7 +24,7 @@ pub fn write_both<E: Sink>(err: &mut E, first: &str, second: &str) -> Result<(),
     Ok(())
 }
 
-/// Writes what is wrong with an input to a sink that has not failed: `begin`, behind it `PLACE: CAUSE`, and a line feed, piece by piece, which
+/// Writes what is wrong with an input to a sink that has not failed: `begin`, then `PLACE: CAUSE`, and a line feed, piece by piece, which
 /// takes no memory. Where the sink fails, a front of that was written.
 pub fn write_bad<E: Sink>(err: &mut E, begin: &str, bad: &BadInput) -> Result<(), DeviceFault>
     requires { E.failed err.old ≡ false }

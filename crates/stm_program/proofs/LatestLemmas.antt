@@ -58,7 +58,7 @@ replaced : (w y : Write) (rest : List Write) → key_of y ≡ key_of w → with_
 replaced w y rest same = ap (λ k. cond (bytes_eq (key_of w) k) (w ∷ rest) (y ∷ with_write w rest)) same
     ∙ ap (λ b. cond b (w ∷ rest) (y ∷ with_write w rest)) (bytes_eq-self (key_of w))
 
--- a write of another key goes behind what stands for this one
+-- a write of another key goes after the one that stands for this key
 passed : (b : Bool) (w y : Write) (rest : List Write) → bytes_eq (key_of w) (key_of y) ≡ false →
     cond b [] (y ∷ []) ++ with_write w rest ≡ with_write w (cond b [] (y ∷ []) ++ rest)
 passed true w y rest other = refl

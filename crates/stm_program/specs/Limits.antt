@@ -76,7 +76,7 @@ abbrev mutual
   BlockInRange End = Unit {0}
   BlockInRange (Then s b) = StatementInRange s × BlockInRange b
 
--- ---- the limits, within so many levels and so many nodes
+-- ---- the limits, with at most `levels` levels and `room` nodes
 
 pub record ExpressionFits (levels room : ℕ) (e : Expression) : Type 0 where
   pub depth : expression_depth e ≤ levels
@@ -120,6 +120,6 @@ abbrev pub fits_with : List (List ℕ) → Type 0 → Type 0
 fits_with [] rest = rest
 fits_with (key ∷ keys) rest = ListFits (key ∷ keys) × rest
 
--- a program has at most so many nodes, at most so deep, and its list is within its own limits
+-- a program has at most MAX_NODES nodes, at most MAX_DEPTH deep, and its list is within its own limits
 abbrev pub Fits : ProgramTree → Type 0
 Fits p = fits_with p.prefetch (BlockFits MAX_DEPTH MAX_NODES p.statements)

@@ -22,7 +22,7 @@ pub fn last_write<'a>(writes: &'a [Write], key: &str) -> Option<&'a Write>
 
 /// For each key, in the order of first writes, its last write. The work is one look-up for each write.
 ///
-/// The one refusal is want of memory.
+/// It fails only when out of memory.
 pub fn latest_writes(alloc: Global, writes: &[Write]) -> Result<Sequence<Write>, AllocError>
     ensures { IfOk result (λ latest. latest ≡ latest_of_each writes.now) }
 {

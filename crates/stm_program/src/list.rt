@@ -44,7 +44,7 @@ fn repeats(keys: &[String]) -> bool
 
 /// Whether keys are within the limits of a program's list: no more than `MAX_PREFETCH`, each of 1 to `MAX_TEXT` bytes, none twice.
 ///
-/// It takes no memory, and compares each key with those behind it.
+/// It allocates nothing, and compares each key with those after it.
 pub fn list_fits(keys: &[String]) -> bool
     ensures { result ≡ list_fits (map string_bytes keys.now) }
 {

@@ -50,7 +50,7 @@ impl Model for Program {
 }
 
 impl Program {
-    /// The program of these statements and of no list. They are within the limits: `fits` tells. It takes no memory.
+    /// The program of these statements and of no list. They are within the limits, which `fits` checks. It allocates nothing.
     pub fn of(statements: Vec<Stmt>) -> Program
         requires { Fits (of_statements (block_of statements.items)) }
         ensures { result ≡ of_statements (block_of statements.items) }
@@ -62,8 +62,8 @@ impl Program {
         }
     }
 
-    /// The program of these statements behind a list of these keys. They are within the limits: `fits` and `list_fits` tell. It takes no
-    /// memory.
+    /// The program of a list of these keys and of these statements after it. They are within the limits, which `fits` and `list_fits` check. It allocates
+    /// nothing.
     pub fn with_list(prefetch: Vec<String>, statements: Vec<Stmt>) -> Program
         requires { Fits (record { statements = block_of statements.items; prefetch = map string_bytes prefetch.items }) }
         ensures { result ≡ record { statements = block_of statements.items; prefetch = map string_bytes prefetch.items } }
@@ -76,7 +76,7 @@ impl Program {
 
     /// The same program, whose copies share its statements from now on: a copy costs one step then, and one for each key of the list.
     ///
-    /// Want of memory is the only refusal, and drops the program.
+    /// It fails only when out of memory, and drops the program.
     pub fn share(self, alloc: Global) -> Result<Program, AllocError>
         ensures { IfOk result (λ program. program ≡ self) }
     {
@@ -94,7 +94,7 @@ impl Program {
         })
     }
 
-    /// The statements as a block: the one that is shared, which takes no memory, or one of copies. Want of memory is the only refusal.
+    /// The statements as a block: the shared one, which allocates nothing, or one of copies. It fails only when out of memory.
     pub fn block(&self, alloc: Global) -> Result<Block, AllocError>
         ensures { IfOk result (λ block. block ≡ self.now.statements) }
     {

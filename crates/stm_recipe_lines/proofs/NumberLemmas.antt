@@ -2,7 +2,7 @@
 use Rattle.std.proofs.Common.{◌≡◌, ◌∙◌, ◌^◌, ◌<◌, refl, sym, ap, arith, ℕ, true, List, length, Ok, Err}
 use Rattle.std.specs.Prelude.{nat_le}
 use Rattle.std.proofs.lemmas.Bool.{ltb-true, leb-true, lt-ltb, le-leb, and_parts, and_from, cond-true, cond-false, cond_both, false_from_ne_true}
-use Rattle.std.proofs.lemmas.Str.Parse.{IsNumeralModel, numerals_by_value, reports_all_ascii_digits}
+use Rattle.std.proofs.lemmas.Str.Parse.{IsNumeralModel, numerals_by_value, tells_all_ascii_digits}
 use Rattle.std.specs.Str.{all_ascii_digits}
 use Rattle.std.specs.Str.Parse.{IsNumeral, digits_value, without_leading_plus}
 use Rattle.stm_program.specs.declared.limits.TheConstants.{MAX_LEASE}
@@ -11,7 +11,7 @@ use Rattle.stm_recipe_lines.specs.declared.words.WordsFault.TheVariants.{Amount,
 use Rattle.stm_recipe_lines.specs.Reading.{is_numeral, up_to, number_of, amount_in, lease_in}
 
 abbrev own : IsNumeralModel (λ ds. all_ascii_digits ds ≡ true) (digits_value 10)
-own = numerals_by_value (λ ds. all_ascii_digits ds ≡ true) reports_all_ascii_digits
+own = numerals_by_value (λ ds. all_ascii_digits ds ≡ true) tells_all_ascii_digits
 
 -- digits write a number below a power of two
 abbrev WritesBelow : ℕ → List ℕ → Type 0

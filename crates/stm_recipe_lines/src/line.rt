@@ -54,7 +54,7 @@ fn program_line(alloc: Global, program: &Program) -> Result<String, AllocError>
 
 /// The line of a recipe: its program as compact JSON, in the one spelling that `write_program` gives, and a line feed.
 ///
-/// The texts have 1 to 1024 bytes, and the lease is at most 9223372036854775807. The one refusal is want of memory.
+/// The texts have 1 to 1024 bytes, and the lease is at most 9223372036854775807. It fails only where an allocation failed.
 pub fn recipe_line(alloc: Global, recipe: &Recipe<'_>) -> Result<String, AllocError>
     requires { Fits recipe.now }
     ensures { IfOk result (λ line. string_bytes line ≡ line_of recipe.now) }

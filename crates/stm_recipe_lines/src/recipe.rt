@@ -37,7 +37,7 @@ pub enum Recipe<'a> {
         slot: &'a str,
         /// Who gets it.
         holder: &'a str,
-        /// The lease that it hangs on, 0 for none.
+        /// The lease that its key is attached to, 0 for none.
         lease: u64,
     },
     /// A slot is freed of its holder.

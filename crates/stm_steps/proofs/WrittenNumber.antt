@@ -5,7 +5,7 @@ use Rattle.std.proofs.lemmas.Bool.Decides.{nat_tests}
 use mir.Syntax.{w64}
 use Rattle.std.specs.Str.{all_ascii_digits}
 use Rattle.std.specs.Str.Parse.{digits_value, ParsesSigned}
-use Rattle.std.proofs.lemmas.Str.Parse.{IsNumeralModel, numerals_by_value, reports_all_ascii_digits, parse_signed_minus, parse_signed_plain}
+use Rattle.std.proofs.lemmas.Str.Parse.{IsNumeralModel, numerals_by_value, tells_all_ascii_digits, parse_signed_minus, parse_signed_plain}
 use Rattle.std.proofs.lemmas.Grind.{common_steps}
 use Rattle.stm_steps.specs.declared.fault.Fault.{Fault}
 use Rattle.stm_steps.specs.declared.fault.Fault.TheVariants.{NotANumber}
@@ -15,7 +15,7 @@ AreDigits : List ℕ → Type 0
 AreDigits ds = all_ascii_digits ds ≡ true
 
 abbrev own : IsNumeralModel (λ ds. all_ascii_digits ds ≡ true) (digits_value 10)
-own = numerals_by_value (λ ds. all_ascii_digits ds ≡ true) reports_all_ascii_digits
+own = numerals_by_value (λ ds. all_ascii_digits ds ≡ true) tells_all_ascii_digits
 
 -- what is read of a text is r, or `NotANumber` where r is an error
 abbrev Reads : {E : Type 0} → Result ℤ Fault → Result ℤ E → Type 0

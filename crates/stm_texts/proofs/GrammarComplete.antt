@@ -109,7 +109,7 @@ no_opening d (Cancel watcher) (a, is, in_range) = ap (λ (x : Data). begins (wor
 
 -- ---- scenarios
 
--- what stands behind the word begin
+-- what follows the word begin
 opening_read : (d : Data) (opening : Opening) → SpellsOpening d opening → (parts : Items) × (begins (worded d) ≡ Some parts) × (opening_of parts ≡ Ok opening)
 opening_read d opening (inl (a, is, of_revision, most)) =
     let n = number_reads 1 HIGHEST_REVISION a opening.revision (omega arith) of_revision in (

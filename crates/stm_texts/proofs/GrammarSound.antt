@@ -94,7 +94,7 @@ numbered_at : (word : List ℕ) (d : Data) (p : List ℕ × Items) (o : Option D
 numbered_at word d p None n w t i h = cc
 numbered_at word d p (Some a) n w t i h = (a, word_and d p word (a ∷ []) w t (one_of-is p.1 a i), up_to_is HIGHEST_NUMBER a n (within_ok 1 _ _ h))
 
--- an event made of the one number behind its word
+-- an event made of the one number after its word
 numbered_sound : (word : List ℕ) (make : ℕ → WorldEvent) → ((x : Data) (n : ℕ) → SpellsNumbered word x n → SpellsEvent x (make n))
     → (d : Data) (p : List ℕ × Items) (e : WorldEvent) → worded d ≡ Some p → p.0 ≡ word
     → (number_alone (one_of p.1) >>= λ n. Ok (make n)) ≡ Ok e → SpellsEvent d e
@@ -153,7 +153,7 @@ event_after-sound before d e h =
     let c = counted d (ltb before MOST_EVENTS) e h in
     (ltb-true before MOST_EVENTS c.0, event_sound d e c.1)
 
--- events that were read, so many others before them
+-- events that were read after this many others
 abbrev EventsRead : ℕ → Items → List WorldEvent → Type 0
 EventsRead before ds es = SpellsEach SpellsEvent ds es × (before + length es ≤ MOST_EVENTS)
 

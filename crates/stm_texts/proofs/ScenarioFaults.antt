@@ -104,7 +104,7 @@ number_alone-faulted p no_items = wrong_is p Shape (number_alone None) refl
 number_alone-faulted p (item a no_items) = inside_of p 1 (number_up_to HIGHEST_NUMBER a) (faults_by any_number (at p 1) a) (number_reported (at p 1) a)
 number_alone-faulted p (item a (item b ds)) = wrong_is p Shape (number_alone None) refl
 
--- an event made of the one number behind its word
+-- an event made of the one number after its word
 numbered_faulted : (make : ℕ → WorldEvent) (p : List ℕ) (ds : Items)
     → first_of (sorted_faults p (Some numbered_sorts) ds) ≡ fault_of p (number_alone (one_of ds) >>= λ n. Ok (make n))
 numbered_faulted make p ds = made p (number_alone (one_of ds)) make (sorted_faults p (Some numbered_sorts) ds) (number_alone-faulted p ds)

@@ -71,7 +71,7 @@ word_tested p ds false false true cancel = poll_faulted p ds
 word_tested p ds false false false true = cancel_faulted p ds
 word_tested p ds false false false false = wrong_is {A = WorldEvent} p Shape (bad Shape) refl
 
--- what stands behind a watcher's word
+-- the elements that follow a watcher's word
 abbrev pub watcher_rows : List ℕ → Option (List Sort)
 watcher_rows w =
     cond (same w (codes "watch_key")) (Some watch_key_sorts) (cond (same w (codes "watch_range")) (Some watch_range_sorts)

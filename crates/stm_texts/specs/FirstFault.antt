@@ -1,5 +1,5 @@
 -- The first fault of bytes in a scenario's place, apart from reading: the faults of all the data in the order of reading, none
--- left out behind another, and then the first of them.
+-- left out because of another, and then the first of them.
 use Rattle.std.specs.Prelude.{ℕ, suc, ◌+◌, List, [], ◌∷◌, ◌++◌, length, Bool, false, Option, Some, None, if◌then◌else◌, nat_lt, codes}
 use Rattle.serde_json.specs.Data.{Data, string, array, Items, no_items, item}
 use Rattle.stm_json.specs.declared.cause.Cause.TheVariants.{NotJson, Shape, TooLong, TooMany}
@@ -46,18 +46,18 @@ event_table =
     ∷ (codes "cancel", any_number ∷ [])
     ∷ []
 
--- an event that so many others stand before
+-- an event that this many others stand before
 abbrev pub event_faults : List ℕ → ℕ → Data → Faults
 event_faults p before d = if nat_lt before MOST_EVENTS then worded_faults event_table p d else wrong p TooMany
 
--- the events of a list: the first of them is the element at the index first + before, and so many stand before it
+-- the events of a list: the first of them is the element at the index first + before, and before events stand in front of it
 abbrev pub events_faults : ℕ → ℕ → Items → Faults
 events_faults first before no_items = []
 events_faults first before (item d ds) = event_faults (step (first + before)) before d ++ events_faults first (suc before) ds
 
 -- ---- scenarios
 
--- a revision, and behind it a limit where there are two parts
+-- a revision, followed by a limit where there are two parts
 abbrev pub opening_sorts : Items → List Sort
 opening_sorts (item r (item o no_items)) = NumberIn 1 HIGHEST_REVISION ∷ NumberIn 1 most_operations ∷ []
 opening_sorts other = NumberIn 1 HIGHEST_REVISION ∷ []

@@ -55,7 +55,7 @@ SpellsOpening d opening =
     ⊎ ((a : Data) × (b : Data) × (d ≡ spelled (codes "begin") (a ∷ b ∷ [])) × SpellsNumberIn 1 HIGHEST_REVISION a opening.revision
     × SpellsNumberIn 1 most_operations b opening.operations)
 
--- events one after the other, alone or behind an array of the word begin and what the store opens with
+-- events one after the other, alone or after an array of the word begin and what the store opens with
 abbrev pub SpellsElements : Items → Option Opening → List WorldEvent → Type 0
 SpellsElements ds None es = SpellsEach SpellsEvent ds es
 SpellsElements ds (Some opening) es = (a : Data) × (rest : Items) × (ds ≡ item a rest) × SpellsOpening a opening × SpellsEach SpellsEvent rest es

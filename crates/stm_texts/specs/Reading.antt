@@ -47,7 +47,7 @@ grant_of None = bad Shape
 grant_of (Some p) =
     within 1 (number_up_to HIGHEST_NUMBER p.0) >>= λ id. within 2 (number_up_to HIGHEST_NUMBER p.1) >>= λ ttl. Ok (Grant id ttl)
 
--- the one number behind a word
+-- the one number after a word
 abbrev pub number_alone : Option Data → Outcome ℕ
 number_alone None = bad Shape
 number_alone (Some d) = within 1 (number_up_to HIGHEST_NUMBER d)
@@ -92,7 +92,7 @@ abbrev pub cancel_of : Option Data → Outcome WorldEvent
 cancel_of None = bad Shape
 cancel_of (Some d) = within 1 (number_up_to HIGHEST_NUMBER d) >>= λ watcher. Ok (Cancel watcher)
 
--- the event of a watcher's word, by the elements behind it
+-- the event of a watcher's word, by the elements after it
 unfoldable pub watcher_event : List ℕ → Items → Outcome WorldEvent
 watcher_event w ds =
     if same w (codes "watch_key") then watch_key_of (two_of ds)
@@ -120,11 +120,11 @@ event_worded d (Some p) =
 unfoldable pub event_of : Data → Outcome WorldEvent
 event_of d = event_worded d (worded d)
 
--- an event that so many others stand before: at most MOST_EVENTS are read
+-- an event that this many others stand before: at most MOST_EVENTS are read
 unfoldable pub event_after : ℕ → Data → Outcome WorldEvent
 event_after before d = if nat_lt before MOST_EVENTS then event_of d else bad TooMany
 
--- the events of a list: the first of them is the element at the index first + before, and so many stand before it
+-- the events of a list: the first of them is the element at the index first + before, and before events stand in front of it
 unfoldable pub events_from : ℕ → ℕ → Items → Outcome (List WorldEvent)
 events_from first before no_items = Ok []
 events_from first before (item d ds) =

@@ -17,7 +17,7 @@ use stm_program_json::read_program;
 use stm_txn_json::read_txn;
 use stm_world::WorldEvent;
 
-/// A scenario has at most so many events.
+/// The highest number of events in a scenario.
 pub const MOST_EVENTS: usize = 100000;
 
 /// The highest number of attempts that a start may name.
@@ -86,7 +86,7 @@ fn grant(alloc: Global, elements: &[Value]) -> Result<WorldEvent, ReadError>
     Ok(WorldEvent::Grant { id, ttl })
 }
 
-/// The one number behind the word of an event.
+/// The one number after the word of an event.
 fn one_number(alloc: Global, elements: &[Value]) -> Result<u64, ReadError>
     ensures { Returns (λ n. n) result (number_alone (one_of (items_view elements.now))) }
 {
@@ -167,7 +167,7 @@ fn event(alloc: Global, value: &Value) -> Result<WorldEvent, ReadError>
     }
 }
 
-/// An event that so many others stand before.
+/// An event that `before` others stand before.
 #[tactic(auto, unfolding(crate::specs::Reading::event_after))]
 fn event_behind(alloc: Global, before: usize, value: &Value) -> Result<WorldEvent, ReadError>
     ensures { Returns (λ e. e) result (event_after before (view value.now)) }
@@ -179,7 +179,7 @@ fn event_behind(alloc: Global, before: usize, value: &Value) -> Result<WorldEven
     }
 }
 
-/// The same, its faults as faults of the list that has it behind so many elements.
+/// The same, with its faults placed in the list, where the event stands at the index `first + before`.
 fn event_at(
     alloc: Global,
     first: usize,

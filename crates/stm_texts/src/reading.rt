@@ -21,7 +21,7 @@ use stm_json::{
 };
 use stm_outcome::MOST_OPERATIONS;
 
-/// What stands behind the word `begin`, where an array begins with it.
+/// What follows the word `begin`, where an array begins with it.
 fn beginning(value: &Value) -> Option<&[Value]>
     ensures { option_map (λ vs. items_view vs.now) result ≡ begins (worded (view value.now)) }
 {
@@ -137,7 +137,7 @@ fn scenario_of_bytes(alloc: Global, bytes: &[u8]) -> Result<Scenario, ReadError>
 ///
 /// It fails by the first fault of the text, with its place and cause: more than 16777216 bytes are too
 /// long, whatever they are; then bytes that are not JSON; then the first fault in reading order, a value
-/// before its elements. Or it fails as `OutOfMemory`, where a growth was refused.
+/// before its elements. Or it fails as `OutOfMemory`, where an allocation failed.
 pub fn read_scenario(alloc: Global, bytes: &[u8]) -> Result<Scenario, ReadError>
     ensures exact { Returns (λ s. s) result (scenario_in bytes.now) }
     // What is read is spelled so.

@@ -53,7 +53,7 @@ fn cancel(alloc: Global, elements: &[Value]) -> Result<WorldEvent, ReadError>
     Ok(WorldEvent::Cancel { watcher })
 }
 
-/// The event of a watcher's word, from the elements behind it.
+/// The event of a watcher's word, from the elements after it.
 #[tactic(auto, unfolding(crate::specs::Reading::watcher_event))]
 pub(crate) fn watcher_event(
     alloc: Global,

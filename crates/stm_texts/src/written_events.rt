@@ -105,7 +105,7 @@ fn event_value(alloc: Global, event: &WorldEvent) -> Result<Json, AllocError>
     }
 }
 
-/// The one spelling of an event as a JSON value. It fails where a growth was refused.
+/// The one spelling of an event as a JSON value. It fails where an allocation failed.
 ///
 /// An event that can be spelled in a scenario is spelled so, too: a scenario may have this value in its place.
 pub fn event_json(alloc: Global, event: &WorldEvent) -> Result<Json, AllocError>
@@ -124,7 +124,7 @@ fn limited_json(alloc: Global, revision: u64, operations: u64) -> Result<Json, A
     Ok(value)
 }
 
-/// The first element of a scenario that says what its store opens with, as a JSON value. It fails where a growth was refused.
+/// The first element of a scenario that says what its store opens with, as a JSON value. It fails where an allocation failed.
 pub fn opening_json(alloc: Global, opening: Opening) -> Result<Json, AllocError>
     ensures { IfOk result (λ v. view v ≡ written_opening opening) }
 {

@@ -9,7 +9,7 @@ use stm_commands::Std;
 use stm_files::Noting;
 use stm_threading::{Printing, ThreadsOptions, threads_as_to};
 
-/// What is printed of jobs: what so many runs of them come to, or one run, with the ends of the jobs or without.
+/// What is printed of jobs: what several runs of them come to, or one run, with the ends of the jobs or without.
 pub(crate) fn printing_of(ends: bool, repeat: Option<u32>) -> Printing {
     match repeat {
         Some(runs) => Printing::Outcomes(runs),
@@ -18,7 +18,7 @@ pub(crate) fn printing_of(ends: bool, repeat: Option<u32>) -> Printing {
     }
 }
 
-/// Runs the jobs of a path's scenario by so many threads. A fault is explained, or is not.
+/// Runs the jobs of a path's scenario by this many threads. A fault is explained, or is not.
 pub(crate) fn run_threads<T: Threads + Wait + Sync>(
     rt: &HostRuntime,
     threads: &T,

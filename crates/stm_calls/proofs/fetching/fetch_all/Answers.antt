@@ -15,7 +15,7 @@ returns-in_err-answer-clause-refused c =
     (all_refused c.args.store.now.standing c.args.keys.now c.in_ok-txn.txn c.in_err-answer.field-0.0 c.in_ok-txn.ensures c.requires
     c.in_err-answer.ensures.step)
 
--- it answered, and a growth was refused
+-- it answered, and an allocation failed
 pub returns-in_err-reads-clause-refused : goal.returns-in_err-reads-clause-refused
 returns-in_err-reads-clause-refused c =
     let exit = err_from_is_err_and c.from_residual-in_err-reads.result c.from_residual-in_err-reads.ensures.1 in

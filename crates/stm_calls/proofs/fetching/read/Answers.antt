@@ -10,7 +10,7 @@ use Rattle.stm_calls.specs.Fetched.{read_reported}
 use Rattle.stm_calls.proofs.FetchLemmas.{reported_as, read_fits, refused_with}
 use Rattle.stm_calls.proofs.fetching.read.Goals as goal
 
--- a growth was refused where the read would be answered
+-- an allocation failed where the read would be answered
 pub returns-in_err-answer-in-Ok-clause-reported : goal.returns-in_err-answer-in-Ok-clause-reported
 returns-in_err-answer-in-Ok-clause-reported c =
     let exit = err_from_is_err_and c.from_residual.result c.from_residual.ensures.1 in

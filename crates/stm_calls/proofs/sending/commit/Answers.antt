@@ -39,7 +39,7 @@ returns-in-None-clause-step c = λ run ended.
     (sym (comes_to c.args.store.now.standing ready run c.in_ok-txn.txn kept c.requires.named ended txn_is) ∙ c.in_ok-answer.ensures.step)
     c.in-None.is
 
--- a compare failed, and a growth was refused
+-- a compare failed, and an allocation failed
 pub returns-in_err-reported-in-Some-clause-step : goal.returns-in_err-reported-in-Some-clause-step
 returns-in_err-reported-in-Some-clause-step c = λ run ended.
     let ready : ReadyRun = c.args.ready.now in

@@ -19,7 +19,7 @@ returns-in_ok-verdict-in-Fails-clause-verdict c =
     turned_failed c.args.store.now.standing c.args.ready.now c.in-Fails.failed c.in_ok-verdict-in-Fails.verdict
     (c.requires ∙ ap (λ (x : Cause). Some x) c.in-Fails.is) c.in_ok-verdict-in-Fails.ensures.verdict
 
--- and a growth was refused
+-- and an allocation failed
 pub returns-in_err-verdict-in-Fails-clause-verdict : goal.returns-in_err-verdict-in-Fails-clause-verdict
 returns-in_err-verdict-in-Fails-clause-verdict c =
     let exit = err_from_is_err_and c.from_residual.result c.from_residual.ensures.1 in

@@ -5,7 +5,7 @@ use Rattle.stm_history.specs.Walk.{version_of}
 use Rattle.stm_history.proofs.Walking.{walked}
 use Rattle.stm_history.proofs.revisions.key_after_all.Given as goal
 
--- walking on over the revisions that are left tells the answer
+-- the answer is that of walking on over the revisions that are left
 abbrev pub invariant-loop-left : goal.invariant-loop-left
 invariant-loop-left l = record {
   within : l.left ≤ length l.revisions;

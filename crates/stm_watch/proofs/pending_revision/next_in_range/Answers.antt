@@ -5,7 +5,7 @@ use Rattle.stm_keys.specs.Events.{events_of}
 use Rattle.stm_watch.specs.declared.watched.Watched.{Watched}
 use Rattle.stm_watch.specs.Pending.{pending_above, number_of_first, matching}
 use Rattle.stm_watch.proofs.Notifying.{from_the_later, found_is_next, none_is_passed, nothing_above, some_long, none_long}
-use Rattle.stm_watch.proofs.reported.next_in_range.Goals as goal
+use Rattle.stm_watch.proofs.pending_revision.next_in_range.Goals as goal
 
 pub loop-passed-init : goal.loop-passed-init
 loop-passed-init c =

@@ -1,7 +1,7 @@
 use Rattle.std.proofs.Common.{◌≡◌, ◌≤◌, ◌-◌}
 use Rattle.stm_history.specs.History.{now}
 use Rattle.stm_watch.specs.Pending.{pending_above}
-use Rattle.stm_watch.proofs.reported.next_in_range.Given as goal
+use Rattle.stm_watch.proofs.pending_revision.next_in_range.Given as goal
 
 -- nothing was told of the revisions that were passed
 abbrev pub invariant-loop-passed : goal.invariant-loop-passed

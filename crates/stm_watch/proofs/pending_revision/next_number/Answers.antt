@@ -4,7 +4,7 @@ use Rattle.stm_keys.specs.NextChange.{next_change}
 use Rattle.stm_watch.specs.declared.watched.Watched.{Watched}
 use Rattle.stm_watch.specs.Walk.{first_above}
 use Rattle.stm_watch.proofs.Notifying.{next_of_key}
-use Rattle.stm_watch.proofs.reported.next_number.Goals as goal
+use Rattle.stm_watch.proofs.pending_revision.next_number.Goals as goal
 
 pub returns-in-Key : goal.returns-in-Key
 returns-in-Key c =

@@ -6,7 +6,7 @@ use Rattle.stm_hall.specs.declared.refusal.CommitRefusal.{CommitRefusal}
 use Rattle.stm_hall.specs.Verdicts.{verdict_of, CommitReturns}
 use Rattle.stm_hall.proofs.log.Log.commit.Goals as goal
 
--- a growth was refused
+-- an allocation failed
 pub returns-in_err-prepared-clause-verdict : goal.returns-in_err-prepared-clause-verdict
 returns-in_err-prepared-clause-verdict c =
     let exit = err_from_is_err_and c.from_residual.result c.from_residual.ensures.1 in

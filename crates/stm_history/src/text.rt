@@ -17,7 +17,7 @@ use std::marker::Model;
 /// The most bytes of a text that holds them itself.
 const SHORT: usize = 24;
 
-/// Where the bytes of a text stand. Most keys and values are short: no copy of them takes memory.
+/// Where the bytes of a text stand. Most keys and values are short: no copy of them allocates.
 #[derive(Debug, Drop)]
 pub(crate) enum Bytes {
     /// In the text itself.
@@ -60,7 +60,7 @@ fn short_of(text: &str) -> Option<ArrayString<SHORT>>
 }
 
 impl Text {
-    /// The text of a string. It takes no memory.
+    /// The text of a string. It allocates nothing.
     pub fn new(string: String) -> Text
         ensures { result ≡ string_bytes string }
     {
@@ -71,7 +71,7 @@ impl Text {
         Text { bytes }
     }
 
-    /// A copy of a text. A short one takes no memory.
+    /// A copy of a text. A short one allocates nothing.
     pub fn copy_of(alloc: Global, text: &str) -> Result<Text, AllocError>
         ensures { IfOk result (λ t. t ≡ text.now) }
     {

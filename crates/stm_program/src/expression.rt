@@ -8,7 +8,7 @@ use std::marker::Model;
 use std::sync::Arc;
 use stm_history::Text;
 
-/// An expression. Its parts are shared, so that a copy of an expression that is no text takes no memory.
+/// An expression. Its parts are shared, so that a copy of an expression that is no text allocates nothing.
 #[cycle(expression)]
 #[derive(Debug, Drop)]
 pub struct Expr {

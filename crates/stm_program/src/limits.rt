@@ -31,7 +31,7 @@ pub const MAX_VARIABLE: u64 = 15;
 /// The greatest id of a lease.
 pub const MAX_LEASE: u64 = HIGHEST_NUMBER;
 
-/// Whether statements are within the limits of a program. It takes no memory.
+/// Whether statements are within the limits of a program. It allocates nothing.
 pub fn fits(statements: &[Stmt]) -> bool
     ensures { IsTrue result ↔ Fits (of_statements (block_of statements.now)) }
 {

@@ -22,7 +22,7 @@ fn has_no_key(keys: &[String]) -> bool
     }
 }
 
-/// Whether a key is one of these. It takes no memory.
+/// Whether a key is one of these. It allocates nothing.
 pub fn is_listed(key: &str, keys: &[String]) -> bool
     ensures { result ≡ list_any (bytes_eq key.now) (map string_bytes keys.now) }
 {

@@ -62,8 +62,8 @@ impl Program {
         }
     }
 
-    /// The program of a list of these keys and of these statements after it. They are within the limits, which `fits` and `list_fits` check. It allocates
-    /// nothing.
+    /// The program of a list of these keys and of these statements after it. They are within the limits, which `fits` and `list_fits`
+    /// check. It allocates nothing.
     pub fn with_list(prefetch: Vec<String>, statements: Vec<Stmt>) -> Program
         requires { Fits (record { statements = block_of statements.items; prefetch = map string_bytes prefetch.items }) }
         ensures { result ≡ record { statements = block_of statements.items; prefetch = map string_bytes prefetch.items } }
@@ -103,7 +103,7 @@ impl Program {
 
     /// Whether it is the same program as another one. `==` answers this.
     ///
-    /// It takes no memory, and looks at the keys of the shorter list, and at no more nodes than the smaller program has, however much is
+    /// It allocates nothing, and looks at the keys of the shorter list, and at no more nodes than the smaller program has, however much is
     /// shared.
     pub fn is_same(&self, other: &Program) -> bool
         ensures { IsTrue result ↔ self.now ≡ other.now }
@@ -114,7 +114,7 @@ impl Program {
         are_same_statements(self.statements(), other.statements())
     }
 
-    /// The keys of its list, in the list's order. It takes no memory.
+    /// The keys of its list, in the list's order. It allocates nothing.
     pub fn prefetch(&self) -> &[String]
         ensures same { map string_bytes result.now ≡ self.now.prefetch }
         ensures fits { Fits self.now }
@@ -122,7 +122,7 @@ impl Program {
         self.prefetch.as_slice()
     }
 
-    /// The statements in order. It takes no memory.
+    /// The statements in order. It allocates nothing.
     pub fn statements(&self) -> &[Stmt]
         ensures same { block_of result.now ≡ self.now.statements }
         ensures fits { Fits self.now }

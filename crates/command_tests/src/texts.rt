@@ -35,7 +35,7 @@ fn fronts_of_a_scenario(rt: HostRuntime) {
     assert_eq!(rt; left.status, 0);
 }
 
-/// As many steps as a scenario may have events, and this behind them.
+/// As many steps as a scenario may have events, followed by this.
 fn steps_and(alloc: Global, last: &str) -> Result<String, AllocError> {
     let mut text = String::from_str(alloc, "[")?;
     for _ in 0..100000 {

@@ -11,7 +11,7 @@ use stm_steps::{Sequence, Value};
 pub enum Node {
     /// The result of an operator on two numbers.
     Operation(Operator),
-    /// So many turns of a loop, up to this limit.
+    /// A loop, of at most this many turns.
     Loop(u64),
     /// Something else of a number.
     OfNumber,
@@ -33,7 +33,7 @@ pub struct Site {
     pub values: Sequence<Value>,
 }
 
-/// A copy of a value behind these.
+/// These values and a copy of one more after them.
 fn with_value(values: Sequence<Value>, value: &Value) -> Result<Sequence<Value>, AllocError>
     ensures { IfOk result (λ all. all ≡ values ++ value.now ∷ []) }
 {

@@ -26,7 +26,7 @@ pub const TURN_LIMIT: u64 = 10_000;
 /// keys that it looked up.
 ///
 /// A run is a row of these steps over a new session: those below, and what is computed of values between
-/// them. Where a growth is refused, a step leaves the session as it was, so that it can be taken again.
+/// them. Where an allocation fails, a step leaves the session as it was, so that it can be taken again.
 #[derive(Debug)]
 pub struct Session {
     variables: Variables,
@@ -105,7 +105,7 @@ impl Session {
         self.variables.set(variable, value);
     }
 
-    /// Puts a value out. Want of memory leaves the session as it was.
+    /// Puts a value out. An allocation failure leaves the session as it was.
     pub fn emit(&mut self, value: Value) -> Result<(), AllocError>
         ensures ok { OnOk result (self.new ≡ with_output value self.old) }
         ensures err { OnErr result (self.new ≡ self.old) }
@@ -114,7 +114,7 @@ impl Session {
         Ok(())
     }
 
-    /// Keeps a write. Want of memory leaves the session as it was.
+    /// Keeps a write. An allocation failure leaves the session as it was.
     pub fn write(&mut self, write: Write) -> Result<(), AllocError>
         ensures ok { OnOk result (self.new ≡ with_write write self.old) }
         ensures err { OnErr result (self.new ≡ self.old) }
@@ -125,7 +125,7 @@ impl Session {
 
     /// Counts a turn, and then gives the variable of its loop the turn's number.
     ///
-    /// `TurnLimit` is answered for turn 10001 of the run, and the session is then as it was. It takes no memory.
+    /// `TurnLimit` is answered for turn 10001 of the run, and the session is then as it was. It allocates nothing.
     #[tactic(auto, unfolding(crate::specs::Outcome::begin_turn))]
     pub fn begin_turn(&mut self, variable: Variable, turn: u64) -> Result<(), Fault>
         requires { turn ≤ HIGHEST_NUMBER }
@@ -161,8 +161,8 @@ impl Session {
 
     /// What a `get` of a key gives: the last write of the key, and the look-up where there is none.
     ///
-    /// `None` where the look-up knows nothing of the key. The session is then as it was, and want of memory
-    /// leaves it so too.
+    /// `None` where the look-up knows nothing of the key. The session is then as it was, and so it is where an
+    /// allocation fails.
     #[tactic(auto, unfolding(crate::specs::Steps::get_key))]
     pub fn get<L: Lookup>(
         &mut self,
@@ -189,8 +189,8 @@ impl Session {
 
     /// What a `rev` of a key gives: the look-up's revision, whatever was written.
     ///
-    /// `None` where the look-up knows nothing of the key. The session is then as it was, and want of memory
-    /// leaves it so too.
+    /// `None` where the look-up knows nothing of the key. The session is then as it was, and so it is where an
+    /// allocation fails.
     #[tactic(auto, unfolding(crate::specs::Steps::rev_key))]
     pub fn rev<L: Lookup>(&mut self, lookup: &L, key: &Text) -> Result<Option<Value>, AllocError>
         ensures ok { IfOk result (λ found. rev_key (L.answers lookup.now) key.now self.old ≡ found_or_wanted key.now found self.new) }
@@ -205,7 +205,7 @@ impl Session {
         Ok(Some(Value::Number(mod_rev as i64)))
     }
 
-    /// The run that came to this end. It takes no memory.
+    /// The run that came to this end. It allocates nothing.
     pub fn into_run(self, end: End) -> Run
         ensures { result ≡ run_of end self }
     {
@@ -225,7 +225,7 @@ impl Session {
             reads,
         }
     }
-    /// What each `get` and `rev` gave, in order. It takes no memory.
+    /// What each `get` and `rev` gave, in order. It allocates nothing.
     pub fn into_trace(self) -> Sequence<TraceItem>
         ensures { result ≡ self.trace }
     {

@@ -42,7 +42,7 @@ impl State {
     ghost use Rattle.stm_steps.specs.States.{find_entry, with_entry, IsAscending};
     ghost use Rattle.stm_steps.specs.Places.{IsAt, IsGapFor};
 
-    /// The state without a key. It takes no memory.
+    /// The state without a key. It allocates nothing.
     pub fn new(alloc: Global) -> State
         ensures { result ≡ [] }
     {
@@ -79,7 +79,7 @@ impl State {
     }
 
     /// Puts a key with a value and a modification revision, in place of what stood under the key. What stands
-    /// under every other key stays. Want of memory leaves the state as it was.
+    /// under every other key stays. An allocation failure leaves the state as it was.
     pub fn insert(&mut self, key: Text, value: Text, mod_rev: u64) -> Result<(), AllocError>
         requires { mod_rev ≤ HIGHEST_NUMBER }
         ensures ok { OnOk result (self.new ≡ with_entry (record { key = key; value = value; mod_rev = mod_rev }) self.old) }

@@ -14,15 +14,15 @@ use std::marker::Model;
 /// Any number of doubly linked lists of values.
 ///
 /// Contracts see each list as its nodes with their values, from front to back; no node stands
-/// twice. Beside the lists they see the number `spare`: so many calls of `push_back` need no memory.
+/// twice. Beside the lists they see the number `spare`: that many calls of `push_back` allocate nothing.
 ///
 /// A list or a node is named by the id that its making gave. A call that takes such an id has the
 /// condition that the list or the node is there, which `has_list` and `has_node` test. Every call
-/// takes constant time, and none but `reserve`, `new_list` and a `push_back` without room takes memory.
+/// takes constant time, and none but `reserve`, `new_list` and a `push_back` without room allocates.
 pub struct Lists<T> {
     nodes: Slab<Node<T>>,
     heads: Slab<Head>,
-    // How many pushes are sure of their room.
+    // How many pushes have their room reserved.
     spare: usize,
 }
 
@@ -68,7 +68,7 @@ impl<T: Clone + Drop> Clone for Lists<T> {
 }
 
 impl<T> Lists<T> {
-    /// No lists. It takes no memory.
+    /// No lists. It allocates nothing.
     pub fn new(alloc: Global) -> Lists<T>
         ensures lists { result.lists ≡ [] }
         ensures spare { result.spare ≡ 0 }
@@ -80,7 +80,7 @@ impl<T> Lists<T> {
         }
     }
 
-    /// Makes sure of room for `additional` pushes. Want of memory changes nothing.
+    /// Makes sure of room for `additional` pushes. An allocation failure changes nothing.
     pub fn reserve(&mut self, additional: usize) -> Result<(), AllocError>
         ensures ok { OnOk result (self.new.spare ≡ max self.old.spare additional) }
         ensures lists { self.new.lists ≡ self.old.lists }
@@ -94,7 +94,7 @@ impl<T> Lists<T> {
         Ok(())
     }
 
-    /// Makes an empty list. Want of memory changes nothing.
+    /// Makes an empty list. An allocation failure changes nothing.
     pub fn new_list(&mut self) -> Result<ListId, AllocError>
         ensures fresh { IfOk result (λ list. list_at self.old list ≡ None) }
         ensures ok { IfOk result (λ list. Updates self.old self.new list (Some [])) }
@@ -181,7 +181,7 @@ impl<T> Lists<T> {
         &self.nodes[node.index()]
     }
 
-    /// The node behind this one on its list, `None` at the back.
+    /// The node after this one on its list, `None` at the back.
     pub fn next(&self, node: NodeId) -> Option<NodeId>
         requires { HasNode self.now node }
         ensures { (place : Place T) → StandsAt self.now node place → result ≡ first_node place.after }

@@ -14,10 +14,10 @@ use std::alloc::{AllocError, Global};
 use stm_program::{Expr, ExprNode, Operator, Stmt, StmtNode, Variable, Write};
 use stm_steps::{Fault, Session, Value, combine, join, number_of, spell};
 
-/// How deep the operators of an expression may stand in one another that is evaluated at once: so little is looked at in vain.
+/// How deep the operators of an expression that is evaluated at once may be nested: little is then looked at in vain.
 const MAX_DIRECT_DEPTH: u8 = 4;
 
-/// Whether an expression reads no key, and its operators stand no deeper in one another. It is only looked at, and no contract speaks of it: what it lets
+/// Whether an expression reads no key, and its operators are nested no deeper. It is only looked at, and no contract speaks of it: what it lets
 /// through is evaluated at once, and left to the moves where that comes to a fault.
 fn is_direct(expression: &Expr, depth: u8) -> bool {
     match &expression.node {

@@ -2,7 +2,7 @@
 --
 -- etcd's API reference, "Transaction", `Compare`: a target, an order, and the stored side on the left; all compares of a
 -- transaction are joined by "and". As its server does, an absent key has 0 in the four number targets and fails every
--- compare of its value, `!=` included, and texts compare by bytes. That an answer tells the first compare that failed,
+-- compare of its value, `!=` included, and texts compare by bytes. That an answer names the first compare that failed,
 -- with its key's modification revision, is this store's own choice.
 use Rattle.std.specs.Prelude.{ℕ, ◌+◌, Bool, false, if◌then◌else◌, List, [], ◌∷◌, Option, Some, None}
 use Rattle.std.specs.Option.{option_map_or}

@@ -25,7 +25,7 @@ impl Model for OperationLimit {
 }
 
 impl OperationLimit {
-    /// The limit of so many elements.
+    /// The limit of `count` elements.
     pub fn new(count: usize) -> OperationLimit
         requires some { 1 ≤ count }
         requires few { count ≤ most_operations }

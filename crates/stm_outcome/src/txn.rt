@@ -43,7 +43,7 @@ pub enum Target {
     Create(u64),
     /// The revision of the key's last put.
     Mod(u64),
-    /// The lease that the key hangs on, 0 for none.
+    /// The lease that the key is attached to, 0 for none.
     Lease(u64),
     /// The value. Texts compare by bytes.
     Value(Text),
@@ -67,7 +67,7 @@ pub enum Order {
 pub enum Op {
     /// Reads the key at a revision. 0 is the current state, with what the branch did before.
     Get { key: Text, rev: u64 },
-    /// Puts the key, and hangs it on the lease (0 for none).
+    /// Puts the key, and attaches it to the lease (0 for none).
     Put { key: Text, value: Text, lease: u64 },
     /// Deletes the key.
     Del { key: Text },

@@ -17,7 +17,7 @@ use stm_program::{Operator, Program, Stmt};
 /// Where the first account has less than the amount, the run aborts with `insufficient`. Where an account is absent or no
 /// number, it ends with the fault `NotANumber`; where the second one would have more than 64 bits hold, with `Overflow`.
 ///
-/// A name has 1 to 1024 bytes. The one refusal is want of memory.
+/// A name has 1 to 1024 bytes. It fails only when out of memory.
 #[tactic(auto, unfolding(crate::specs::Accounts::transfer_program))]
 pub fn transfer(alloc: Global, from: &str, to: &str, amount: u32) -> Result<Program, AllocError>
     requires from { IsName from.now }
@@ -34,7 +34,7 @@ pub fn transfer(alloc: Global, from: &str, to: &str, amount: u32) -> Result<Prog
 /// Where the account has another value that is no number, the run ends with the fault `NotANumber`; where it would have
 /// more than 64 bits hold, with `Overflow`. Then it writes nothing.
 ///
-/// A name has 1 to 1024 bytes. The one refusal is want of memory.
+/// A name has 1 to 1024 bytes. It fails only when out of memory.
 #[tactic(auto, unfolding(crate::specs::Accounts::deposit_program))]
 pub fn deposit(alloc: Global, account: &str, amount: u32) -> Result<Program, AllocError>
     requires { IsName account.now }

@@ -1,4 +1,4 @@
-//! The nodes of programs, one function for each that a recipe has. The one refusal is want of memory.
+//! The nodes of programs, one function for each that a recipe has. It fails only when out of memory.
 ghost use Rattle.std.specs.Prelude.{◌≡◌, ◌≤◌, IfOk, pos};
 ghost use Rattle.stm_program.specs.BlockView.{block_of};
 ghost use Rattle.stm_program.specs.ExpressionView.{expression_of};

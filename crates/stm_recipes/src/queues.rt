@@ -21,7 +21,7 @@ use stm_program::{Expr, Program, Stmt};
 /// Where the tail is no number, the run ends with the fault `NotANumber`; where it can't become one more, with `Overflow`;
 /// where the item's key would have more than 65536 bytes, with `TextTooLong`.
 ///
-/// The queue's name and the item have 1 to 1024 bytes. The one refusal is want of memory.
+/// The queue's name and the item have 1 to 1024 bytes. It fails only when out of memory.
 #[tactic(auto, unfolding(crate::specs::Queues::enqueue_program))]
 pub fn enqueue(alloc: Global, queue: &str, item: &str) -> Result<Program, AllocError>
     requires queue { IsName queue.now }
@@ -41,7 +41,7 @@ pub fn enqueue(alloc: Global, queue: &str, item: &str) -> Result<Program, AllocE
 /// `NotANumber`; where it can't become one more, with `Overflow`; where the item's key would have more than 65536 bytes, with
 /// `TextTooLong`.
 ///
-/// The queue's name has 1 to 1024 bytes. The one refusal is want of memory.
+/// The queue's name has 1 to 1024 bytes. It fails only when out of memory.
 #[tactic(auto, unfolding(crate::specs::Queues::dequeue_program))]
 pub fn dequeue(alloc: Global, queue: &str) -> Result<Program, AllocError>
     requires { IsName queue.now }
@@ -85,7 +85,7 @@ fn push_ends(alloc: Global, statements: &mut Vec<Stmt>, queue: &str) -> Result<(
     Ok(())
 }
 
-/// The statements of a dequeue behind head and tail.
+/// The statements of a dequeue after those of head and tail.
 fn push_dequeue(alloc: Global, statements: &mut Vec<Stmt>, queue: &str) -> Result<(), AllocError>
     ensures { OnOk result (statements.new.items ≡ statements.old.items ++
         (recipe.refuse_empty ∷ recipe.name_item queue.now ∷ recipe.emit_item ∷ recipe.delete_item ∷ counter.put_sum (head_key queue.now) 1 ∷ [])) }

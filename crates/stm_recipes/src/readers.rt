@@ -53,7 +53,7 @@ fn balance(state: &State, account: &str) -> Option<i64>
 /// a tail that is absent is 0; one that is empty is no number.
 ///
 /// None where the state has no such queue: head or tail is no number or negative, head is above tail, or an item is absent.
-/// The one refusal is want of memory.
+/// It fails only when out of memory.
 pub fn queue_items(
     alloc: Global,
     state: &State,

@@ -11,7 +11,7 @@ use stm_steps::{Sequence, Value};
 pub enum Node {
     /// The result of an operator on two numbers.
     Operation(Operator),
-    /// A loop, of at most this many turns.
+    /// The turns of a loop, at most this many.
     Loop(u64),
     /// Something else of a number.
     OfNumber,

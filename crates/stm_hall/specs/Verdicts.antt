@@ -61,7 +61,7 @@ abbrev pub unless_unvouched : Option ReadAnswer → Result (HallStep Verdict) Co
 unless_unvouched None next = next
 unless_unvouched (Some a) next = Err (Unvouched a.key)
 
--- a failed compare is told: its key, what was seen of it, its modification revision now, and what was read again
+-- a failed compare is reported: its key, what was seen of it, its modification revision now, and what was read again
 abbrev pub failed_with : ReadyRun → FailedCompare → List ReadAnswer → Verdict
 failed_with ready failed answers =
     let seen : Seen = seen_in (slice_get (seen_by ready.answers ready.writes) failed.index) in
@@ -97,7 +97,7 @@ abbrev pub CommitsAs : ReadyRun → Result Verdict CommitRefusal → Standing �
 CommitsAs ready result s entries next more = (start : ℕ) →
     CommitReturns (verdict_of (hall_of s entries start) ready) (hall_of s entries start) result (hall_of next more start)
 
--- the answers that a failed commit tells may be prefetched for the next attempt
+-- the answers that a failed commit returns may be prefetched for the next attempt
 abbrev pub CanGoOn : Verdict → Type 0
 CanGoOn (Committed index revision) = Unit {0}
 CanGoOn (Failed key seen now_modified answers) = MayBePrefetched answers

@@ -78,7 +78,7 @@ fn prepare_txn(
     Ok(Some(copy))
 }
 
-/// The cause of a call for which room could not be made: the store's, or else want of memory.
+/// The cause of a call for which no room could be made: the store's, or else `OutOfMemory`.
 fn cause_or_out_of_memory(cause: Option<Refusal>) -> Refusal
     ensures { result ≡ or_out_of_memory cause }
 {

@@ -37,7 +37,7 @@ fn find_false_value(keys: &Keys, ready: &Ready) -> Option<Cause>
 
 /// Why a commit is turned down with which nothing is wrong as a whole. Its compares are no more than any store takes.
 ///
-/// Most are turned down for nothing, which is told by one look-up of each key.
+/// Most are turned down for nothing, which one look-up of each key shows.
 fn find_failure(keys: &Keys, ready: &Ready) -> Option<Cause>
     requires { length (txn_of ready.now).compares ≤ most_operations }
     ensures { result ≡ cause_compared keys.now.history ready.now }

@@ -59,7 +59,7 @@ fn report_failure(
     }
 }
 
-/// Tells that a compare of an attempt's commit failed, and what the keys that it read are now.
+/// Reports that a compare of an attempt's commit failed, and what the keys that it read are now.
 fn fail(
     alloc: Global,
     store: &Store,

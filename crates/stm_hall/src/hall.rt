@@ -107,7 +107,7 @@ impl Hall {
 
     /// Commits an attempt that is ready, by one transaction.
     ///
-    /// `Committed` says that no compare failed and the writes are applied; the attempt is an entry, whose place is told.
+    /// `Committed` says that no compare failed and the writes are applied; the attempt is an entry, whose place is returned.
     /// The store changes as the program changes it that runs alone at this moment, at `ReadCommitted` on the answers that
     /// the attempt read. `Failed` says that a compare failed, and the hall is as it was. Its answers may be prefetched for
     /// the next attempt.
@@ -139,7 +139,7 @@ impl Hall {
 
     /// Makes a transaction of another client, which is an entry where it changed something.
     ///
-    /// It is refused as the store's `txn` refuses it, and then the hall is as it was. Want of memory is told only of a
+    /// It is refused as the store's `txn` refuses it, and then the hall is as it was. `OutOfMemory` is returned only of a
     /// transaction that the store takes.
     pub fn foreign(&mut self, txn: &Txn) -> Result<TxnAnswer, Refusal>
         ensures made { TxnReturns (made self.old txn.now) self.old result self.new }
@@ -151,7 +151,7 @@ impl Hall {
     /// Sets the moment, and ends the leases that are due, each with its keys, as the store's `advance` does. Each is an
     /// entry.
     ///
-    /// `TimeGoesBack` changes nothing. On `RevisionsUsedUp` the leases that expired stay expired, are told and are
+    /// `TimeGoesBack` changes nothing. On `RevisionsUsedUp` the leases that expired stay expired, are returned and are
     /// entries, the rest stays due, and the moment is set. `OutOfMemory` leaves the hall so, or as it was.
     pub fn advance(&mut self, moment: u64) -> Result<Vec<Expired>, AdvanceRefused>
         ensures ok { IfOk result (λ expired. IsAdvanced self.old moment expired.items None self.new) }
@@ -195,7 +195,7 @@ impl Hall {
         self.log.entries.as_slice()
     }
 
-    /// The state of the store's keys, as programs run on it. Want of memory is the only refusal.
+    /// The state of the store's keys, as programs run on it. It fails only where an allocation failed.
     pub fn state(&self) -> Result<State, AllocError>
         ensures { IfOk result (λ state. IsStateOf self.now.standing.history state) }
     {

@@ -191,7 +191,7 @@ fn front_text(
     Ok(text)
 }
 
-/// The front of the line of what a run came to, `["outcome",STATE,ENDS`, behind which stands how often it came. An `AllocError` is a refused growth.
+/// The front of the line of what a run came to, `["outcome",STATE,ENDS`; how often that came follows it. It fails where an allocation failed.
 pub fn front_of(alloc: Global, gathered: &Gathered) -> Result<String, AllocError>
     ensures { IfOk result (λ text. IsFrontOf gathered.now.ends.items gathered.now.hall (string_bytes text)) }
 {

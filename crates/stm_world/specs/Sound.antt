@@ -1,7 +1,7 @@
 -- A sound world: what stays so from step to step, with no log of what went before.
 --
 -- The Go package `concurrency`, "STM": what a program reads is what the store had. etcd's API reference, "Watch": a watch that is not
--- cancelled is told everything. That the entries replay to the store is our own.
+-- cancelled is notified of everything. That the entries replay to the store is our own.
 use Rattle.std.specs.Prelude.{◌≡◌, ◌≤◌, ℕ, List, ◌++◌, Option, Some}
 use Rattle.stm_history.specs.History.{History, now}
 use Rattle.stm_outcome.specs.declared.advance.Expired.{Expired}

@@ -30,7 +30,7 @@ use Rattle.stm_txn.specs.Standing.{Setup}
 abbrev pub reads_of : Setup → List Line → ℕ → Task → List ReadAnswer
 reads_of start log id task = (reported start id task log).reads
 
--- failures and ends after a log that are none
+-- failures and ends after a log that are rejected
 pub record WrongFailures : Type 0 where
   -- a failed commit of a runner that was not started, or has ended
   pub failure_of_none : (start : Setup) (log : List Line) (failed : FailedCommit) → running failed.runner log ≡ None → IsRealFailure start log failed → ⊥

@@ -334,7 +334,7 @@ earlier_abort_is_real = record {
   };
 }
 
--- ---- failures and ends that are none
+-- ---- failures and ends that are rejected
 
 abbrev wrong : WrongFailures
 wrong = wrong_failures (failures_move_on (record { run_now = commit_is_the_run_now; conflicts = failed_compares_conflict }))

@@ -96,8 +96,8 @@ stopped (Ok (Aborted runner text)) = Some record { runner = runner; end = Aborte
 stopped (Ok (Faulted runner fault)) = Some record { runner = runner; end = FaultedEnd fault }
 stopped other = None
 
--- The attempt has come to this end on what it has read, its list first. That is of one state, the current one where nothing was read, and the program run
--- alone on this state comes to the same end.
+-- The attempt has come to this end on what it has read, its list first. That is of one state, the current one where nothing was read, and
+-- the program run alone on this state comes to the same end.
 pub record IsEndOnOneState (h : History) (task : Task) (reads : List ReadAnswer) (end : End) : Type 0 where
   pub has_list : is_due task.program.prefetch reads ≡ false
   pub state : AreOfOneState h task reads

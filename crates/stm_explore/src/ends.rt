@@ -80,7 +80,7 @@ pub(crate) fn known_ends(
     Ok(Sequence::of(list))
 }
 
-/// Puts down how the runner with this number ended.
+/// Records how the runner with this number ended.
 fn set_end(ends: &mut Vec<Option<RunnerEnd>>, runner: u64, end: RunnerEnd)
     ensures { ends.new.items ≡ with_end runner end ends.old.items }
 {

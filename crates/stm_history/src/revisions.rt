@@ -43,7 +43,7 @@ impl Model for Revisions {
 
 /// The state that a walk back has found for a key, when it meets one more put.
 ///
-/// The newest put decides value, modification revision and lease; each older one counts, and moves the
+/// The newest put decides value, modification revision and lease; each older one is counted, and moves the
 /// create revision back to its own.
 fn with_older_put(
     found: Option<KeyState>,

@@ -4,7 +4,7 @@ ghost use Rattle.std.specs.Prelude.{◌≡◌, List, [], ◌∷◌, ◌++◌, le
 use std::alloc::{AllocError, Global};
 use std::marker::Model;
 
-/// A list of values. Contracts see its elements in order, and never the room that it was given.
+/// A list of values. Contracts see its elements in order, and never its capacity.
 ///
 /// It is made from a `Vec` and gives it back without an allocation.
 #[derive(Debug)]

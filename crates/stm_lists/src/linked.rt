@@ -16,8 +16,8 @@ use std::marker::Model;
 /// Contracts see each list as its nodes with their values, from front to back; no node stands
 /// twice. Beside the lists they see the number `spare`: that many calls of `push_back` allocate nothing.
 ///
-/// A list or a node is named by the id that its making gave. A call that takes such an id has the
-/// condition that the list or the node is there, which `has_list` and `has_node` test. Every call
+/// A list or a node is named by the id that was returned when it was made. A call that takes such an id requires
+/// that the list or the node is there, which `has_list` and `has_node` test. Every call
 /// takes constant time, and none but `reserve`, `new_list` and a `push_back` without room allocates.
 pub struct Lists<T> {
     nodes: Slab<Node<T>>,
@@ -109,8 +109,8 @@ impl<T> Lists<T> {
         Ok(ListId::at(index))
     }
 
-    /// Adds a node with this value at the back of the list. Where there is neither room nor memory
-    /// it hands the value back and changes nothing, which cannot be while `spare` is above 0.
+    /// Adds a node with this value at the back of the list. Where there is no room and an allocation
+    /// fails, it hands the value back and changes nothing, which cannot happen while `spare` is above 0.
     pub fn push_back(&mut self, list: ListId, value: T) -> Result<NodeId, T>
         requires { HasList self.old list }
         ensures ok { IfOk result (λ node. Updates self.old self.new list (Some (entries_at self.old list ++ (node, value) ∷ []))) }
@@ -140,7 +140,7 @@ impl<T> Lists<T> {
         push(&mut self.nodes, &mut self.heads, list, value);
     }
 
-    /// Takes a node off its list and gives its value. Its room is spare from then on.
+    /// Takes a node off its list and returns its value. Its room is spare from then on.
     pub fn unlink(&mut self, node: NodeId) -> T
         requires { HasNode self.old node }
         ensures value { (place : Place T) → StandsAt self.old node place → result ≡ place.value }
@@ -173,7 +173,7 @@ impl<T> Lists<T> {
         NodeId::of_link(self.heads[list.index()].first)
     }
 
-    // What is stored of a node.
+    // The record of a node.
     fn stored(&self, node: NodeId) -> &Node<T>
         requires { HasNode self.now node }
         ensures { (place : Place T) → StandsAt self.now node place → result.now ≡ node_at place }

@@ -69,15 +69,15 @@ pub record Move : Type 0 where
   pub above : Option Frame
   pub focus : Focus
 
--- the machine stands there, and no part more waits
+-- the machine stands there, and no further part waits
 abbrev pub goes : Focus → Move
 goes focus = record { below = None; above = None; focus = focus }
 
--- one part more waits
+-- one more part waits
 abbrev pub waits : Frame → Focus → Move
 waits frame focus = record { below = None; above = Some frame; focus = focus }
 
--- two parts more wait, the second one inside the first
+-- two more parts wait, the second inside the first
 abbrev pub waits_in : Frame → Frame → Focus → Move
 waits_in below above focus = record { below = Some below; above = Some above; focus = focus }
 

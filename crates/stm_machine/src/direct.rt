@@ -14,7 +14,7 @@ use std::alloc::{AllocError, Global};
 use stm_program::{Expr, ExprNode, Operator, Stmt, StmtNode, Variable, Write};
 use stm_steps::{Fault, Session, Value, combine, join, number_of, spell};
 
-/// How deep the operators of an expression that is evaluated at once may be nested: little is then looked at in vain.
+/// How deep the operators of an expression that is evaluated at once may be nested, so that little work is wasted on one that is not.
 const MAX_DIRECT_DEPTH: u8 = 4;
 
 /// Whether an expression reads no key, and its operators are nested no deeper. It is only looked at, and no contract speaks of it: what it lets
@@ -301,7 +301,7 @@ fn delete_at_once(alloc: Global, session: &mut Session, key: &Expr) -> Result<bo
     Ok(true)
 }
 
-/// Puts the value of an expression out.
+/// Emits the value of an expression.
 fn emit_at_once(alloc: Global, session: &mut Session, value: &Expr) -> Result<bool, AllocError>
     ensures ran { IfOk result (λ ran. RunsOrStays ran (Emit value.now) session.old session.new) }
     ensures err { OnErr result (session.new ≡ session.old) }

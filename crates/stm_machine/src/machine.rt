@@ -19,7 +19,7 @@ use stm_history::Text;
 use stm_program::Program;
 use stm_steps::{Lookup, Run, Session};
 
-/// A run of a program on its way, which can stand still at a key that its look-up does not know.
+/// A run of a program in progress, which can stop at a key that its look-up does not know, and go on later.
 ///
 /// Contracts see where it stands, the parts of the program that wait, innermost first, and what the run has come
 /// to. What finishing the run comes to is `finish` of that.

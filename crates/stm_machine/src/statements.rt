@@ -101,7 +101,7 @@ fn at_abort(text: &Value) -> Result<Focus, AllocError>
     }
 }
 
-/// Keeps a write, or goes to the end that its fault makes. An allocation failure leaves the session as it was.
+/// Records a write, or goes to the end that its fault makes. An allocation failure leaves the session as it was.
 fn keep_write(session: &mut Session, write: Result<Write, Fault>) -> Result<Focus, AllocError>
     ensures ok { IfOk result (λ focus. moved (goes focus) session.new ≡ write_moved write session.old) }
     ensures err { OnErr result (session.new ≡ session.old) }
@@ -156,7 +156,7 @@ fn waits_to_put(
     Ok(Focus::Evaluate(part))
 }
 
-/// Puts a value out. An allocation failure leaves the session as it was.
+/// Emits a value. An allocation failure leaves the session as it was.
 fn emit_value(session: &mut Session, value: &Value) -> Result<Focus, AllocError>
     ensures focus { IfOk result (λ focus. focus ≡ nothing) }
     ensures ok { OnOk result (session.new ≡ with_output value.now session.old) }

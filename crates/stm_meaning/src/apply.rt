@@ -18,7 +18,7 @@ fn changes_state(write: &Write, state: &State) -> bool
 }
 
 /// The effect of writes on a state: for each key, in the order of first writes, its last write. Deletions of
-/// absent keys fall out.
+/// absent keys are left out.
 ///
 /// It fails only when out of memory.
 #[tactic(auto, unfolding(crate::specs::Writes::effect))]

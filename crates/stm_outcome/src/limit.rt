@@ -1,4 +1,4 @@
-//! The limit of a store's operations.
+//! The limit of the operations of a transaction.
 ghost use Rattle.std.specs.Prelude.{◌≡◌, ◌≤◌};
 ghost use Rattle.stm_outcome.specs.Terms.{most_operations};
 

@@ -8,7 +8,7 @@ use std::marker::Model;
 
 /// A list that mostly has few elements: the first one is stored in it, without an allocation.
 ///
-/// Contracts see its elements in order, and never where they lie. It is made from a `Vec` without an
+/// Contracts see its elements in order, and never where they are stored. It is made from a `Vec` without an
 /// allocation, and gives one back without an allocation where it has spilled.
 #[derive(Debug)]
 pub struct ShortList<T> {
@@ -81,7 +81,7 @@ impl<T: MadeWith<Global> + Drop> ShortList<T> {
         Ok(())
     }
 
-    /// The vector of the elements. It allocates only where the elements lie in the list itself.
+    /// The vector of the elements. It allocates only where the elements are stored in the list itself.
     pub fn into_vec(self) -> Result<Vec<T>, AllocError>
         ensures { IfOk result (λ v. v.items ≡ self) }
     {

@@ -32,7 +32,7 @@ pub fn is_listed(key: &str, keys: &[String]) -> bool
     }
 }
 
-/// Whether a key stands in a list twice.
+/// Whether a list has a key twice.
 fn repeats(keys: &[String]) -> bool
     ensures { result ≡ has_repeat (map string_bytes keys.now) }
 {

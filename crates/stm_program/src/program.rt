@@ -11,11 +11,11 @@ use crate::statement::{Block, Stmt};
 use std::alloc::{AllocError, Global};
 use std::marker::Model;
 
-/// A program: statements within the limits, and before them the keys of its list, whether the statements read them or not. Those enter
-/// each attempt first, in the list's order.
+/// A program: statements within the limits, and before them the keys of its list, whether the statements read them or not. Each attempt
+/// reads those first, in the list's order.
 ///
-/// It has at most 4096 nodes (a node is a statement, an expression or a condition), which stand at most
-/// 32 deep in one another. A text in it has at most 65536 bytes, a loop's limit is at most 1000, and a
+/// It has at most 4096 nodes (a node is a statement, an expression or a condition), nested at most
+/// 32 deep. A text in it has at most 65536 bytes, a loop's limit is at most 1000, and a
 /// lease's id at most 9223372036854775807. The list has at most 128 keys, each of 1 to 65536 bytes, none twice.
 #[derive(Debug)]
 pub struct Program {
@@ -131,8 +131,8 @@ impl Program {
     }
 }
 
-/// A copy shares all but the outermost statements with its source, and these too where they are shared: else it costs one step for each of them. It costs
-/// one for each key of the list.
+/// A copy shares all but the outermost statements with its source, and these too where they are shared: else it costs one step for each
+/// of them. It costs one for each key of the list.
 impl Clone for Program {
     ghost is_clone = { λ p copy. copy ≡ p };
 

@@ -21,8 +21,8 @@ pub enum Node {
     Comparison,
 }
 
-/// Where a run stops: at the innermost node of its program that comes to the stop. It stands in the statement that is named by the front of its
-/// place.
+/// Where a run stops: at the innermost node of its program that comes to the stop. The first index of its place names the statement that the
+/// node is in.
 #[derive(Debug, Drop)]
 pub struct Site {
     /// The indices that lead to the node in the program's JSON, each in the array that the ones before it lead to.

@@ -55,8 +55,8 @@ abbrev pub is_zero : ℤ → Bool
 is_zero (pos n) = nat_eq n 0
 is_zero (negsuc n) = false
 
--- a quotient is cut towards zero, and a rest has the sign of the left number; a zero divisor is looked at first, and a
--- rest whose quotient is out of range is refused with it
+-- a quotient is truncated towards zero, and a remainder has the sign of the left number; a zero divisor is checked first, and
+-- a remainder whose quotient is out of range is refused with it
 unfoldable pub computed : Operator → ℤ → ℤ → Result ℤ Fault
 computed Add a b = number_or Overflow (a +ℤ b)
 computed Sub a b = number_or Overflow (a -ℤ b)

@@ -102,7 +102,7 @@ impl WriteLog {
         }
     }
 
-    /// The last write of a key among those after the searched ones.
+    /// The last write of a key among those that are not searched.
     fn last_indexed(&self, key: &str) -> Option<&Write>
         requires { MOST_SEARCHED ≤ length self.now }
         ensures { option_copied result ≡ last_of_key key.now (drop MOST_SEARCHED self.now) }

@@ -56,7 +56,7 @@ fn txn(alloc: Global, value: &Value) -> Result<Txn, ReadError>
 ///
 /// The value is read in order, a value before its elements and these from the first to the last. `Bad` is
 /// the first fault, with its place in the value: `Shape` at an array that does not begin with a known word or
-/// has another length than the word's, and where something else than what is wanted stands; `Range` at a
+/// has another length than the word's, and at a value of another kind than expected; `Range` at a
 /// whole number outside its range. `OutOfMemory` may come in place of any other answer, where an allocation
 /// failed.
 pub fn read_txn(alloc: Global, value: &Value) -> Result<Txn, ReadError>

@@ -96,8 +96,8 @@ pub fn out_of_memory_is_never_right()
 /// over a key that was never read (at serializable snapshot, neither read nor written), or over one that is as it was seen; more of them
 /// than revisions since the run's start; an abort or a fault of a runner that does not run, or, at a serializable level, on a torn read.
 ///
-/// So is a failed commit over a key that is present, whose modification revision now is not above what was seen of it, and an end at a
-/// serializable level to which the program alone on the state at its one revision does not come.
+/// Rejected, too, are a failed commit over a key that is present, whose modification revision now is not above what was seen of it, and an
+/// end at a serializable level to which the program alone on the state at its one revision does not come.
 pub fn wrong_failures_are_none()
     ensures { WrongFailures }
 {}

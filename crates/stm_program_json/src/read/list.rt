@@ -89,7 +89,7 @@ fn keys(alloc: Global, value: &Value) -> Result<Vec<String>, ReadError>
     }
 }
 
-/// The keys after the word of a list: nothing but their array stands there.
+/// The keys of a list: nothing but their array follows its word.
 fn list_keys(alloc: Global, parts: &[Value]) -> Result<Vec<String>, ReadError>
     ensures { Returns (λ keys. map string_bytes keys.items) result (list_of (one_of (items_view parts.now))) }
 {

@@ -115,7 +115,7 @@ pub fn writer_of(alloc: Global, fault: Fault) -> Taker {
     }
 }
 
-/// So many pieces from the front of a text.
+/// The first pieces of a text, or all of it.
 pub fn front(text: &str, pieces: usize, piece: usize) -> &[u8] {
     let bytes = text.as_bytes();
     let end = pieces.saturating_mul(piece).min(bytes.len());

@@ -8,7 +8,7 @@ use std::alloc::{AllocError, Global};
 /// `read_all` reads at most this many bytes, in at most this many reads: one byte more than a scenario may have.
 pub const MOST_READ: usize = 16777217;
 
-/// So many bytes are read at a time.
+/// How many bytes are read at a time.
 const PIECE: usize = 4096;
 
 /// Why reading stopped.

@@ -1,4 +1,4 @@
-//! Texts of JSON of which many places are explained.
+//! Texts of JSON in which many places are explained.
 ghost use Rattle.std.specs.Prelude.{◌≡◌, IfOk, string_bytes};
 ghost use Rattle.std.specs.List.{All};
 ghost use Rattle.stm_explain.specs.Explaining.{IsExplanationOf};

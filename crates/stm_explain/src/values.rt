@@ -3,7 +3,7 @@
 use serde_json::Value;
 use std::alloc::{AllocError, Global};
 
-/// So many bytes of a value's text are shown at most.
+/// At most this many bytes of a value's text are shown.
 const MOST_SHOWN: usize = 60;
 
 /// A value in its shortest spelling; of one that is long, the front.

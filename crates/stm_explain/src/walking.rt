@@ -1,4 +1,4 @@
-//! From the place of a fault to the value there, and to what is wanted in its stead.
+//! From the place of a fault to the value there, and to what is wanted in its place.
 
 use crate::allowed::parts_behind;
 use crate::forms::Part;

@@ -85,7 +85,7 @@ refused_by : (hall : HallState) (txn : Txn) (o : Result (Step TxnAnswer) Refusal
 refused_by hall txn (Ok step) cause is = inr (is, refl)
 refused_by hall txn (Err first) cause is = inl (ap (λ (c : Refusal). Err c) (sym is))
 
--- it was refused, by the store or for want of room
+-- it was refused, by the store or because no room could be made
 pub reports_refused : (hall after : HallState) (txn : Txn) (cause : Refusal) → IsRefusalOf (transacted hall.standing txn) cause → after ≡ hall →
     TxnReturns (made hall txn) hall (Err cause) after
 reports_refused hall after txn cause is same = (refused_by hall txn (transacted hall.standing txn) cause is, same)

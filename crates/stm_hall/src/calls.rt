@@ -1,6 +1,6 @@
 //! The calls of a hall's store that are no commit. Each is an entry where it is one.
 //!
-//! Room for the entries is made before the call, so that a call that the store took is never without them.
+//! Room for the entries is made before the call, so that every call that the store took has them.
 ghost use Rattle.std.specs.Prelude.{◌≡◌, ◌+◌, ◌≤◌, ◌<◌, ◌++◌, ◌∷◌, [], if◌then◌else◌, length, vec_len, vec_capacity, false, Some, None, IfSome, IsOk, IfOk, IfErr};
 ghost use Rattle.std.specs.Option.{option_map_or};
 ghost use Rattle.stm_entries.specs.declared.entry.Entry.TheVariants.{Foreign};

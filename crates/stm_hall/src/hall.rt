@@ -179,7 +179,7 @@ impl Hall {
         is_changed_above(self.log.store.keys(), key, since)
     }
 
-    /// Whether an answer is true of the history: it shows its key as it was at a revision that the counter has reached, and that is no 0, which names
+    /// Whether an answer is true of the history: it shows its key as it was at a revision that the counter has reached, and that is not 0, which names
     /// the current one. It takes no memory.
     pub fn shows(&self, answer: &ReadAnswer) -> bool
         ensures { IsTrue result ↔ IsShown self.now.standing.history answer.now }
@@ -187,7 +187,7 @@ impl Hall {
         is_shown(self.log.store.keys(), answer)
     }
 
-    /// What changed the store since the hall was made, the first first. It takes no memory.
+    /// What changed the store since the hall was made, in order. It takes no memory.
     pub fn entries(&self) -> &[Entry]
         ensures entries { result.now ≡ self.now.entries }
         ensures locked { IsLocked self.now }

@@ -39,7 +39,7 @@ enum Failing {
 /// The status of the command, what is written, and what is said.
 type Ending = (u8, &'static [u8], &'static [u8]);
 
-/// So many bytes from the front of a text.
+/// The first `count` bytes of a text, or all.
 fn front(text: &str, count: usize) -> &[u8] {
     let bytes = text.as_bytes();
     let end = count.min(bytes.len());

@@ -10,8 +10,8 @@ abbrev pub ReadFails : Bool → ReadFault → Type 0
 ReadFails failed OutOfMemory = failed ≡ false
 ReadFails failed Device = failed ≡ true
 
--- what reading one piece did: the bytes left before and after, whether the source has failed then, how many were wanted at
--- most, the answer, and the bytes read before and after
+-- what reading one piece did: the bytes left before and after, whether the source has failed then, the most bytes that were
+-- asked for, the answer, and the bytes read before and after
 abbrev pub HasTaken : Option (List ℕ) → Option (List ℕ) → Bool → ℕ → Result ℕ ReadFault → List ℕ → List ℕ → Type 0
 HasTaken old new failed most (Ok n) before after =
     (failed ≡ false) × (n ≤ most) × (n ≡ 0 → IsAtEnd new) × (piece : List ℕ) × (length piece ≡ n) × (after ≡ before ++ piece) × Consumes old new piece

@@ -33,7 +33,7 @@ abbrev pub TxnReturns : Result (HallStep TxnAnswer) Refusal → HallState → Re
 TxnReturns defined before (Ok answer) after = defined ≡ Ok record { answer = answer; next = after }
 TxnReturns defined before (Err cause) after = ((defined ≡ Err cause) ⊎ ((cause ≡ OutOfMemory) × IsOk defined)) × (after ≡ before)
 
--- the same, of the store and the entries of a hall, whenever that was made
+-- the same, of the store and the entries of a hall, whatever counter it began with
 abbrev pub MakesOf : Txn → Result TxnAnswer Refusal → Standing → List Entry → Standing → List Entry → Type 0
 MakesOf txn result s entries next more = (start : ℕ) →
     TxnReturns (made (hall_of s entries start) txn) (hall_of s entries start) result (hall_of next more start)
@@ -74,7 +74,7 @@ pub record IsWant (before : HallState) (moment : ℕ) (expired : List Expired) (
 abbrev pub HasStopped : HallState → ℕ → List Expired → Refusal → HallState → Type 0
 HasStopped before moment expired cause after = IsAdvanced before moment expired (Some cause) after ⊎ IsWant before moment expired cause after
 
--- the same, of the store and the entries of a hall, whenever that was made
+-- the same, of the store and the entries of a hall, whatever counter it began with
 abbrev pub AdvancesTo : ℕ → List Expired → Standing → List Entry → Standing → List Entry → Type 0
 AdvancesTo moment expired s entries next more = (start : ℕ) → IsAdvanced (hall_of s entries start) moment expired None (hall_of next more start)
 

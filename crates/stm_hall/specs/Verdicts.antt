@@ -41,7 +41,7 @@ txn_of ready = commit_of ready.level ready.answers ready.writes
 abbrev pub entry_of : ReadyRun → ℕ → Entry
 entry_of ready revision = Program ready.program ready.level (answers_kept ready.level ready.answers) ready.output ready.trace revision
 
--- an answer says another value than its key has now; an absent key has the empty text
+-- an answer has another value than its key has now; an absent key has the empty text
 abbrev pub has_other_value : History → ReadAnswer → Bool
 has_other_value h a = not (bytes_eq (value_of a.kv) (value_of (key_now h a.key)))
 
@@ -92,7 +92,7 @@ abbrev pub CommitReturns : Result (HallStep Verdict) CommitRefusal → HallState
 CommitReturns defined before (Ok verdict) after = defined ≡ Ok record { answer = verdict; next = after }
 CommitReturns defined before (Err cause) after = ((cause ≡ Store OutOfMemory) ⊎ (defined ≡ Err cause)) × (after ≡ before)
 
--- the same, of the store and the entries of a hall, whenever that was made
+-- the same, of the store and the entries of a hall, whatever counter it began with
 abbrev pub CommitsAs : ReadyRun → Result Verdict CommitRefusal → Standing → List Entry → Standing → List Entry → Type 0
 CommitsAs ready result s entries next more = (start : ℕ) →
     CommitReturns (verdict_of (hall_of s entries start) ready) (hall_of s entries start) result (hall_of next more start)

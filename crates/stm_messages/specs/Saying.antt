@@ -14,7 +14,7 @@ bad_input begin bad = begin ++ bad.place ++ codes ": " ++ cause_name bad.cause +
 abbrev pub Says : Option (List ℕ) → Option (List ℕ) → Bool → List ℕ → Type 0
 Says before after failed text = WritesFront before after text × (failed ≡ false → Appends before after text)
 
--- an explanation of a fault of some text under some name, or nothing; that they are those of the input is the body's matter
+-- an explanation of a fault of some text under some name, or nothing; that these are the input's own is left to the body
 abbrev pub IsExplained : List ℕ → Type 0
 IsExplained more = (name text : List ℕ) × ExplainsOrNothing name text more
 

@@ -18,14 +18,14 @@ use Rattle.stm_outcome.specs.declared.txn.Order.{Order}
 use Rattle.stm_outcome.specs.declared.txn.Order.TheVariants.{Equal, NotEqual, Greater, Less}
 use Rattle.stm_outcome.specs.declared.answer.FailedCompare.{FailedCompare}
 
--- whether the order asked for is how the two sides stand
+-- whether two sides that compare so are in the order that is asked for
 abbrev pub is_asked : Order → Ordering → Bool
 is_asked Equal sides = is_eq sides
 is_asked NotEqual sides = is_ne sides
 is_asked Greater sides = is_gt sides
 is_asked Less sides = is_lt sides
 
--- how the stored side and the compare's side stand: an absent key has 0 for each number, and nothing for its value
+-- how the stored side compares with the compare's side: an absent key has 0 for each number, and nothing for its value
 abbrev pub sides : Target → Option KeyState → Option Ordering
 sides (Version n) s = Some (nat_cmp (option_map_or (λ k. k.version) s 0) n)
 sides (Create n) s = Some (nat_cmp (option_map_or (λ k. k.create_rev) s 0) n)

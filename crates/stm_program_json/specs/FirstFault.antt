@@ -13,7 +13,7 @@ use Rattle.stm_program.specs.declared.limits.TheConstants.{MAX_DEPTH, MAX_NODES,
 use Rattle.stm_json.specs.Elements.{is_64_bit}
 use Rattle.stm_json.specs.Faults.{at}
 
--- a node that stands at a place and so deep, or what is wrong at a place
+-- a node at a depth and a place, or what is wrong at a place
 pub data Mark : Type 0 where
   Node : ℕ → List ℕ → Mark
   Wrong : List ℕ → Cause → Mark

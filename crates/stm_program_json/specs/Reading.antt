@@ -1,4 +1,4 @@
--- Reading a program: the value that data spell, or the first fault. At each node the depth is looked at first, then the
+-- Reading a program: the value that data spell, or the first fault. At each node the depth is checked first, then the
 -- number of nodes, then the shape, and then the elements in order. A reader is given how many levels and how many nodes
 -- are left, and answers how many nodes are left after it.
 use Rattle.std.specs.Prelude.{ℕ, zero, suc, List, [], ◌∷◌, ◌++◌, length, Bool, true, false, ◌||◌, bytes_eq, Option, Some, None, Ok, is_some, if◌then◌else◌, nat_eq, nat_le, nat_lt, codes}

@@ -23,7 +23,7 @@ use stm_program::{MAX_DEPTH, MAX_NODES, Program};
 ///
 /// A program is an array of statements, whose first element may be `["prefetch",[KEY..]]` with up to 128 keys of 1 to 65536 bytes, none
 /// twice: its list, which is no node. The value is read in order, a value before its elements and
-/// these from the first to the last; at a node the depth is looked at first, then the number of nodes,
+/// these from the first to the last; at a node the depth is checked first, then the number of nodes,
 /// then the shape, and then the elements. `Bad` is the first fault, with its place in the value.
 /// `OutOfMemory` may come in place of any other answer, where an allocation failed.
 pub fn read_program(alloc: Global, value: &Value) -> Result<Program, ReadError>

@@ -1,5 +1,4 @@
--- Failures, ends and runs that are wrong, so that it shows what the laws of attempts that come to nothing, and of entries that are
--- appended, rule out.
+-- Wrong failures, ends and runs, which show what the laws of attempts that come to nothing, and of entries that are appended, rule out.
 use Rattle.std.specs.Prelude.{◌≡◌, ◌≢◌, ℕ, ◌+◌, ◌<◌, ◌≤◌, true, false, List, length, None, Some, slice_get}
 use Rattle.stm_history.specs.declared.revisions.TheConstants.{HIGHEST_REVISION}
 use Rattle.stm_history.specs.declared.key_state.ReadAnswer.{ReadAnswer}

@@ -139,7 +139,7 @@ fn ends(
     is_left(rt, &left, "a device fails", status, written, said);
 }
 
-/// A device that needs `calls` calls, of which each fails in turn, and at last none. Until then the front of a text is written, piece by
+/// A device that needs `calls` calls, of which each fails in turn, and at last none. Until then a prefix of a text is written, piece by
 /// piece; without a fault it is another one.
 fn each_breaks(
     rt: &impl Abort,

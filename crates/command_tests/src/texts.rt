@@ -1,4 +1,4 @@
-//! Texts that no file of `tests/` holds: each front of one, texts that are too long, one that is not UTF-8, and reports whose last line is not
+//! Texts that no file of `tests/` holds: each prefix of one, texts that are too long, one that is not UTF-8, and reports whose last line is not
 //! ended. What is expected comes from the formats, and never from a run.
 
 use crate::commands::{Left, check, check_explained, is_left, script, script_explained};

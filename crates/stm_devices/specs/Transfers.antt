@@ -22,7 +22,7 @@ abbrev pub HasRead : {X : Type 0} → (X → List ℕ) → Option (List ℕ) →
 HasRead view known failed (Ok x) = (failed ≡ false) × IfSome known (λ all. view x ≡ take MOST_READ all)
 HasRead view known failed (Err fault) = ReadFails failed fault
 
--- a front of these bytes was written
+-- a prefix of these bytes was written
 abbrev pub WritesFront : Option (List ℕ) → Option (List ℕ) → List ℕ → Type 0
 WritesFront old new bytes = (front : List ℕ) × (rest : List ℕ) × (bytes ≡ front ++ rest) × Appends old new front
 

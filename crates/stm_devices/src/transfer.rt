@@ -81,7 +81,7 @@ pub fn read_all<S: Source>(alloc: Global, source: &mut S) -> Result<Vec<u8>, Rea
     Ok(bytes)
 }
 
-/// Writes all these bytes. It fails exactly where the sink has failed: then a front of them was written.
+/// Writes all these bytes. It fails exactly where the sink has failed: then a prefix of them was written.
 pub fn write_all<W: Sink>(sink: &mut W, bytes: &[u8]) -> Result<(), DeviceFault>
     requires { W.failed sink.old ≡ false }
     ensures { HasWritten (W.held sink.old) (W.held sink.new) (W.failed sink.new) result bytes.now }

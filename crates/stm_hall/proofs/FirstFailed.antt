@@ -25,7 +25,7 @@ drop_all [] (suc i) all = refl
 drop_all (x ∷ xs) zero all = let more : suc (length xs) ≤ zero = all in absurd (omega (arith, more))
 drop_all (x ∷ xs) (suc i) all = let more : suc (length xs) ≤ suc i = all in let fewer : length xs ≤ i = omega (arith, more) in drop_all xs i fewer
 
--- one more element of a front is mapped
+-- one more element of a prefix is mapped
 pub mapped_more : {X Y : Type 0} (f : X → Y) (xs : List X) (i : ℕ) (x : X) → slice_get xs i ≡ Some x →
     map f (take i xs) ++ f x ∷ [] ≡ map f (take (i + 1) xs)
 mapped_more f xs i x at =

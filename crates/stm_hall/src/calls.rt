@@ -1,4 +1,4 @@
-//! The calls of a hall's store that are no commit. Each is an entry where it is one.
+//! The calls of a hall's store other than commits, with the entries that they leave.
 //!
 //! Room for the entries is made before the call, so that every call that the store took has them.
 ghost use Rattle.std.specs.Prelude.{◌≡◌, ◌+◌, ◌≤◌, ◌<◌, ◌++◌, ◌∷◌, [], if◌then◌else◌, length, vec_len, vec_capacity, false, Some, None, IfSome, IsOk, IfOk, IfErr};

@@ -31,7 +31,7 @@ pub fn count_one(tally: &mut BTreeMap<Text, u64>, text: Text, before: u32) -> Re
     Ok(())
 }
 
-/// Adds the line of an outcome: its front, and after that how often it came.
+/// Adds the line of an outcome: its beginning, followed by how often it came.
 fn push_times(text: &mut String, front: &str, times: u64) -> Result<(), AllocError>
     ensures { OnOk result (string_bytes text.new ≡ string_bytes text.old ++ times_line (front.now, times)) }
 {

@@ -15,6 +15,7 @@ use Rattle.stm_txn.specs.Standing.{Standing, Step as StoreStep, Advance as Store
 use Rattle.stm_txn.specs.Standing.{at_moment, HasCome, IsStopped, IsCutShort as StoreCutShort}
 use Rattle.stm_entries.specs.declared.entry.Entry.{Entry}
 use Rattle.stm_entries.specs.declared.entry.Entry.TheVariants.{Foreign}
+use Rattle.stm_entries.specs.Entered.{if_changed, expiries}
 use Rattle.stm_world.specs.declared.event.WorldEvent.{WorldEvent}
 use Rattle.stm_world.specs.declared.event.WorldEvent.TheVariants.{Txn, Advance}
 use Rattle.stm_world.specs.declared.reply.Reply.{Reply}
@@ -22,7 +23,7 @@ use Rattle.stm_world.specs.declared.reply.Reply.TheVariants.{Txn as TxnDone}
 use Rattle.stm_world.specs.declared.refusal.Refusal.TheVariants.{Store}
 use Rattle.stm_world.specs.declared.refusal.Denied.{Denied}
 use Rattle.stm_world.specs.Reported.{denied, reply_to, store_after_call, advance_reply}
-use Rattle.stm_world.specs.World.{World, Slot, step, if_changed, expiries}
+use Rattle.stm_world.specs.World.{World, Slot, step}
 use Rattle.stm_retry.specs.Returns.{IsStep, OutOfMemoryReturns, StoreRefusalReturns, Returns}
 use Rattle.stm_retry.specs.CallReturns.{world_of, CallReturns, or_out_of_memory}
 use Rattle.stm_world.proofs.Wants.{NeverWants, NoOutOfMemory, transacted_never, advanced_never}

@@ -29,7 +29,7 @@ use Rattle.stm_program.specs.Levels.{is_serializable}
 use Rattle.stm_compile.specs.Answers.{look_up, answer_now}
 use Rattle.stm_compile.specs.CommitTxn.{reread_keys}
 use Rattle.stm_compile.specs.Committed.{committed}
-use Rattle.stm_compile.specs.Conflicts.{Seen, seen_by}
+use Rattle.stm_compile.specs.Conflicts.{Seen, seen_by, seen_in}
 use Rattle.stm_attempt.specs.declared.next.Next.{Next}
 use Rattle.stm_attempt.specs.declared.next.Next.TheVariants.{FetchAll, Fetch, Ready, Aborted as AbortedNext, Faulted as FaultedNext}
 use Rattle.stm_attempt.specs.Settled.{run_on}
@@ -39,6 +39,7 @@ use Rattle.stm_attempt.specs.ReadyRun.{ReadyRun}
 use Rattle.stm_attempt.specs.Next.{next_at_end, next_after, list_asked}
 use Rattle.stm_entries.specs.declared.entry.Entry.{Entry}
 use Rattle.stm_entries.specs.declared.entry.Entry.TheVariants.{Program as ProgramEntry}
+use Rattle.stm_entries.specs.Entered.{answers_kept}
 use Rattle.stm_calls.specs.Fetched.{fetched, fetch_reported, fetch_all_reported, IsRefusalOfAll}
 use Rattle.stm_calls.specs.Sent.{sent, seen_in as seen_reported}
 use Rattle.stm_calls.proofs.Cases.{HasCommitted, HasFailed, is_refused}
@@ -46,9 +47,9 @@ use Rattle.stm_world.specs.declared.reply.Reply.{Reply}
 use Rattle.stm_world.specs.declared.reply.KeyRead.{KeyRead}
 use Rattle.stm_world.specs.declared.reply.Reply.TheVariants.{Started, Prefetched, Fetched, Committed, Conflict, GaveUp, Ended}
 use Rattle.stm_world.specs.declared.refusal.Refusal.TheVariants.{BadLimit}
-use Rattle.stm_world.specs.Task.{Task, modified_now, after_fetch, answers_reported}
+use Rattle.stm_world.specs.Task.{Task, modified_now, after_fetch}
 use Rattle.stm_world.specs.World.{World, Stepped, Runner, Slot, Over, Live, begin, runner_at, with_slot, start_runner, step_runner, step_live}
-use Rattle.stm_world.specs.World.{step_on, fetch, fetch_at, fetch_list, finish, commit, commit_reported, decided, take_commit, fail_commit, seen_in, replied, refused, entry_of}
+use Rattle.stm_world.specs.World.{step_on, fetch, fetch_at, fetch_list, finish, commit, commit_reported, decided, take_commit, fail_commit, replied, refused, entry_of}
 use Rattle.stm_retry.specs.declared.step_outcome.StepOutcome.{StepOutcome}
 use Rattle.stm_retry.specs.declared.step_outcome.StepOutcome.TheVariants.{GoesOn, Ends}
 use Rattle.stm_retry.specs.MachineReturns.{Returns}
@@ -473,7 +474,7 @@ commit_by id r run ready s entries slots x =
 
 taken_is : (id : ℕ) (r : Runner) (run : Run) (s after : Standing) (entries more : List Entry) (slots : List Slot) (done : Done) (revision attempts : ℕ)
     (output : List Value) (trace : List TraceItem) (answers : List ReadAnswer) →
-    revision ≡ now done.history → attempts ≡ r.failures + 1 → output ≡ run.output → trace ≡ run.trace → answers ≡ answers_reported r.task.level r.known.reads →
+    revision ≡ now done.history → attempts ≡ r.failures + 1 → output ≡ run.output → trace ≡ run.trace → answers ≡ answers_kept r.task.level r.known.reads →
     after ≡ with_history s done.history → more ≡ entries ++ entry_of r.task r.known.reads run (now done.history) ∷ [] → (q : Runner) →
     take_commit id r r.known.reads run done (world_around (workplace s entries r) slots)
     ≡ record {
@@ -487,22 +488,22 @@ taken_is id r run s after entries more slots done revision attempts output trace
 pub take_leaves : (id : ℕ) (r q : Runner) (run : Run) (ready : ReadyRun) (s after : Standing) (entries more : List Entry) (entry : Entry)
     (revision attempts : ℕ) (output : List Value) (trace : List TraceItem) (answers : List ReadAnswer) →
     IsReady r run ready → HasCommitted s after (outcome_of s ready run) revision →
-    attempts ≡ r.failures + 1 → output ≡ ready.output → trace ≡ ready.trace → answers ≡ answers_reported ready.level ready.answers →
-    entry ≡ ProgramEntry ready.program ready.level (answers_reported ready.level ready.answers) ready.output ready.trace revision →
+    attempts ≡ r.failures + 1 → output ≡ ready.output → trace ≡ ready.trace → answers ≡ answers_kept ready.level ready.answers →
+    entry ≡ ProgramEntry ready.program ready.level (answers_kept ready.level ready.answers) ready.output ready.trace revision →
     more ≡ entries ++ entry ∷ [] →
     Leaves id (Ok (Ends (Committed id revision attempts output trace answers))) (workplace s entries r) (workplace after more q) (commit id r r.known.reads run)
 take_leaves id r q run ready s after entries more entry revision attempts output trace answers x y a b c d e f slots =
     let w : World = world_around (workplace s entries r) slots in
     let reads : List ReadAnswer = r.known.reads in
     let entry_is : entry ≡ entry_of r.task reads run (now y.done.history) =
-    e ∙ ap (λ (p : ReadyRun). ProgramEntry p.program p.level (answers_reported p.level p.answers) p.output p.trace revision) x.is
+    e ∙ ap (λ (p : ReadyRun). ProgramEntry p.program p.level (answers_kept p.level p.answers) p.output p.trace revision) x.is
     ∙ ap (λ (n : ℕ). entry_of r.task reads run n) y.revision_is in
     commit_by id r run ready s entries slots x
     ∙ ap (λ (o : Result Done StoreRefusal). commit_reported id r reads run o w) y.taken
     ∙ ap (λ (o : Option FailedCompare). decided id r reads run y.done o w) y.none_failed
     ∙ taken_is id r run s after entries more slots y.done revision attempts output trace answers y.revision_is a
     (b ∙ ap (λ (p : ReadyRun). p.output) x.is) (c ∙ ap (λ (p : ReadyRun). p.trace) x.is)
-    (d ∙ ap (λ (p : ReadyRun). answers_reported p.level p.answers) x.is) y.left
+    (d ∙ ap (λ (p : ReadyRun). answers_kept p.level p.answers) x.is) y.left
     (f ∙ ap (λ (l : Entry). entries ++ l ∷ []) entry_is) q
 
 again_by : (id : ℕ) (r q : Runner) (seen : Seen) (s after : Standing) (entries : List Entry) (slots : List Slot) (modified : ℕ) (reported : StepOutcome) (more : Bool) →

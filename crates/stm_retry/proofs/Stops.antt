@@ -11,6 +11,7 @@ use Rattle.stm_txn.specs.Standing.{Standing, Advance as StoreAdvance, ended, aft
 use Rattle.stm_txn.proofs.Ending.{ended_is, next_ended}
 use Rattle.stm_entries.specs.declared.entry.Entry.{Entry}
 use Rattle.stm_entries.specs.declared.entry.Entry.TheVariants.{Expire}
+use Rattle.stm_entries.specs.Entered.{expiries}
 use Rattle.stm_world.specs.declared.event.WorldEvent.{WorldEvent}
 use Rattle.stm_world.specs.declared.event.WorldEvent.TheVariants.{Start, Step, Txn, Grant, Keep, Revoke, Advance, WatchKey, WatchRange, Poll, Cancel, Compact}
 use Rattle.stm_world.specs.declared.reply.Reply.{Reply}
@@ -19,7 +20,7 @@ use Rattle.stm_world.specs.declared.reply.Reply.TheVariants.{Txn as TxnDone, Gra
 use Rattle.stm_world.specs.declared.refusal.Denied.{Denied}
 use Rattle.stm_world.specs.Reported.{advance_reply}
 use Rattle.stm_world.specs.Log.{expired_reported}
-use Rattle.stm_world.specs.World.{World, step, expiries, world_after, replies_to}
+use Rattle.stm_world.specs.World.{World, step, world_after, replies_to}
 use Rattle.stm_world.specs.Sound.{after_expiries}
 use Rattle.stm_world.proofs.Calls.{advance_ended, advance_due}
 use Rattle.stm_retry.specs.declared.world.RunStop.{RunStop}

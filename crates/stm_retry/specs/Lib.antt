@@ -1,4 +1,3 @@
-pub mod Codes
 pub mod Returns
 pub mod Stops
 pub mod CallReturns

@@ -1,7 +1,7 @@
 //! The entry of a commit.
 ghost use Rattle.std.specs.Prelude.{◌≡◌};
 ghost use Rattle.stm_entries.specs.declared.entry.Entry.TheVariants.{Program as ProgramEntry};
-ghost use Rattle.stm_world.specs.Task.{answers_reported};
+ghost use Rattle.stm_entries.specs.Entered.{answers_kept};
 
 use std::alloc::Global;
 use stm_attempt::Ready;
@@ -12,7 +12,7 @@ use stm_world::Entry;
 
 /// The answers that a commit is told with.
 fn reported_of(alloc: Global, level: Level, answers: ReadSet) -> Sequence<ReadAnswer>
-    ensures { result ≡ answers_reported level answers }
+    ensures { result ≡ answers_kept level answers }
 {
     match level {
         Level::SerializableSnapshot => Sequence::new(alloc),
@@ -24,7 +24,7 @@ fn reported_of(alloc: Global, level: Level, answers: ReadSet) -> Sequence<ReadAn
 
 /// The entry of a commit, after which the store's revision is this. It takes no memory.
 pub(crate) fn entry_of(alloc: Global, ready: Ready, revision: u64) -> Entry
-    ensures { result ≡ ProgramEntry ready.program ready.level (answers_reported ready.level ready.answers) ready.output ready.trace revision }
+    ensures { result ≡ ProgramEntry ready.program ready.level (answers_kept ready.level ready.answers) ready.output ready.trace revision }
 {
     let Ready {
         program,

@@ -28,7 +28,7 @@ pub(crate) struct Machine {
 impl Model for Machine {
     ghost use Rattle.std.specs.Coded.{codes};
     ghost use Rattle.stm_program.specs.Coding.{coded_program};
-    ghost use Rattle.stm_retry.specs.Codes.{coded_live};
+    ghost use Rattle.stm_entries.specs.Codes.{coded_live};
     ghost use Rattle.stm_world.specs.World.{World};
 
     ghost Value = { World };

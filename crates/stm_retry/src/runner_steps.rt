@@ -12,8 +12,8 @@ ghost use Rattle.stm_attempt.specs.Known.{HaveDistinctKeys};
 ghost use Rattle.stm_attempt.specs.Fetches.{ShowOneRevision, at_of};
 ghost use Rattle.stm_calls.specs.Fetched.{fetch_reported, fetch_all_reported};
 ghost use Rattle.stm_entries.specs.declared.entry.Entry.TheVariants.{Program as ProgramEntry};
+ghost use Rattle.stm_entries.specs.Entered.{answers_kept};
 ghost use Rattle.stm_world.specs.declared.reply.Reply.TheVariants.{Prefetched, Fetched, Started, Committed, Ended};
-ghost use Rattle.stm_world.specs.Task.{answers_reported};
 ghost use Rattle.stm_world.specs.World.{Runner as LiveRunner, start_runner, step_runner, step_live, commit as commit_of, runner_at};
 ghost use Rattle.stm_retry.specs.declared.step_outcome.StepOutcome.TheVariants.{GoesOn, Ends};
 ghost use Rattle.stm_retry.specs.MachineReturns.{Returns};
@@ -234,7 +234,7 @@ fn end_refused(id: u64, cause: StoreRefusal) -> Result<StepOutcome, AllocError>
 fn prepare(alloc: Global, entries: &mut Vec<Entry>, ready: &Ready) -> Result<Copies, AllocError>
     ensures output { IfOk result (λ copies. copies.output ≡ ready.now.output) }
     ensures trace { IfOk result (λ copies. copies.trace ≡ ready.now.trace) }
-    ensures answers { IfOk result (λ copies. copies.answers ≡ answers_reported ready.now.level ready.now.answers) }
+    ensures answers { IfOk result (λ copies. copies.answers ≡ answers_kept ready.now.level ready.now.answers) }
     ensures room { OnOk result (vec_len entries.new < vec_capacity entries.new) }
     ensures same { entries.new.items ≡ entries.old.items }
 {
@@ -273,7 +273,7 @@ fn end_committed(
     requires { vec_len entries.old < vec_capacity entries.old }
     ensures reported { result ≡ Ends (Committed id revision attempts copies.output copies.trace copies.answers) }
     ensures entered { entries.new.items ≡ entries.old.items ++
-        ProgramEntry ready.program ready.level (answers_reported ready.level ready.answers) ready.output ready.trace revision ∷ [] }
+        ProgramEntry ready.program ready.level (answers_kept ready.level ready.answers) ready.output ready.trace revision ∷ [] }
 {
     entries.push_reserved(entry_of(alloc, ready, revision));
     StepOutcome::Ends(reply_committed(id, revision, attempts, copies))

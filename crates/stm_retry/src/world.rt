@@ -60,7 +60,7 @@ impl Drop for World {
 impl Model for World {
     ghost use Rattle.std.specs.Coded.{codes};
     ghost use Rattle.stm_program.specs.Coding.{coded_program};
-    ghost use Rattle.stm_retry.specs.Codes.{coded_live};
+    ghost use Rattle.stm_entries.specs.Codes.{coded_live};
     ghost use Rattle.stm_world.specs.World.{World as WorldState};
     ghost use Rattle.stm_retry.specs.Kept.{whole_world, IsKeptBy};
 

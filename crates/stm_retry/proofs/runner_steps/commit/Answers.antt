@@ -4,8 +4,8 @@ use Rattle.stm_txn.specs.Standing.{Standing}
 use Rattle.stm_attempt.specs.ReadyRun.{ReadyRun}
 use Rattle.stm_entries.specs.declared.entry.Entry.{Entry}
 use Rattle.stm_entries.specs.declared.entry.Entry.TheVariants.{Program as ProgramEntry}
+use Rattle.stm_entries.specs.Entered.{answers_kept}
 use Rattle.stm_calls.proofs.Cases.{has_committed, has_failed}
-use Rattle.stm_world.specs.Task.{answers_reported}
 use Rattle.stm_world.specs.World.{Runner, commit}
 use Rattle.stm_retry.specs.declared.step_outcome.StepOutcome.{StepOutcome}
 use Rattle.stm_retry.specs.RunnerView.{AreNamed}
@@ -21,7 +21,7 @@ returns-in-Ok-Committed c run x =
     let after : Standing = c.commit.new.store.standing in
     let more : List Entry = c.end_committed.new.entries.items in
     let revision = c.in-Ok-Committed.revision in
-    let entry : Entry = ProgramEntry ready.program ready.level (answers_reported ready.level ready.answers) ready.output ready.trace revision in
+    let entry : Entry = ProgramEntry ready.program ready.level (answers_kept ready.level ready.answers) ready.output ready.trace revision in
     let reported = rw c.in-Ok-Committed.field-0-is at (c.in-Ok-Committed.ensures.step run (ready_runs r run ready x)) in
     let made = has_committed s after ready.level ready.answers run revision reported in
     subst (λ (t : StepOutcome). Leaves c.args.id (Ok t) (workplace s c.args.entries.now.items r) (workplace after more r) (commit c.args.id r r.known.reads run))

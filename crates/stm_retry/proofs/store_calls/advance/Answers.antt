@@ -4,7 +4,7 @@ use Rattle.stm_leases.proofs.Timed.{on_ok}
 use Rattle.stm_outcome.specs.declared.advance.Expired.{Expired}
 use Rattle.stm_txn.specs.Standing.{Standing}
 use Rattle.stm_entries.specs.declared.entry.Entry.{Entry}
-use Rattle.stm_world.specs.World.{expiries}
+use Rattle.stm_entries.specs.Entered.{expiries}
 use Rattle.stm_world.proofs.Wants.{taken_within, cut_within}
 use Rattle.stm_retry.proofs.CallLemmas.{advance_cut}
 use Rattle.stm_retry.proofs.store_calls.advance.Goals as goal

@@ -1,5 +1,5 @@
 use Rattle.std.proofs.Common.{◌≡◌, ◌+◌, ◌≤◌, ◌++◌, length, take, drop, vec_len, vec_capacity}
-use Rattle.stm_world.specs.World.{expiries}
+use Rattle.stm_entries.specs.Entered.{expiries}
 use Rattle.stm_retry.proofs.store_calls.enter_expiries.Given as goal
 
 -- the leases so far are entered, and there is room for the rest

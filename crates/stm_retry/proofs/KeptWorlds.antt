@@ -36,8 +36,8 @@ use Rattle.stm_attempt.specs.Known.{Known}
 use Rattle.stm_attempt.specs.Settled.{run_on}
 use Rattle.stm_attempt.specs.Entering.{is_due}
 use Rattle.stm_attempt.specs.Fetches.{at_of}
-use Rattle.stm_calls.specs.Fetched.{fetch_reported, fetch_all_reported}
-use Rattle.stm_calls.specs.StateOf.{IsStateOf, entry_now}
+use Rattle.stm_journal.specs.Fetched.{fetch_reported, fetch_all_reported}
+use Rattle.stm_journal.specs.StateOf.{IsStateOf, entry_now}
 use Rattle.stm_entries.specs.declared.entry.Entry.{Entry}
 use Rattle.stm_entries.specs.declared.entry.Entry.TheVariants.{Grant as GrantEntry, Renew, Revoke as RevokeEntry, Foreign}
 use Rattle.stm_entries.specs.Replayed.{Replayed, opening, without_moment}

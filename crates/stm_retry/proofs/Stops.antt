@@ -24,7 +24,7 @@ use Rattle.stm_world.specs.World.{World, step, world_after, replies_to}
 use Rattle.stm_world.specs.Sound.{after_expiries}
 use Rattle.stm_world.proofs.Calls.{advance_ended, advance_due}
 use Rattle.stm_retry.specs.declared.world.RunStop.{RunStop}
-use Rattle.stm_retry.specs.CallReturns.{world_of}
+use Rattle.stm_retry.proofs.CallLemmas.{world_with}
 use Rattle.stm_retry.specs.Returns.{IsUnchanged, IsCutShort, OutOfMemoryReturns, OutOfMemoryReturnsAt, IsRunStop}
 use Rattle.stm_retry.specs.Stops.{with_expired, first_with_expired, RepeatsAlike, GoesOnAlike, Stop, AreStops, ComeToTheWhole}
 use Rattle.stm_retry.specs.Stops.{StopsGoOn, WrongStops}
@@ -114,9 +114,9 @@ expired_repeats moment expired old left above come =
     let whole : advanced old.standing moment ≡ after expired rest = advances_go_on old.standing left moment expired above come in
     record {
       reply_is = ap (λ (a : StoreAdvance). advance_reply moment a.expired a.cause) whole ∙ reported_behind moment expired rest.expired rest.cause;
-      next_is = ap (λ (a : StoreAdvance). world_of old.runners a.leaves (old.entries ++ expiries a.expired)) whole
-          ∙ ap (λ (l : List Entry). world_of old.runners rest.leaves (old.entries ++ l)) (expiries-append expired rest.expired)
-          ∙ ap (λ (l : List Entry). world_of old.runners rest.leaves l) (sym (append_assoc old.entries (expiries expired) (expiries rest.expired)));
+      next_is = ap (λ (a : StoreAdvance). world_with old.runners a.leaves (old.entries ++ expiries a.expired)) whole
+          ∙ ap (λ (l : List Entry). world_with old.runners rest.leaves (old.entries ++ l)) (expiries-append expired rest.expired)
+          ∙ ap (λ (l : List Entry). world_with old.runners rest.leaves l) (sym (append_assoc old.entries (expiries expired) (expiries rest.expired)));
     }
 
 cut_repeats : (moment : ℕ) (expired : List Expired) (old new : World) → old.standing.moment ≤ moment → IsCutShort moment expired old new →

@@ -1,14 +1,15 @@
 use Rattle.std.proofs.Common.{Result, sym, ap, subst}
-use Rattle.stm_txn.specs.Standing.{Standing}
+use Rattle.stm_journal.specs.JournalState.{JournalState}
 use Rattle.stm_world.specs.declared.event.WorldEvent.{WorldEvent}
 use Rattle.stm_world.specs.declared.event.WorldEvent.TheVariants.{Start, Step}
 use Rattle.stm_world.specs.declared.reply.Reply.{Reply}
 use Rattle.stm_world.specs.declared.refusal.Denied.{Denied}
 use Rattle.stm_world.specs.World.{World}
+use Rattle.stm_retry.specs.WorldOf.{world_of}
 use Rattle.stm_retry.specs.Returns.{IsStep}
 use Rattle.stm_retry.specs.Kept.{compact_kept, KeptReturns}
 use Rattle.stm_retry.proofs.WorldLemmas.{start_reports, step_reports}
-use Rattle.stm_retry.proofs.machine.Machine.step.Goals as goal
+use Rattle.stm_retry.proofs.parts.Parts.step.Goals as goal
 
 pub returns-in-Start : goal.returns-in-Start
 returns-in-Start c =
@@ -28,8 +29,8 @@ returns-in-Step c =
 
 pub returns-in-Compact : goal.returns-in-Compact
 returns-in-Compact c =
-    let left : Standing → World = λ s. record { standing = s; runners = c.self-in-Compact.inside.runners.items; entries = c.self-in-Compact.inside.entries.items } in
-    let new : World = left c.compact.new.store.standing in
+    let left : JournalState → World = λ j. world_of j c.self-in-Compact.inside.runners.items in
+    let new : World = left c.compact.new.journal in
     subst (λ (e : WorldEvent). KeptReturns e c.compact.result c.args.self.now new) (sym c.in-Compact.is)
     (subst (λ (w : World). IsStep (compact_kept c.in-Compact.revision w) c.compact.result new) c.self-in-Compact.view_is
     (record { reply_is = sym c.compact.ensures.reported; next_is = ap left (sym c.compact.ensures.store) }))

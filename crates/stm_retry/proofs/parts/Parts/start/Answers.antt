@@ -3,7 +3,7 @@ use Rattle.stm_world.specs.declared.refusal.Refusal.TheVariants.{BadLimit}
 use Rattle.stm_world.specs.World.{Stepped, start_runner, refused}
 use Rattle.stm_retry.specs.RunnerView.{task_of}
 use Rattle.stm_retry.proofs.StepLemmas.{start_is_taken, start_refuses}
-use Rattle.stm_retry.proofs.machine.Machine.start.Goals as goal
+use Rattle.stm_retry.proofs.parts.Parts.start.Goals as goal
 
 pub returns-then-limit-eq0 : goal.returns-then-limit-eq0
 returns-then-limit-eq0 c =

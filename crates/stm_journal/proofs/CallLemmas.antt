@@ -11,7 +11,7 @@ use Rattle.stm_outcome.specs.declared.answer.TxnAnswer.{TxnAnswer}
 use Rattle.stm_outcome.specs.declared.advance.Expired.{Expired}
 use Rattle.stm_outcome.specs.declared.refusal.Refusal.{Refusal}
 use Rattle.stm_outcome.specs.declared.refusal.Refusal.TheVariants.{OutOfMemory, TimeGoesBack}
-use Rattle.stm_txn.specs.Standing.{Standing, Step, Advance, IsRefusalOf, Returns, refusal_of, transacted, ended}
+use Rattle.stm_txn.specs.Standing.{Standing, Step, Advance, IsRefusalOf, refusal_of, transacted, ended}
 use Rattle.stm_txn.specs.Standing.{at_moment, after, expired_in, expire_up_to, expire_all, advanced, HasCome, IsCutShort as StoreCutShort}
 use Rattle.stm_entries.specs.declared.entry.Entry.{Entry}
 use Rattle.stm_entries.specs.Entered.{if_changed}

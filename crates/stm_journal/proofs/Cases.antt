@@ -18,7 +18,7 @@ use Rattle.stm_attempt.specs.ReadyRun.{ReadyRun, IsRunOnItsAnswers}
 use Rattle.stm_journal.specs.declared.verdict.Verdict.{Verdict}
 use Rattle.stm_journal.specs.declared.verdict.Verdict.TheVariants.{Committed, Failed}
 use Rattle.stm_journal.specs.JournalState.{JournalState, JournalStep}
-use Rattle.stm_journal.specs.Verdicts.{after_commit, committed_as, failed_with, failed_as, decided, sent_as, sent}
+use Rattle.stm_journal.specs.Verdicts.{after_commit, committed_as, failed_with, decided, sent_as, sent}
 use Rattle.stm_journal.proofs.CommitLemmas.{sent_of_run}
 
 step_to : Verdict → JournalState → JournalStep Verdict

@@ -1,5 +1,5 @@
 -- The transaction of a ready attempt comes to the commit of its run.
-use Rattle.std.proofs.Common.{◌≡◌, ◌<◌, length, All, Ok, sym, ◌∙◌, ap}
+use Rattle.std.proofs.Common.{◌≡◌, ◌<◌, length, All, sym, ◌∙◌, ap}
 use Rattle.stm_history.specs.declared.key_state.ReadAnswer.{ReadAnswer}
 use Rattle.stm_program.specs.Writes.{latest_writes}
 use Rattle.stm_steps.specs.declared.run.Run.{Run}

@@ -1,5 +1,5 @@
 -- What the transaction of a commit comes to is told as the verdict.
-use Rattle.std.proofs.Common.{◌≡◌, ℕ, ◌<◌, List, length, Option, Some, None, Result, Ok, Err, refl, sym, ◌∙◌, ap, subst}
+use Rattle.std.proofs.Common.{◌≡◌, ℕ, ◌<◌, List, length, Option, Some, None, Result, Ok, Err, refl, ◌∙◌, ap, subst}
 use Rattle.std.proofs.Common.{arith}
 use Rattle.stm_history.specs.declared.key_state.ReadAnswer.{ReadAnswer}
 use Rattle.stm_history.specs.History.{now, key_now}
@@ -19,7 +19,7 @@ use Rattle.stm_attempt.specs.ReadyRun.{ReadyRun}
 use Rattle.stm_journal.proofs.SeenLemmas.{compares_are_seen}
 use Rattle.stm_journal.specs.declared.refusal.CommitRefusal.TheVariants.{Store}
 use Rattle.stm_journal.specs.JournalState.{JournalState}
-use Rattle.stm_journal.specs.Verdicts.{txn_of, first_unvouched, taken, taken_by_store, refused_by_store, unless_unvouched, by_compares, unless_at_fault, verdict_of}
+use Rattle.stm_journal.specs.Verdicts.{txn_of, first_unvouched, taken_by_store, refused_by_store, unless_unvouched, by_compares, unless_at_fault, verdict_of}
 
 -- ---- the verdict, by what is known
 

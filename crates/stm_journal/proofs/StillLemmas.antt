@@ -1,5 +1,5 @@
 -- Keys that are still as they were read: no compare of them fails, and none has another value.
-use Rattle.std.proofs.Common.{◌≡◌, ◌+◌, ℕ, List, [], ◌∷◌, map, Bool, cond, not, Option, None, Some, refl, sym, ◌∙◌, ap}
+use Rattle.std.proofs.Common.{◌≡◌, ◌+◌, ℕ, List, [], ◌∷◌, map, Bool, cond, not, Option, None, Some, refl, ◌∙◌, ap}
 use Rattle.std.specs.Prelude.{bytes_eq}
 use Rattle.std.specs.List.{find, AllByRecursion}
 use Rattle.std.proofs.lemmas.Slice.Eq.{bytes_eq-Decides}
@@ -9,7 +9,7 @@ use Rattle.stm_program.specs.declared.level.Level.{Level}
 use Rattle.stm_program.specs.declared.level.Level.TheVariants.{Serializable, RepeatableReads}
 use Rattle.stm_program.specs.declared.write.Write.{Write}
 use Rattle.stm_outcome.specs.declared.answer.FailedCompare.{FailedCompare}
-use Rattle.stm_outcome.specs.Compares.{holds, first_failed}
+use Rattle.stm_outcome.specs.Compares.{first_failed}
 use Rattle.stm_outcome.proofs.Applying.{mod_compares}
 use Rattle.stm_compile.specs.CommitTxn.{is_as_read, compares_of}
 use Rattle.stm_journal.specs.declared.causes.Cause.{Cause}

@@ -67,11 +67,10 @@ fn write(
     ready: Ready,
 ) -> Result<Verdict, Refusal>
     requires clear { IsClear store.old.standing ready }
+    requires run { IsRunOnItsAnswers ready }
     ensures verdict { SendsAs (λ journal. taken_by_store journal ready) result store.old.standing entries.old.items store.new.standing entries.new.items }
     ensures answers { IfOk result CanGoOn }
 {
-    // (the attempt's type says that it is a run on its answers)
-    let _is_run = ready.answers.as_slice();
     let Ok(changes) = changes_of(alloc, &ready.writes) else {
         drop(ready);
         return Err(Refusal::OutOfMemory);
@@ -106,6 +105,8 @@ pub(crate) fn commit_trusted(
     ensures answers { IfOk result CanGoOn }
     ensures run { IsRunOnItsAnswers ready }
 {
+    // (the attempt's type says that it is a run on its answers)
+    let _is_run = ready.answers.as_slice();
     match check(store, &ready) {
         Ok(None) => write(alloc, store, entries, ready),
         Ok(Some(failed)) => {

@@ -1,5 +1,4 @@
 use Rattle.std.proofs.Common.{◌≡◌, ◌∙◌, ℕ, List, ◌++◌, ◌∷◌, [], refl, sym, ap, subst}
-use Rattle.stm_outcome.specs.declared.refusal.Refusal.{Refusal}
 use Rattle.stm_txn.specs.Standing.{Standing, kept_alive, IsRefusalOf}
 use Rattle.stm_txn.specs.Store.{StoreView}
 use Rattle.stm_entries.specs.declared.entry.Entry.{Entry}

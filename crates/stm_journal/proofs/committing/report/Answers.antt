@@ -3,8 +3,8 @@ use Rattle.std.proofs.lemmas.Result.{err_from_is_err_and}
 use Rattle.stm_journal.proofs.Judging.{sent_failed, sent_out}
 use Rattle.stm_journal.proofs.committing.report.Goals as goal
 
-pub returns-in_ok-verdict-clause-verdict : goal.returns-in_ok-verdict-clause-verdict
-returns-in_ok-verdict-clause-verdict c =
+pub returns-clause-verdict : goal.returns-clause-verdict
+returns-clause-verdict c =
     sent_failed c.args.store.now.standing c.args.ready.now c.args.failed c.in_ok-verdict.verdict c.requires.right c.requires.fails c.in_ok-verdict.ensures.verdict
 
 -- an allocation failed

@@ -1,6 +1,6 @@
 //! Transactions that the examples begin with.
 ghost use Rattle.std.specs.Prelude.{IfOk};
-ghost use Rattle.stm_hall.specs.Fetching.{OnlyReads};
+ghost use Rattle.stm_journal.specs.Fetching.{OnlyReads};
 
 use std::alloc::{AllocError, Global};
 use stm_history::Text;

@@ -8,7 +8,7 @@ use Rattle.stm_entries.specs.declared.entry.Entry.TheVariants.{Expire}
 use Rattle.stm_entries.specs.Replayed.{Replayed}
 use Rattle.stm_entries.specs.Replay.{replay}
 use Rattle.stm_entries.proofs.Replaying.{replay_goes_on}
-use Rattle.stm_check.specs.Point.{expiries}
+use Rattle.stm_entries.specs.Entered.{expiries}
 use Rattle.stm_check.proofs.Fronts.{mapped_more}
 
 -- one more lease has expired

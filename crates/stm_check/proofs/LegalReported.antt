@@ -15,6 +15,7 @@ use Rattle.stm_entries.specs.declared.entry.Entry.TheVariants.{Foreign, Grant as
 use Rattle.stm_entries.specs.Replayed.{without_moment}
 use Rattle.stm_entries.specs.Legal.{AreLegal}
 use Rattle.stm_entries.proofs.Replaying.{all_legal}
+use Rattle.stm_entries.specs.Entered.{if_taken, if_changed, expiries}
 use Rattle.stm_reports.specs.declared.line.ReportLine.{ReportLine}
 use Rattle.stm_reports.specs.declared.line.ReportLine.TheVariants as line
 use Rattle.stm_world.specs.declared.event.WorldEvent.{WorldEvent}
@@ -22,14 +23,13 @@ use Rattle.stm_world.specs.declared.event.WorldEvent.TheVariants as event
 use Rattle.stm_world.specs.declared.reply.Reply.TheVariants as reply
 use Rattle.stm_world.specs.Reported.{reply_to, store_after_call, advance_reply}
 use Rattle.stm_lines.specs.Lines.{line_reported}
-use Rattle.stm_world.specs.World.{if_taken, if_changed}
 use Rattle.stm_world.proofs.Calls.{txn_follows, grant_follows, keep_follows, revoke_follows, advance_follows}
 use Rattle.stm_world.proofs.WatchCalls.{compact_follows}
 use Rattle.stm_texts.specs.Opens.{setup_of}
 use Rattle.stm_check.specs.declared.runner.Runner.{Runner}
 use Rattle.stm_check.specs.Runners.{running}
 use Rattle.stm_check.specs.Point.{Point, entries_reported, after, commit_entries, txn_entries, grant_entries, keep_entries, revoke_entries}
-use Rattle.stm_check.specs.Point.{advance_entries, expiries, raised_by, beginning}
+use Rattle.stm_check.specs.Point.{advance_entries, raised_by, beginning}
 use Rattle.stm_check.specs.StoreLines.{final_lines}
 use Rattle.stm_check.specs.Replays.{StepReplays, Replays}
 use Rattle.stm_check.specs.Judged.{AreRightEvents}

@@ -7,11 +7,11 @@
 use Rattle.std.specs.Prelude.{ℕ, ◌+◌, nat_lt, if◌then◌else◌, List, [], ◌∷◌, map, length, Option, Some, None}
 use Rattle.stm_history.specs.declared.key_state.ReadAnswer.{ReadAnswer}
 use Rattle.stm_history.specs.History.{History, now, key_at}
-use Rattle.stm_outcome.specs.declared.advance.Expired.{Expired}
 use Rattle.stm_outcome.specs.declared.txn.Txn.{Txn as StoreTxn}
 use Rattle.stm_txn.specs.Standing.{Standing, Setup, opening, raised}
 use Rattle.stm_entries.specs.declared.entry.Entry.{Entry}
-use Rattle.stm_entries.specs.declared.entry.Entry.TheVariants.{Program, Foreign, Grant as GrantEntry, Renew, Revoke as RevokeEntry, Expire}
+use Rattle.stm_entries.specs.declared.entry.Entry.TheVariants.{Program, Foreign, Grant as GrantEntry, Renew, Revoke as RevokeEntry}
+use Rattle.stm_entries.specs.Entered.{expiries}
 use Rattle.stm_entries.specs.Replayed.{Replayed, without_moment}
 use Rattle.stm_entries.specs.Replay.{replay}
 use Rattle.stm_world.specs.declared.event.WorldEvent.{WorldEvent}
@@ -41,9 +41,6 @@ read_in h a = record { key = a.key; kv = key_at h a.key a.of_rev; of_rev = a.of_
 
 abbrev pub reads_in : History → List ReportedAnswer → List ReadAnswer
 reads_in h answers = map (read_in h) answers
-
-abbrev pub expiries : List Expired → List Entry
-expiries expired = map (λ (e : Expired). Expire e.id) expired
 
 abbrev pub committed_entry : History → ReportLine → Runner → List Entry
 committed_entry h (line.Committed n runner revision attempts output trace answers) r =

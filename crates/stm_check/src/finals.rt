@@ -13,7 +13,7 @@ use crate::cause::WrongCause;
 use crate::walk::Walk;
 use std::alloc::{AllocError, Global};
 use std::collections::BTreeMap;
-use stm_calls::present_keys;
+use stm_journal::present_keys;
 use stm_entries::LiveLease;
 use stm_history::Text;
 use stm_keys::Keys;

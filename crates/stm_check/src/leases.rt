@@ -4,8 +4,9 @@ ghost use Rattle.stm_txn.specs.Standing.{Standing};
 ghost use Rattle.stm_entries.specs.Replayed.{Replayed, without_moment};
 ghost use Rattle.stm_entries.specs.LiveLeases.{HasLeases};
 ghost use Rattle.stm_entries.specs.Replay.{replay};
+ghost use Rattle.stm_entries.specs.Entered.{expiries};
 ghost use Rattle.stm_check.specs.declared.runner.Runner.{Runner as Run};
-ghost use Rattle.stm_check.specs.Point.{expiries, advance_entries, entries_reported};
+ghost use Rattle.stm_check.specs.Point.{advance_entries, entries_reported};
 
 use std::alloc::AllocError;
 use std::collections::BTreeMap;

@@ -1,6 +1,6 @@
 -- What runners ask of a store, the fetch of a key or of a list and the commit, comes to the same once the revisions below the floor are dropped.
 use Rattle.std.proofs.Common.{◌≡◌, ℕ, ◌-◌, ◌≤◌, Bool, true, false, cond, List, [], ◌∷◌, length, map, Option, Some, None, refl, ◌∙◌, ap, arith}
-use Rattle.std.specs.Prelude.{nat_eq, nat_lt, slice_get, Result, Ok, Err}
+use Rattle.std.specs.Prelude.{nat_eq, nat_lt, Result, Ok, Err}
 use Rattle.stm_history.specs.declared.key_state.KeyState.{KeyState}
 use Rattle.stm_history.specs.declared.key_state.ReadAnswer.{ReadAnswer}
 use Rattle.stm_history.specs.History.{History, now, key_now, key_at}
@@ -17,21 +17,22 @@ use Rattle.stm_outcome.specs.declared.refusal.Refusal.{Refusal}
 use Rattle.stm_outcome.specs.declared.refusal.Refusal.TheVariants.{TooManyOps, Compacted}
 use Rattle.stm_outcome.specs.Terms.{Terms, is_below_floor}
 use Rattle.stm_outcome.specs.Compares.{first_failed}
-use Rattle.stm_outcome.specs.Outcome.{Done}
+use Rattle.stm_outcome.specs.Outcome.{Done, outcome}
 use Rattle.stm_outcome.specs.Commits.{shown, reads_now}
-use Rattle.stm_txn.specs.Standing.{Standing, Step, kept, terms_of, with_history}
+use Rattle.stm_txn.specs.Standing.{Standing, kept, terms_of, with_history}
 use Rattle.stm_compile.specs.Now.{as_change}
 use Rattle.stm_compile.specs.Answers.{answer_now}
 use Rattle.stm_compile.specs.CommitTxn.{compares_of, reread_keys}
 use Rattle.stm_compile.specs.Committed.{sends_too_many, conflict_now, judged, committed}
-use Rattle.stm_compile.specs.Conflicts.{seen_by}
-use Rattle.stm_calls.specs.declared.sent.Sent.{Sent}
-use Rattle.stm_calls.specs.declared.sent.Sent.TheVariants.{Committed}
-use Rattle.stm_calls.specs.Sent.{seen_in, failed_at, decided, sent_as, sent}
-use Rattle.stm_calls.specs.Fetched.{fetched, fetch_reported, fetch_all_reported}
-use Rattle.stm_compaction.specs.Kept.{kept_step, kept_done, kept_terms}
+use Rattle.stm_attempt.specs.ReadyRun.{ReadyRun}
+use Rattle.stm_journal.specs.declared.verdict.Verdict.{Verdict}
+use Rattle.stm_journal.specs.declared.verdict.Verdict.TheVariants.{Committed}
+use Rattle.stm_journal.specs.JournalState.{JournalState, JournalStep, gone_on}
+use Rattle.stm_journal.specs.Verdicts.{txn_of, entry_of, failed_with, decided, sent_as, sent}
+use Rattle.stm_journal.specs.Fetched.{fetched, fetch_reported, fetch_all_reported}
+use Rattle.stm_compaction.specs.Kept.{kept_done, kept_terms, kept_journal, kept_journal_step}
 use Rattle.stm_compaction.proofs.Alike.{IsAlike, cut_is_alike}
-use Rattle.stm_compaction.proofs.Transactions.{Grows, applied_kept, applied_grows, not_below}
+use Rattle.stm_compaction.proofs.Transactions.{Grows, applied_kept, applied_grows, outcome_kept, outcome_grows, not_below}
 use Rattle.stm_compaction.proofs.Calls.{HasReached}
 
 -- ---- what is read of now
@@ -100,34 +101,37 @@ committed_grows terms level reads run =
 
 -- ---- as it is reported
 
-abbrev reported_as : Sent → Standing → Result (Step Sent) Refusal
-reported_as answer next = Ok record { answer = answer; next = next }
+abbrev reported_as : Verdict → JournalState → Result (JournalStep Verdict) Refusal
+reported_as verdict next = Ok record { answer = verdict; next = next }
 
-abbrev reported_step : Step Sent → Result (Step Sent) Refusal
+abbrev reported_step : JournalStep Verdict → Result (JournalStep Verdict) Refusal
 reported_step step = Ok step
 
-decided_kept : (s : Standing) → HasReached s → (level : Level) (reads : List ReadAnswer) (writes : List Write) (done : Done) (o : Option FailedCompare) →
-    now s.history ≤ now done.history →
-    reported_step (decided (kept s) level reads writes (record { answer = done.answer; history = cut (s.floor - 1) done.history }) o)
-    ≡ kept_step (reported_step (decided s level reads writes done o))
-decided_kept s reached level reads writes done None grown =
-    ap (λ (n : ℕ). reported_as (Committed n) (with_history (kept s) (cut (s.floor - 1) done.history)))
+decided_kept : (journal : JournalState) → HasReached journal.standing → (ready : ReadyRun) (done : Done) (o : Option FailedCompare) →
+    now journal.standing.history ≤ now done.history →
+    reported_step (decided (kept_journal journal) ready (record { answer = done.answer; history = cut (journal.standing.floor - 1) done.history }) o)
+    ≡ kept_journal_step (reported_step (decided journal ready done o))
+decided_kept journal reached ready done None grown =
+    let s : Standing = journal.standing in
+    ap (λ (n : ℕ). reported_as (Committed (length journal.entries) n)
+    (gone_on (kept_journal journal) (with_history (kept s) (cut (s.floor - 1) done.history)) (entry_of ready n ∷ [])))
     (cut_keeps_now done.history (s.floor - 1) (omega (arith, reached, grown)))
-decided_kept s reached level reads writes done (Some failed) grown =
-    let g : History = cut (s.floor - 1) s.history in
-    ap (λ (answers : List ReadAnswer). reported_as (failed_at (seen_in (slice_get (seen_by reads writes) failed.index)) failed.mod_rev answers) (kept s))
-    (answers_alike s.floor g s.history (cut_is_alike s.floor s.history reached) reached (reread_keys level reads))
+decided_kept journal reached ready done (Some failed) grown =
+    let s : Standing = journal.standing in
+    ap (λ (answers : List ReadAnswer). reported_as (failed_with ready failed answers) (kept_journal journal))
+    (answers_alike s.floor (cut (s.floor - 1) s.history) s.history (cut_is_alike s.floor s.history reached) reached (reread_keys ready.level ready.answers))
 
-sent_by : (s : Standing) → HasReached s → (level : Level) (reads : List ReadAnswer) (writes : List Write) (o : Result Done Refusal) → Grows s.history o →
-    sent_as (kept s) level reads writes (kept_done s.floor o) ≡ kept_step (sent_as s level reads writes o)
-sent_by s reached level reads writes (Ok done) grown = decided_kept s reached level reads writes done done.answer.failed grown
-sent_by s reached level reads writes (Err cause) grown = refl
+sent_by : (journal : JournalState) → HasReached journal.standing → (ready : ReadyRun) (o : Result Done Refusal) → Grows journal.standing.history o →
+    sent_as (kept_journal journal) ready (kept_done journal.standing.floor o) ≡ kept_journal_step (sent_as journal ready o)
+sent_by journal reached ready (Ok done) grown = decided_kept journal reached ready done done.answer.failed grown
+sent_by journal reached ready (Err cause) grown = refl
 
-pub sent_kept : (s : Standing) → HasReached s → (level : Level) (reads : List ReadAnswer) (run : Run) →
-    sent (kept s) level reads run ≡ kept_step (sent s level reads run)
-sent_kept s reached level reads run =
-    ap (sent_as (kept s) level reads (latest_writes run.writes)) (committed_kept (terms_of s) reached level reads run)
-    ∙ sent_by s reached level reads (latest_writes run.writes) (committed (terms_of s) level reads run) (committed_grows (terms_of s) level reads run)
+pub sent_kept : (journal : JournalState) → HasReached journal.standing → (ready : ReadyRun) →
+    sent (kept_journal journal) ready ≡ kept_journal_step (sent journal ready)
+sent_kept journal reached ready =
+    let terms : Terms = terms_of journal.standing in
+    ap (sent_as (kept_journal journal) ready) (outcome_kept terms reached (txn_of ready))
+    ∙ sent_by journal reached ready (outcome terms (txn_of ready)) (outcome_grows terms (txn_of ready))
 
 -- ---- a list
 

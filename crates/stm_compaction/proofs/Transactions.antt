@@ -169,6 +169,11 @@ branch_grows terms failed ops =
     unless_grows h (branch_refusal terms ops) (finished h failed (changes_of_branch h ops) (answers_after h (begun h) ops))
     (finished_grows h failed (changes_of_branch h ops) (answers_after h (begun h) ops) (is_used_up h (changes_of_branch h ops)))
 
+pub outcome_grows : (terms : Terms) (txn : Txn) → Grows terms.history (outcome terms txn)
+outcome_grows terms txn =
+    let failed : Option FailedCompare = first_failed (key_now terms.history) 0 txn.compares in
+    unless_grows terms.history (fault_of terms.limit txn) (branch_outcome terms failed (chosen failed txn)) (branch_grows terms failed (chosen failed txn))
+
 dead_grows : (h : History) (dead : Bool) (o : Result Done Refusal) → Grows h o → Grows h (cond dead (Err LeaseNotFound) o)
 dead_grows h true o grows = tt
 dead_grows h false o grows = grows

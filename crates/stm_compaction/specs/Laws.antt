@@ -2,19 +2,18 @@
 -- each call of it comes to are what they are in the whole store.
 use Rattle.std.specs.Prelude.{◌≡◌, ℕ, ◌≤◌, List, None}
 use Rattle.stm_history.specs.declared.change.Change.{Change}
-use Rattle.stm_history.specs.declared.key_state.ReadAnswer.{ReadAnswer}
 use Rattle.stm_history.specs.History.{now}
-use Rattle.stm_program.specs.declared.level.Level.{Level}
-use Rattle.stm_steps.specs.declared.run.Run.{Run}
 use Rattle.stm_watch.specs.declared.watched.Watched.{Watched}
 use Rattle.stm_outcome.specs.declared.txn.Txn.{Txn}
 use Rattle.stm_outcome.specs.declared.advance.Expired.{Expired}
 use Rattle.stm_outcome.specs.declared.refusal.Refusal.{Refusal}
 use Rattle.stm_txn.specs.Standing.{Standing, HasKept, kept, transacted, written, granted, kept_alive, revoked, at_moment, expire_up_to, advanced, HasCome}
 use Rattle.stm_txn.specs.Standing.{IsCutShort, watched, polled, poll_refused, cancelled, raised, compacted}
-use Rattle.stm_calls.specs.Sent.{sent}
-use Rattle.stm_calls.specs.Fetched.{fetch_reported, fetch_all_reported}
-use Rattle.stm_compaction.specs.Kept.{kept_step, kept_advance}
+use Rattle.stm_attempt.specs.ReadyRun.{ReadyRun}
+use Rattle.stm_journal.specs.JournalState.{JournalState}
+use Rattle.stm_journal.specs.Verdicts.{sent}
+use Rattle.stm_journal.specs.Fetched.{fetch_reported, fetch_all_reported}
+use Rattle.stm_compaction.specs.Kept.{kept_step, kept_advance, kept_journal, kept_journal_step}
 use Rattle.stm_compaction.specs.Shows.{ShowsTheSame}
 use Rattle.stm_compaction.specs.Advanced.{ComesToo, IsCutShortToo}
 
@@ -37,8 +36,8 @@ KeptListFetches = (s : Standing) (keys : List (List ℕ)) → s.floor ≤ now s.
 
 abbrev pub KeptCommits : Type 0
 KeptCommits =
-    (s : Standing) (level : Level) (reads : List ReadAnswer) (run : Run) → s.floor ≤ now s.history
-    → sent (kept s) level reads run ≡ kept_step (sent s level reads run)
+    (journal : JournalState) (ready : ReadyRun) → journal.standing.floor ≤ now journal.standing.history
+    → sent (kept_journal journal) ready ≡ kept_journal_step (sent journal ready)
 
 -- ---- leases
 

@@ -48,7 +48,7 @@ op_of-as_change : (w : Write) → write_op w ≡ op_of (as_change w)
 op_of-as_change (Put key value lease) = refl
 op_of-as_change (Del key) = refl
 
-ops_of_writes : (ws : List Write) → map write_op ws ≡ map op_of (map as_change ws)
+pub ops_of_writes : (ws : List Write) → map write_op ws ≡ map op_of (map as_change ws)
 ops_of_writes [] = refl
 ops_of_writes (w ∷ ws) = ap (λ o. o ∷ map write_op ws) (op_of-as_change w) ∙ ap (λ l. op_of (as_change w) ∷ l) (ops_of_writes ws)
 

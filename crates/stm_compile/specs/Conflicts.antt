@@ -2,7 +2,7 @@
 --
 -- The documentation of the Go package `clientv3/concurrency`, "STM": a commit fails only where a key that was read, or at
 -- serializable snapshot one that was written, has been changed since.
-use Rattle.std.specs.Prelude.{◌≡◌, ℕ, Bool, true, is_some, nat_lt, ◌&&◌, ◌||◌, List, [], ◌∷◌, ◌++◌, map, Some, slice_get}
+use Rattle.std.specs.Prelude.{◌≡◌, ℕ, Bool, true, is_some, nat_lt, ◌&&◌, ◌||◌, List, [], ◌∷◌, ◌++◌, map, Option, None, Some, slice_get}
 use Rattle.stm_history.specs.declared.change.Change.{Change}
 use Rattle.stm_history.specs.declared.key_state.ReadAnswer.{ReadAnswer}
 use Rattle.stm_history.specs.Opening.{Opening, opened_state}
@@ -29,6 +29,11 @@ pub record Seen : Type 0 where
   pub key : List ℕ
   pub mod_rev : ℕ
   pub at : ℕ
+
+-- what a failed compare is about; the place that is reported is that of a compare, so there always is one
+abbrev pub seen_in : Option Seen → Seen
+seen_in None = record { key = []; mod_rev = 0; at = 0 }
+seen_in (Some seen) = seen
 
 abbrev pub seen_of_read : ReadAnswer → Seen
 seen_of_read a = record { key = a.key; mod_rev = mod_of a.kv; at = a.of_rev }

@@ -4,3 +4,5 @@ pub mod Replay
 pub mod Legal
 pub mod Laws
 pub mod LiveLeases
+pub mod Codes
+pub mod Entered

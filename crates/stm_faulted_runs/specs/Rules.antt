@@ -10,7 +10,7 @@ use Rattle.stm_steps.specs.declared.state.StateEntry.{StateEntry}
 use Rattle.stm_steps.specs.Answer.{Lookup}
 use Rattle.stm_steps.specs.Faults.{fault_name}
 use Rattle.stm_steps.specs.States.{state_answers}
-use Rattle.stm_calls.specs.StateOf.{IsStateOf}
+use Rattle.stm_journal.specs.StateOf.{IsStateOf}
 use Rattle.stm_world.specs.World.{opened, world_after}
 use Rattle.stm_json.specs.Outcome.{Outcome}
 use Rattle.stm_texts.specs.declared.scenario.Scenario.{Scenario}

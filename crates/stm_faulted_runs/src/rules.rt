@@ -1,7 +1,7 @@
 //! The explanation of a rule that comes to a fault.
 ghost use Rattle.std.specs.Prelude.{◌≡◌, ◌≤◌, Ok as OkOf, IfOk, OnOk, string_bytes};
 ghost use Rattle.serde_json.specs.View.{view};
-ghost use Rattle.stm_calls.specs.StateOf.{IsStateOf};
+ghost use Rattle.stm_journal.specs.StateOf.{IsStateOf};
 ghost use Rattle.stm_program.specs.declared.limits.TheConstants.{MAX_NODES};
 ghost use Rattle.stm_program_json.specs.Reading.{first_statement, program_of};
 ghost use Rattle.stm_steps.specs.States.{state_answers};

@@ -5,7 +5,6 @@ use Rattle.stm_history.specs.History.{History, now}
 use Rattle.stm_program.specs.Syntax.{Block}
 use Rattle.stm_program.specs.declared.level.Level.{Level}
 use Rattle.stm_program.specs.declared.write.Write.{Write}
-use Rattle.stm_program.specs.declared.write.Write.TheVariants.{Put, Del}
 use Rattle.stm_program.specs.Writes.{latest_writes}
 use Rattle.stm_program.proofs.LatestLemmas.{latest_writes-distinct}
 use Rattle.stm_steps.specs.declared.run.End.{End}
@@ -14,7 +13,6 @@ use Rattle.stm_steps.specs.declared.run.Run.{Run}
 use Rattle.stm_steps.specs.declared.run.Answered.TheVariants.{Ended}
 use Rattle.stm_meaning.specs.Meaning.{run_over}
 use Rattle.stm_outcome.specs.Checks.{fault_of}
-use Rattle.stm_outcome.specs.Effect.{op_of}
 use Rattle.stm_outcome.specs.Outcome.{Done, outcome}
 use Rattle.stm_outcome.specs.Commits.{applied}
 use Rattle.stm_txn.specs.Standing.{Standing, with_history, terms_of}
@@ -23,25 +21,18 @@ use Rattle.stm_outcome.proofs.Applying.{writes_apply}
 use Rattle.stm_program.specs.Levels.{is_comparing}
 use Rattle.stm_compile.specs.Answers.{look_up, state_now}
 use Rattle.stm_compile.specs.Now.{as_change}
-use Rattle.stm_compile.specs.CommitTxn.{write_op, commit_of}
+use Rattle.stm_compile.specs.CommitTxn.{commit_of}
 use Rattle.stm_compile.specs.Committed.{conflict_now}
-use Rattle.stm_compile.proofs.OutcomeLemmas.{changes_are_distinct}
+use Rattle.stm_compile.proofs.OutcomeLemmas.{changes_are_distinct, ops_of_writes}
 use Rattle.stm_attempt.specs.ReadyRun.{ReadyRun, IsRunOnItsAnswers}
+use Rattle.stm_entries.specs.Entered.{answers_kept}
 use Rattle.stm_entries.specs.Replayed.{Replayed, without_moment, replay_terms}
 use Rattle.stm_entries.specs.Alone.{seen_at, history_left, left_by, left_by_run}
-use Rattle.stm_hall.specs.Verdicts.{txn_of, answers_kept, entry_of, first_unvouched}
+use Rattle.stm_journal.specs.Verdicts.{txn_of, entry_of, first_unvouched}
 use Rattle.stm_hall.proofs.Opening.{Follows}
 use Rattle.stm_hall.proofs.VouchLemmas.{vouched_run}
 
 -- ---- its writes
-
-op_of-as_change : (w : Write) → write_op w ≡ op_of (as_change w)
-op_of-as_change (Put key value lease) = refl
-op_of-as_change (Del key) = refl
-
-pub ops_of_writes : (ws : List Write) → map write_op ws ≡ map op_of (map as_change ws)
-ops_of_writes [] = refl
-ops_of_writes (w ∷ ws) = ap (λ o. o ∷ map write_op ws) (op_of-as_change w) ∙ ap (λ l. op_of (as_change w) ∷ l) (ops_of_writes ws)
 
 -- the store's transaction applies the writes
 applied_by : (terms : Terms) (level : Level) (reads : List ReadAnswer) (run : Run) (done : Done) →

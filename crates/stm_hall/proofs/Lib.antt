@@ -2,14 +2,7 @@ pub mod Opening
 pub mod VouchLemmas
 pub mod CommitEntries
 pub mod CallLemmas
-pub mod Sending
-pub mod FetchLemmas
 pub mod Keeping
 pub mod WorkedExamples
 pub mod TrueReads
 pub mod ChangedAbove
-pub mod Judging
-pub mod WholeFaults
-pub mod FirstFailed
-pub mod Copies
-pub mod StillLemmas

@@ -29,7 +29,7 @@ use Rattle.stm_entries.specs.Replay.{replay, replay_entry}
 use Rattle.stm_entries.specs.Laws.{AddsTo}
 use Rattle.stm_entries.proofs.Adding.{replay_only_adds}
 use Rattle.stm_entries.proofs.Replaying.{replay_goes_on}
-use Rattle.stm_hall.specs.HallState.{HallState, made_over, gone_on}
+use Rattle.stm_journal.specs.JournalState.{JournalState, made_over, gone_on}
 use Rattle.stm_hall.specs.Locked.{cut_at, is_expiry_of, has_expired, Opening, opening_of, StandsIn, IsEntryThere, AreEntriesThere, IsLocked}
 use Rattle.stm_hall.specs.Laws.{GoesOn, HallsOpenAsTheirStore}
 
@@ -107,7 +107,7 @@ live_before (e ∷ es) r id there =
 -- ---- the locked history
 
 -- entries that lead from a store to a hall's lead from a store in the hall's opening state
-pub opens_by : (hall : HallState) (from : Replayed) → now from.history ≡ hall.start → replay hall.entries from ≡ without_moment hall.standing →
+pub opens_by : (hall : JournalState) (from : Replayed) → now from.history ≡ hall.start → replay hall.entries from ≡ without_moment hall.standing →
     AreEntriesThere hall.entries from → StandsIn (opening_of hall) from
 opens_by hall from counter replays there = record {
   history =
@@ -116,7 +116,7 @@ opens_by hall from counter replays there = record {
   live = λ id. live_before hall.entries from id there ∙ ap (λ (r : Replayed). is_live_in r.live id || has_expired id hall.entries) replays;
 }
 
-pub locked_by : (hall : HallState) (from : Replayed) → now from.history ≡ hall.start → replay hall.entries from ≡ without_moment hall.standing →
+pub locked_by : (hall : JournalState) (from : Replayed) → now from.history ≡ hall.start → replay hall.entries from ≡ without_moment hall.standing →
     AreEntriesThere hall.entries from → IsLocked hall
 locked_by hall from counter replays there =
     record { from = from; opens = opens_by hall from counter replays there; counter = counter; replays = replays; entries = there }
@@ -124,7 +124,7 @@ locked_by hall from counter replays there =
 opening_from : Replayed → Opening
 opening_from r = record { history = r.history; is_live = λ id. is_live_in r.live id }
 
-opening_is : (hall : HallState) (r : Replayed) → StandsIn (opening_of hall) r → opening_from r ≡ opening_of hall
+opening_is : (hall : JournalState) (r : Replayed) → StandsIn (opening_of hall) r → opening_from r ≡ opening_of hall
 unfolding opening_from
 opening_is hall r stands = λ i. record { history = stands.history i; is_live = λ id. stands.live id i }
 
@@ -143,22 +143,22 @@ pub record Follows (before after : Standing) (more : List Entry) : Type 0 where
 pub nothing_follows : (s : Standing) → Follows s s []
 nothing_follows s = record { replays = refl; there = tt }
 
-leads_on : (hall : HallState) (after : Standing) (more : List Entry) (locked : IsLocked hall) → Follows hall.standing after more →
+leads_on : (hall : JournalState) (after : Standing) (more : List Entry) (locked : IsLocked hall) → Follows hall.standing after more →
     replay (hall.entries ++ more) locked.from ≡ without_moment after
 leads_on hall after more locked f = replay_goes_on hall.entries more locked.from ∙ ap (replay more) locked.replays ∙ f.replays
 
-stand_there : (hall : HallState) (after : Standing) (more : List Entry) (locked : IsLocked hall) → Follows hall.standing after more →
+stand_there : (hall : JournalState) (after : Standing) (more : List Entry) (locked : IsLocked hall) → Follows hall.standing after more →
     AreEntriesThere (hall.entries ++ more) locked.from
 stand_there hall after more locked f =
     all_there hall.entries more locked.from locked.entries (subst (AreEntriesThere more) (sym locked.replays) f.there)
 
 -- a hall that goes on by such entries is locked, and began where it began
-pub stays_locked : (hall : HallState) (after : Standing) (more : List Entry) → IsLocked hall → Follows hall.standing after more →
+pub stays_locked : (hall : JournalState) (after : Standing) (more : List Entry) → IsLocked hall → Follows hall.standing after more →
     IsLocked (gone_on hall after more)
 stays_locked hall after more locked f =
     locked_by (gone_on hall after more) locked.from locked.counter (leads_on hall after more locked f) (stand_there hall after more locked f)
 
-pub goes_on : (hall : HallState) (after : Standing) (more : List Entry) → IsLocked hall → Follows hall.standing after more →
+pub goes_on : (hall : JournalState) (after : Standing) (more : List Entry) → IsLocked hall → Follows hall.standing after more →
     GoesOn hall (gone_on hall after more)
 goes_on hall after more locked f = record {
   more = more;
@@ -170,16 +170,16 @@ goes_on hall after more locked f = record {
       ∙ opening_is hall locked.from locked.opens;
 }
 
-pub goes_nowhere : (hall : HallState) → GoesOn hall hall
+pub goes_nowhere : (hall : JournalState) → GoesOn hall hall
 goes_nowhere hall = record { more = []; entries = sym (append-nil hall.entries); start = refl; opening = refl }
 
 -- ---- that a hall goes on, by equations
 
 -- the entries of before are the first ones
-pub gone_front : (before after : HallState) → GoesOn before after → take (length before.entries) after.entries ≡ before.entries
+pub gone_front : (before after : JournalState) → GoesOn before after → take (length before.entries) after.entries ≡ before.entries
 gone_front before after g = ap (λ (l : List Entry). take (length before.entries) l) g.entries ∙ take-append_seam before.entries g.more
 
-pub goes_on_by : (before after : HallState) → take (length before.entries) after.entries ≡ before.entries → after.start ≡ before.start →
+pub goes_on_by : (before after : JournalState) → take (length before.entries) after.entries ≡ before.entries → after.start ≡ before.start →
     (opening_of after).history ≡ (opening_of before).history → ((id : ℕ) → (opening_of after).is_live id ≡ (opening_of before).is_live id) →
     GoesOn before after
 goes_on_by before after front start history live = record {
@@ -192,7 +192,7 @@ goes_on_by before after front start history live = record {
 }
 
 -- a hall that goes on twice goes on
-pub goes_on_twice : (a b c : HallState) → GoesOn a b → GoesOn b c → GoesOn a c
+pub goes_on_twice : (a b c : JournalState) → GoesOn a b → GoesOn b c → GoesOn a c
 goes_on_twice a b c first second = record {
   more = first.more ++ second.more;
   entries = second.entries ∙ ap (λ (l : List Entry). l ++ second.more) first.entries ∙ append_assoc a.entries first.more second.more;

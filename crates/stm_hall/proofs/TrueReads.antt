@@ -14,7 +14,7 @@ use Rattle.stm_program.specs.Levels.{is_comparing}
 use Rattle.stm_compile.specs.Answers.{seen_of, said, AreTrue}
 use Rattle.stm_compile.specs.Committed.{conflict_now}
 use Rattle.stm_compile.proofs.AgreeLemmas.{true_reads_are_now}
-use Rattle.stm_hall.specs.Verdicts.{has_other_value}
+use Rattle.stm_journal.specs.Verdicts.{has_other_value}
 use Rattle.stm_hall.specs.Laws.{TrueReadsAreVouched}
 
 -- each answer says what its key is now

@@ -26,7 +26,7 @@ use Rattle.stm_compile.specs.Answers.{seen_of, said, look_up, state_now}
 use Rattle.stm_compile.specs.CommitTxn.{is_as_read}
 use Rattle.stm_compile.specs.Committed.{conflict_now}
 use Rattle.stm_compile.proofs.AgreeLemmas.{answers_agree}
-use Rattle.stm_hall.specs.Verdicts.{has_other_value, first_unvouched}
+use Rattle.stm_journal.specs.Verdicts.{has_other_value, first_unvouched}
 
 -- each answer says what its key is now
 abbrev AreNow : History → List ReadAnswer → Type 0

@@ -16,13 +16,13 @@ use Rattle.stm_outcome.specs.declared.refusal.Refusal.TheVariants.{EmptyKey}
 use Rattle.stm_txn.specs.Standing.{Standing}
 use Rattle.stm_attempt.specs.ReadyRun.{ReadyRun}
 use Rattle.stm_entries.specs.declared.entry.Entry.TheVariants.{Program}
-use Rattle.stm_hall.specs.declared.verdict.Verdict.TheVariants.{Committed, Failed}
-use Rattle.stm_hall.specs.declared.refusal.FetchRefusal.TheVariants.{Behind}
-use Rattle.stm_hall.specs.declared.refusal.CommitRefusal.TheVariants.{Unvouched, Store}
-use Rattle.stm_hall.specs.HallState.{HallState, made_over, hall_of}
+use Rattle.stm_journal.specs.declared.verdict.Verdict.TheVariants.{Committed, Failed}
+use Rattle.stm_journal.specs.declared.refusal.FetchRefusal.TheVariants.{Behind}
+use Rattle.stm_journal.specs.declared.refusal.CommitRefusal.TheVariants.{Unvouched, Store}
+use Rattle.stm_journal.specs.JournalState.{JournalState, made_over, journal_of}
 use Rattle.stm_hall.specs.Locked.{opening_of}
-use Rattle.stm_hall.specs.Fetching.{fetched}
-use Rattle.stm_hall.specs.Verdicts.{verdict_of}
+use Rattle.stm_journal.specs.Fetching.{fetched}
+use Rattle.stm_journal.specs.Verdicts.{verdict_of}
 
 abbrev store : Standing
 store = record {
@@ -34,7 +34,7 @@ store = record {
   watchers = [];
 }
 
-abbrev hall : HallState
+abbrev hall : JournalState
 hall = made_over store
 
 -- ---- fetches
@@ -76,14 +76,14 @@ older p = refl
 
 -- where nothing changes the counter stays, and the commit is an entry
 true_read : (p : ProgramTree) → verdict_of hall (attempt p Serializable (codes "a") (codes "1") 2)
-    ≡ Ok record { answer = Committed 0 2; next = hall_of store (Program p Serializable [] [] [] 2 ∷ []) 2 }
+    ≡ Ok record { answer = Committed 0 2; next = journal_of store (Program p Serializable [] [] [] 2 ∷ []) 2 }
 true_read p = refl
 
 -- at ReadCommitted nothing is compared, no value is looked at, and the answers are kept
 not_compared : (p : ProgramTree) → verdict_of hall (attempt p ReadCommitted (codes "a") (codes "9") 1)
     ≡ Ok record {
       answer = Committed 0 2;
-      next = hall_of store
+      next = journal_of store
           (Program p ReadCommitted (record { key = codes "a"; kv = Some (state_of_a (codes "9") 1); of_rev = 2; revision = 2 } ∷ []) [] [] 2 ∷ []) 2;
     }
 not_compared p = refl
@@ -94,8 +94,8 @@ unnamed p = refl
 
 -- ---- the opening state
 
-abbrev two_revisions : HallState
-two_revisions = hall_of (record store {
+abbrev two_revisions : JournalState
+two_revisions = journal_of (record store {
   history = record {
     opening = opening_at 1;
     revisions =

@@ -12,14 +12,15 @@ use Rattle.stm_attempt.specs.ReadyRun.{ReadyRun}
 use Rattle.stm_entries.specs.declared.entry.Entry.{Entry}
 use Rattle.stm_entries.specs.Replay.{replay_entry}
 use Rattle.stm_entries.specs.Replayed.{without_moment}
-use Rattle.stm_hall.specs.HallState.{HallState, made_over}
-use Rattle.stm_hall.specs.declared.verdict.Verdict.{Verdict}
-use Rattle.stm_hall.specs.declared.verdict.Verdict.TheVariants.{Committed, Failed}
+use Rattle.stm_journal.specs.JournalState.{JournalState, made_over}
+use Rattle.stm_journal.specs.declared.verdict.Verdict.{Verdict}
+use Rattle.stm_journal.specs.declared.verdict.Verdict.TheVariants.{Committed, Failed}
 use Rattle.stm_hall.specs.Locked.{IsCommitThere, IsLocked, opening_of}
-use Rattle.stm_hall.specs.Verdicts.{answers_kept, entry_of, first_unvouched}
+use Rattle.stm_entries.specs.Entered.{answers_kept}
+use Rattle.stm_journal.specs.Verdicts.{entry_of, first_unvouched}
 
--- a hall goes on: its entries are those before with more after them, and its opening state stays
-pub record GoesOn (before after : HallState) : Type 0 where
+-- a hall goes on: its entries are those before with more behind them, and its opening state stays
+pub record GoesOn (before after : JournalState) : Type 0 where
   pub more : List Entry
   pub entries : after.entries ≡ before.entries ++ more
   pub start : after.start ≡ before.start
@@ -27,13 +28,13 @@ pub record GoesOn (before after : HallState) : Type 0 where
 
 -- A commit that was made: its program, alone on the store as it was, is done with this output and trace, and its writes lead to the store as it is and to this
 -- revision. At ReadCommitted it is alone on the answers that its caller gave.
-pub record IsMadeAlone (ready : ReadyRun) (revision : ℕ) (before after : HallState) : Type 0 where
+pub record IsMadeAlone (ready : ReadyRun) (revision : ℕ) (before after : JournalState) : Type 0 where
   pub there : IsCommitThere ready.program ready.level (answers_kept ready.level ready.answers) ready.output ready.trace revision
       (without_moment before.standing)
   pub leads : replay_entry (entry_of ready revision) (without_moment before.standing) ≡ without_moment after.standing
 
 -- a commit that was made changes the store as its program alone does, and one that failed changes nothing
-abbrev pub ChangesAsAlone : ReadyRun → Verdict → HallState → HallState → Type 0
+abbrev pub ChangesAsAlone : ReadyRun → Verdict → JournalState → JournalState → Type 0
 ChangesAsAlone ready (Committed index revision) before after = IsMadeAlone ready revision before after
 ChangesAsAlone ready (Failed key seen modified answers) before after = after ≡ before
 

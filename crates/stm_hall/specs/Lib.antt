@@ -1,12 +1,4 @@
-pub mod Codes
-pub mod HallState
 pub mod Locked
-pub mod Fetching
-pub mod Verdicts
-pub mod Entering
 pub mod Laws
-pub mod Names
-pub mod Prepared
-pub mod Judging
 pub mod Showing
-pub use Rattle.stm_calls.specs.StateOf
+pub use Rattle.stm_journal.specs.StateOf

@@ -22,7 +22,7 @@ use Rattle.stm_entries.specs.Replayed.{Replayed, without_moment}
 use Rattle.stm_entries.specs.Alone.{seen_at, applied_run}
 use Rattle.stm_entries.specs.Replay.{replay, replay_entry}
 use Rattle.stm_entries.specs.Legal.{IsForeign, IsEnd}
-use Rattle.stm_hall.specs.HallState.{HallState}
+use Rattle.stm_journal.specs.JournalState.{JournalState}
 
 -- ---- where a hall began
 
@@ -51,7 +51,7 @@ pub record Opening : Type 0 where
 
 -- The opening state of a hall: its history up to the revision that it began with, and the leases that are live now or expired
 -- since. A hall grants, renews and revokes nothing.
-abbrev pub opening_of : HallState → Opening
+abbrev pub opening_of : JournalState → Opening
 opening_of hall = record {
   history = cut_at hall.start hall.standing.history;
   is_live = λ id. is_live_in hall.standing.live id || has_expired id hall.entries;
@@ -96,7 +96,7 @@ AreEntriesThere (e ∷ es) r = IsEntryThere e r × AreEntriesThere es (replay_en
 
 -- The entries replay from a store in the hall's opening state, whose counter is the one that the hall began with, to the history and
 -- the live leases of now, and each is one that may stand at its point.
-pub record IsLocked (hall : HallState) : Type 0 where
+pub record IsLocked (hall : JournalState) : Type 0 where
   pub from : Replayed
   pub opens : StandsIn (opening_of hall) from
   pub counter : now from.history ≡ hall.start

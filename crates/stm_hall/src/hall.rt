@@ -2,30 +2,25 @@
 ghost use Rattle.std.specs.Prelude.{◌≡◌, ◌≤◌, ◌↔◌, None, IfOk, IfErr, IsTrue};
 ghost use Rattle.stm_history.specs.History.{now};
 ghost use Rattle.stm_outcome.specs.Numbers.{AnswerFits, ReadFits};
-ghost use Rattle.stm_calls.specs.Fetched.{fetch_of};
-ghost use Rattle.stm_calls.specs.StateOf.{IsStateOf};
+ghost use Rattle.stm_journal.specs.Fetched.{fetch_of};
+ghost use Rattle.stm_journal.specs.StateOf.{IsStateOf};
 ghost use Rattle.stm_compile.specs.Conflicts.{changes_above};
-ghost use Rattle.stm_hall.specs.HallState.{made_over};
+ghost use Rattle.stm_journal.specs.JournalState.{made_over, JournalReturns};
 ghost use Rattle.stm_hall.specs.Locked.{IsLocked};
 ghost use Rattle.stm_hall.specs.Laws.{GoesOn, ChangesAsAlone};
-ghost use Rattle.stm_hall.specs.Fetching.{OnlyReads, fetched, reported_alone, FetchReturns};
-ghost use Rattle.stm_hall.specs.Verdicts.{verdict_of, CommitReturns, CanGoOn};
+ghost use Rattle.stm_journal.specs.Fetching.{OnlyReads, fetched, reported_alone, FetchReturns};
+ghost use Rattle.stm_journal.specs.Verdicts.{verdict_of, CommitReturns, CanGoOn};
 ghost use Rattle.stm_hall.specs.Showing.{IsShown};
-ghost use Rattle.stm_hall.specs.Entering.{made, TxnReturns, IsAdvanced, HasStopped};
+ghost use Rattle.stm_journal.specs.Entering.{made, IsAdvanced, HasStopped};
 
-use crate::calls::fetch_one;
 use crate::changed::is_changed_above;
-use crate::log::Log;
-use crate::prepared::Prepared;
-use crate::refusal::{CommitRefusal, FetchRefusal};
 use crate::showing::is_shown;
-use crate::verdict::Verdict;
 use std::alloc::{AllocError, Global};
 use std::marker::Model;
 use stm_attempt::Ready;
-use stm_calls::state_of;
 use stm_entries::Entry;
 use stm_history::ReadAnswer;
+use stm_journal::{CommitRefusal, FetchRefusal, Journal, Prepared, Verdict, state_of};
 use stm_meaning::State;
 use stm_txn::{AdvanceRefused, Expired, Refusal, Store, Txn, TxnAnswer};
 
@@ -37,29 +32,32 @@ use stm_txn::{AdvanceRefused, Expired, Refusal, Store, Txn, TxnAnswer};
 /// answers that it read.
 pub struct Hall {
     alloc: Global,
-    log: Log,
+    journal: Journal,
 }
 
 impl Drop for Hall {
     fn drop(self) {
-        let Hall { alloc: _, log: _ } = self;
+        let Hall {
+            alloc: _,
+            journal: _,
+        } = self;
     }
 }
 
 impl Model for Hall {
     ghost use Rattle.std.specs.Coded.{codes};
     ghost use Rattle.stm_program.specs.Coding.{coded_program};
-    ghost use Rattle.stm_hall.specs.Codes.{coded_live};
-    ghost use Rattle.stm_hall.specs.HallState.{HallState};
+    ghost use Rattle.stm_entries.specs.Codes.{coded_live};
+    ghost use Rattle.stm_journal.specs.JournalState.{JournalState};
     ghost use Rattle.stm_hall.specs.Locked.{IsLocked};
 
-    ghost Value = { HallState };
+    ghost Value = { JournalState };
 
     ghost coded = { Prim.hlevel (codes, coded_program, coded_live) };
 
-    ghost view = { λ h. h.log };
+    ghost view = { λ h. h.journal };
 
-    ghost invariant = { λ h. IsLocked h.log };
+    ghost invariant = { λ h. IsLocked h.journal };
 }
 
 impl Hall {
@@ -67,13 +65,10 @@ impl Hall {
     pub fn new(alloc: Global, store: Store) -> Hall
         ensures { result ≡ made_over store.standing }
     {
-        let start = store.keys().revision();
-        let log = Log {
-            store,
-            entries: Vec::new(alloc),
-            start,
-        };
-        Hall { alloc, log }
+        Hall {
+            alloc,
+            journal: Journal::new(alloc, store),
+        }
     }
 
     /// Answers a transaction of reads, for a caller that has seen this revision in an answer, 0 for none.
@@ -88,7 +83,7 @@ impl Hall {
         ensures numbers { IfOk result AnswerFits }
         ensures same { self.new ≡ self.old }
     {
-        self.log.fetch(seen, txn)
+        self.journal.fetch(seen, txn)
     }
 
     /// Fetches one key at a revision, 0 for the current one, for a caller that has seen this revision in an answer, 0 for none.
@@ -102,7 +97,7 @@ impl Hall {
         ensures seen { IfOk result (λ answer. seen ≤ answer.revision) }
         ensures numbers { IfOk result ReadFits }
     {
-        fetch_one(self.alloc, &self.log.store, seen, key, at)
+        self.journal.fetch_one(self.alloc, seen, key, at)
     }
 
     /// Commits an attempt that is ready, by one transaction.
@@ -123,7 +118,7 @@ impl Hall {
         ensures alone { IfOk result (λ verdict. ChangesAsAlone ready.now verdict self.old self.new) }
         ensures goes_on { GoesOn self.old self.new }
     {
-        self.log.commit(self.alloc, ready)
+        self.journal.commit(self.alloc, ready)
     }
 
     /// Commits an attempt as `commit` does, that was prepared for it, so that less is done while the hall is locked: its changes are moved into the store,
@@ -134,7 +129,7 @@ impl Hall {
         ensures alone { IfOk result (λ verdict. ChangesAsAlone prepared verdict self.old self.new) }
         ensures goes_on { GoesOn self.old self.new }
     {
-        self.log.commit_prepared(self.alloc, prepared)
+        self.journal.commit_prepared(self.alloc, prepared)
     }
 
     /// Makes a transaction of another client, which is an entry where it changed something.
@@ -142,10 +137,10 @@ impl Hall {
     /// It is refused as the store's `txn` refuses it, and then the hall is as it was. `OutOfMemory` is returned only of a
     /// transaction that the store takes.
     pub fn foreign(&mut self, txn: &Txn) -> Result<TxnAnswer, Refusal>
-        ensures made { TxnReturns (made self.old txn.now) self.old result self.new }
+        ensures made { JournalReturns (made self.old txn.now) self.old result self.new }
         ensures goes_on { GoesOn self.old self.new }
     {
-        self.log.make_txn(txn)
+        self.journal.make_txn(txn)
     }
 
     /// Sets the moment, and ends the leases that are due, each with its keys, as the store's `advance` does. Each is an
@@ -158,14 +153,14 @@ impl Hall {
         ensures refused { IfErr result (λ stopped. HasStopped self.old moment stopped.expired stopped.cause self.new) }
         ensures goes_on { GoesOn self.old self.new }
     {
-        self.log.advance(self.alloc, moment)
+        self.journal.advance(self.alloc, moment)
     }
 
     /// The store's counter. It takes no memory.
     pub fn revision(&self) -> u64
         ensures { result ≡ now self.now.standing.history }
     {
-        self.log.store.keys().revision()
+        self.journal.store().keys().revision()
     }
 
     /// Whether the history changes a key above a revision, by a put or a deletion. It takes no memory, and a step for each
@@ -176,7 +171,7 @@ impl Hall {
     pub fn is_changed_above(&self, key: &str, since: u64) -> bool
         ensures { result ≡ changes_above self.now.standing.history.opening since key.now self.now.standing.history.revisions }
     {
-        is_changed_above(self.log.store.keys(), key, since)
+        is_changed_above(self.journal.store().keys(), key, since)
     }
 
     /// Whether an answer is true of the history: it shows its key as it was at a revision that the counter has reached, and that is not 0, which names
@@ -184,7 +179,7 @@ impl Hall {
     pub fn shows(&self, answer: &ReadAnswer) -> bool
         ensures { IsTrue result ↔ IsShown self.now.standing.history answer.now }
     {
-        is_shown(self.log.store.keys(), answer)
+        is_shown(self.journal.store().keys(), answer)
     }
 
     /// What changed the store since the hall was made, in order. It takes no memory.
@@ -192,13 +187,13 @@ impl Hall {
         ensures entries { result.now ≡ self.now.entries }
         ensures locked { IsLocked self.now }
     {
-        self.log.entries.as_slice()
+        self.journal.entries()
     }
 
     /// The state of the store's keys, as programs run on it. It fails only where an allocation failed.
     pub fn state(&self) -> Result<State, AllocError>
         ensures { IfOk result (λ state. IsStateOf self.now.standing.history state) }
     {
-        state_of(self.alloc, self.log.store.keys())
+        state_of(self.alloc, self.journal.store().keys())
     }
 }

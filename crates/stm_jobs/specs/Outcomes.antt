@@ -17,7 +17,7 @@ use Rattle.stm_meaning.specs.Faults.{fault_name}
 use Rattle.stm_meaning.specs.States.{IsAscending}
 use Rattle.stm_entries.specs.declared.entry.Entry.{Entry}
 use Rattle.stm_entries.specs.declared.entry.Entry.TheVariants.{Program, Foreign, Grant, Renew, Revoke, Expire}
-use Rattle.stm_hall.specs.HallState.{HallState}
+use Rattle.stm_journal.specs.JournalState.{JournalState}
 use Rattle.stm_hall.specs.StateOf.{IsStateOf}
 use Rattle.stm_reports.specs.LineData.{list, value_data}
 use Rattle.stm_reports.specs.Text.{line_text}
@@ -61,7 +61,7 @@ front_text state entries ends =
     ((codes "[\"outcome\"," ++ compact_text (list (pairs state))) ++ codes ",") ++ compact_text (list (map (end_data entries) ends))
 
 -- the text is that of these ends, and of the state that the hall has come to
-abbrev pub IsFrontOf : List JobEnd → HallState → List ℕ → Type 0
+abbrev pub IsFrontOf : List JobEnd → JournalState → List ℕ → Type 0
 IsFrontOf ends after text =
     (state : List StateEntry) × IsStateOf after.standing.history state × IsAscending state × (text ≡ front_text state after.entries ends)
 

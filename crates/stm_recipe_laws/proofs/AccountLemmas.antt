@@ -20,7 +20,7 @@ use Rattle.stm_steps.specs.declared.run.End.TheVariants.{Done as DoneEnd, Aborte
 use Rattle.stm_steps.specs.declared.state.StateEntry.{StateEntry}
 use Rattle.stm_meaning.specs.Leaves.{value_in, value_after}
 use Rattle.stm_compile.specs.Answers.{state_now}
-use Rattle.stm_calls.specs.StateOf.{IsStateOf, entry_now}
+use Rattle.stm_journal.specs.StateOf.{IsStateOf, entry_now}
 use Rattle.stm_entries.specs.declared.entry.Entry.{Entry}
 use Rattle.stm_entries.specs.Legal.{IsLegal, AreLegal}
 use Rattle.stm_entries.specs.Replay.{replay, replay_entry}

@@ -10,7 +10,7 @@ use Rattle.stm_steps.specs.Values.{written_number}
 use Rattle.stm_steps.specs.declared.state.StateEntry.{StateEntry}
 use Rattle.stm_meaning.specs.States.{find_entry}
 use Rattle.stm_entries.specs.Replayed.{Replayed}
-use Rattle.stm_calls.specs.StateOf.{IsStateOf, entry_now}
+use Rattle.stm_journal.specs.StateOf.{IsStateOf, entry_now}
 use Rattle.stm_recipes.specs.Names.{head_key, tail_key}
 use Rattle.stm_recipes.specs.Queues.{number_or_none, mark_of, item_at, item_before, items_from, items_between, queue_items_of}
 use Rattle.stm_recipes.specs.Slots.{holder_in}

@@ -10,7 +10,7 @@ use Rattle.stm_entries.specs.declared.entry.Entry.{Entry}
 use Rattle.stm_entries.specs.Replayed.{Replayed}
 use Rattle.stm_entries.specs.Replay.{replay, replay_entry}
 use Rattle.stm_entries.specs.Legal.{AreLegal}
-use Rattle.stm_calls.specs.StateOf.{IsStateOf}
+use Rattle.stm_journal.specs.StateOf.{IsStateOf}
 use Rattle.stm_steps.specs.declared.state.StateEntry.{StateEntry}
 use Rattle.stm_recipes.specs.Alone.{or_zero}
 use Rattle.stm_recipes.specs.Accounts.{transfer_program, deposit_program, written_or_none, sum_of, total_of}

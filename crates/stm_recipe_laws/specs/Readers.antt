@@ -3,7 +3,7 @@ use Rattle.std.specs.Prelude.{◌≡◌, ◌↔◌, ℕ, ◌^◌, ◌<◌, is_so
 use Rattle.stm_history.specs.History.{History}
 use Rattle.stm_steps.specs.declared.state.StateEntry.{StateEntry}
 use Rattle.stm_entries.specs.Replayed.{Replayed}
-use Rattle.stm_calls.specs.StateOf.{IsStateOf}
+use Rattle.stm_journal.specs.StateOf.{IsStateOf}
 use Rattle.stm_recipes.specs.Names.{head_key, tail_key}
 use Rattle.stm_recipes.specs.Queues.{queue_items_of}
 use Rattle.stm_recipes.specs.Slots.{holder_in}

@@ -14,7 +14,7 @@ use crate::leases::live_leases;
 use serde_json::Value as Json;
 use std::alloc::{AllocError, Global};
 use std::collections::BTreeMap;
-use stm_calls::present_keys;
+use stm_journal::present_keys;
 use stm_entries::LiveLease;
 use stm_retry::{Denied, Reply, Store, World};
 

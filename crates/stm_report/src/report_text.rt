@@ -10,7 +10,7 @@ ghost use Rattle.stm_report.specs.Report.{event_lines, IsReport};
 use crate::leases::live_leases;
 use std::alloc::{AllocError, Global};
 use std::collections::BTreeMap;
-use stm_calls::present_keys;
+use stm_journal::present_keys;
 use stm_entries::LiveLease;
 use stm_lines::{end_json, event_json, key_json, lease_json};
 use stm_reports::push_line;

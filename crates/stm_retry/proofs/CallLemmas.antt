@@ -1,5 +1,5 @@
--- What the events that are calls of the store tell and leave.
-use Rattle.std.proofs.Common.{◌≡◌, ◌≢◌, ◌<◌, ◌≤◌, ◌∙◌, inl, inr, ℕ, List, [], ◌∷◌, ◌++◌, Option, Some, Result, Ok, Err, Bool, true, false, cond}
+-- What the events that are calls of the journal return and leave.
+use Rattle.std.proofs.Common.{◌≡◌, ◌≢◌, ◌<◌, ◌∙◌, ◌⊎◌, inl, inr, ℕ, List, [], ◌∷◌, ◌++◌, Option, Some, Result, Ok, Err, Bool, true, false, cond}
 use Rattle.std.proofs.Common.{refl, sym, ap, subst, arith}
 use Rattle.std.specs.Prelude.{IsOk, nat_lt}
 use Rattle.std.proofs.lemmas.Bool.{ltb-true}
@@ -11,25 +11,28 @@ use Rattle.stm_outcome.specs.declared.advance.Expired.{Expired}
 use Rattle.stm_outcome.specs.declared.refusal.Refusal.{Refusal as StoreRefusal}
 use Rattle.stm_outcome.specs.declared.refusal.Refusal.TheVariants.{OutOfMemory, EmptyKey, FutureRevision, Compacted, RevisionsUsedUp, LeaseExists, TtlOutOfRange}
 use Rattle.stm_outcome.specs.declared.refusal.Refusal.TheVariants.{LeaseIdOutOfRange, LeaseNotFound, NoWatcher, TooManyOps, DuplicateKey, TimeGoesBack}
-use Rattle.stm_txn.specs.Standing.{Standing, Step as StoreStep, Advance as StoreAdvance, IsRefusalOf, refusal_of, transacted, advanced}
-use Rattle.stm_txn.specs.Standing.{at_moment, HasCome, IsStopped, IsCutShort as StoreCutShort}
+use Rattle.stm_txn.specs.Standing.{Standing, Step as StoreStep, Advance as StoreAdvance, advanced}
 use Rattle.stm_entries.specs.declared.entry.Entry.{Entry}
 use Rattle.stm_entries.specs.declared.entry.Entry.TheVariants.{Foreign}
+use Rattle.stm_entries.specs.Entered.{if_taken, if_changed, expiries}
+use Rattle.stm_journal.specs.JournalState.{JournalState, JournalStep, with_store, gone_on}
+use Rattle.stm_journal.specs.Entering.{entered, one_entry, IsAdvanced, IsCutShort as JournalCutShort, HasStopped}
 use Rattle.stm_world.specs.declared.event.WorldEvent.{WorldEvent}
-use Rattle.stm_world.specs.declared.event.WorldEvent.TheVariants.{Txn, Advance}
+use Rattle.stm_world.specs.declared.event.WorldEvent.TheVariants.{Advance}
 use Rattle.stm_world.specs.declared.reply.Reply.{Reply}
 use Rattle.stm_world.specs.declared.reply.Reply.TheVariants.{Txn as TxnDone}
 use Rattle.stm_world.specs.declared.refusal.Refusal.TheVariants.{Store}
 use Rattle.stm_world.specs.declared.refusal.Denied.{Denied}
 use Rattle.stm_world.specs.Reported.{denied, reply_to, store_after_call, advance_reply}
-use Rattle.stm_world.specs.World.{World, Slot, step, if_changed, expiries}
-use Rattle.stm_retry.specs.Returns.{IsStep, OutOfMemoryReturns, StoreRefusalReturns, Returns}
-use Rattle.stm_retry.specs.CallReturns.{world_of, CallReturns, or_out_of_memory}
-use Rattle.stm_world.proofs.Wants.{NeverWants, NoOutOfMemory, transacted_never, advanced_never}
+use Rattle.stm_world.specs.World.{World, Slot, Stepped, called, step}
+use Rattle.stm_world.proofs.Wants.{NeverWants, NoOutOfMemory, advanced_never}
+use Rattle.stm_retry.specs.Returns.{IsStep, IsUnchanged, IsCutShort, OutOfMemoryReturns, StoreRefusalReturns, Returns}
+use Rattle.stm_retry.specs.WorldOf.{world_of}
+use Rattle.stm_retry.specs.CallReturns.{CallReturns}
 
 -- ---- refusals ----
 
--- what is told of a refusal, whether it is want of memory or not
+-- what is told of a refusal, whether it is that memory ran out or not
 pub refusal_reports : (event : WorldEvent) (d : Denied) (cause : StoreRefusal) (old new : World) →
     (cause ≡ OutOfMemory → OutOfMemoryReturns event d.expired old new) → (cause ≢ OutOfMemory → IsStep (step event old) (Err d) new) →
     StoreRefusalReturns cause event d old new
@@ -47,23 +50,74 @@ refusal_reports event d TooManyOps old new want other = other (λ e. absurd (cc)
 refusal_reports event d DuplicateKey old new want other = other (λ e. absurd (cc))
 refusal_reports event d TimeGoesBack old new want other = other (λ e. absurd (cc))
 
--- the world is as it was, and so it is told
-as_it_was : (event : WorldEvent) (reply reply' : Result Reply Denied) (s next : Standing) (es es' : List Entry) → reply ≡ reply' → next ≡ s → es' ≡ es →
-    ((runners : List Slot) → Returns event reply' (world_of runners s es) (world_of runners s es)) → CallReturns event reply s es next es'
-as_it_was event reply reply' s next es es' replied same kept reports runners =
-    subst (λ (r : Result Reply Denied). Returns event r (world_of runners s es) (world_of runners next es')) (sym replied)
-    (subst (λ (n : Standing). Returns event reply' (world_of runners s es) (world_of runners n es')) (sym same)
-    (subst (λ (l : List Entry). Returns event reply' (world_of runners s es) (world_of runners s l)) (sym kept) (reports runners)))
+-- ---- a call that is entered ----
 
--- the refusal of a call for which room could not be made
-by_result : {A : Type 0} (r : Result A StoreRefusal) → IsRefusalOf r (or_out_of_memory (refusal_of r))
-by_result (Ok done) = refl
-by_result (Err cause) = refl
+-- what the world's step makes of a call of the journal, by what the call comes to
+abbrev pub stepped_as : {A : Type 0} → (A → Reply) → JournalState → List Slot → Result (JournalStep A) StoreRefusal → Stepped
+stepped_as report j runners (Ok done) = record { reply = Ok (report done.answer); next = world_of done.next runners }
+stepped_as report j runners (Err cause) = record { reply = denied (Store cause); next = world_of j runners }
 
-pub wanted : {A : Type 0} (o : Result A StoreRefusal) (found : Option StoreRefusal) → found ≡ refusal_of o → IsRefusalOf o (or_out_of_memory found)
-wanted o found is = subst (λ (f : Option StoreRefusal). IsRefusalOf o (or_out_of_memory f)) (sym is) (by_result o)
+-- the world's step at an event is this call of the journal
+abbrev pub IsCall : {A : Type 0} → WorldEvent → (A → Reply) → JournalState → Result (JournalStep A) StoreRefusal → Type 0
+IsCall event report j o = (runners : List Slot) → step event (world_of j runners) ≡ stepped_as report j runners o
 
--- ---- a transaction ----
+-- that memory ran out may be told of the event where the step takes it
+abbrev pub MayRunOut : WorldEvent → JournalState → Type 0
+MayRunOut event j = (runners : List Slot) → IsOk (step event (world_of j runners)).reply →
+    OutOfMemoryReturns event [] (world_of j runners) (world_of j runners)
+
+-- one that was taken
+pub call_taken : {A : Type 0} (event : WorldEvent) (report : A → Reply) (before after : JournalState) (o : Result (JournalStep A) StoreRefusal) (answer : A)
+    (reply : Result Reply Denied) → IsCall event report before o → o ≡ Ok record { answer = answer; next = after } → reply ≡ Ok (report answer) →
+    CallReturns event reply before after
+call_taken event report before after o answer reply call taken replied runners =
+    let one : step event (world_of before runners) ≡ record { reply = Ok (report answer); next = world_of after runners } =
+    call runners ∙ ap (stepped_as report before runners) taken in
+    subst (λ (r : Result Reply Denied). Returns event r (world_of before runners) (world_of after runners)) (sym replied)
+    (record { reply_is = ap (λ (x : Stepped). x.reply) one; next_is = ap (λ (x : Stepped). x.next) one })
+
+taken_is_ok : {A : Type 0} (report : A → Reply) (j : JournalState) (runners : List Slot) (o : Result (JournalStep A) StoreRefusal) → IsOk o →
+    IsOk (stepped_as report j runners o).reply
+taken_is_ok report j runners (Ok done) ok = refl
+taken_is_ok report j runners (Err cause) ok = absurd (cc ok)
+
+never_is : {A : Type 0} (o : Result A StoreRefusal) (cause : StoreRefusal) → NeverWants o → o ≡ Err cause → cause ≢ OutOfMemory
+never_is o cause never is = subst NeverWants is never
+
+refused_by : {A : Type 0} (event : WorldEvent) (report : A → Reply) (j : JournalState) (o : Result (JournalStep A) StoreRefusal) (cause : StoreRefusal) →
+    IsCall event report j o → MayRunOut event j → NeverWants o → (o ≡ Err cause) ⊎ ((cause ≡ OutOfMemory) × IsOk o) → CallReturns event (denied (Store cause)) j j
+refused_by event report j o cause call may never (inl refused) runners =
+    let one : step event (world_of j runners) ≡ record { reply = denied (Store cause); next = world_of j runners } =
+    call runners ∙ ap (stepped_as report j runners) refused in
+    refusal_reports event (record { cause = Store cause; expired = [] }) cause (world_of j runners) (world_of j runners)
+    (λ want. absurd (never_is o cause never refused want))
+    (λ not. record { reply_is = ap (λ (x : Stepped). x.reply) one; next_is = ap (λ (x : Stepped). x.next) one })
+refused_by event report j o cause call may never (inr (want, ok)) runners =
+    refusal_reports event (record { cause = Store cause; expired = [] }) cause (world_of j runners) (world_of j runners)
+    (λ e. may runners (subst (λ (x : Stepped). IsOk x.reply) (sym (call runners)) (taken_is_ok report j runners o ok)))
+    (λ not. absurd (not want))
+
+-- one that was refused, by the store or since memory ran out
+pub call_refused : {A : Type 0} (event : WorldEvent) (report : A → Reply) (before after : JournalState) (o : Result (JournalStep A) StoreRefusal)
+    (cause : StoreRefusal) (reply : Result Reply Denied) → IsCall event report before o → MayRunOut event before → NeverWants o →
+    ((o ≡ Err cause) ⊎ ((cause ≡ OutOfMemory) × IsOk o)) × (after ≡ before) → reply ≡ denied (Store cause) → CallReturns event reply before after
+call_refused event report before after o cause reply call may never (refused, same) replied runners =
+    subst (λ (r : Result Reply Denied). Returns event r (world_of before runners) (world_of after runners)) (sym replied)
+    (subst (λ (j : JournalState). Returns event (denied (Store cause)) (world_of before runners) (world_of j runners)) (sym same)
+    (refused_by event report before o cause call may never refused runners))
+
+-- ---- which calls these are ----
+
+pub entry_is_call : {A : Type 0} (report : A → Reply) (j : JournalState) (runners : List Slot) (entry : Entry) (o : Result (StoreStep A) StoreRefusal) →
+    called (reply_to report o) (store_after_call j.standing o) (if_taken o entry) (world_of j runners) ≡ stepped_as report j runners (one_entry j entry o)
+entry_is_call report j runners entry (Ok done) = refl
+entry_is_call report j runners entry (Err cause) =
+    ap (λ (l : List Entry). record { reply = denied (Store cause); next = record { standing = j.standing; runners = runners; entries = l } })
+    (append-nil j.entries)
+
+pub entry_never : {A : Type 0} (j : JournalState) (entry : Entry) (o : Result (StoreStep A) StoreRefusal) → NeverWants o → NeverWants (one_entry j entry o)
+entry_never j entry (Ok done) never = tt
+entry_never j entry (Err cause) never = never
 
 no_lower : (n : ℕ) (b : Bool) → nat_lt n n ≡ b → b ≡ false
 no_lower n true is = let lower : n < n = ltb-true n n is in absurd (omega arith)
@@ -73,69 +127,64 @@ none_changed : (s : Standing) (txn : StoreTxn) → if_changed s s txn ≡ []
 none_changed s txn =
     ap (λ b. cond b (Foreign txn ∷ []) []) (no_lower (now s.history) (nat_lt (now s.history) (now s.history)) refl)
 
-refused_txn : (s : Standing) (es : List Entry) (txn : StoreTxn) (runners : List Slot) (cause : StoreRefusal) → transacted s txn ≡ Err cause →
-    IsStep (step (Txn txn) (world_of runners s es)) (denied (Store cause)) (world_of runners s es)
-refused_txn s es txn runners cause is = record {
-  reply_is = ap (reply_to TxnDone) is;
-  next_is = ap (λ (o : Result (StoreStep TxnAnswer) StoreRefusal).
-      world_of runners (store_after_call s o) (es ++ if_changed s (store_after_call s o) txn)) is
-      ∙ ap (λ (l : List Entry). world_of runners s (es ++ l)) (none_changed s txn)
-      ∙ ap (λ (l : List Entry). world_of runners s l) (append-nil es);
-}
+pub txn_is_call : (j : JournalState) (txn : StoreTxn) (runners : List Slot) (o : Result (StoreStep TxnAnswer) StoreRefusal) →
+    called (reply_to TxnDone o) (store_after_call j.standing o) (if_changed j.standing (store_after_call j.standing o) txn) (world_of j runners)
+    ≡ stepped_as TxnDone j runners (entered j txn o)
+txn_is_call j txn runners (Ok done) = refl
+txn_is_call j txn runners (Err cause) =
+    ap (λ (l : List Entry). record { reply = denied (Store cause); next = record { standing = j.standing; runners = runners; entries = l } })
+    (ap (λ (l : List Entry). j.entries ++ l) (none_changed j.standing txn) ∙ append-nil j.entries)
 
-refused_by : (s : Standing) (es : List Entry) (txn : StoreTxn) (runners : List Slot) (o : Result (StoreStep TxnAnswer) StoreRefusal) (cause : StoreRefusal) →
-    transacted s txn ≡ o → NeverWants o → IsRefusalOf o cause → Returns (Txn txn) (denied (Store cause)) (world_of runners s es) (world_of runners s es)
-refused_by s es txn runners (Ok done) cause is never refusal =
-    refusal_reports (Txn txn) (record { cause = Store cause; expired = [] }) cause (world_of runners s es) (world_of runners s es)
-    (λ e. ((refl, refl), subst (λ (o : Result (StoreStep TxnAnswer) StoreRefusal). IsOk (reply_to TxnDone o)) (sym is) refl))
-    (λ not. absurd (not refusal))
-refused_by s es txn runners (Err c) cause is never refusal =
-    refusal_reports (Txn txn) (record { cause = Store cause; expired = [] }) cause (world_of runners s es) (world_of runners s es)
-    (λ e. absurd (never (sym refusal ∙ e)))
-    (λ not. subst (λ (x : StoreRefusal). IsStep (step (Txn txn) (world_of runners s es)) (denied (Store x)) (world_of runners s es)) (sym refusal)
-    (refused_txn s es txn runners c is))
-
--- a transaction that was refused, by the store or for want of room
-pub txn_refused : (txn : StoreTxn) (s next : Standing) (es es' : List Entry) (reply : Result Reply Denied) (cause : StoreRefusal) →
-    IsRefusalOf (transacted s txn) cause → reply ≡ denied (Store cause) → next ≡ s → es' ≡ es → CallReturns (Txn txn) reply s es next es'
-txn_refused txn s next es es' reply cause refusal replied same kept =
-    as_it_was (Txn txn) reply (denied (Store cause)) s next es es' replied same kept
-    (λ runners. refused_by s es txn runners (transacted s txn) cause refl (transacted_never s txn) refusal)
+pub txn_never : (j : JournalState) (txn : StoreTxn) (o : Result (StoreStep TxnAnswer) StoreRefusal) → NeverWants o → NeverWants (entered j txn o)
+txn_never j txn (Ok done) never = tt
+txn_never j txn (Err cause) never = never
 
 -- ---- an advance ----
 
 -- what an advance comes to
-advance_is : (runners : List Slot) (s next : Standing) (es es' : List Entry) (moment : ℕ) (expired : List Expired) (cause : Option StoreRefusal) →
-    advanced s moment ≡ record { expired = expired; leaves = next; cause = cause } → es' ≡ es ++ expiries expired →
-    IsStep (step (Advance moment) (world_of runners s es)) (advance_reply moment expired cause) (world_of runners next es')
-advance_is runners s next es es' moment expired cause is entered = record {
-  reply_is = ap (λ (a : StoreAdvance). advance_reply moment a.expired a.cause) is;
-  next_is = ap (λ (a : StoreAdvance). world_of runners a.leaves (es ++ expiries a.expired)) is ∙ ap (λ (l : List Entry). world_of runners next l) (sym entered);
+pub advance_is : (before after : JournalState) (moment : ℕ) (expired : List Expired) (cause : Option StoreRefusal) (runners : List Slot) →
+    IsAdvanced before moment expired cause after →
+    IsStep (step (Advance moment) (world_of before runners)) (advance_reply moment expired cause) (world_of after runners)
+advance_is before after moment expired cause runners x = record {
+  reply_is = ap (λ (a : StoreAdvance). advance_reply moment a.expired a.cause) x.advance;
+  next_is = ap (λ (a : StoreAdvance). world_of (gone_on before a.leaves (expiries a.expired)) runners) x.advance
+      ∙ ap (λ (j : JournalState). world_of j runners) (sym x.journal);
 }
 
-stopped_by : (s next : Standing) (moment : ℕ) (expired : List Expired) (cause : StoreRefusal) → StoreCutShort (advanced s moment) expired cause next →
-    cause ≡ OutOfMemory → IsStopped (advanced s moment) expired next
-stopped_by s next moment expired cause (inl is) want =
-    let never : cause ≢ OutOfMemory = subst (λ (a : StoreAdvance). NoOutOfMemory a.cause) is (advanced_never s moment) in absurd (never want)
-stopped_by s next moment expired cause (inr (e, stopped)) want = stopped
+left_by : (before after : JournalState) (moment : ℕ) (expired : List Expired) (runners : List Slot) →
+    ((expired ≡ []) × (after ≡ before)) ⊎ JournalCutShort before moment expired after →
+    IsUnchanged expired (world_of before runners) (world_of after runners) ⊎ IsCutShort moment expired (world_of before runners) (world_of after runners)
+left_by before after moment expired runners (inl (none, same)) = inl (none, ap (λ (j : JournalState). world_of j runners) same)
+left_by before after moment expired runners (inr cut) =
+    inr record { come = cut.come; stopped = cut.stopped; rest = ap (λ (j : JournalState). world_of j runners) cut.journal }
 
-refused_for : (s next : Standing) (moment : ℕ) (expired : List Expired) (cause : StoreRefusal) → StoreCutShort (advanced s moment) expired cause next →
-    cause ≢ OutOfMemory → advanced s moment ≡ record { expired = expired; leaves = next; cause = Some cause }
-refused_for s next moment expired cause (inl is) other = is
-refused_for s next moment expired cause (inr (e, stopped)) other = absurd (other e)
+cause_of_advance : (s : Standing) (moment : ℕ) (expired : List Expired) (next : Standing) (cause : StoreRefusal) →
+    advanced s moment ≡ record { expired = expired; leaves = next; cause = Some cause } → cause ≢ OutOfMemory
+cause_of_advance s moment expired next cause is = subst (λ (a : StoreAdvance). NoOutOfMemory a.cause) is (advanced_never s moment)
 
--- an advance that stopped, for its definition's cause or for want of memory
-pub advance_cut : (s next : Standing) (es es' : List Entry) (moment : ℕ) (expired : List Expired) (cause : StoreRefusal) → s.moment ≤ moment →
-    StoreCutShort (advanced s moment) expired cause next → (s.moment ≤ moment → HasCome (at_moment s moment) expired next) → es' ≡ es ++ expiries expired →
-    CallReturns (Advance moment) (Err record { cause = Store cause; expired = expired }) s es next es'
-advance_cut s next es es' moment expired cause forward cut come entered runners =
-    refusal_reports (Advance moment) (record { cause = Store cause; expired = expired }) cause (world_of runners s es) (world_of runners next es')
-    (λ want. (
-      forward,
-      inr record {
-        come = come forward;
-        stopped = stopped_by s next moment expired cause cut want;
-        rest = ap (λ (l : List Entry). world_of runners next l) entered;
-      },
-    ))
-    (λ other. advance_is runners s next es es' moment expired (Some cause) (refused_for s next moment expired cause cut other) entered)
+-- an advance that stopped, for its definition's cause or since memory ran out
+pub advance_stopped : (before after : JournalState) (moment : ℕ) (expired : List Expired) (cause : StoreRefusal) →
+    HasStopped before moment expired cause after → CallReturns (Advance moment) (Err record { cause = Store cause; expired = expired }) before after
+advance_stopped before after moment expired cause (inl x) runners =
+    refusal_reports (Advance moment) (record { cause = Store cause; expired = expired }) cause (world_of before runners) (world_of after runners)
+    (λ want. absurd (cause_of_advance before.standing moment expired after.standing cause x.advance want))
+    (λ other. advance_is before after moment expired (Some cause) runners x)
+advance_stopped before after moment expired cause (inr x) runners =
+    refusal_reports (Advance moment) (record { cause = Store cause; expired = expired }) cause (world_of before runners) (world_of after runners)
+    (λ want. (x.forward, left_by before after moment expired runners x.left))
+    (λ other. absurd (other x.is_want))
+
+-- ---- a call that is not entered ----
+
+-- the world with this store
+abbrev pub world_with : List Slot → Standing → List Entry → World
+world_with runners s es = record { standing = s; runners = runners; entries = es }
+
+-- what is told of an event that is no entry, in every world that has this store
+abbrev pub QuietReturns : WorldEvent → Result Reply Denied → Standing → Standing → Type 0
+QuietReturns event reply s next = (es : List Entry) (runners : List Slot) → Returns event reply (world_with runners s es) (world_with runners next es)
+
+pub quiet_returns : (event : WorldEvent) (reply : Result Reply Denied) (before after : JournalState) → after ≡ with_store before after.standing →
+    QuietReturns event reply before.standing after.standing → CallReturns event reply before after
+quiet_returns event reply before after same reports runners =
+    subst (λ (j : JournalState). Returns event reply (world_of before runners) (world_of j runners)) (sym same) (reports before.entries runners)

@@ -31,19 +31,20 @@ use Rattle.stm_txn.specs.Standing.{IsCutShort as StoreCutShort}
 use Rattle.stm_txn.specs.Standing.{Setup}
 use Rattle.stm_compile.specs.CommitTxn.{reread_keys}
 use Rattle.stm_compile.specs.Committed.{committed}
-use Rattle.stm_compile.specs.Conflicts.{Seen, seen_by}
+use Rattle.stm_compile.specs.Conflicts.{Seen, seen_by, seen_in}
 use Rattle.stm_attempt.specs.Known.{Known}
 use Rattle.stm_attempt.specs.Settled.{run_on}
 use Rattle.stm_attempt.specs.Entering.{is_due}
 use Rattle.stm_attempt.specs.Fetches.{at_of}
-use Rattle.stm_calls.specs.Fetched.{fetch_reported, fetch_all_reported}
-use Rattle.stm_calls.specs.StateOf.{IsStateOf, entry_now}
+use Rattle.stm_journal.specs.Fetched.{fetch_reported, fetch_all_reported}
+use Rattle.stm_journal.specs.StateOf.{IsStateOf, entry_now}
 use Rattle.stm_entries.specs.declared.entry.Entry.{Entry}
 use Rattle.stm_entries.specs.declared.entry.Entry.TheVariants.{Grant as GrantEntry, Renew, Revoke as RevokeEntry, Foreign}
 use Rattle.stm_entries.specs.Replayed.{Replayed, opening, without_moment}
 use Rattle.stm_entries.specs.Replay.{replay}
 use Rattle.stm_entries.specs.Laws.{AddsTo}
 use Rattle.stm_entries.proofs.Adding.{replay_only_adds}
+use Rattle.stm_entries.specs.Entered.{answers_kept, if_taken, if_changed, expiries}
 use Rattle.stm_compaction.specs.Kept.{kept_step, kept_done}
 use Rattle.stm_compaction.specs.Advanced.{IsCutShortToo}
 use Rattle.stm_compaction.proofs.Alike.{IsAlike, cut_is_alike}
@@ -62,9 +63,9 @@ use Rattle.stm_world.specs.declared.refusal.Refusal.{Refusal}
 use Rattle.stm_world.specs.declared.refusal.Refusal.TheVariants.{Store, BadLimit, NoRunner}
 use Rattle.stm_world.specs.declared.refusal.Denied.{Denied}
 use Rattle.stm_world.specs.Reported.{denied, reply_to, store_after_call, advance_reply, poll_reply, store_after_poll}
-use Rattle.stm_world.specs.Task.{Task, with_served, after_conflict, answers_reported}
-use Rattle.stm_world.specs.World.{World, Stepped, Runner, Over, Live, runner_at, with_slot, begin, replied, refused, start_runner, entry_of, seen_in}
-use Rattle.stm_world.specs.World.{decided, commit_reported, commit, finish, fetch_at, fetch_list, step_on, step_live, step_runner, called, if_taken, if_changed, expiries}
+use Rattle.stm_world.specs.Task.{Task, with_served, after_conflict}
+use Rattle.stm_world.specs.World.{World, Stepped, Runner, Over, Live, runner_at, with_slot, begin, replied, refused, start_runner, entry_of}
+use Rattle.stm_world.specs.World.{decided, commit_reported, commit, finish, fetch_at, fetch_list, step_on, step_live, step_runner, called}
 use Rattle.stm_world.specs.World.{quietly_called, step, opened as opened_world}
 use Rattle.stm_world.specs.Sound.{IsSound, after_expiries}
 use Rattle.stm_world.specs.Appended.{HasAppended}
@@ -192,7 +193,7 @@ fail_by id r seen modified w false reached = refl
 -- a commit that succeeded, after which the store's revision is this
 abbrev taken_at : ℕ → Runner → List ReadAnswer → Run → World → Standing → ℕ → Stepped
 taken_at id r reads run w after revision = record {
-  reply = Ok (Committed id revision (r.failures + 1) run.output run.trace (answers_reported r.task.level reads));
+  reply = Ok (Committed id revision (r.failures + 1) run.output run.trace (answers_kept r.task.level reads));
   next = record { standing = after; runners = with_slot id Over w.runners; entries = w.entries ++ entry_of r.task reads run revision ∷ [] };
 }
 

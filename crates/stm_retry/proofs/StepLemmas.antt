@@ -23,35 +23,36 @@ use Rattle.stm_outcome.specs.declared.refusal.Refusal.{Refusal as StoreRefusal}
 use Rattle.stm_outcome.specs.declared.refusal.Refusal.TheVariants.{OutOfMemory, TooManyOps, Compacted}
 use Rattle.stm_outcome.specs.Outcome.{Done}
 use Rattle.stm_outcome.specs.Commits.{revision_read}
-use Rattle.stm_txn.specs.Standing.{Standing, with_history, terms_of}
+use Rattle.stm_txn.specs.Standing.{Standing, terms_of}
 use Rattle.stm_outcome.specs.Terms.{is_below_floor}
 use Rattle.stm_program.specs.Levels.{is_serializable}
 use Rattle.stm_compile.specs.Answers.{look_up, answer_now}
 use Rattle.stm_compile.specs.CommitTxn.{reread_keys}
 use Rattle.stm_compile.specs.Committed.{committed}
-use Rattle.stm_compile.specs.Conflicts.{Seen, seen_by}
+use Rattle.stm_compile.specs.Conflicts.{Seen, seen_by, seen_in}
 use Rattle.stm_attempt.specs.declared.next.Next.{Next}
 use Rattle.stm_attempt.specs.declared.next.Next.TheVariants.{FetchAll, Fetch, Ready, Aborted as AbortedNext, Faulted as FaultedNext}
 use Rattle.stm_attempt.specs.Settled.{run_on}
 use Rattle.stm_attempt.specs.Entering.{is_due}
 use Rattle.stm_attempt.specs.Fetches.{AllShow, ShowOneRevision, at_of}
-use Rattle.stm_attempt.specs.ReadyRun.{ReadyRun}
+use Rattle.stm_attempt.specs.ReadyRun.{ReadyRun, IsRunOnItsAnswers}
 use Rattle.stm_attempt.specs.Next.{next_at_end, next_after, list_asked}
-use Rattle.stm_entries.specs.declared.entry.Entry.{Entry}
-use Rattle.stm_entries.specs.declared.entry.Entry.TheVariants.{Program as ProgramEntry}
-use Rattle.stm_calls.specs.Fetched.{fetched, fetch_reported, fetch_all_reported, IsRefusalOfAll}
-use Rattle.stm_calls.specs.Sent.{sent, seen_in as seen_reported}
-use Rattle.stm_calls.proofs.Cases.{HasCommitted, HasFailed, is_refused}
+use Rattle.stm_entries.specs.Entered.{answers_kept}
+use Rattle.stm_journal.specs.Fetched.{fetched, fetch_reported, fetch_all_reported, IsRefusalOfAll}
+use Rattle.stm_journal.specs.JournalState.{JournalState}
+use Rattle.stm_journal.specs.Verdicts.{after_commit, sent}
+use Rattle.stm_journal.proofs.Cases.{IsOfRun, HasCommitted, HasFailed, is_refused}
 use Rattle.stm_world.specs.declared.reply.Reply.{Reply}
 use Rattle.stm_world.specs.declared.reply.KeyRead.{KeyRead}
 use Rattle.stm_world.specs.declared.reply.Reply.TheVariants.{Started, Prefetched, Fetched, Committed, Conflict, GaveUp, Ended}
 use Rattle.stm_world.specs.declared.refusal.Refusal.TheVariants.{BadLimit}
-use Rattle.stm_world.specs.Task.{Task, modified_now, after_fetch, answers_reported}
+use Rattle.stm_world.specs.Task.{Task, modified_now, after_fetch}
 use Rattle.stm_world.specs.World.{World, Stepped, Runner, Slot, Over, Live, begin, runner_at, with_slot, start_runner, step_runner, step_live}
-use Rattle.stm_world.specs.World.{step_on, fetch, fetch_at, fetch_list, finish, commit, commit_reported, decided, take_commit, fail_commit, seen_in, replied, refused, entry_of}
+use Rattle.stm_world.specs.World.{step_on, fetch, fetch_at, fetch_list, finish, commit, commit_reported, decided, take_commit, fail_commit, replied, refused}
 use Rattle.stm_retry.specs.declared.step_outcome.StepOutcome.{StepOutcome}
 use Rattle.stm_retry.specs.declared.step_outcome.StepOutcome.TheVariants.{GoesOn, Ends}
-use Rattle.stm_retry.specs.MachineReturns.{Returns}
+use Rattle.stm_retry.specs.StepReturns.{Returns}
+use Rattle.stm_retry.specs.WorldOf.{world_of}
 use Rattle.stm_retry.specs.RunnerView.{AreNamed, next_for, with_answer, with_answers, begun_again}
 use Rattle.stm_retry.specs.RunnerReturns.{Workplace, workplace, world_around, reply_in, slot_after, Leaves, ReturnsEnd, IsReady, may_go_on}
 use Rattle.stm_retry.specs.RunnerReturns.{reported_of_fetch, after_reported_fetch, key_read, reported_of_list, after_reported_list, reported_of_failure, reply_reported, slot_left}
@@ -139,31 +140,33 @@ pub step_lists : (id : ℕ) (r : Runner) (w : World) →
     fetch_list id r w ≡ listed_step id r (now w.standing.history) (fetch_all_reported w.standing r.task.program.prefetch) w
 step_lists id r w = listed_by id r w (nat_lt w.standing.limit (length r.task.program.prefetch))
 
-listed_leaves : (id : ℕ) (r q : Runner) (s after : Standing) (entries : List Entry) (slots : List Slot) (revision : ℕ)
-    (o : Result (List ReadAnswer) StoreRefusal) (reported : StepOutcome) → reported ≡ reported_of_list id revision o → q ≡ after_reported_list o r → after ≡ s →
-    listed_step id r revision o (world_around (workplace s entries r) slots)
-    ≡ record { reply = Ok (reply_in reported); next = world_around (workplace after entries q) (with_slot id (slot_after reported q) slots) }
-listed_leaves id r q s after entries slots revision (Ok answers) reported reported_is runner_is standing_is =
+listed_leaves : (id : ℕ) (r q : Runner) (j after : JournalState) (slots : List Slot) (revision : ℕ)
+    (o : Result (List ReadAnswer) StoreRefusal) (reported : StepOutcome) → reported ≡ reported_of_list id revision o → q ≡ after_reported_list o r → after ≡ j →
+    listed_step id r revision o (world_around (workplace j r) slots)
+    ≡ record { reply = Ok (reply_in reported); next = world_around (workplace after q) (with_slot id (slot_after reported q) slots) }
+listed_leaves id r q j after slots revision (Ok answers) reported reported_is runner_is journal_is =
     let new : Runner = with_answers answers r in
     let says : StepOutcome = GoesOn (Prefetched id revision (map key_read answers)) in
-    let made : StepOutcome → Runner → Standing → Stepped = λ t p x.
-    record { reply = Ok (reply_in t); next = world_around (workplace x entries p) (with_slot id (slot_after t p) slots) } in
-    sym (ap (λ (t : StepOutcome). made t q after) reported_is ∙ ap (λ (p : Runner). made says p after) runner_is ∙ ap (λ (x : Standing). made says new x) standing_is)
-listed_leaves id r q s after entries slots revision (Err cause) reported reported_is runner_is standing_is =
+    let made : StepOutcome → Runner → JournalState → Stepped = λ t p x.
+    record { reply = Ok (reply_in t); next = world_around (workplace x p) (with_slot id (slot_after t p) slots) } in
+    sym (ap (λ (t : StepOutcome). made t q after) reported_is ∙ ap (λ (p : Runner). made says p after) runner_is ∙ ap (λ (x : JournalState). made says new x) journal_is)
+listed_leaves id r q j after slots revision (Err cause) reported reported_is runner_is journal_is =
     let says : StepOutcome = Ends (Ended id cause) in
-    let made : StepOutcome → Standing → Stepped = λ t x.
-    record { reply = Ok (reply_in t); next = world_around (workplace x entries q) (with_slot id (slot_after t q) slots) } in
-    sym (ap (λ (t : StepOutcome). made t after) reported_is ∙ ap (λ (x : Standing). made says x) standing_is)
+    let made : StepOutcome → JournalState → Stepped = λ t x.
+    record { reply = Ok (reply_in t); next = world_around (workplace x q) (with_slot id (slot_after t q) slots) } in
+    sym (ap (λ (t : StepOutcome). made t after) reported_is ∙ ap (λ (x : JournalState). made says x) journal_is)
 
-pub list_leaves : (id : ℕ) (r q : Runner) (s after : Standing) (entries : List Entry) (keys : List (List ℕ)) (reported : StepOutcome) → IsListing r keys →
-    reported ≡ reported_of_list id (now s.history) (fetch_all_reported s keys) → q ≡ after_reported_list (fetch_all_reported s keys) r → after ≡ s →
-    Leaves id (Ok reported) (workplace s entries r) (workplace after entries q) (step_live id r)
-list_leaves id r q s after entries keys reported x reported_is runner_is standing_is slots =
-    let w : World = world_around (workplace s entries r) slots in
+pub list_leaves : (id : ℕ) (r q : Runner) (j after : JournalState) (keys : List (List ℕ)) (reported : StepOutcome) → IsListing r keys →
+    reported ≡ reported_of_list id (now j.standing.history) (fetch_all_reported j.standing keys) →
+    q ≡ after_reported_list (fetch_all_reported j.standing keys) r → after ≡ j →
+    Leaves id (Ok reported) (workplace j r) (workplace after q) (step_live id r)
+list_leaves id r q j after keys reported x reported_is runner_is journal_is slots =
+    let s : Standing = j.standing in
+    let w : World = world_around (workplace j r) slots in
     step_due id r w x.due
     ∙ step_lists id r w
     ∙ ap (λ (l : List (List ℕ)). listed_step id r (now s.history) (fetch_all_reported s l) w) x.keys_are
-    ∙ listed_leaves id r q s after entries slots (now s.history) (fetch_all_reported s keys) reported reported_is runner_is standing_is
+    ∙ listed_leaves id r q j after slots (now s.history) (fetch_all_reported s keys) reported reported_is runner_is journal_is
 
 -- what the fetch of a list has answered: each key as it is now
 pub record AreAnswers (s : Standing) (keys : List (List ℕ)) (answers : List ReadAnswer) : Type 0 where
@@ -279,32 +282,32 @@ pub step_fetches : (id : ℕ) (r : Runner) (key : List ℕ) (base : ℕ) (w : Wo
     fetch_at id r key base w ≡ fetched_step id r key (fetch_reported w.standing key base) w
 step_fetches id r key base w = fetched_by id r key base w (is_below_floor w.standing.floor base)
 
-fetched_leaves : (id : ℕ) (r q : Runner) (s after : Standing) (entries : List Entry) (slots : List Slot) (key : List ℕ) (o : Result ReadAnswer StoreRefusal)
-    (reported : StepOutcome) → reported ≡ reported_of_fetch id key o → q ≡ after_reported_fetch o r → after ≡ s →
-    fetched_step id r key o (world_around (workplace s entries r) slots)
-    ≡ record { reply = Ok (reply_in reported); next = world_around (workplace after entries q) (with_slot id (slot_after reported q) slots) }
-fetched_leaves id r q s after entries slots key (Ok a) reported reported_is runner_is standing_is =
+fetched_leaves : (id : ℕ) (r q : Runner) (j after : JournalState) (slots : List Slot) (key : List ℕ) (o : Result ReadAnswer StoreRefusal)
+    (reported : StepOutcome) → reported ≡ reported_of_fetch id key o → q ≡ after_reported_fetch o r → after ≡ j →
+    fetched_step id r key o (world_around (workplace j r) slots)
+    ≡ record { reply = Ok (reply_in reported); next = world_around (workplace after q) (with_slot id (slot_after reported q) slots) }
+fetched_leaves id r q j after slots key (Ok a) reported reported_is runner_is journal_is =
     let new : Runner = with_answer a r in
     let says : StepOutcome = GoesOn (Fetched id key (mod_of a.kv) a.of_rev a.revision) in
-    let made : StepOutcome → Runner → Standing → Stepped = λ t p x.
-    record { reply = Ok (reply_in t); next = world_around (workplace x entries p) (with_slot id (slot_after t p) slots) } in
-    sym (ap (λ (t : StepOutcome). made t q after) reported_is ∙ ap (λ (p : Runner). made says p after) runner_is ∙ ap (λ (x : Standing). made says new x) standing_is)
-fetched_leaves id r q s after entries slots key (Err cause) reported reported_is runner_is standing_is =
+    let made : StepOutcome → Runner → JournalState → Stepped = λ t p x.
+    record { reply = Ok (reply_in t); next = world_around (workplace x p) (with_slot id (slot_after t p) slots) } in
+    sym (ap (λ (t : StepOutcome). made t q after) reported_is ∙ ap (λ (p : Runner). made says p after) runner_is ∙ ap (λ (x : JournalState). made says new x) journal_is)
+fetched_leaves id r q j after slots key (Err cause) reported reported_is runner_is journal_is =
     let says : StepOutcome = Ends (Ended id cause) in
-    let made : StepOutcome → Standing → Stepped = λ t x.
-    record { reply = Ok (reply_in t); next = world_around (workplace x entries q) (with_slot id (slot_after t q) slots) } in
-    sym (ap (λ (t : StepOutcome). made t after) reported_is ∙ ap (λ (x : Standing). made says x) standing_is)
+    let made : StepOutcome → JournalState → Stepped = λ t x.
+    record { reply = Ok (reply_in t); next = world_around (workplace x q) (with_slot id (slot_after t q) slots) } in
+    sym (ap (λ (t : StepOutcome). made t after) reported_is ∙ ap (λ (x : JournalState). made says x) journal_is)
 
-pub fetch_leaves : (id : ℕ) (r q : Runner) (s after : Standing) (entries : List Entry) (key : List ℕ) (at : ℕ) (reported : StepOutcome) → IsWanting r key at →
-    reported ≡ reported_of_fetch id key (fetch_reported s key at) → q ≡ after_reported_fetch (fetch_reported s key at) r → after ≡ s →
-    Leaves id (Ok reported) (workplace s entries r) (workplace after entries q) (step_live id r)
-fetch_leaves id r q s after entries key at reported x reported_is runner_is standing_is slots =
-    let w : World = world_around (workplace s entries r) slots in
+pub fetch_leaves : (id : ℕ) (r q : Runner) (j after : JournalState) (key : List ℕ) (at : ℕ) (reported : StepOutcome) → IsWanting r key at →
+    reported ≡ reported_of_fetch id key (fetch_reported j.standing key at) → q ≡ after_reported_fetch (fetch_reported j.standing key at) r → after ≡ j →
+    Leaves id (Ok reported) (workplace j r) (workplace after q) (step_live id r)
+fetch_leaves id r q j after key at reported x reported_is runner_is journal_is slots =
+    let w : World = world_around (workplace j r) slots in
     step_behind id r w x.has_list
     ∙ ap (λ (a : Answered). step_on id r r.known.reads a w) x.wants
     ∙ ap (λ (n : ℕ). fetch_at id r key n w) x.at_is
     ∙ step_fetches id r key at w
-    ∙ fetched_leaves id r q s after entries slots key (fetch_reported s key at) reported reported_is runner_is standing_is
+    ∙ fetched_leaves id r q j after slots key (fetch_reported j.standing key at) reported reported_is runner_is journal_is
 
 -- what a fetch that the store answered tells and leaves, where a growth was refused too
 answered_key : (s : Standing) (key : List ℕ) (at : ℕ) (a : ReadAnswer) (below : Bool) →
@@ -381,15 +384,15 @@ commit_leaves id r run ready (Ok reported) before after x leaves =
 commit_leaves id r run ready (Err e) before after x leaves = leaves
 
 -- A runner that went on is still the one that it was: what its commit leaves is what its step leaves.
-pub ready_leaves : (id : ℕ) (r q : Runner) (ready : ReadyRun) (outcome : Result StepOutcome AllocError) (s : Standing) (entries : List Entry) (after : Workplace) →
+pub ready_leaves : (id : ℕ) (r q : Runner) (ready : ReadyRun) (outcome : Result StepOutcome AllocError) (j : JournalState) (after : Workplace) →
     q ≡ r → next_for r ≡ Ready ready →
-    ((run : Run) → IsReady q run ready → Leaves id outcome (workplace s entries q) after (commit id q q.known.reads run)) →
-    Leaves id outcome (workplace s entries r) after (step_live id r)
-ready_leaves id r q ready outcome s entries after same reported leaves =
+    ((run : Run) → IsReady q run ready → Leaves id outcome (workplace j q) after (commit id q q.known.reads run)) →
+    Leaves id outcome (workplace j r) after (step_live id r)
+ready_leaves id r q ready outcome j after same reported leaves =
     let found : (run : Run) × IsReady r run ready = is_ready r ready reported in
-    let mine = subst (λ (x : Runner). (run : Run) → IsReady x run ready → Leaves id outcome (workplace s entries x) after (commit id x x.known.reads run))
+    let mine = subst (λ (x : Runner). (run : Run) → IsReady x run ready → Leaves id outcome (workplace j x) after (commit id x x.known.reads run))
     same leaves in
-    commit_leaves id r found.0 ready outcome (workplace s entries r) after found.1 (mine found.0 found.1)
+    commit_leaves id r found.0 ready outcome (workplace j r) after found.1 (mine found.0 found.1)
 
 -- the run that is ready is the run on its answers
 pub ready_runs : (r : Runner) (run : Run) (ready : ReadyRun) → IsReady r run ready → run_on ready.program ready.answers ≡ EndedRun run
@@ -445,10 +448,10 @@ end_is id r run DoneEnd reply w reports = absurd reports
 end_is id r run (AbortedEnd text) reply w reports = ap (λ (x : Reply). replied x id Over w) (sym reports)
 end_is id r run (FaultedEnd fault) reply w reports = ap (λ (x : Reply). replied x id Over w) (sym reports)
 
-pub end_leaves : (id : ℕ) (r q : Runner) (s : Standing) (entries : List Entry) (run : Run) (reply : Reply) → IsOver r run → ReturnsEnd id run.end reply →
-    Leaves id (Ok (Ends reply)) (workplace s entries r) (workplace s entries q) (step_live id r)
-end_leaves id r q s entries run reply x reports slots =
-    finished id r run (world_around (workplace s entries r) slots) x.has_list x.is_run ∙ end_is id r run run.end reply (world_around (workplace s entries r) slots) reports
+pub end_leaves : (id : ℕ) (r q : Runner) (j : JournalState) (run : Run) (reply : Reply) → IsOver r run → ReturnsEnd id run.end reply →
+    Leaves id (Ok (Ends reply)) (workplace j r) (workplace j q) (step_live id r)
+end_leaves id r q j run reply x reports slots =
+    finished id r run (world_around (workplace j r) slots) x.has_list x.is_run ∙ end_is id r run run.end reply (world_around (workplace j r) slots) reports
 
 -- ---- a commit ----
 
@@ -462,147 +465,143 @@ commit_is id r run w = refl
 abbrev pub outcome_of : Standing → ReadyRun → Run → Result Done StoreRefusal
 outcome_of s ready run = committed (terms_of s) ready.level ready.answers run
 
+-- the attempt that is ready is the run of its program on its answers
+pub of_run : (r : Runner) (run : Run) (ready : ReadyRun) → IsReady r run ready → IsRunOnItsAnswers ready → AreNamed ready.answers → IsOfRun ready run
+of_run r run ready x on named = record { kept = on; named = named; ended = ready_runs r run ready x }
+
 -- ---- what it leaves ----
 
-commit_by : (id : ℕ) (r : Runner) (run : Run) (ready : ReadyRun) (s : Standing) (entries : List Entry) (slots : List Slot) → IsReady r run ready →
-    commit id r r.known.reads run (world_around (workplace s entries r) slots)
-    ≡ commit_reported id r r.known.reads run (outcome_of s ready run) (world_around (workplace s entries r) slots)
-commit_by id r run ready s entries slots x =
-    commit_is id r run (world_around (workplace s entries r) slots)
-    ∙ ap (λ (a : ReadyRun). commit_reported id r r.known.reads run (outcome_of s a run) (world_around (workplace s entries r) slots)) (sym x.is)
+commit_by : (id : ℕ) (r : Runner) (run : Run) (ready : ReadyRun) (j : JournalState) (slots : List Slot) → IsReady r run ready →
+    commit id r r.known.reads run (world_around (workplace j r) slots)
+    ≡ commit_reported id r r.known.reads run (outcome_of j.standing ready run) (world_around (workplace j r) slots)
+commit_by id r run ready j slots x =
+    commit_is id r run (world_around (workplace j r) slots)
+    ∙ ap (λ (a : ReadyRun). commit_reported id r r.known.reads run (outcome_of j.standing a run) (world_around (workplace j r) slots)) (sym x.is)
 
-taken_is : (id : ℕ) (r : Runner) (run : Run) (s after : Standing) (entries more : List Entry) (slots : List Slot) (done : Done) (revision attempts : ℕ)
+taken_is : (id : ℕ) (r : Runner) (run : Run) (ready : ReadyRun) (j after : JournalState) (slots : List Slot) (done : Done) (revision attempts : ℕ)
     (output : List Value) (trace : List TraceItem) (answers : List ReadAnswer) →
-    revision ≡ now done.history → attempts ≡ r.failures + 1 → output ≡ run.output → trace ≡ run.trace → answers ≡ answers_reported r.task.level r.known.reads →
-    after ≡ with_history s done.history → more ≡ entries ++ entry_of r.task r.known.reads run (now done.history) ∷ [] → (q : Runner) →
-    take_commit id r r.known.reads run done (world_around (workplace s entries r) slots)
+    revision ≡ now done.history → attempts ≡ r.failures + 1 → output ≡ run.output → trace ≡ run.trace → answers ≡ answers_kept r.task.level r.known.reads →
+    world_of after (with_slot id Over slots) ≡ (take_commit id r r.known.reads run done (world_around (workplace j r) slots)).next → (q : Runner) →
+    take_commit id r r.known.reads run done (world_around (workplace j r) slots)
     ≡ record {
       reply = Ok (Committed id revision attempts output trace answers);
-      next = world_around (workplace after more q) (with_slot id Over slots);
+      next = world_around (workplace after q) (with_slot id Over slots);
     }
-taken_is id r run s after entries more slots done revision attempts output trace answers a b c d e f g q =
-    cc (sym a, sym b, sym c, sym d, sym e, sym f, sym g)
+taken_is id r run ready j after slots done revision attempts output trace answers a b c d e f q =
+    cc (sym a, sym b, sym c, sym d, sym e, sym f)
+
+-- the world that a commit leaves, with the entry of the run that is ready
+taken_leaves : (id : ℕ) (r : Runner) (run : Run) (ready : ReadyRun) (j after : JournalState) (slots : List Slot) (done : Done) → IsReady r run ready →
+    after ≡ after_commit j ready done →
+    world_of after (with_slot id Over slots) ≡ (take_commit id r r.known.reads run done (world_around (workplace j r) slots)).next
+taken_leaves id r run ready j after slots done x left =
+    ap (λ (k : JournalState). world_of k (with_slot id Over slots)) left
+    ∙ ap (λ (p : ReadyRun). world_of (after_commit j p done) (with_slot id Over slots)) x.is
 
 -- a commit that succeeded
-pub take_leaves : (id : ℕ) (r q : Runner) (run : Run) (ready : ReadyRun) (s after : Standing) (entries more : List Entry) (entry : Entry)
+pub take_leaves : (id : ℕ) (r q : Runner) (run : Run) (ready : ReadyRun) (j after : JournalState)
     (revision attempts : ℕ) (output : List Value) (trace : List TraceItem) (answers : List ReadAnswer) →
-    IsReady r run ready → HasCommitted s after (outcome_of s ready run) revision →
-    attempts ≡ r.failures + 1 → output ≡ ready.output → trace ≡ ready.trace → answers ≡ answers_reported ready.level ready.answers →
-    entry ≡ ProgramEntry ready.program ready.level (answers_reported ready.level ready.answers) ready.output ready.trace revision →
-    more ≡ entries ++ entry ∷ [] →
-    Leaves id (Ok (Ends (Committed id revision attempts output trace answers))) (workplace s entries r) (workplace after more q) (commit id r r.known.reads run)
-take_leaves id r q run ready s after entries more entry revision attempts output trace answers x y a b c d e f slots =
-    let w : World = world_around (workplace s entries r) slots in
+    IsReady r run ready → HasCommitted j after ready (outcome_of j.standing ready run) revision →
+    attempts ≡ r.failures + 1 → output ≡ ready.output → trace ≡ ready.trace → answers ≡ answers_kept ready.level ready.answers →
+    Leaves id (Ok (Ends (Committed id revision attempts output trace answers))) (workplace j r) (workplace after q) (commit id r r.known.reads run)
+take_leaves id r q run ready j after revision attempts output trace answers x y a b c d slots =
+    let w : World = world_around (workplace j r) slots in
     let reads : List ReadAnswer = r.known.reads in
-    let entry_is : entry ≡ entry_of r.task reads run (now y.done.history) =
-    e ∙ ap (λ (p : ReadyRun). ProgramEntry p.program p.level (answers_reported p.level p.answers) p.output p.trace revision) x.is
-    ∙ ap (λ (n : ℕ). entry_of r.task reads run n) y.revision_is in
-    commit_by id r run ready s entries slots x
+    commit_by id r run ready j slots x
     ∙ ap (λ (o : Result Done StoreRefusal). commit_reported id r reads run o w) y.taken
     ∙ ap (λ (o : Option FailedCompare). decided id r reads run y.done o w) y.none_failed
-    ∙ taken_is id r run s after entries more slots y.done revision attempts output trace answers y.revision_is a
+    ∙ taken_is id r run ready j after slots y.done revision attempts output trace answers y.revision_is a
     (b ∙ ap (λ (p : ReadyRun). p.output) x.is) (c ∙ ap (λ (p : ReadyRun). p.trace) x.is)
-    (d ∙ ap (λ (p : ReadyRun). answers_reported p.level p.answers) x.is) y.left
-    (f ∙ ap (λ (l : Entry). entries ++ l ∷ []) entry_is) q
+    (d ∙ ap (λ (p : ReadyRun). answers_kept p.level p.answers) x.is) (taken_leaves id r run ready j after slots y.done x y.left) q
 
-again_by : (id : ℕ) (r q : Runner) (seen : Seen) (s after : Standing) (entries : List Entry) (slots : List Slot) (modified : ℕ) (reported : StepOutcome) (more : Bool) →
+again_by : (id : ℕ) (r q : Runner) (seen : Seen) (j after : JournalState) (slots : List Slot) (modified : ℕ) (reported : StepOutcome) (more : Bool) →
     may_go_on r ≡ more →
     reported ≡ cond more (GoesOn (Conflict id seen.key seen.mod_rev modified)) (Ends (GaveUp id (r.failures + 1) seen.key seen.mod_rev modified)) →
-    (more ≡ true → q ≡ begun_again (map (answer_now s.history) (reread_keys r.task.level r.known.reads)) r) → after ≡ s →
-    fail_commit id r seen modified (world_around (workplace s entries r) slots)
-    ≡ record { reply = Ok (reply_in reported); next = world_around (workplace after entries q) (with_slot id (slot_after reported q) slots) }
-again_by id r q seen s after entries slots modified reported true go reported_is again same =
-    let new : Runner = begun_again (map (answer_now s.history) (reread_keys r.task.level r.known.reads)) r in
+    (more ≡ true → q ≡ begun_again (map (answer_now j.standing.history) (reread_keys r.task.level r.known.reads)) r) → after ≡ j →
+    fail_commit id r seen modified (world_around (workplace j r) slots)
+    ≡ record { reply = Ok (reply_in reported); next = world_around (workplace after q) (with_slot id (slot_after reported q) slots) }
+again_by id r q seen j after slots modified reported true go reported_is again same =
+    let new : Runner = begun_again (map (answer_now j.standing.history) (reread_keys r.task.level r.known.reads)) r in
     let says : StepOutcome = GoesOn (Conflict id seen.key seen.mod_rev modified) in
-    let w : World = world_around (workplace s entries r) slots in
-    let made : StepOutcome → Runner → Standing → Stepped = λ t p x.
-    record { reply = Ok (reply_in t); next = world_around (workplace x entries p) (with_slot id (slot_after t p) slots) } in
+    let w : World = world_around (workplace j r) slots in
+    let made : StepOutcome → Runner → JournalState → Stepped = λ t p x.
+    record { reply = Ok (reply_in t); next = world_around (workplace x p) (with_slot id (slot_after t p) slots) } in
     ap (λ b. cond b (replied (Conflict id seen.key seen.mod_rev modified) id (Live new) w)
     (replied (GaveUp id (r.failures + 1) seen.key seen.mod_rev modified) id Over w)) go
-    ∙ sym (ap (λ (t : StepOutcome). made t q after) reported_is ∙ ap (λ (p : Runner). made says p after) (again refl) ∙ ap (λ (x : Standing). made says new x) same)
-again_by id r q seen s after entries slots modified reported false go reported_is again same =
-    let new : Runner = begun_again (map (answer_now s.history) (reread_keys r.task.level r.known.reads)) r in
+    ∙ sym (ap (λ (t : StepOutcome). made t q after) reported_is ∙ ap (λ (p : Runner). made says p after) (again refl) ∙ ap (λ (x : JournalState). made says new x) same)
+again_by id r q seen j after slots modified reported false go reported_is again same =
+    let new : Runner = begun_again (map (answer_now j.standing.history) (reread_keys r.task.level r.known.reads)) r in
     let says : StepOutcome = Ends (GaveUp id (r.failures + 1) seen.key seen.mod_rev modified) in
-    let w : World = world_around (workplace s entries r) slots in
-    let made : StepOutcome → Standing → Stepped = λ t x.
-    record { reply = Ok (reply_in t); next = world_around (workplace x entries q) (with_slot id (slot_after t q) slots) } in
+    let w : World = world_around (workplace j r) slots in
+    let made : StepOutcome → JournalState → Stepped = λ t x.
+    record { reply = Ok (reply_in t); next = world_around (workplace x q) (with_slot id (slot_after t q) slots) } in
     ap (λ b. cond b (replied (Conflict id seen.key seen.mod_rev modified) id (Live new) w)
     (replied (GaveUp id (r.failures + 1) seen.key seen.mod_rev modified) id Over w)) go
-    ∙ sym (ap (λ (t : StepOutcome). made t after) reported_is ∙ ap (λ (x : Standing). made says x) same)
-
-same_seen : (o : Option Seen) → seen_reported o ≡ seen_in o
-same_seen None = refl
-same_seen (Some seen) = refl
+    ∙ sym (ap (λ (t : StepOutcome). made t after) reported_is ∙ ap (λ (x : JournalState). made says x) same)
 
 -- a commit of which a compare failed
-fail_leaves : (id : ℕ) (r q : Runner) (run : Run) (ready : ReadyRun) (s after : Standing) (entries : List Entry) (key : List ℕ) (seen modified : ℕ)
+fail_leaves : (id : ℕ) (r q : Runner) (run : Run) (ready : ReadyRun) (j after : JournalState) (key : List ℕ) (seen modified : ℕ)
     (answers : List ReadAnswer) (reported : StepOutcome) → IsReady r run ready →
-    HasFailed s after ready.level ready.answers (latest_writes run.writes) (outcome_of s ready run) key seen modified answers →
+    HasFailed j after ready (outcome_of j.standing ready run) key seen modified answers →
     reported ≡ reported_of_failure id r key seen modified → (may_go_on r ≡ true → q ≡ begun_again answers r) →
-    Leaves id (Ok reported) (workplace s entries r) (workplace after entries q) (commit id r r.known.reads run)
-fail_leaves id r q run ready s after entries key seen modified answers reported x y reported_is again slots =
-    let w : World = world_around (workplace s entries r) slots in
+    Leaves id (Ok reported) (workplace j r) (workplace after q) (commit id r r.known.reads run)
+fail_leaves id r q run ready j after key seen modified answers reported x y reported_is again slots =
+    let w : World = world_around (workplace j r) slots in
     let reads : List ReadAnswer = r.known.reads in
     let writes : List Write = latest_writes run.writes in
-    let answers_are : answers ≡ map (answer_now s.history) (reread_keys r.task.level reads) =
-    y.answers_are ∙ ap (λ (p : ReadyRun). map (answer_now s.history) (reread_keys p.level p.answers)) x.is in
+    let answers_are : answers ≡ map (answer_now j.standing.history) (reread_keys r.task.level reads) =
+    y.answers_are ∙ ap (λ (p : ReadyRun). map (answer_now j.standing.history) (reread_keys p.level p.answers)) x.is in
     let about : Seen = seen_in (slice_get (seen_by reads writes) y.failed.index) in
-    let same : seen_reported (slice_get (seen_by ready.answers writes) y.failed.index) ≡ about =
-    ap (λ (p : ReadyRun). seen_reported (slice_get (seen_by p.answers writes) y.failed.index)) x.is
-    ∙ same_seen (slice_get (seen_by reads writes) y.failed.index) in
+    let same : seen_in (slice_get (seen_by ready.answers ready.writes) y.failed.index) ≡ about =
+    ap (λ (p : ReadyRun). seen_in (slice_get (seen_by p.answers p.writes) y.failed.index)) x.is in
     let says : reported ≡ reported_of_failure id r about.key about.mod_rev y.failed.mod_rev =
     reported_is ∙ ap (λ (k : List ℕ). reported_of_failure id r k seen modified) (y.key_is ∙ ap (λ (z : Seen). z.key) same)
     ∙ ap (λ (n : ℕ). reported_of_failure id r about.key n modified) (y.seen_is ∙ ap (λ (z : Seen). z.mod_rev) same)
     ∙ ap (λ (n : ℕ). reported_of_failure id r about.key about.mod_rev n) y.now_is in
-    commit_by id r run ready s entries slots x
+    commit_by id r run ready j slots x
     ∙ ap (λ (o : Result Done StoreRefusal). commit_reported id r reads run o w) y.taken
     ∙ ap (λ (o : Option FailedCompare). decided id r reads run y.done o w) y.some_failed
-    ∙ again_by id r q about s after entries slots y.failed.mod_rev reported (may_go_on r) refl says
+    ∙ again_by id r q about j after slots y.failed.mod_rev reported (may_go_on r) refl says
     (λ more. again more ∙ ap (λ (l : List ReadAnswer). begun_again l r) answers_are) y.unchanged
 
 -- a commit that the store refused
-refused_leaves : (id : ℕ) (r q : Runner) (run : Run) (ready : ReadyRun) (s after : Standing) (entries : List Entry) (cause : StoreRefusal) (reported : StepOutcome) →
-    IsReady r run ready → reported ≡ Ends (Ended id cause) → outcome_of s ready run ≡ Err cause → after ≡ s →
-    Leaves id (Ok reported) (workplace s entries r) (workplace after entries q) (commit id r r.known.reads run)
-refused_leaves id r q run ready s after entries cause reported x reported_is refused same slots =
-    let made : StepOutcome → Standing → Stepped = λ t y.
-    record { reply = Ok (reply_in t); next = world_around (workplace y entries q) (with_slot id (slot_after t q) slots) } in
-    commit_by id r run ready s entries slots x
-    ∙ ap (λ (o : Result Done StoreRefusal). commit_reported id r r.known.reads run o (world_around (workplace s entries r) slots)) refused
-    ∙ sym (ap (λ (t : StepOutcome). made t after) reported_is ∙ ap (λ (y : Standing). made (Ends (Ended id cause)) y) same)
+refused_leaves : (id : ℕ) (r q : Runner) (run : Run) (ready : ReadyRun) (j after : JournalState) (cause : StoreRefusal) (reported : StepOutcome) →
+    IsReady r run ready → reported ≡ Ends (Ended id cause) → outcome_of j.standing ready run ≡ Err cause → after ≡ j →
+    Leaves id (Ok reported) (workplace j r) (workplace after q) (commit id r r.known.reads run)
+refused_leaves id r q run ready j after cause reported x reported_is refused same slots =
+    let made : StepOutcome → JournalState → Stepped = λ t y.
+    record { reply = Ok (reply_in t); next = world_around (workplace y q) (with_slot id (slot_after t q) slots) } in
+    commit_by id r run ready j slots x
+    ∙ ap (λ (o : Result Done StoreRefusal). commit_reported id r r.known.reads run o (world_around (workplace j r) slots)) refused
+    ∙ sym (ap (λ (t : StepOutcome). made t after) reported_is ∙ ap (λ (y : JournalState). made (Ends (Ended id cause)) y) same)
 
--- the cause of a refusal that is no want of memory
-cause_is : (s : Standing) (ready : ReadyRun) (run : Run) (cause : StoreRefusal) → cause ≢ OutOfMemory →
-    (cause ≡ OutOfMemory) ⊎ (sent s ready.level ready.answers run ≡ Err cause) → outcome_of s ready run ≡ Err cause
-cause_is s ready run cause other (inl want) = absurd (other want)
-cause_is s ready run cause other (inr reported) = is_refused s ready.level ready.answers run cause reported
+-- the cause of a refusal that is not that memory ran out
+cause_is : (j : JournalState) (ready : ReadyRun) (run : Run) (cause : StoreRefusal) → IsOfRun ready run → cause ≢ OutOfMemory →
+    (cause ≡ OutOfMemory) ⊎ (sent j ready ≡ Err cause) → outcome_of j.standing ready run ≡ Err cause
+cause_is j ready run cause of other (inl want) = absurd (other want)
+cause_is j ready run cause of other (inr reported) = is_refused j ready run cause of reported
 
--- what a commit of which a compare failed comes to, told or not for want of memory
-pub fail_comes_to : (id : ℕ) (r q : Runner) (run : Run) (ready : ReadyRun) (s after : Standing) (entries : List Entry) (key : List ℕ) (seen modified : ℕ)
+-- what a commit of which a compare failed comes to, also where memory ran out then
+pub fail_comes_to : (id : ℕ) (r q : Runner) (run : Run) (ready : ReadyRun) (j after : JournalState) (key : List ℕ) (seen modified : ℕ)
     (answers : List ReadAnswer) (outcome : Result StepOutcome AllocError) → IsReady r run ready →
-    HasFailed s after ready.level ready.answers (latest_writes run.writes) (outcome_of s ready run) key seen modified answers →
+    HasFailed j after ready (outcome_of j.standing ready run) key seen modified answers →
     IfOk outcome (λ reported. reported ≡ reported_of_failure id r key seen modified) → OnOk outcome (may_go_on r ≡ true → q ≡ begun_again answers r) →
-    OnErr outcome (q ≡ r) → Leaves id outcome (workplace s entries r) (workplace after entries q) (commit id r r.known.reads run)
-fail_comes_to id r q run ready s after entries key seen modified answers (Ok reported) x y reported_is again same =
-    fail_leaves id r q run ready s after entries key seen modified answers reported x y reported_is again
-fail_comes_to id r q run ready s after entries key seen modified answers (Err e) x y reported_is again same =
-    ap (λ (n : Standing). workplace n entries q) y.unchanged ∙ ap (λ (p : Runner). workplace s entries p) same
+    OnErr outcome (q ≡ r) → Leaves id outcome (workplace j r) (workplace after q) (commit id r r.known.reads run)
+fail_comes_to id r q run ready j after key seen modified answers (Ok reported) x y reported_is again same =
+    fail_leaves id r q run ready j after key seen modified answers reported x y reported_is again
+fail_comes_to id r q run ready j after key seen modified answers (Err e) x y reported_is again same =
+    ap (λ (n : JournalState). workplace n q) y.unchanged ∙ ap (λ (p : Runner). workplace j p) same
 
--- what a commit that the store refused comes to, told or not for want of memory
-pub refusal_comes_to : (id : ℕ) (r : Runner) (run : Run) (ready : ReadyRun) (s after : Standing) (entries : List Entry) (cause : StoreRefusal)
-    (outcome : Result StepOutcome AllocError) → IsReady r run ready → IfOk outcome (λ reported. reported ≡ Ends (Ended id cause)) → OnOk outcome (cause ≢ OutOfMemory) →
-    (cause ≡ OutOfMemory) ⊎ (sent s ready.level ready.answers run ≡ Err cause) → after ≡ s →
-    Leaves id outcome (workplace s entries r) (workplace after entries r) (commit id r r.known.reads run)
-refusal_comes_to id r run ready s after entries cause (Ok reported) x reported_is other refused same =
-    refused_leaves id r r run ready s after entries cause reported x reported_is (cause_is s ready run cause other refused) same
-refusal_comes_to id r run ready s after entries cause (Err e) x reported_is other refused same =
-    ap (λ (n : Standing). workplace n entries r) same
-
--- room for an entry is none yet
-pub with_room : (id : ℕ) (outcome : Result StepOutcome AllocError) (before : Workplace) (s : Standing) (entries more : List Entry) (q : Runner)
-    (step : World → Stepped) → more ≡ entries → Leaves id outcome before (workplace s entries q) step → Leaves id outcome before (workplace s more q) step
-with_room id outcome before s entries more q step same leaves =
-    subst (λ (l : List Entry). Leaves id outcome before (workplace s l q) step) (sym same) leaves
+-- what a commit that the store refused comes to, also where memory ran out
+pub refusal_comes_to : (id : ℕ) (r : Runner) (run : Run) (ready : ReadyRun) (j after : JournalState) (cause : StoreRefusal)
+    (outcome : Result StepOutcome AllocError) → IsReady r run ready → IsOfRun ready run →
+    IfOk outcome (λ reported. reported ≡ Ends (Ended id cause)) → OnOk outcome (cause ≢ OutOfMemory) →
+    (cause ≡ OutOfMemory) ⊎ (sent j ready ≡ Err cause) → after ≡ j →
+    Leaves id outcome (workplace j r) (workplace after r) (commit id r r.known.reads run)
+refusal_comes_to id r run ready j after cause (Ok reported) x of reported_is other refused same =
+    refused_leaves id r r run ready j after cause reported x reported_is (cause_is j ready run cause of other refused) same
+refusal_comes_to id r run ready j after cause (Err e) x of reported_is other refused same =
+    ap (λ (n : JournalState). workplace n r) same
 
 -- ---- what the next attempt may rely on ----
 
@@ -696,12 +695,10 @@ added_number task w before after slot r id some before_is after_is slot_is runne
     ∙ ap (λ (n : ℕ). Ok (Started n))
     (ap (λ (l : List Slot). length l + 1) (sym before_is) ∙ sym (id_is ∙ ap (λ (l : List Slot). length l) after_is ∙ count_grows before slot))
 
-pub added_world : (task : Task) (w : World) (s : Standing) (before after : List Slot) (entries : List Entry) (slot : Slot) (r : Runner) → task.limit ≢ 0 →
-    record { standing = s; runners = before; entries = entries } ≡ w → after ≡ before ++ slot ∷ [] → slot ≡ Live r → r ≡ begin task →
-    record { standing = s; runners = after; entries = entries } ≡ (start_runner task w).next
-added_world task w s before after entries slot r some view_is after_is slot_is runner_is =
-    ap (λ (l : List Slot). record { standing = s; runners = l; entries = entries })
-    (after_is ∙ ap (λ (x : Slot). before ++ x ∷ []) (slot_is ∙ ap (λ (x : Runner). Live x) runner_is))
+pub added_world : (task : Task) (w : World) (j : JournalState) (before after : List Slot) (slot : Slot) (r : Runner) → task.limit ≢ 0 →
+    world_of j before ≡ w → after ≡ before ++ slot ∷ [] → slot ≡ Live r → r ≡ begin task → world_of j after ≡ (start_runner task w).next
+added_world task w j before after slot r some view_is after_is slot_is runner_is =
+    ap (world_of j) (after_is ∙ ap (λ (x : Slot). before ++ x ∷ []) (slot_is ∙ ap (λ (x : Runner). Live x) runner_is))
     ∙ ap (λ (v : World). record { standing = v.standing; runners = v.runners ++ Live (begin task) ∷ []; entries = v.entries }) view_is
     ∙ sym (ap (λ (x : Stepped). x.next) (start_takes task w some))
 
@@ -713,39 +710,38 @@ start_refuses program level w = refl
 
 -- ---- the step, with the places ----
 
-reported_reports : (id : ℕ) (old : World) (r q : Runner) (after : Standing) (entries : List Entry) (slots : List Slot) (reported : StepOutcome) (found : Option Runner) →
-    found ≡ Some r → Leaves id (Ok reported) (workplace old.standing old.entries r) (workplace after entries q) (step_live id r) →
-    slots ≡ with_slot id (slot_after reported q) (with_slot id Over old.runners) →
-    Returns (Ok (Ok (reply_in reported))) old (record { standing = after; runners = slots; entries = entries }) (step_runner id found old)
-reported_reports id old r q after entries slots reported None is leaves put = absurd (cc)
-reported_reports id old r q after entries slots reported (Some other) is leaves put =
+reported_reports : (id : ℕ) (j after : JournalState) (places slots : List Slot) (r q : Runner) (reported : StepOutcome) (found : Option Runner) →
+    found ≡ Some r → Leaves id (Ok reported) (workplace j r) (workplace after q) (step_live id r) →
+    slots ≡ with_slot id (slot_after reported q) (with_slot id Over places) →
+    Returns (Ok (Ok (reply_in reported))) (world_of j places) (world_of after slots) (step_runner id found (world_of j places))
+reported_reports id j after places slots r q reported None is leaves put = absurd (cc)
+reported_reports id j after places slots r q reported (Some other) is leaves put =
+    let old : World = world_of j places in
     let same : other ≡ r = cc in
-    let stepped = leaves old.runners in (
+    let stepped = leaves places in (
       ap (λ (x : Runner). (step_live id x old).reply) same ∙ ap (λ (s : Stepped). s.reply) stepped,
       ap (λ (x : Runner). (step_live id x old).next) same ∙ ap (λ (s : Stepped). s.next) stepped
-          ∙ ap (λ (l : List Slot). record { standing = after; runners = l; entries = entries }) (sym (put ∙ put_there id old.runners (slot_after reported q))),
+          ∙ ap (λ (l : List Slot). world_of after l) (sym (put ∙ put_there id places (slot_after reported q))),
     )
 
-ran_out_reports : (id : ℕ) (old : World) (r q : Runner) (after : Standing) (entries : List Entry) (slots : List Slot) (e : AllocError)
-    (found : Option Runner) → found ≡ Some r → runner_at id old.runners ≡ Some r → workplace after entries q ≡ workplace old.standing old.entries r →
-    slots ≡ with_slot id (Live q) (with_slot id Over old.runners) →
-    Returns (Err e) old (record { standing = after; runners = slots; entries = entries }) (step_runner id found old)
-ran_out_reports id old r q after entries slots e None is there leaves put = absurd (cc)
-ran_out_reports id old r q after entries slots e (Some other) is there leaves put =
+ran_out_reports : (id : ℕ) (j after : JournalState) (places slots : List Slot) (r q : Runner) (e : AllocError)
+    (found : Option Runner) → found ≡ Some r → runner_at id places ≡ Some r → workplace after q ≡ workplace j r →
+    slots ≡ with_slot id (Live q) (with_slot id Over places) →
+    Returns (Err e) (world_of j places) (world_of after slots) (step_runner id found (world_of j places))
+ran_out_reports id j after places slots r q e None is there leaves put = absurd (cc)
+ran_out_reports id j after places slots r q e (Some other) is there leaves put =
     let runner_is : q ≡ r = ap (λ (p : Workplace). p.runner) leaves in
-    let slots_is : slots ≡ old.runners =
-    put ∙ ap (λ (x : Runner). with_slot id (Live x) (with_slot id Over old.runners)) runner_is ∙ put_back id old.runners r there in (
-      ap (λ (x : Standing). record { standing = x; runners = slots; entries = entries }) (ap (λ (p : Workplace). p.standing) leaves)
-          ∙ ap (λ (l : List Slot). record { standing = old.standing; runners = l; entries = entries }) slots_is
-          ∙ ap (λ (l : List Entry). record { standing = old.standing; runners = old.runners; entries = l }) (ap (λ (p : Workplace). p.entries) leaves),
-      live_is_taken id other old,
+    let slots_are : slots ≡ places =
+    put ∙ ap (λ (x : Runner). with_slot id (Live x) (with_slot id Over places)) runner_is ∙ put_back id places r there in (
+      ap (λ (x : JournalState). world_of x slots) (ap (λ (p : Workplace). p.journal) leaves) ∙ ap (λ (l : List Slot). world_of j l) slots_are,
+      live_is_taken id other (world_of j places),
     )
 
--- the reply to the step of a runner that runs, told or not for want of memory
-pub outcome_reports : (id : ℕ) (old : World) (r q : Runner) (after : Standing) (entries : List Entry) (slots : List Slot)
-    (outcome : Result StepOutcome AllocError) (found : Option Runner) → found ≡ Some r → runner_at id old.runners ≡ Some r →
-    Leaves id outcome (workplace old.standing old.entries r) (workplace after entries q) (step_live id r) →
-    slots ≡ with_slot id (slot_left outcome q) (with_slot id Over old.runners) →
-    Returns (reply_reported outcome) old (record { standing = after; runners = slots; entries = entries }) (step_runner id found old)
-outcome_reports id old r q after entries slots (Ok reported) found is there leaves put = reported_reports id old r q after entries slots reported found is leaves put
-outcome_reports id old r q after entries slots (Err e) found is there leaves put = ran_out_reports id old r q after entries slots e found is there leaves put
+-- the reply to the step of a runner that runs, also where memory ran out
+pub outcome_reports : (id : ℕ) (j after : JournalState) (places slots : List Slot) (r q : Runner)
+    (outcome : Result StepOutcome AllocError) (found : Option Runner) → found ≡ Some r → runner_at id places ≡ Some r →
+    Leaves id outcome (workplace j r) (workplace after q) (step_live id r) →
+    slots ≡ with_slot id (slot_left outcome q) (with_slot id Over places) →
+    Returns (reply_reported outcome) (world_of j places) (world_of after slots) (step_runner id found (world_of j places))
+outcome_reports id j after places slots r q (Ok reported) found is there leaves put = reported_reports id j after places slots r q reported found is leaves put
+outcome_reports id j after places slots r q (Err e) found is there leaves put = ran_out_reports id j after places slots r q e found is there leaves put

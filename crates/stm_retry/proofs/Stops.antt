@@ -11,6 +11,7 @@ use Rattle.stm_txn.specs.Standing.{Standing, Advance as StoreAdvance, ended, aft
 use Rattle.stm_txn.proofs.Ending.{ended_is, next_ended}
 use Rattle.stm_entries.specs.declared.entry.Entry.{Entry}
 use Rattle.stm_entries.specs.declared.entry.Entry.TheVariants.{Expire}
+use Rattle.stm_entries.specs.Entered.{expiries}
 use Rattle.stm_world.specs.declared.event.WorldEvent.{WorldEvent}
 use Rattle.stm_world.specs.declared.event.WorldEvent.TheVariants.{Start, Step, Txn, Grant, Keep, Revoke, Advance, WatchKey, WatchRange, Poll, Cancel, Compact}
 use Rattle.stm_world.specs.declared.reply.Reply.{Reply}
@@ -19,11 +20,11 @@ use Rattle.stm_world.specs.declared.reply.Reply.TheVariants.{Txn as TxnDone, Gra
 use Rattle.stm_world.specs.declared.refusal.Denied.{Denied}
 use Rattle.stm_world.specs.Reported.{advance_reply}
 use Rattle.stm_world.specs.Log.{expired_reported}
-use Rattle.stm_world.specs.World.{World, step, expiries, world_after, replies_to}
+use Rattle.stm_world.specs.World.{World, step, world_after, replies_to}
 use Rattle.stm_world.specs.Sound.{after_expiries}
 use Rattle.stm_world.proofs.Calls.{advance_ended, advance_due}
 use Rattle.stm_retry.specs.declared.world.RunStop.{RunStop}
-use Rattle.stm_retry.specs.CallReturns.{world_of}
+use Rattle.stm_retry.proofs.CallLemmas.{world_with}
 use Rattle.stm_retry.specs.Returns.{IsUnchanged, IsCutShort, OutOfMemoryReturns, OutOfMemoryReturnsAt, IsRunStop}
 use Rattle.stm_retry.specs.Stops.{with_expired, first_with_expired, RepeatsAlike, GoesOnAlike, Stop, AreStops, ComeToTheWhole}
 use Rattle.stm_retry.specs.Stops.{StopsGoOn, WrongStops}
@@ -113,9 +114,9 @@ expired_repeats moment expired old left above come =
     let whole : advanced old.standing moment ≡ after expired rest = advances_go_on old.standing left moment expired above come in
     record {
       reply_is = ap (λ (a : StoreAdvance). advance_reply moment a.expired a.cause) whole ∙ reported_behind moment expired rest.expired rest.cause;
-      next_is = ap (λ (a : StoreAdvance). world_of old.runners a.leaves (old.entries ++ expiries a.expired)) whole
-          ∙ ap (λ (l : List Entry). world_of old.runners rest.leaves (old.entries ++ l)) (expiries-append expired rest.expired)
-          ∙ ap (λ (l : List Entry). world_of old.runners rest.leaves l) (sym (append_assoc old.entries (expiries expired) (expiries rest.expired)));
+      next_is = ap (λ (a : StoreAdvance). world_with old.runners a.leaves (old.entries ++ expiries a.expired)) whole
+          ∙ ap (λ (l : List Entry). world_with old.runners rest.leaves (old.entries ++ l)) (expiries-append expired rest.expired)
+          ∙ ap (λ (l : List Entry). world_with old.runners rest.leaves l) (sym (append_assoc old.entries (expiries expired) (expiries rest.expired)));
     }
 
 cut_repeats : (moment : ℕ) (expired : List Expired) (old new : World) → old.standing.moment ≤ moment → IsCutShort moment expired old new →

@@ -16,47 +16,66 @@ use Rattle.stm_world.specs.declared.reply.Reply.{Reply}
 use Rattle.stm_world.specs.declared.reply.Reply.TheVariants.{Lost}
 use Rattle.stm_world.specs.declared.refusal.Refusal.TheVariants.{Store}
 use Rattle.stm_world.specs.declared.refusal.Denied.{Denied}
-use Rattle.stm_world.specs.Reported.{denied, reply_to, poll_reply, store_after_call, store_after_poll}
+use Rattle.stm_world.specs.Reported.{denied, reply_to, batch_reply, poll_reply, store_after_call, store_after_poll}
 use Rattle.stm_world.specs.World.{Slot, Stepped, step, quietly_called}
 use Rattle.stm_retry.specs.Returns.{OutOfMemoryReturns, Returns}
-use Rattle.stm_retry.specs.CallReturns.{world_of, WatchReturns}
+use Rattle.stm_retry.specs.WorldOf.{world_of}
+use Rattle.stm_retry.specs.CallReturns.{CallReturns}
 use Rattle.stm_world.proofs.Wants.{NeverWants}
-use Rattle.stm_retry.proofs.CallLemmas.{refusal_reports}
+use Rattle.stm_journal.specs.JournalState.{JournalState, with_store}
+use Rattle.stm_retry.proofs.CallLemmas.{refusal_reports, world_with, QuietReturns, quiet_returns}
 
 -- ---- what is told ----
 
 -- the world's step at an event is this call of the store, which is no entry
 abbrev pub IsWatchCall : {A : Type 0} → WorldEvent → (A → Reply) → Standing → Result (StoreStep A) StoreRefusal → Type 0
 IsWatchCall event report s o =
-    (runners : List Slot) (es : List Entry) → step event (world_of runners s es) ≡ quietly_called (reply_to report o) (store_after_call s o) (world_of runners s es)
+    (runners : List Slot) (es : List Entry) → step event (world_with runners s es) ≡ quietly_called (reply_to report o) (store_after_call s o) (world_with runners s es)
 
 -- want of memory is told of the event where the step takes it
 abbrev pub MayWant : WorldEvent → Standing → Type 0
-MayWant event s = (runners : List Slot) (es : List Entry) → IsOk (step event (world_of runners s es)).reply →
-    OutOfMemoryReturns event [] (world_of runners s es) (world_of runners s es)
+MayWant event s = (runners : List Slot) (es : List Entry) → IsOk (step event (world_with runners s es)).reply →
+    OutOfMemoryReturns event [] (world_with runners s es) (world_with runners s es)
 
 refused_by : {A : Type 0} (event : WorldEvent) (report : A → Reply) (s : Standing) (o : Result (StoreStep A) StoreRefusal) (cause : StoreRefusal) →
-    IsWatchCall event report s o → MayWant event s → NeverWants o → IsRefusalOf o cause → WatchReturns event (denied (Store cause)) s s
+    IsWatchCall event report s o → MayWant event s → NeverWants o → IsRefusalOf o cause → QuietReturns event (denied (Store cause)) s s
 refused_by event report s (Ok done) cause call want never refusal es runners =
-    refusal_reports event (record { cause = Store cause; expired = [] }) cause (world_of runners s es) (world_of runners s es)
+    refusal_reports event (record { cause = Store cause; expired = [] }) cause (world_with runners s es) (world_with runners s es)
     (λ e. want runners es (subst (λ (x : Stepped). IsOk x.reply) (sym (call runners es)) refl))
     (λ not. absurd (not refusal))
 refused_by event report s (Err c) cause call want never refusal es runners =
-    refusal_reports event (record { cause = Store cause; expired = [] }) cause (world_of runners s es) (world_of runners s es)
+    refusal_reports event (record { cause = Store cause; expired = [] }) cause (world_with runners s es) (world_with runners s es)
     (λ e. absurd (never (sym refusal ∙ e)))
     (λ not. record {
       reply_is = ap (λ (x : Stepped). x.reply) (call runners es) ∙ ap (λ (r : StoreRefusal). denied (Store r)) (sym refusal);
       next_is = ap (λ (x : Stepped). x.next) (call runners es);
     })
 
--- one that was refused, by the store or for want of memory
-pub watch_refused : {A : Type 0} (event : WorldEvent) (report : A → Reply) (s next : Standing) (o : Result (StoreStep A) StoreRefusal)
-    (reply : Result Reply Denied) (cause : StoreRefusal) → IsWatchCall event report s o → MayWant event s → NeverWants o → IsRefusalOf o cause →
-    reply ≡ denied (Store cause) → next ≡ s → WatchReturns event reply s next
-watch_refused event report s next o reply cause call want never refusal replied same es runners =
-    subst (λ (r : Result Reply Denied). Returns event r (world_of runners s es) (world_of runners next es)) (sym replied)
-    (subst (λ (n : Standing). Returns event (denied (Store cause)) (world_of runners s es) (world_of runners n es)) (sym same)
-    (refused_by event report s o cause call want never refusal es runners))
+-- one that was taken
+taken_by : {A : Type 0} (event : WorldEvent) (report : A → Reply) (s next : Standing) (o : Result (StoreStep A) StoreRefusal) (answer : A)
+    (reply : Result Reply Denied) → IsWatchCall event report s o → o ≡ Ok record { answer = answer; next = next } → reply ≡ Ok (report answer) →
+    QuietReturns event reply s next
+taken_by event report s next o answer reply call taken replied es runners =
+    let one : step event (world_with runners s es) ≡ record { reply = Ok (report answer); next = world_with runners next es } =
+    call runners es
+    ∙ ap (λ (x : Result (StoreStep A) StoreRefusal). quietly_called (reply_to report x) (store_after_call s x) (world_with runners s es)) taken in
+    subst (λ (r : Result Reply Denied). Returns event r (world_with runners s es) (world_with runners next es)) (sym replied)
+    (record { reply_is = ap (λ (x : Stepped). x.reply) one; next_is = ap (λ (x : Stepped). x.next) one })
+
+pub watch_taken : {A : Type 0} (event : WorldEvent) (report : A → Reply) (before after : JournalState) (o : Result (StoreStep A) StoreRefusal) (answer : A)
+    (reply : Result Reply Denied) → IsWatchCall event report before.standing o → o ≡ Ok record { answer = answer; next = after.standing } →
+    after ≡ with_store before after.standing → reply ≡ Ok (report answer) → CallReturns event reply before after
+watch_taken event report before after o answer reply call taken same replied =
+    quiet_returns event reply before after same (taken_by event report before.standing after.standing o answer reply call taken replied)
+
+-- one that was refused, by the store or since memory ran out
+pub watch_refused : {A : Type 0} (event : WorldEvent) (report : A → Reply) (before after : JournalState) (o : Result (StoreStep A) StoreRefusal)
+    (reply : Result Reply Denied) (cause : StoreRefusal) → IsWatchCall event report before.standing o → MayWant event before.standing → NeverWants o →
+    IsRefusalOf o cause → reply ≡ denied (Store cause) → after ≡ before → CallReturns event reply before after
+watch_refused event report before after o reply cause call want never refusal replied same runners =
+    subst (λ (r : Result Reply Denied). Returns event r (world_of before runners) (world_of after runners)) (sym replied)
+    (subst (λ (j : JournalState). Returns event (denied (Store cause)) (world_of before runners) (world_of j runners)) (sym same)
+    (refused_by event report before.standing o cause call want never refusal before.entries runners))
 
 -- ---- a poll that was refused ----
 
@@ -69,37 +88,37 @@ poll_of s id most w lost = poll_step s (cond lost (Err LostToPoll) (Ok (record {
 
 -- what the world's step makes of the poll
 abbrev poll_stepped : Standing → ℕ → Result (StoreStep Batch) StoreRefusal → List Slot → List Entry → Stepped
-poll_stepped s id o runners es = quietly_called (poll_reply id s.floor o) (store_after_poll id s o) (world_of runners s es)
+poll_stepped s id o runners es = quietly_called (poll_reply id s.floor o) (store_after_poll id s o) (world_with runners s es)
 
 stepped_as : (s : Standing) (id most : ℕ) (o : Result (StoreStep Batch) StoreRefusal) → polled s id most ≡ o → (runners : List Slot) (es : List Entry) →
-    step (Poll id most) (world_of runners s es) ≡ poll_stepped s id o runners es
+    step (Poll id most) (world_with runners s es) ≡ poll_stepped s id o runners es
 stepped_as s id most o is runners es = ap (λ (x : Result (StoreStep Batch) StoreRefusal). poll_stepped s id x runners es) is
 
 -- none was there
-none_reports : (s : Standing) (id most : ℕ) → polled s id most ≡ Err NoWatcher → WatchReturns (Poll id most) (denied (Store NoWatcher)) s (poll_refused s id)
+none_reports : (s : Standing) (id most : ℕ) → polled s id most ≡ Err NoWatcher → QuietReturns (Poll id most) (denied (Store NoWatcher)) s (poll_refused s id)
 none_reports s id most is es runners =
-    let one : step (Poll id most) (world_of runners s es) ≡ poll_stepped s id (Err NoWatcher) runners es = stepped_as s id most (Err NoWatcher) is runners es in
+    let one : step (Poll id most) (world_with runners s es) ≡ poll_stepped s id (Err NoWatcher) runners es = stepped_as s id most (Err NoWatcher) is runners es in
     record { reply_is = ap (λ (x : Stepped). x.reply) one; next_is = ap (λ (x : Stepped). x.next) one }
 
 -- one was lost
-lost_reports : (s : Standing) (id most : ℕ) → polled s id most ≡ Err Compacted → WatchReturns (Poll id most) (Ok (Lost id s.floor)) s (poll_refused s id)
+lost_reports : (s : Standing) (id most : ℕ) → polled s id most ≡ Err Compacted → QuietReturns (Poll id most) (Ok (Lost id s.floor)) s (poll_refused s id)
 lost_reports s id most is es runners =
-    let one : step (Poll id most) (world_of runners s es) ≡ poll_stepped s id (Err Compacted) runners es = stepped_as s id most (Err Compacted) is runners es in
+    let one : step (Poll id most) (world_with runners s es) ≡ poll_stepped s id (Err Compacted) runners es = stepped_as s id most (Err Compacted) is runners es in
     record { reply_is = ap (λ (x : Stepped). x.reply) one; next_is = ap (λ (x : Stepped). x.next) one }
 
 -- memory was wanting
 out_of_memory_reports : (s : Standing) (id most : ℕ) (done : StoreStep Batch) → polled s id most ≡ Ok done →
-    WatchReturns (Poll id most) (denied (Store OutOfMemory)) s s
+    QuietReturns (Poll id most) (denied (Store OutOfMemory)) s s
 out_of_memory_reports s id most done is es runners =
-    let one : step (Poll id most) (world_of runners s es) ≡ poll_stepped s id (Ok done) runners es = stepped_as s id most (Ok done) is runners es in
+    let one : step (Poll id most) (world_with runners s es) ≡ poll_stepped s id (Ok done) runners es = stepped_as s id most (Ok done) is runners es in
     ((refl, refl), subst (λ (x : Stepped). IsOk x.reply) (sym one) refl)
 
 -- another reply and store that are the same
 reported_alike : (event : WorldEvent) (s next next' : Standing) (reply reply' : Result Reply Denied) → reply ≡ reply' → next ≡ next' →
-    WatchReturns event reply' s next' → WatchReturns event reply s next
+    QuietReturns event reply' s next' → QuietReturns event reply s next
 reported_alike event s next next' reply reply' replied same reports es runners =
-    subst (λ (r : Result Reply Denied). Returns event r (world_of runners s es) (world_of runners next es)) (sym replied)
-    (subst (λ (n : Standing). Returns event reply' (world_of runners s es) (world_of runners n es)) (sym same) (reports es runners))
+    subst (λ (r : Result Reply Denied). Returns event r (world_with runners s es) (world_with runners next es)) (sym replied)
+    (subst (λ (n : Standing). Returns event reply' (world_with runners s es) (world_with runners n es)) (sym same) (reports es runners))
 
 not_lost_stays : (s : Standing) (id : ℕ) (w : Watching) → watcher_at id s.watchers ≡ Some w → w.lost ≡ false → poll_refused s id ≡ s
 not_lost_stays s id w found kept =
@@ -109,7 +128,7 @@ not_lost_stays s id w found kept =
 refusal_by_lost : (s next : Standing) (id most floor : ℕ) (reply : Result Reply Denied) (cause : StoreRefusal) (w : Watching) (lost : Bool) →
     watcher_at id s.watchers ≡ Some w → w.lost ≡ lost → polled s id most ≡ poll_of s id most w lost → IsRefusalOf (poll_of s id most w lost) cause →
     (cause ≡ Compacted → reply ≡ Ok (Lost id floor)) → (cause ≢ Compacted → reply ≡ denied (Store cause)) → floor ≡ s.floor → next ≡ poll_refused s id →
-    WatchReturns (Poll id most) reply s next
+    QuietReturns (Poll id most) reply s next
 refusal_by_lost s next id most floor reply cause w true found is step refusal lost other floor_is left =
     reported_alike (Poll id most) s next (poll_refused s id) reply (Ok (Lost id s.floor)) (lost refusal ∙ ap (λ n. Ok (Lost id n)) floor_is) left
     (lost_reports s id most step)
@@ -122,7 +141,7 @@ refusal_by_place : (s next : Standing) (id most floor : ℕ) (reply : Result Rep
     watcher_at id s.watchers ≡ o → polled s id most ≡ poll_step s (poll_found s.history id most s.watchers o) →
     IsRefusalOf (poll_step s (poll_found s.history id most s.watchers o)) cause →
     (cause ≡ Compacted → reply ≡ Ok (Lost id floor)) → (cause ≢ Compacted → reply ≡ denied (Store cause)) → floor ≡ s.floor → next ≡ poll_refused s id →
-    WatchReturns (Poll id most) reply s next
+    QuietReturns (Poll id most) reply s next
 refusal_by_place s next id most floor reply cause None found step refusal lost other floor_is left =
     let not : cause ≢ Compacted = λ e. let both : NoWatcher ≡ Compacted = sym refusal ∙ e in absurd (cc) in
     reported_alike (Poll id most) s next (poll_refused s id) reply (denied (Store NoWatcher)) (other not ∙ ap (λ (c : StoreRefusal). denied (Store c)) refusal)
@@ -130,9 +149,24 @@ refusal_by_place s next id most floor reply cause None found step refusal lost o
 refusal_by_place s next id most floor reply cause (Some w) found step refusal lost other floor_is left =
     refusal_by_lost s next id most floor reply cause w w.lost found refl step refusal lost other floor_is left
 
--- a poll that was refused, by the store, since the watcher is lost, or for want of memory
-pub poll_refusal_reports : (s next : Standing) (id most floor : ℕ) (reply : Result Reply Denied) (cause : StoreRefusal) → IsRefusalOf (polled s id most) cause →
-    (cause ≡ Compacted → reply ≡ Ok (Lost id floor)) → (cause ≢ Compacted → reply ≡ denied (Store cause)) → floor ≡ s.floor → next ≡ poll_refused s id →
-    WatchReturns (Poll id most) reply s next
-poll_refusal_reports s next id most floor reply cause refusal lost other floor_is left =
-    refusal_by_place s next id most floor reply cause (watcher_at id s.watchers) refl refl refusal lost other floor_is left
+-- a poll that was refused, by the store, since the watcher is lost, or since memory ran out
+pub poll_refusal_reports : (before after : JournalState) (id most floor : ℕ) (reply : Result Reply Denied) (cause : StoreRefusal) →
+    IsRefusalOf (polled before.standing id most) cause → (cause ≡ Compacted → reply ≡ Ok (Lost id floor)) →
+    (cause ≢ Compacted → reply ≡ denied (Store cause)) → floor ≡ before.standing.floor → after.standing ≡ poll_refused before.standing id →
+    after ≡ with_store before after.standing → CallReturns (Poll id most) reply before after
+poll_refusal_reports before after id most floor reply cause refusal lost other floor_is left same =
+    let s : Standing = before.standing in
+    quiet_returns (Poll id most) reply before after same
+    (refusal_by_place s after.standing id most floor reply cause (watcher_at id s.watchers) refl refl refusal lost other floor_is left)
+
+-- one that the store took
+pub poll_taken : (before after : JournalState) (id most : ℕ) (batch : Batch) →
+    polled before.standing id most ≡ Ok record { answer = batch; next = after.standing } → after ≡ with_store before after.standing →
+    CallReturns (Poll id most) (Ok (batch_reply id batch)) before after
+poll_taken before after id most batch taken same =
+    quiet_returns (Poll id most) (Ok (batch_reply id batch)) before after same
+    (λ es runners.
+    let one : step (Poll id most) (world_with runners before.standing es)
+    ≡ poll_stepped before.standing id (Ok record { answer = batch; next = after.standing }) runners es =
+    stepped_as before.standing id most (Ok record { answer = batch; next = after.standing }) taken runners es in
+    record { reply_is = ap (λ (x : Stepped). x.reply) one; next_is = ap (λ (x : Stepped). x.next) one })

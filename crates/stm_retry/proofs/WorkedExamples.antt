@@ -17,13 +17,14 @@ use Rattle.stm_outcome.specs.declared.advance.Expired.{Expired}
 use Rattle.stm_txn.specs.Standing.{Standing, Advance as StoreAdvance, after, expire_all, at_moment, without_lease, HasCome}
 use Rattle.stm_txn.proofs.Ending.{one_ended, next_ended, done}
 use Rattle.stm_entries.specs.declared.entry.Entry.TheVariants.{Expire}
+use Rattle.stm_entries.specs.Entered.{expiries}
 use Rattle.stm_world.specs.declared.event.WorldEvent.{WorldEvent}
 use Rattle.stm_world.specs.declared.event.WorldEvent.TheVariants.{Advance}
 use Rattle.stm_world.specs.declared.reply.Reply.TheVariants.{Advanced}
 use Rattle.stm_world.specs.Reported.{advance_reply}
-use Rattle.stm_world.specs.World.{World, expiries, world_after, replies_to}
+use Rattle.stm_world.specs.World.{World, world_after, replies_to}
 use Rattle.stm_world.specs.Sound.{after_expiries}
-use Rattle.stm_retry.specs.CallReturns.{world_of}
+use Rattle.stm_retry.proofs.CallLemmas.{world_with}
 use Rattle.stm_retry.specs.Returns.{IsRunStop}
 use Rattle.stm_retry.specs.Stops.{GoesOnAlike, Stop, ComeToTheWhole}
 use Rattle.stm_retry.proofs.Stops.{stops_go_on, wrong_stops}
@@ -160,7 +161,7 @@ abbrev advance : List WorldEvent
 advance = Advance 9 ∷ []
 
 abbrev world : World
-world = world_of [] store []
+world = world_with [] store []
 
 abbrev cut : World
 cut = after_expiries world one_left (first_expired ∷ [])

@@ -27,7 +27,7 @@ use Rattle.stm_txn.specs.Standing.{Setup}
 use Rattle.stm_outcome.specs.Terms.{is_below_floor}
 use Rattle.stm_world.specs.declared.reply.Reply.TheVariants.{Ended}
 use Rattle.stm_compile.specs.Committed.{committed}
-use Rattle.stm_compile.specs.Conflicts.{Seen, seen_by}
+use Rattle.stm_compile.specs.Conflicts.{Seen, seen_by, seen_in}
 use Rattle.stm_attempt.specs.Settled.{run_on}
 use Rattle.stm_attempt.specs.Entering.{is_due}
 use Rattle.stm_attempt.specs.Fetches.{at_of}
@@ -38,7 +38,7 @@ use Rattle.stm_world.specs.declared.refusal.Refusal.{Refusal}
 use Rattle.stm_world.specs.declared.refusal.Refusal.TheVariants.{Store, BadLimit, NoRunner}
 use Rattle.stm_world.specs.declared.refusal.Denied.{Denied}
 use Rattle.stm_world.specs.Task.{Task}
-use Rattle.stm_world.specs.World.{World, Runner, Stepped, Over, runner_at, refused, replied, start_runner, fetch, seen_in, fail_commit, decided, commit_reported, commit, finish}
+use Rattle.stm_world.specs.World.{World, Runner, Stepped, Over, runner_at, refused, replied, start_runner, fetch, fail_commit, decided, commit_reported, commit, finish}
 use Rattle.stm_world.specs.World.{fetch_list, step_on, step_live, step_runner}
 use Rattle.stm_world.specs.World.{step, world_after, replies_to}
 use Rattle.stm_world.specs.Sound.{IsSound}
@@ -48,7 +48,7 @@ use Rattle.stm_compile.proofs.ConflictLemmas.{failed_compares_conflict}
 use Rattle.stm_world.proofs.RunnerSteps.{CommitLaws}
 use Rattle.stm_world.proofs.GoingOn.{headline_goes_on}
 use Rattle.stm_world.proofs.Sound.{step_is_sound, expiries_are_sound}
-use Rattle.stm_retry.specs.MachineReturns.{Returns as MachineReturns, as_reply}
+use Rattle.stm_retry.specs.StepReturns.{Returns as StepReturns, as_reply}
 use Rattle.stm_retry.specs.Returns.{IsStep, IsUnchanged, IsCutShort, OutOfMemoryReturns, OutOfMemoryReturnsAt, IsRunStop, StoreRefusalReturns, RefusalReturns, Returns}
 use Rattle.stm_retry.specs.Returns.{is_out_of_memory_of_store, is_want, ran_out, expired_of}
 
@@ -140,7 +140,7 @@ plain_reports event d NoRunner old new plain is = is
 
 -- an event of a runner: what the call of the machine makes is what is told
 runner_reports : (event : WorldEvent) (outcome : Result (Result Reply Denied) AllocError) (old new : World) → PlainOnly (step event old).reply →
-    (new ≡ old → IsOk (step event old).reply → OutOfMemoryReturns event [] old new) → MachineReturns outcome old new (step event old) →
+    (new ≡ old → IsOk (step event old).reply → OutOfMemoryReturns event [] old new) → StepReturns outcome old new (step event old) →
     Returns event (as_reply outcome) old new
 runner_reports event (Ok (Ok reply)) old new plain want made = record { reply_is = made.0; next_is = made.1 }
 runner_reports event (Ok (Err d)) old new plain want made =
@@ -148,14 +148,14 @@ runner_reports event (Ok (Err d)) old new plain want made =
 runner_reports event (Err e) old new plain want made = want made.0 made.1
 
 pub start_reports : (program : ProgramTree) (level : Level) (limit : ℕ) (outcome : Result (Result Reply Denied) AllocError) (old new : World) →
-    MachineReturns outcome old new (start_runner (record { program = program; level = level; limit = limit }) old) →
+    StepReturns outcome old new (start_runner (record { program = program; level = level; limit = limit }) old) →
     Returns (Start program level limit) (as_reply outcome) old new
 start_reports program level limit outcome old new made =
     runner_reports (Start program level limit) outcome old new (start_plain (record { program = program; level = level; limit = limit }) old)
     (λ same taken. ((refl, same), taken)) made
 
 pub step_reports : (id : ℕ) (outcome : Result (Result Reply Denied) AllocError) (old new : World) →
-    MachineReturns outcome old new (step_runner id (runner_at id old.runners) old) → Returns (Step id) (as_reply outcome) old new
+    StepReturns outcome old new (step_runner id (runner_at id old.runners) old) → Returns (Step id) (as_reply outcome) old new
 step_reports id outcome old new made =
     runner_reports (Step id) outcome old new (step_plain id (runner_at id old.runners) old) (λ same taken. ((refl, same), taken)) made
 

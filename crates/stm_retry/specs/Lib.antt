@@ -1,9 +1,9 @@
-pub mod Codes
 pub mod Returns
 pub mod Stops
+pub mod WorldOf
 pub mod CallReturns
-pub mod MachineReturns
+pub mod StepReturns
 pub mod Kept
 pub mod RunnerView
 pub mod RunnerReturns
-pub use Rattle.stm_calls.specs.StateOf
+pub use Rattle.stm_journal.specs.StateOf

@@ -1,4 +1,4 @@
--- What a step of a runner tells, and what it leaves of the store, the entries and the runner.
+-- What a step of a runner tells, and what it leaves of the journal and the runner.
 use Rattle.std.specs.Prelude.{◌≡◌, ℕ, ◌+◌, nat_lt, Bool, false, if◌then◌else◌, List, map, Result, Ok, Err}
 use Rattle.stm_history.specs.declared.key_state.ReadAnswer.{ReadAnswer}
 use Rattle.stm_history.specs.History.{mod_of}
@@ -8,11 +8,10 @@ use Rattle.stm_steps.specs.declared.run.End.TheVariants.{Done, Aborted as Aborte
 use Rattle.stm_steps.specs.declared.run.Run.{Run}
 use Rattle.stm_steps.specs.declared.run.Answered.TheVariants.{Ended as EndedRun}
 use Rattle.stm_outcome.specs.declared.refusal.Refusal.{Refusal as StoreRefusal}
-use Rattle.stm_txn.specs.Standing.{Standing}
 use Rattle.stm_attempt.specs.Settled.{run_on}
 use Rattle.stm_attempt.specs.Entering.{is_due}
 use Rattle.stm_attempt.specs.ReadyRun.{ReadyRun, ready_run}
-use Rattle.stm_entries.specs.declared.entry.Entry.{Entry}
+use Rattle.stm_journal.specs.JournalState.{JournalState}
 use Rattle.stm_world.specs.declared.reply.Reply.{Reply}
 use Rattle.stm_world.specs.declared.reply.KeyRead.{KeyRead}
 use Rattle.stm_world.specs.declared.reply.Reply.TheVariants.{Prefetched, Fetched, Conflict, GaveUp, Aborted, Faulted, Ended}
@@ -21,19 +20,19 @@ use Rattle.stm_world.specs.World.{World, Stepped, Runner, Slot, Over, Live, with
 use Rattle.stm_retry.specs.declared.step_outcome.StepOutcome.{StepOutcome}
 use Rattle.stm_retry.specs.declared.step_outcome.StepOutcome.TheVariants.{GoesOn, Ends}
 use Rattle.stm_retry.specs.RunnerView.{with_answer, with_answers}
+use Rattle.stm_retry.specs.WorldOf.{world_of}
 
 -- what a step of a runner works on
 pub record Workplace : Type 0 where
-  pub standing : Standing
-  pub entries : List Entry
+  pub journal : JournalState
   pub runner : Runner
 
-abbrev pub workplace : Standing → List Entry → Runner → Workplace
-workplace standing entries runner = record { standing = standing; entries = entries; runner = runner }
+abbrev pub workplace : JournalState → Runner → Workplace
+workplace journal runner = record { journal = journal; runner = runner }
 
 -- the world around it, by the places of the runners
 abbrev pub world_around : Workplace → List Slot → World
-world_around p slots = record { standing = p.standing; runners = slots; entries = p.entries }
+world_around p slots = world_of p.journal slots
 
 abbrev pub reply_in : StepOutcome → Reply
 reply_in (GoesOn reply) = reply

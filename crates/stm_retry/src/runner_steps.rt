@@ -1,5 +1,5 @@
 //! The steps of runners.
-ghost use Rattle.std.specs.Prelude.{◌≡◌, ◌≢◌, ◌<◌, ◌≤◌, ◌∷◌, ◌++◌, [], Some, Ok, true, false, length, map, All, IfOk, OnOk, OnErr, vec_len, vec_capacity};
+ghost use Rattle.std.specs.Prelude.{◌≡◌, ◌≢◌, ◌<◌, ◌≤◌, [], Some, Ok, true, false, length, map, All, IfOk, OnOk, OnErr};
 ghost use Rattle.stm_history.specs.declared.key_state.ReadAnswer.{ReadAnswer as Answer};
 ghost use Rattle.stm_history.specs.History.{now, mod_of};
 ghost use Rattle.stm_steps.specs.declared.run.End.TheVariants.{Done};
@@ -10,30 +10,27 @@ ghost use Rattle.stm_outcome.specs.Commits.{AreNamed as KeysAreNamed};
 ghost use Rattle.stm_program.specs.Levels.{is_serializable};
 ghost use Rattle.stm_attempt.specs.Known.{HaveDistinctKeys};
 ghost use Rattle.stm_attempt.specs.Fetches.{ShowOneRevision, at_of};
-ghost use Rattle.stm_calls.specs.Fetched.{fetch_reported, fetch_all_reported};
-ghost use Rattle.stm_entries.specs.declared.entry.Entry.TheVariants.{Program as ProgramEntry};
+ghost use Rattle.stm_journal.specs.Fetched.{fetch_reported, fetch_all_reported};
 ghost use Rattle.stm_world.specs.declared.reply.Reply.TheVariants.{Prefetched, Fetched, Started, Committed, Ended};
-ghost use Rattle.stm_world.specs.Task.{answers_reported};
 ghost use Rattle.stm_world.specs.World.{Runner as LiveRunner, start_runner, step_runner, step_live, commit as commit_of, runner_at};
 ghost use Rattle.stm_retry.specs.declared.step_outcome.StepOutcome.TheVariants.{GoesOn, Ends};
-ghost use Rattle.stm_retry.specs.MachineReturns.{Returns};
+ghost use Rattle.stm_retry.specs.StepReturns.{Returns};
 ghost use Rattle.stm_retry.specs.RunnerView.{task_of, AreNamed, with_answer, with_answers, begun_again};
 ghost use Rattle.stm_retry.specs.RunnerReturns.{workplace, Leaves, ReturnsEnd, IsReady, reported_of_fetch, after_reported_fetch, key_read, reported_of_list, after_reported_list, reported_of_failure, may_go_on, reply_in, reply_reported, slot_left};
 
-use crate::entries::entry_of;
-use crate::machine::{Machine, denied};
+use crate::parts::{Parts, denied};
 use crate::runner::Runner;
 use crate::shared_runner::SharedRunner;
 use crate::slots::{Slot, put_slot, take_runner};
 use crate::step_outcome::StepOutcome;
 use std::alloc::{AllocError, Global};
 use stm_attempt::{Next, Ready};
-use stm_calls::{Copies, Sent, copies_of};
 use stm_history::{KeyState, ReadAnswer, Sequence, Text};
+use stm_journal::{Copies, Journal, Verdict, copies_of};
 use stm_meaning::{End, Run};
 use stm_program::{Level, Program};
-use stm_txn::{Refusal as StoreRefusal, Store};
-use stm_world::{Denied, Entry, KeyRead, Refusal, Reply};
+use stm_txn::Refusal as StoreRefusal;
+use stm_world::{Denied, KeyRead, Refusal, Reply};
 
 /// The modification revision of a key's state, 0 where it is absent.
 fn mod_rev_in(kv: &Option<KeyState>) -> u64
@@ -74,7 +71,7 @@ fn take_answer(
 /// Fetches the key that a runner waits for. A fetch that the store refuses, since its revision is compacted, ends the run.
 fn fetch(
     alloc: Global,
-    store: &mut Store,
+    journal: &mut Journal,
     id: u64,
     runner: &mut Runner,
     key: Text,
@@ -82,14 +79,13 @@ fn fetch(
 ) -> Result<StepOutcome, AllocError>
     requires asked { runner.old.awaits ≡ Some key }
     requires named { 0 < length key }
-    requires reached { at ≤ now store.old.standing.history }
-    ensures reported { IfOk result (λ reported. reported ≡ reported_of_fetch id key (fetch_reported store.old.standing key at)) }
-    ensures ok { OnOk result (runner.new.runner ≡ after_reported_fetch (fetch_reported store.old.standing key at) runner.old.runner) }
+    requires reached { at ≤ now journal.old.standing.history }
+    ensures reported { IfOk result (λ reported. reported ≡ reported_of_fetch id key (fetch_reported journal.old.standing key at)) }
+    ensures ok { OnOk result (runner.new.runner ≡ after_reported_fetch (fetch_reported journal.old.standing key at) runner.old.runner) }
     ensures err { OnErr result (runner.new.runner ≡ runner.old.runner) }
-    ensures store { store.new.standing ≡ store.old.standing }
+    ensures journal { journal.new ≡ journal.old }
 {
-    let fetched = stm_calls::fetch(alloc, store, key.as_str(), at);
-    match fetched {
+    match journal.fetch_key(alloc, key.as_str(), at) {
         Ok(answer) => take_answer(id, runner, key, answer),
         Err(cause) => end_refused(id, cause),
     }
@@ -143,20 +139,20 @@ fn take_answers(
 /// run.
 fn fetch_list(
     alloc: Global,
-    store: &mut Store,
+    journal: &mut Journal,
     id: u64,
     runner: &mut Runner,
     keys: &[Text],
 ) -> Result<StepOutcome, AllocError>
     requires asked { runner.old.awaits_list ≡ Some keys.now }
     requires named { KeysAreNamed keys.now }
-    ensures reported { IfOk result (λ reported. reported ≡ reported_of_list id (now store.old.standing.history) (fetch_all_reported store.old.standing keys.now)) }
-    ensures ok { OnOk result (runner.new.runner ≡ after_reported_list (fetch_all_reported store.old.standing keys.now) runner.old.runner) }
+    ensures reported { IfOk result (λ reported. reported ≡ reported_of_list id (now journal.old.standing.history) (fetch_all_reported journal.old.standing keys.now)) }
+    ensures ok { OnOk result (runner.new.runner ≡ after_reported_list (fetch_all_reported journal.old.standing keys.now) runner.old.runner) }
     ensures err { OnErr result (runner.new.runner ≡ runner.old.runner) }
-    ensures store { store.new.standing ≡ store.old.standing }
+    ensures journal { journal.new ≡ journal.old }
 {
-    let revision = store.keys().revision();
-    match stm_calls::fetch_all(alloc, store, keys) {
+    let revision = journal.store().keys().revision();
+    match journal.fetch_list(alloc, keys) {
         Ok(answers) => take_answers(alloc, id, runner, revision, answers),
         Err(cause) => end_refused(id, cause),
     }
@@ -230,22 +226,6 @@ fn end_refused(id: u64, cause: StoreRefusal) -> Result<StepOutcome, AllocError>
     Ok(StepOutcome::Ends(Reply::Ended { runner: id, cause }))
 }
 
-/// Takes what a commit that succeeds takes of memory: the copies that are told of it, and room for its entry.
-fn prepare(alloc: Global, entries: &mut Vec<Entry>, ready: &Ready) -> Result<Copies, AllocError>
-    ensures output { IfOk result (λ copies. copies.output ≡ ready.now.output) }
-    ensures trace { IfOk result (λ copies. copies.trace ≡ ready.now.trace) }
-    ensures answers { IfOk result (λ copies. copies.answers ≡ answers_reported ready.now.level ready.now.answers) }
-    ensures room { OnOk result (vec_len entries.new < vec_capacity entries.new) }
-    ensures same { entries.new.items ≡ entries.old.items }
-{
-    let copies = copies_of(alloc, ready)?;
-    if entries.reserve(1).is_err() {
-        drop(copies);
-        return Err(AllocError);
-    }
-    Ok(copies)
-}
-
 /// The reply of a run whose commit succeeded, after which the store's revision is this.
 fn reply_committed(id: u64, revision: u64, attempts: u32, copies: Copies) -> Reply
     ensures { result ≡ Committed id revision attempts copies.output copies.trace copies.answers }
@@ -260,53 +240,32 @@ fn reply_committed(id: u64, revision: u64, attempts: u32, copies: Copies) -> Rep
     }
 }
 
-/// Ends a run whose commit succeeded: enters the commit, after which the store's revision is this, and tells it.
-fn end_committed(
-    alloc: Global,
-    entries: &mut Vec<Entry>,
-    id: u64,
-    attempts: u32,
-    ready: Ready,
-    copies: Copies,
-    revision: u64,
-) -> StepOutcome
-    requires { vec_len entries.old < vec_capacity entries.old }
-    ensures reported { result ≡ Ends (Committed id revision attempts copies.output copies.trace copies.answers) }
-    ensures entered { entries.new.items ≡ entries.old.items ++
-        ProgramEntry ready.program ready.level (answers_reported ready.level ready.answers) ready.output ready.trace revision ∷ [] }
-{
-    entries.push_reserved(entry_of(alloc, ready, revision));
-    StepOutcome::Ends(reply_committed(id, revision, attempts, copies))
-}
-
 /// Sends the commit of a run that is done.
 ///
-/// All that a commit which succeeds takes of memory is taken before it is sent.
+/// All that is reported of a commit which succeeds is copied before it is sent.
 fn commit(
     alloc: Global,
-    store: &mut Store,
-    entries: &mut Vec<Entry>,
+    journal: &mut Journal,
     id: u64,
     runner: &mut Runner,
     ready: Ready,
 ) -> Result<StepOutcome, AllocError>
     requires named { AreNamed ready.answers }
     requires is_ready { (run : ARun) × IsReady runner.old.runner run ready }
-    ensures { (run : ARun) → IsReady runner.old.runner run ready → Leaves id result
-        (workplace store.old.standing entries.old.items runner.old.runner) (workplace store.new.standing entries.new.items runner.new.runner)
-        (commit_of id runner.old.runner runner.old.runner.known.reads run) }
+    ensures { (run : ARun) → IsReady runner.old.runner run ready → Leaves id result (workplace journal.old runner.old.runner)
+        (workplace journal.new runner.new.runner) (commit_of id runner.old.runner runner.old.runner.known.reads run) }
 {
-    let Ok(copies) = prepare(alloc, entries, &ready) else {
+    let Ok(copies) = copies_of(alloc, &ready) else {
         drop(ready);
         return Err(AllocError);
     };
-    match stm_calls::commit(alloc, store, &ready) {
-        Ok(Sent::Committed { revision }) => {
+    match journal.commit_trusted(alloc, ready) {
+        Ok(Verdict::Committed { index: _, revision }) => {
             let attempts = runner.attempts();
-            Ok(end_committed(alloc, entries, id, attempts, ready, copies, revision))
+            Ok(StepOutcome::Ends(reply_committed(id, revision, attempts, copies)))
         }
         Ok(
-            Sent::Failed {
+            Verdict::Failed {
                 key,
                 seen,
                 now,
@@ -314,12 +273,10 @@ fn commit(
             },
         ) => {
             drop(copies);
-            drop(ready);
             fail_commit(alloc, id, runner, key, seen, now, answers)
         }
         Err(cause) => {
             drop(copies);
-            drop(ready);
             end_refused(id, cause)
         }
     }
@@ -329,27 +286,26 @@ fn commit(
 /// most one transaction.
 pub(crate) fn step_live(
     alloc: Global,
-    store: &mut Store,
-    entries: &mut Vec<Entry>,
+    journal: &mut Journal,
     id: u64,
     runner: &mut Runner,
 ) -> Result<StepOutcome, AllocError>
-    requires { at_of runner.old.runner.task.level runner.old.runner.known.reads ≤ now store.old.standing.history }
-    ensures { Leaves id result (workplace store.old.standing entries.old.items runner.old.runner)
-        (workplace store.new.standing entries.new.items runner.new.runner) (step_live id runner.old.runner) }
+    requires { at_of runner.old.runner.task.level runner.old.runner.known.reads ≤ now journal.old.standing.history }
+    ensures { Leaves id result (workplace journal.old runner.old.runner)
+        (workplace journal.new runner.new.runner) (step_live id runner.old.runner) }
 {
     let next = runner.advance()?;
     match next {
         Next::FetchAll { keys, .. } => {
-            let reported = fetch_list(alloc, store, id, runner, keys.as_slice())?;
+            let reported = fetch_list(alloc, journal, id, runner, keys.as_slice())?;
             Ok(reported)
         }
         Next::Fetch { key, at } => {
-            let reported = fetch(alloc, store, id, runner, key, at)?;
+            let reported = fetch(alloc, journal, id, runner, key, at)?;
             Ok(reported)
         }
         Next::Ready(ready) => {
-            let reported = commit(alloc, store, entries, id, runner, ready)?;
+            let reported = commit(alloc, journal, id, runner, ready)?;
             Ok(reported)
         }
         Next::Aborted(run) => Ok(StepOutcome::Ends(reply_at_end(id, run))),
@@ -389,7 +345,7 @@ fn reply_of(outcome: Result<StepOutcome, AllocError>) -> Result<Result<Reply, De
     }
 }
 
-impl Machine {
+impl Parts {
     /// Adds a runner, whose run may send so many commits, and gives its number.
     ///
     /// Want of memory is the only refusal, and leaves the world as it was.
@@ -445,7 +401,7 @@ impl Machine {
         let Some(mut runner) = take_runner(&mut self.runners, id) else {
             return Ok(Err(denied(alloc, Refusal::NoRunner)));
         };
-        let reported = runner.step(alloc, &mut self.store, &mut self.entries, id);
+        let reported = runner.step(alloc, &mut self.journal, id);
         let slot = slot_after(&reported, runner);
         put_slot(&mut self.runners, id, slot);
         reply_of(reported)

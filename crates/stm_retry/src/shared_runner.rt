@@ -11,8 +11,7 @@ use crate::step_outcome::StepOutcome;
 use std::alloc::{AllocError, Global};
 use std::marker::Model;
 use std::sync::Arc;
-use stm_txn::Store;
-use stm_world::Entry;
+use stm_journal::Journal;
 
 /// A runner that stands once for a world and its copies, until one of them makes a step of it.
 ///
@@ -47,16 +46,15 @@ impl SharedRunner {
     pub(crate) fn step(
         &mut self,
         alloc: Global,
-        store: &mut Store,
-        entries: &mut Vec<Entry>,
+        journal: &mut Journal,
         id: u64,
     ) -> Result<StepOutcome, AllocError>
-        requires { at_of self.old.runner.task.level self.old.runner.known.reads ≤ now store.old.standing.history }
-        ensures { Leaves id result (workplace store.old.standing entries.old.items self.old.runner)
-            (workplace store.new.standing entries.new.items self.new.runner) (step_live id self.old.runner) }
+        requires { at_of self.old.runner.task.level self.old.runner.known.reads ≤ now journal.old.standing.history }
+        ensures { Leaves id result (workplace journal.old self.old.runner)
+            (workplace journal.new self.new.runner) (step_live id self.old.runner) }
     {
         match Arc::make_mut(&mut self.runner) {
-            Ok(runner) => step_live(alloc, store, entries, id, runner),
+            Ok(runner) => step_live(alloc, journal, id, runner),
             Err(error) => Err(error),
         }
     }

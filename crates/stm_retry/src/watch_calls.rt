@@ -1,4 +1,4 @@
-//! The events that are about watchers, and a compaction. Each is one call of the store, and none is an entry.
+//! The events that are about watchers, and a compaction. Each is one call of the journal's store, and none is an entry.
 ghost use Rattle.std.specs.Prelude.{◌≡◌, ◌≢◌, Ok};
 ghost use Rattle.stm_outcome.specs.declared.refusal.Refusal.TheVariants.{Compacted as CompactedRefusal};
 ghost use Rattle.stm_txn.specs.Standing.{compacted};
@@ -7,23 +7,25 @@ ghost use Rattle.stm_world.specs.declared.refusal.Refusal.TheVariants.{Store as 
 ghost use Rattle.stm_world.specs.Reported.{denied as denied_for, reply_to, store_after_call};
 ghost use Rattle.stm_world.specs.declared.event.WorldEvent.TheVariants.{WatchKey as WatchKeyEvent, WatchRange as WatchRangeEvent};
 ghost use Rattle.stm_world.specs.declared.event.WorldEvent.TheVariants.{Poll as PollEvent, Cancel as CancelEvent};
-ghost use Rattle.stm_retry.specs.CallReturns.{WatchReturns};
+ghost use Rattle.stm_retry.specs.CallReturns.{CallReturns};
+ghost use Rattle.stm_journal.specs.JournalState.{with_store};
 
 use crate::store_calls::refuse;
 use std::alloc::Global;
-use stm_txn::{Refusal as StoreRefusal, Store};
+use stm_journal::Journal;
+use stm_txn::Refusal as StoreRefusal;
 use stm_world::{Denied, Reply};
 
 /// Begins to watch a key.
 pub(crate) fn watch_key(
     alloc: Global,
-    store: &mut Store,
+    journal: &mut Journal,
     key: &str,
     from: u64,
 ) -> Result<Reply, Denied>
-    ensures { WatchReturns (WatchKeyEvent key.now from) result store.old.standing store.new.standing }
+    ensures { CallReturns (WatchKeyEvent key.now from) result journal.old journal.new }
 {
-    match store.watch_key(key, from) {
+    match journal.watch_key(key, from) {
         Ok(watcher) => Ok(Reply::Watching { watcher }),
         Err(cause) => refuse(alloc, cause),
     }
@@ -32,14 +34,14 @@ pub(crate) fn watch_key(
 /// Begins to watch a range of keys.
 pub(crate) fn watch_range(
     alloc: Global,
-    store: &mut Store,
+    journal: &mut Journal,
     first: &str,
     end: &str,
     from: u64,
 ) -> Result<Reply, Denied>
-    ensures { WatchReturns (WatchRangeEvent first.now end.now from) result store.old.standing store.new.standing }
+    ensures { CallReturns (WatchRangeEvent first.now end.now from) result journal.old journal.new }
 {
-    match store.watch_range(first, end, from) {
+    match journal.watch_range(first, end, from) {
         Ok(watcher) => Ok(Reply::Watching { watcher }),
         Err(cause) => refuse(alloc, cause),
     }
@@ -64,38 +66,38 @@ fn refuse_poll(
 /// Gives what is pending for a watcher, of at most so many revisions. One that is lost is told so, and given up.
 pub(crate) fn poll(
     alloc: Global,
-    store: &mut Store,
+    journal: &mut Journal,
     watcher: u64,
     most: u64,
 ) -> Result<Reply, Denied>
-    ensures { WatchReturns (PollEvent watcher most) result store.old.standing store.new.standing }
+    ensures { CallReturns (PollEvent watcher most) result journal.old journal.new }
 {
-    match store.poll(watcher, most) {
+    match journal.poll(watcher, most) {
         Ok(batch) => Ok(Reply::Batch {
             watcher,
             upto: batch.upto,
             events: batch.events,
         }),
-        Err(cause) => refuse_poll(alloc, watcher, store.floor(), cause),
+        Err(cause) => refuse_poll(alloc, watcher, journal.store().floor(), cause),
     }
 }
 
 /// Gives a watcher up.
-pub(crate) fn cancel(alloc: Global, store: &mut Store, watcher: u64) -> Result<Reply, Denied>
-    ensures { WatchReturns (CancelEvent watcher) result store.old.standing store.new.standing }
+pub(crate) fn cancel(alloc: Global, journal: &mut Journal, watcher: u64) -> Result<Reply, Denied>
+    ensures { CallReturns (CancelEvent watcher) result journal.old journal.new }
 {
-    match store.cancel(watcher) {
+    match journal.cancel(watcher) {
         Ok(()) => Ok(Reply::Cancelled { watcher }),
         Err(cause) => refuse(alloc, cause),
     }
 }
 
 /// Compacts the store at a revision: what is below it is dropped.
-pub(crate) fn compact(alloc: Global, store: &mut Store, revision: u64) -> Result<Reply, Denied>
-    ensures reported { result ≡ reply_to (λ _. CompactedReply revision) (compacted store.old.standing revision) }
-    ensures store { store.new.standing ≡ store_after_call store.old.standing (compacted store.old.standing revision) }
+pub(crate) fn compact(alloc: Global, journal: &mut Journal, revision: u64) -> Result<Reply, Denied>
+    ensures reported { result ≡ reply_to (λ _. CompactedReply revision) (compacted journal.old.standing revision) }
+    ensures store { journal.new ≡ with_store journal.old (store_after_call journal.old.standing (compacted journal.old.standing revision)) }
 {
-    match store.compact(revision) {
+    match journal.compact(revision) {
         Ok(()) => Ok(Reply::Compacted { revision }),
         Err(cause) => refuse(alloc, cause),
     }

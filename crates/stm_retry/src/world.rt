@@ -8,7 +8,7 @@ ghost use Rattle.stm_txn.specs.Standing.{Setup, at_revision, kept};
 ghost use Rattle.stm_entries.specs.Replayed.{opening, without_moment};
 ghost use Rattle.stm_entries.specs.Replay.{replay};
 ghost use Rattle.stm_entries.specs.Legal.{AreLegal};
-ghost use Rattle.stm_calls.specs.StateOf.{IsStateOf};
+ghost use Rattle.stm_journal.specs.StateOf.{IsStateOf};
 ghost use Rattle.stm_world.specs.declared.event.WorldEvent.{WorldEvent};
 ghost use Rattle.stm_world.specs.declared.refusal.Denied.{Denied};
 ghost use Rattle.stm_world.specs.declared.refusal.Refusal.TheVariants.{Store as OfStore, BadLimit};
@@ -23,12 +23,12 @@ ghost use Rattle.stm_retry.specs.Returns.{Returns, ran_out, expired_of, IsRunSto
 ghost use Rattle.stm_retry.specs.Stops.{GoesOnAlike};
 ghost use Rattle.stm_retry.specs.Kept.{whole_store};
 
-use crate::machine::Machine;
+use crate::parts::Parts;
 use crate::slots::is_running;
 use std::alloc::{AllocError, Global};
 use std::marker::Model;
-use stm_calls::state_of;
 use stm_history::{HIGHEST_REVISION, Sequence};
+use stm_journal::state_of;
 use stm_meaning::State;
 use stm_program::{Level, Program};
 use stm_txn::{Expired, MOST_OPERATIONS, Refusal as StoreRefusal, Store};
@@ -44,7 +44,7 @@ pub struct World {
     alloc: Global,
     /// The revision at which the store opened.
     opened: u64,
-    machine: Machine,
+    parts: Parts,
 }
 
 impl Drop for World {
@@ -52,7 +52,7 @@ impl Drop for World {
         let World {
             alloc: _,
             opened: _,
-            machine: _,
+            parts: _,
         } = self;
     }
 }
@@ -60,7 +60,7 @@ impl Drop for World {
 impl Model for World {
     ghost use Rattle.std.specs.Coded.{codes};
     ghost use Rattle.stm_program.specs.Coding.{coded_program};
-    ghost use Rattle.stm_retry.specs.Codes.{coded_live};
+    ghost use Rattle.stm_entries.specs.Codes.{coded_live};
     ghost use Rattle.stm_world.specs.World.{World as WorldState};
     ghost use Rattle.stm_retry.specs.Kept.{whole_world, IsKeptBy};
 
@@ -68,9 +68,9 @@ impl Model for World {
 
     ghost coded = { Prim.hlevel (codes, coded_program, coded_live) };
 
-    ghost view = { λ w. whole_world w.opened w.machine };
+    ghost view = { λ w. whole_world w.opened w.parts };
 
-    ghost invariant = { λ w. IsKeptBy w.machine.standing (whole_world w.opened w.machine) };
+    ghost invariant = { λ w. IsKeptBy w.parts.standing (whole_world w.opened w.parts) };
 }
 
 /// A run of events that want of memory stopped.
@@ -130,11 +130,11 @@ impl World {
         requires operations { (1 ≤ operations) × (operations ≤ most_operations) }
         ensures { IfOk result (λ w. w ≡ opened (record { revision = start; limit = operations })) }
     {
-        let machine = Machine::new(alloc, start, operations)?;
+        let parts = Parts::new(alloc, start, operations)?;
         Ok(World {
             alloc,
             opened: start,
-            machine,
+            parts,
         })
     }
 
@@ -152,7 +152,7 @@ impl World {
         if limit == 0 {
             return Err(Refusal::BadLimit);
         }
-        match self.machine.add_runner(self.alloc, program, level, limit) {
+        match self.parts.add_runner(self.alloc, program, level, limit) {
             Ok(id) => Ok(id),
             Err(AllocError) => Err(Refusal::Store(StoreRefusal::OutOfMemory)),
         }
@@ -189,7 +189,7 @@ impl World {
         ensures headline { ran_out result ≡ false → (start : Setup) (before : List WorldEvent) (earlier : List (Result Reply Denied))
             → Holds start before earlier self.old → Holds start (before ++ event.now ∷ []) (earlier ++ result ∷ []) self.new }
     {
-        self.machine.step(self.alloc, event)
+        self.parts.step(self.alloc, event)
     }
 
     /// Takes these events in their order, and tells their replies.
@@ -223,7 +223,7 @@ impl World {
     fn know_sound(&self)
         ensures { IsSound self.now }
     {
-        let _machine = &self.machine;
+        let _parts = &self.parts;
     }
 
     /// Takes these events in their order, and tells their replies.
@@ -267,7 +267,7 @@ impl World {
         ensures legal { AreLegal self.now.entries (opening self.now.standing.history.opening.number) }
         ensures revisions { AreRevisions self.now.standing.history.revisions }
     {
-        self.machine.entries.as_slice()
+        self.parts.journal.entries()
     }
 
     /// The store: its keys at every revision from the floor on, its leases, its moment and its watchers.
@@ -280,7 +280,7 @@ impl World {
             kept (whole_store self.now.standing.history.opening.number self.now.entries result.now.standing) }
         ensures reached { self.now.standing.floor ≤ now self.now.standing.history }
     {
-        &self.machine.store
+        self.parts.journal.store()
     }
 
     /// The store, once the world has served. Its watchers and leases stay in it.
@@ -290,10 +290,10 @@ impl World {
         let World {
             alloc: _,
             opened: _,
-            machine,
+            parts,
         } = self;
-        let Machine { store, .. } = machine;
-        store
+        let Parts { journal, .. } = parts;
+        journal.into_store()
     }
 
     /// The state of the store now: the present keys with their values and modification revisions.
@@ -302,7 +302,7 @@ impl World {
     pub fn state(&self) -> Result<State, AllocError>
         ensures { IfOk result (λ state. IsStateOf self.now.standing.history state) }
     {
-        state_of(self.alloc, self.machine.store.keys())
+        state_of(self.alloc, self.parts.journal.store().keys())
     }
 }
 
@@ -315,11 +315,11 @@ impl World {
     pub fn copy(&self) -> Result<World, AllocError>
         ensures { IfOk result (λ copy. copy ≡ self.now) }
     {
-        let machine = self.machine.copy()?;
+        let parts = self.parts.copy()?;
         Ok(World {
             alloc: self.alloc,
             opened: self.opened,
-            machine,
+            parts,
         })
     }
 
@@ -327,13 +327,13 @@ impl World {
     pub fn runner_count(&self) -> usize
         ensures { result ≡ length self.now.runners }
     {
-        self.machine.runners.len()
+        self.parts.runners.len()
     }
 
     /// Whether the runner with this number was started and has not ended.
     pub fn is_running(&self, runner: u64) -> bool
         ensures { result ≡ is_some (runner_at runner self.now.runners) }
     {
-        is_running(self.machine.runners.as_slice(), runner)
+        is_running(self.parts.runners.as_slice(), runner)
     }
 }

@@ -19,19 +19,20 @@ use Rattle.stm_outcome.specs.Commits.{revision_read}
 use Rattle.stm_txn.specs.Standing.{Standing, terms_of}
 use Rattle.stm_outcome.specs.Terms.{is_below_floor}
 use Rattle.stm_compile.specs.Committed.{committed}
-use Rattle.stm_compile.specs.Conflicts.{Seen, seen_by}
+use Rattle.stm_compile.specs.Conflicts.{Seen, seen_by, seen_in}
 use Rattle.stm_attempt.specs.Settled.{run_on}
 use Rattle.stm_attempt.specs.Entering.{is_due}
 use Rattle.stm_attempt.specs.Fetches.{at_of}
 use Rattle.stm_entries.specs.declared.entry.Entry.{Entry}
+use Rattle.stm_entries.specs.Entered.{answers_kept}
 use Rattle.stm_world.specs.declared.event.WorldEvent.TheVariants.{Step}
 use Rattle.stm_world.specs.declared.reply.Reply.{Reply}
 use Rattle.stm_world.specs.declared.reply.Reply.TheVariants.{Prefetched, Fetched, Committed, Conflict, GaveUp, Aborted, Faulted, Ended}
 use Rattle.stm_world.specs.declared.refusal.Denied.{Denied}
 use Rattle.stm_world.specs.declared.refusal.Refusal.TheVariants.{NoRunner}
 use Rattle.stm_world.specs.Reported.{denied}
-use Rattle.stm_world.specs.Task.{answer_at, modified_now, after_list, after_fetch, after_conflict, answers_reported}
-use Rattle.stm_world.specs.World.{World, Runner, Slot, Over, Live, Stepped, runner_at, with_slot, replied, fetch, fetch_list, entry_of, seen_in, decided}
+use Rattle.stm_world.specs.Task.{answer_at, modified_now, after_list, after_fetch, after_conflict}
+use Rattle.stm_world.specs.World.{World, Runner, Slot, Over, Live, Stepped, runner_at, with_slot, replied, fetch, fetch_list, entry_of, decided}
 use Rattle.stm_world.specs.World.{commit_reported, commit, finish, step_on, step_live, step_runner, step}
 use Rattle.stm_world.proofs.Slots.{runner_there, runner_other}
 use Rattle.stm_schedules.specs.declared.outcome.RunnerEnd.{RunnerEnd}
@@ -150,7 +151,7 @@ decided_does : (id : ℕ) (r : Runner) (reads : List ReadAnswer) (run : Run) (do
     Does id s (decided id r reads run done o)
 decided_does id r reads run done None s = inr (record {
   entry = entry_of r.task reads run (now done.history);
-  reply = Ok (Committed id (now done.history) (r.failures + 1) run.output run.trace (answers_reported r.task.level reads));
+  reply = Ok (Committed id (now done.history) (r.failures + 1) run.output run.trace (answers_kept r.task.level reads));
   end = CommittedEnd run.output;
   is = λ slots entries. refl;
   reports = λ slots entries. refl;

@@ -13,7 +13,7 @@ use Rattle.stm_world.specs.declared.event.WorldEvent.{WorldEvent}
 use Rattle.stm_devices.specs.Ends.{Devices}
 use Rattle.stm_texts.proofs.Fronts.{pending_of_revision}
 use Rattle.stm_txn.specs.Standing.{Standing}
-use Rattle.stm_hall.specs.HallState.{HallState, made_over}
+use Rattle.stm_journal.specs.JournalState.{JournalState, made_over}
 use Rattle.stm_job.specs.declared.job.Job.{Job}
 use Rattle.stm_job.specs.declared.job_end.JobEnd.{JobEnd}
 use Rattle.stm_job.specs.declared.gathered.FaultCause.{FaultCause}
@@ -39,27 +39,27 @@ of_both (Err e) P Q R p q follows = tt
 
 -- the text is of the hall that the jobs were run to, from the one over this store
 pub is_of_run : (shown : Shown) (start : Setup) (calls : List WorldEvent) (jobs : List Job) (text : List ℕ) (standing : Standing) (ends : List JobEnd)
-    (attempts : List ℕ) (committed : ℕ) (before after : HallState) → standing ≡ store_after start calls → before ≡ made_over standing
+    (attempts : List ℕ) (committed : ℕ) (before after : JournalState) → standing ≡ store_after start calls → before ≡ made_over standing
     → RanTo before jobs ends attempts committed after → IsTextOf shown ends attempts (length jobs) committed after text
     → IsOfRun shown start calls jobs ends text
 is_of_run shown start calls jobs text standing ends attempts committed before after stands made ran shows = record {
   attempts = attempts;
   committed = committed;
   after = after;
-  ran = subst (λ (hall : HallState). RanTo hall jobs ends attempts committed after) (made ∙ ap made_over stands) ran;
+  ran = subst (λ (hall : JournalState). RanTo hall jobs ends attempts committed after) (made ∙ ap made_over stands) ran;
   shows = shows;
 }
 
 -- a run from the hall over this store that was broken off is told by its cause
 pub broken_off : (start : Setup) (calls : List WorldEvent) (jobs : List Job) (fault : JobsFault) (cause : FaultCause) (standing : Standing) (ends : List JobEnd)
-    (before after : HallState) → standing ≡ store_after start calls → before ≡ made_over standing
+    (before after : JournalState) → standing ≡ store_after start calls → before ≡ made_over standing
     → BrokeOff before jobs cause ends after → fault ≡ fault_reported cause → IsBrokenOff start calls jobs fault
 broken_off start calls jobs fault cause standing ends before after stands made broke reported =
     subst (λ (f : JobsFault). IsBrokenOff start calls jobs f) (sym reported)
     (by_cause cause (record {
       ends = ends;
       after = after;
-      broke = subst (λ (hall : HallState). BrokeOff hall jobs cause ends after) (made ∙ ap made_over stands) broke;
+      broke = subst (λ (hall : JournalState). BrokeOff hall jobs cause ends after) (made ∙ ap made_over stands) broke;
     }))
   where
     by_cause : (c : FaultCause) → IsBrokenOffFor start calls jobs c → IsBrokenOff start calls jobs (fault_reported c)

@@ -9,7 +9,7 @@ use Rattle.stm_texts.specs.declared.scenario.Scenario.{Scenario}
 use Rattle.stm_texts.specs.Reading.{scenario_in}
 use Rattle.stm_devices.specs.Ends.{Devices, IsUntouched}
 use Rattle.stm_world.specs.declared.event.WorldEvent.{WorldEvent}
-use Rattle.stm_hall.specs.HallState.{HallState, made_over}
+use Rattle.stm_journal.specs.JournalState.{JournalState, made_over}
 use Rattle.stm_job.specs.declared.job.Job.{Job}
 use Rattle.stm_job.specs.declared.job_end.JobEnd.{JobEnd}
 use Rattle.stm_job.specs.declared.gathered.FaultCause.{FaultCause}
@@ -31,7 +31,7 @@ use Rattle.stm_txn.specs.Standing.{Setup}
 -- ---- the run
 
 -- what is printed of a run, with the ends of the jobs or without; or the front of the line of its outcome
-abbrev pub IsTextOf : Shown → List JobEnd → List ℕ → ℕ → ℕ → HallState → List ℕ → Type 0
+abbrev pub IsTextOf : Shown → List JobEnd → List ℕ → ℕ → ℕ → JournalState → List ℕ → Type 0
 IsTextOf Values ends attempts jobs committed after text = AreLinesOf false ends attempts jobs committed after.standing.history text
 IsTextOf Ends ends attempts jobs committed after text = AreLinesOf true ends attempts jobs committed after.standing.history text
 IsTextOf Outcome ends attempts jobs committed after text = IsFrontOf ends after text
@@ -41,7 +41,7 @@ IsTextOf Outcome ends attempts jobs committed after text = IsFrontOf ends after 
 pub record IsOfRun (shown : Shown) (start : Setup) (calls : List WorldEvent) (jobs : List Job) (ends : List JobEnd) (text : List ℕ) : Type 0 where
   pub attempts : List ℕ
   pub committed : ℕ
-  pub after : HallState
+  pub after : JournalState
   pub ran : RanTo (made_over (store_after start calls)) jobs ends attempts committed after
   pub shows : IsTextOf shown ends attempts (length jobs) committed after text
 
@@ -73,7 +73,7 @@ IsPrintedOfJobs (PrintOutcomes runs) start calls jobs ends text =
 -- the run of these jobs, from such a hall, was broken off for this cause
 pub record IsBrokenOffFor (start : Setup) (calls : List WorldEvent) (jobs : List Job) (cause : FaultCause) : Type 0 where
   pub ends : List JobEnd
-  pub after : HallState
+  pub after : JournalState
   pub broke : BrokeOff (made_over (store_after start calls)) jobs cause ends after
 
 -- What is told of a run of these jobs of which nothing is printed: the cause for which it was broken off. Memory may be wanted before the run and after

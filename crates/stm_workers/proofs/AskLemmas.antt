@@ -12,11 +12,11 @@ use Rattle.stm_txn.specs.Standing.{Standing, terms_of}
 use Rattle.stm_outcome.specs.Terms.{Terms}
 use Rattle.stm_outcome.proofs.Applying.{done_by, is_done}
 use Rattle.stm_compile.specs.Answers.{answer_now}
-use Rattle.stm_calls.specs.Fetched.{fetch_of, one_read}
-use Rattle.stm_hall.specs.declared.refusal.FetchRefusal.{FetchRefusal}
-use Rattle.stm_hall.specs.declared.refusal.FetchRefusal.TheVariants.{Behind}
-use Rattle.stm_hall.specs.Fetching.{answered, fetched}
-use Rattle.stm_hall.specs.HallState.{HallState}
+use Rattle.stm_journal.specs.Fetched.{fetch_of, one_read}
+use Rattle.stm_journal.specs.declared.refusal.FetchRefusal.{FetchRefusal}
+use Rattle.stm_journal.specs.declared.refusal.FetchRefusal.TheVariants.{Behind}
+use Rattle.stm_journal.specs.Fetching.{answered, fetched}
+use Rattle.stm_journal.specs.JournalState.{JournalState}
 use Rattle.stm_workers.specs.Calls.{AnswersInSomeHall, shown_at}
 
 -- one read of the key was answered, which carries the store's revision, and is shown at the revision that was asked for
@@ -77,7 +77,7 @@ shown_by s seen key at answer came =
     subst (ShowsKey key at) d.2 (shown_by_done (terms_of s) key at d.0 d.1)
 
 -- a fetch that is answered, in whichever hall it was made
-pub read_shows : (handed : HallState) (seen : ℕ) (key : List ℕ) (at : ℕ) (read : ReadAnswer) →
+pub read_shows : (handed : JournalState) (seen : ℕ) (key : List ℕ) (at : ℕ) (read : ReadAnswer) →
     AnswersInSomeHall handed seen (fetch_of key at) (Ok (one_read read)) →
     (read.key ≡ key) × (read.of_rev ≡ shown_at at read.revision)
 read_shows handed seen key at read reported =
@@ -87,6 +87,6 @@ read_shows handed seen key at read reported =
     (ap (λ (a : ReadAnswer). a.key) same ∙ shows.key_is, ap (λ (a : ReadAnswer). a.of_rev) same ∙ shows.shows)
 
 -- the fetch of a key, as it was asked for
-pub in_some_hall : (handed : HallState) (seen : ℕ) (asked key : List ℕ) (at : ℕ) (result : Result TxnAnswer FetchRefusal) → asked ≡ key →
+pub in_some_hall : (handed : JournalState) (seen : ℕ) (asked key : List ℕ) (at : ℕ) (result : Result TxnAnswer FetchRefusal) → asked ≡ key →
     AnswersInSomeHall handed seen (fetch_of asked at) result → AnswersInSomeHall handed seen (fetch_of key at) result
 in_some_hall handed seen asked key at result same by = subst (λ (k : List ℕ). AnswersInSomeHall handed seen (fetch_of k at) result) same by

@@ -3,9 +3,9 @@ use Rattle.std.proofs.Common.{◌≡◌, inl, inr, ℕ, ◌<◌, ◌≤◌, List
 use Rattle.std.proofs.Math.Logic.{∥∥₁_elim}
 use Rattle.std.proofs.lemmas.Bool.{cases_lt}
 use mathlib.Core.HLevel.{⊥_prop}
-use Rattle.stm_hall.specs.HallState.{HallState}
-use Rattle.stm_hall.specs.declared.verdict.Verdict.{Verdict}
-use Rattle.stm_hall.specs.declared.verdict.Verdict.TheVariants.{Committed, Failed}
+use Rattle.stm_journal.specs.JournalState.{JournalState}
+use Rattle.stm_journal.specs.declared.verdict.Verdict.{Verdict}
+use Rattle.stm_journal.specs.declared.verdict.Verdict.TheVariants.{Committed, Failed}
 use Rattle.stm_job.specs.declared.job.Job.{Job}
 use Rattle.stm_job.specs.declared.job_end.JobEnd.{JobEnd}
 use Rattle.stm_job.specs.declared.job_end.JobEnd.TheVariants.{Committed as CommittedJob, Aborted as AbortedJob, Faulted as FaultedJob, Refused as RefusedJob}
@@ -17,11 +17,11 @@ use Rattle.stm_workers.specs.Calls.{committed_by}
 use Rattle.stm_workers.specs.Codes.{numbers_set}
 use Rattle.stm_workers.specs.Laws.{IfGaveUp, AreAttemptsOf, AttemptsAreCounted}
 
-at_least_one : (handed : HallState) (job : Job) (seen : ℕ) (end : JobEnd) (after made : ℕ) → made < 1 → HasCome handed job seen end after made → ⊥
+at_least_one : (handed : JournalState) (job : Job) (seen : ℕ) (end : JobEnd) (after made : ℕ) → made < 1 → HasCome handed job seen end after made → ⊥
 at_least_one handed job seen end after made none (inl came) = let n = came.counted in omega (arith, none, n)
 at_least_one handed job seen end after made none (inr came) = let n = came.counted in omega (arith, none, n)
 
-at_most_all : (handed : HallState) (job : Job) (seen : ℕ) (end : JobEnd) (after made : ℕ) → job.limit < made → HasCome handed job seen end after made → ⊥
+at_most_all : (handed : JournalState) (job : Job) (seen : ℕ) (end : JobEnd) (after made : ℕ) → job.limit < made → HasCome handed job seen end after made → ⊥
 at_most_all handed job seen end after made more (inl came) = let n = came.within in omega (arith, more, n)
 at_most_all handed job seen end after made more (inr came) = let n = came.within in omega (arith, more, n)
 
@@ -37,11 +37,11 @@ no_stop (Aborted text reads) key reported = absurd (cc)
 no_stop (Faulted fault reads) key reported = absurd (cc)
 no_stop (Refused refusal) key reported = absurd (cc)
 
-all_made : (handed : HallState) (job : Job) (seen : ℕ) (key : List ℕ) (after made : ℕ) → HasCome handed job seen (GaveUp key) after made → made ≡ job.limit
+all_made : (handed : JournalState) (job : Job) (seen : ℕ) (key : List ℕ) (after made : ℕ) → HasCome handed job seen (GaveUp key) after made → made ≡ job.limit
 all_made handed job seen key after made (inl came) = came.then_is.last (no_commit came.then_is.verdict key came.then_is.reported)
 all_made handed job seen key after made (inr came) = absurd (no_stop came.then_is.stop key came.then_is.reported)
 
-if_gave_up : (handed : HallState) (job : Job) (end : JobEnd) (made : ℕ) → HasSomeRun handed job end made → IfGaveUp end (made ≡ job.limit)
+if_gave_up : (handed : JournalState) (job : Job) (end : JobEnd) (made : ℕ) → HasSomeRun handed job end made → IfGaveUp end (made ≡ job.limit)
 if_gave_up handed job (CommittedJob index revision) made some = tt
 if_gave_up handed job (AbortedJob text reads) made some = tt
 if_gave_up handed job (FaultedJob fault reads) made some = tt
@@ -49,7 +49,7 @@ if_gave_up handed job (RefusedJob cause) made some = tt
 if_gave_up handed job (GaveUp key) made some =
     ∥∥₁_elim some (numbers_set made job.limit) (λ came. all_made handed job came.0 key came.1 made came.2)
 
-counted : (handed : HallState) (job : Job) (end : JobEnd) (made : ℕ) → HasSomeRun handed job end made → AreAttemptsOf job end made
+counted : (handed : JournalState) (job : Job) (end : JobEnd) (made : ℕ) → HasSomeRun handed job end made → AreAttemptsOf job end made
 counted handed job end made some = record {
   some = ⊎_elim
       (λ (none : made < 1). absurd (∥∥₁_elim some ⊥_prop (λ came. at_least_one handed job came.0 end came.1 made none came.2)))

@@ -5,10 +5,10 @@ use Rattle.stm_attempt.specs.declared.next.Next.TheVariants.{FetchAll, Fetch}
 use Rattle.stm_attempt.specs.AttemptState.{AttemptState, begun}
 use Rattle.stm_attempt.specs.Next.{next_of}
 use Rattle.stm_attempt.specs.ReadyRun.{ReadyRun}
-use Rattle.stm_hall.specs.declared.refusal.CommitRefusal.{CommitRefusal}
-use Rattle.stm_hall.specs.declared.verdict.Verdict.{Verdict}
-use Rattle.stm_hall.specs.HallState.{HallState}
-use Rattle.stm_hall.specs.Verdicts.{verdict_of, CommitReturns}
+use Rattle.stm_journal.specs.declared.refusal.CommitRefusal.{CommitRefusal}
+use Rattle.stm_journal.specs.declared.verdict.Verdict.{Verdict}
+use Rattle.stm_journal.specs.JournalState.{JournalState}
+use Rattle.stm_journal.specs.Verdicts.{verdict_of, CommitReturns}
 use Rattle.stm_workers.specs.declared.attempts.AttemptOutcome.{AttemptOutcome}
 use Rattle.stm_workers.specs.declared.attempts.AttemptOutcome.TheVariants.{Ended, Again}
 use Rattle.stm_job.specs.declared.job.Job.{Job}
@@ -24,10 +24,10 @@ use Rattle.stm_workers.specs.Attempts.{EndsByStop, HasCome}
 -- ---- one attempt
 
 -- it has fetched nothing yet
-pub none_fetched : (handed : HallState) (job : Job) (state : JobState) → HasFetched handed job state state
+pub none_fetched : (handed : JournalState) (job : Job) (state : JobState) → HasFetched handed job state state
 none_fetched handed job state = (zero, refl)
 
-pub one_fetched : (handed : HallState) (job : Job) (before between after : JobState) → HasFetched handed job before between →
+pub one_fetched : (handed : JournalState) (job : Job) (before between after : JobState) → HasFetched handed job before between →
     IsFetch handed job between after → HasFetched handed job before after
 one_fetched handed job before between after so_far fetch = (suc so_far.0, (between, so_far.1, fetch))
 
@@ -38,7 +38,7 @@ pub reported_out : {A : Type 0} (result : Result A Stop) (P : Stop → Type 0) (
 reported_out {A} result P made given is same holds = subst (λ (r : Result A Stop). IfErr r P) (sym is) (subst P (sym same) holds)
 
 -- the key that it wants was refused, and nothing was seen
-pub fetch_stops : (handed : HallState) (job : Job) (at : JobState) (key : List ℕ) (of_rev : ℕ) (stop : Stop) (seen : ℕ) →
+pub fetch_stops : (handed : JournalState) (job : Job) (at : JobState) (key : List ℕ) (of_rev : ℕ) (stop : Stop) (seen : ℕ) →
     next_of job.program at.attempt.level at.attempt.known ≡ Fetch key of_rev → (stop ≡ OutOfMemory) ⊎ IsUnanswered handed at.seen key of_rev stop →
     seen ≡ at.seen → (stop ≡ OutOfMemory) ⊎ (IsStop handed job at stop × (seen ≡ at.seen))
 fetch_stops handed job at key of_rev stop seen wants (inl want) same = inl want
@@ -46,7 +46,7 @@ fetch_stops handed job at key of_rev stop seen wants (inr refused) same =
     inr (inr (inl (inl (record { key = key; of_rev = of_rev; wants = wants; refused = refused }))), same)
 
 -- or its list was
-pub list_stops : (handed : HallState) (job : Job) (at : JobState) (keys : List (List ℕ)) (of_rev : ℕ) (stop : Stop) (seen : ℕ) →
+pub list_stops : (handed : JournalState) (job : Job) (at : JobState) (keys : List (List ℕ)) (of_rev : ℕ) (stop : Stop) (seen : ℕ) →
     next_of job.program at.attempt.level at.attempt.known ≡ FetchAll keys of_rev → (stop ≡ OutOfMemory) ⊎ AreUnanswered handed at.seen keys stop →
     seen ≡ at.seen → (stop ≡ OutOfMemory) ⊎ (IsStop handed job at stop × (seen ≡ at.seen))
 list_stops handed job at keys of_rev stop seen wants (inl want) same = inl want
@@ -54,13 +54,13 @@ list_stops handed job at keys of_rev stop seen wants (inr refused) same =
     inr (inr (inl (inr (record { keys = keys; of_rev = of_rev; wants = wants; refused = refused }))), same)
 
 -- it goes no further from where its fetches lead
-pub stops_there : (handed : HallState) (job : Job) (before at : JobState) (stop : Stop) (seen : ℕ) → HasFetched handed job before at →
+pub stops_there : (handed : JournalState) (job : Job) (before at : JobState) (stop : Stop) (seen : ℕ) → HasFetched handed job before at →
     (stop ≡ OutOfMemory) ⊎ (IsStop handed job at stop × (seen ≡ at.seen)) → HasStopped handed job before stop seen
 stops_there handed job before at stop seen fetches (inl want) = inl want
 stops_there handed job before at stop seen fetches (inr reported) = inr (record { at = at; fetches = fetches; is_stop = reported.0; sees = reported.1 })
 
 -- a hall's refusal of a commit, as it is handed on
-pub refused_so : (handed : HallState) (ready : ReadyRun) (before after : HallState) (result : Result Verdict CommitRefusal) (made given : CommitRefusal) → result ≡ Err made →
+pub refused_so : (handed : JournalState) (ready : ReadyRun) (before after : JournalState) (result : Result Verdict CommitRefusal) (made given : CommitRefusal) → result ≡ Err made →
     made ≡ given → HasKeptStore handed before → CommitReturns (verdict_of before ready) before (Err given) after → JudgedInSomeHall handed ready result
 refused_so handed ready before after result made given is same kept reported = (
   before,
@@ -71,13 +71,13 @@ refused_so handed ready before after result made given is same kept reported = (
 )
 
 -- what a hall answered to a commit
-pub judged_so : (handed : HallState) (ready : ReadyRun) (result outcome : Result Verdict CommitRefusal) → result ≡ outcome →
+pub judged_so : (handed : JournalState) (ready : ReadyRun) (result outcome : Result Verdict CommitRefusal) → result ≡ outcome →
     JudgedInSomeHall handed ready result →
     JudgedInSomeHall handed ready outcome
 judged_so handed ready result outcome is judged = subst (λ (r : Result Verdict CommitRefusal). JudgedInSomeHall handed ready r) is judged
 
 -- its commit is refused
-pub commit_stops : (handed : HallState) (job : Job) (before : JobState) (ready : ReadyRun) (stop : Stop) (seen : ℕ) →
+pub commit_stops : (handed : JournalState) (job : Job) (before : JobState) (ready : ReadyRun) (stop : Stop) (seen : ℕ) →
     IsEvaluated handed job before ready seen →
     (stop ≡ OutOfMemory) ⊎ IsTurnedAway handed ready stop → HasStopped handed job before stop seen
 commit_stops handed job before ready stop seen evaluated (inl want) = inl want
@@ -90,7 +90,7 @@ commit_stops handed job before ready stop seen evaluated (inr refused) = inr (re
 
 -- ---- what comes of its verdict
 
-pub ends_by : (handed : HallState) (job : Job) (before : JobState) (is_last : Bool) (verdict : Verdict) (seen : ℕ) (result : Result AttemptOutcome Stop) →
+pub ends_by : (handed : JournalState) (job : Job) (before : JobState) (is_last : Bool) (verdict : Verdict) (seen : ℕ) (result : Result AttemptOutcome Stop) →
     HasTried handed job before verdict seen →
     IfOk result (IfEnded (λ (end : JobEnd). (end ≡ end_after verdict) × (committed_by verdict ≡ 0 → is_last ≡ true))) →
     IfOk result (IfEnded (λ (end : JobEnd). HasEnded handed job before is_last end seen))
@@ -98,14 +98,14 @@ ends_by handed job before is_last verdict seen (Ok (Ended end)) tried reported =
 ends_by handed job before is_last verdict seen (Ok (Again next)) tried reported = tt
 ends_by handed job before is_last verdict seen (Err stop) tried reported = tt
 
-pub fails_by : (handed : HallState) (job : Job) (before : JobState) (is_last : Bool) (verdict : Verdict) (seen : ℕ) (result : Result AttemptOutcome Stop) →
+pub fails_by : (handed : JournalState) (job : Job) (before : JobState) (is_last : Bool) (verdict : Verdict) (seen : ℕ) (result : Result AttemptOutcome Stop) →
     HasTried handed job before verdict seen → IfOk result (IfAgain (λ (next : AttemptState). (is_last ≡ false) × IsNextAttempt job verdict next)) →
     IfOk result (IfAgain (λ (next : AttemptState). (is_last ≡ false) × HasFailed handed job before (state_of next seen)))
 fails_by handed job before is_last verdict seen (Ok (Ended end)) tried next = tt
 fails_by handed job before is_last verdict seen (Ok (Again attempt)) tried next = (next.0, record { verdict = verdict; tried = tried; next = next.1 })
 fails_by handed job before is_last verdict seen (Err stop) tried next = tt
 
-pub stops_by : (handed : HallState) (job : Job) (before : JobState) (seen : ℕ) (result : Result AttemptOutcome Stop) →
+pub stops_by : (handed : JournalState) (job : Job) (before : JobState) (seen : ℕ) (result : Result AttemptOutcome Stop) →
     IfErr result (λ (stop : Stop). stop ≡ OutOfMemory) →
     IfErr result (λ (stop : Stop). HasStopped handed job before stop seen)
 stops_by handed job before seen (Ok tried) want = tt
@@ -121,26 +121,26 @@ at_ended P tried end is holds = subst (λ (t : AttemptOutcome). IfEnded P t) is 
 -- ---- a job
 
 -- where its attempts stand before the one with this number, from 1
-abbrev pub HasLost : HallState → Job → ℕ → ℕ → JobState → Type 0
+abbrev pub HasLost : JournalState → Job → ℕ → ℕ → JobState → Type 0
 HasLost handed job seen number last = (failed : ℕ) × (number ≡ failed + 1) × HaveFailed handed job failed (state_of (begun job.level []) seen) last
 
-pub first_is_next : (handed : HallState) (job : Job) (seen : ℕ) (attempt : AttemptState) → attempt ≡ begun job.level [] →
+pub first_is_next : (handed : JournalState) (job : Job) (seen : ℕ) (attempt : AttemptState) → attempt ≡ begun job.level [] →
     HasLost handed job seen 1 (state_of attempt seen)
 first_is_next handed job seen attempt is = (zero, refl, ap (λ (a : AttemptState). state_of a seen) is)
 
-pub one_lost : (handed : HallState) (job : Job) (seen number : ℕ) (before after : JobState) → HasLost handed job seen number before →
+pub one_lost : (handed : JournalState) (job : Job) (seen number : ℕ) (before after : JobState) → HasLost handed job seen number before →
     HasFailed handed job before after →
     HasLost handed job seen (number + 1) after
 one_lost handed job seen number before after lost fails = (suc lost.0, let n = lost.1 in omega (arith, n), (before, lost.2, fails))
 
-comes_to : (handed : HallState) (job : Job) (seen number : ℕ) (last : JobState) (Then : JobState → Type 0) → HasLost handed job seen number last →
+comes_to : (handed : JournalState) (job : Job) (seen number : ℕ) (last : JobState) (Then : JobState → Type 0) → HasLost handed job seen number last →
     number ≤ job.limit → Then last →
     ComesTo handed job seen number Then
 comes_to handed job seen number last Then lost within is =
     record { failed = lost.0; counted = lost.1; within = within; last = last; failures = lost.2; then_is = is }
 
 -- the attempt with this number ends the job by its verdict; the last one has the number of the limit
-pub ends_at : (handed : HallState) (job : Job) (seen number after : ℕ) (last : JobState) (is_last : Bool) (end : JobEnd) →
+pub ends_at : (handed : JournalState) (job : Job) (seen number after : ℕ) (last : JobState) (is_last : Bool) (end : JobEnd) →
     HasLost handed job seen number last → number ≤ job.limit →
     (is_last ≡ true → number ≡ job.limit) → HasEnded handed job last is_last end after →
     ComesTo handed job seen number (EndsByVerdict handed job end after number)
@@ -149,21 +149,21 @@ ends_at handed job seen number after last is_last end lost within of_last ended 
     (record { verdict = ended.verdict; tried = ended.tried; reported = ended.reported; last = λ none. of_last (ended.last none) })
 
 -- it goes no further
-pub stops_at : (handed : HallState) (job : Job) (seen number after : ℕ) (last : JobState) (stop : Stop) → HasLost handed job seen number last →
+pub stops_at : (handed : JournalState) (job : Job) (seen number after : ℕ) (last : JobState) (stop : Stop) → HasLost handed job seen number last →
     number ≤ job.limit →
     HasStopped handed job last stop after → ComesTo handed job seen number (λ at. HasStopped handed job at stop after)
 stops_at handed job seen number after last stop lost within stopped =
     comes_to handed job seen number last (λ at. HasStopped handed job at stop after) lost within stopped
 
 -- which is the job's end, unless it was for want of memory
-stop_ends : (handed : HallState) (job : Job) (end : JobEnd) (after : ℕ) (last : JobState) (stop : Stop) → job_end_reported stop ≡ Some end →
+stop_ends : (handed : JournalState) (job : Job) (end : JobEnd) (after : ℕ) (last : JobState) (stop : Stop) → job_end_reported stop ≡ Some end →
     HasStopped handed job last stop after →
     EndsByStop handed job end after last
 stop_ends handed job end after last stop reported (inl want) =
     let none : None ≡ Some end = sym (ap job_end_reported want) ∙ reported in absurd (cc)
 stop_ends handed job end after last stop reported (inr stopped) = record { stop = stop; stopped = stopped; reported = reported }
 
-pub ends_by_stop : (handed : HallState) (job : Job) (seen after attempts : ℕ) (stop : Stop) (end : JobEnd) → job_end_reported stop ≡ Some end →
+pub ends_by_stop : (handed : JournalState) (job : Job) (seen after attempts : ℕ) (stop : Stop) (end : JobEnd) → job_end_reported stop ≡ Some end →
     ComesTo handed job seen attempts (λ last. HasStopped handed job last stop after) → HasCome handed job seen end after attempts
 ends_by_stop handed job seen after attempts stop end reported came = inr (record {
   failed = came.failed;

@@ -6,7 +6,7 @@ use Rattle.std.proofs.lemmas.List.{get_or-set_same, get_or-set_other}
 use Rattle.stm_entries.specs.declared.entry.Entry.{Entry}
 use Rattle.stm_history.specs.declared.key_state.ReadAnswer.{ReadAnswer}
 use Rattle.stm_history.specs.History.{History, now}
-use Rattle.stm_hall.specs.HallState.{HallState}
+use Rattle.stm_journal.specs.JournalState.{JournalState}
 use Rattle.stm_hall.specs.Showing.{IsShown, AreShownAt}
 use Rattle.stm_workers.specs.declared.start_point.StartPoint.{StartPoint}
 use Rattle.stm_job.specs.declared.job.Job.{Job}
@@ -91,7 +91,7 @@ some_named index (suc n) (e ∷ ends) is new =
 -- ---- what two looks say of an end
 
 -- an end that is borne out, and whose entry is new, stands
-pub both_stand : (begun : StartPoint) (hall : HallState) (jobs : List Job) (ends : List JobEnd) →
+pub both_stand : (begun : StartPoint) (hall : JournalState) (jobs : List Job) (ends : List JobEnd) →
     ((place : ℕ) → BorneOutAt begun hall jobs ends place) → ((place : ℕ) → IsNewAt ends place) → AllStand begun hall jobs ends
 both_stand begun hall jobs ends borne new place job end job_is end_is = record {
   borne_out = borne place job end job_is end_is;
@@ -99,12 +99,12 @@ both_stand begun hall jobs ends borne new place job end job_is end_is = record {
 }
 
 -- one that is not borne out does not
-pub unborne_falls : (begun : StartPoint) (hall : HallState) (jobs : List Job) (ends : List JobEnd) (place : ℕ) →
+pub unborne_falls : (begun : StartPoint) (hall : JournalState) (jobs : List Job) (ends : List JobEnd) (place : ℕ) →
     (BorneOutAt begun hall jobs ends place → ⊥) → StandsAt begun hall jobs ends place → ⊥
 unborne_falls begun hall jobs ends place not stands = not (λ job end job_is end_is. (stands job end job_is end_is).borne_out)
 
 -- nor one whose entry an earlier end names
-pub repeated_falls : (begun : StartPoint) (hall : HallState) (jobs : List Job) (ends : List JobEnd) (place : ℕ) → length ends ≡ length jobs →
+pub repeated_falls : (begun : StartPoint) (hall : JournalState) (jobs : List Job) (ends : List JobEnd) (place : ℕ) → length ends ≡ length jobs →
     place < length ends → (IsNewAt ends place → ⊥) → StandsAt begun hall jobs ends place → ⊥
 repeated_falls begun hall jobs ends place same short not stands =
     let j = there jobs place (subst (λ (m : ℕ). place < m) same short) in
@@ -118,7 +118,7 @@ commit_is_there : (job : Job) (revision : ℕ) (o : Option Entry) (entries : Lis
 commit_is_there job revision None entries index is commit = absurd commit
 commit_is_there job revision (Some e) entries index is commit = within entries index e is
 
-named_is_there : (begun : StartPoint) (hall : HallState) (job : Job) (end : JobEnd) (index : ℕ) → IsBorneOut begun hall job end → entry_named end ≡ Some index →
+named_is_there : (begun : StartPoint) (hall : JournalState) (job : Job) (end : JobEnd) (index : ℕ) → IsBorneOut begun hall job end → entry_named end ≡ Some index →
     index < length hall.entries
 named_is_there begun hall job (Committed own revision) index borne names =
     let same : own ≡ index = ap (index_or_none own) names in
@@ -129,7 +129,7 @@ named_is_there begun hall job (Faulted fault reads) index borne names = absurd (
 named_is_there begun hall job (Refused cause) index borne names = absurd (cc)
 named_is_there begun hall job (GaveUp key) index borne names = absurd (cc)
 
-pub names_within : (begun : StartPoint) (hall : HallState) (jobs : List Job) (ends : List JobEnd) → length ends ≡ length jobs →
+pub names_within : (begun : StartPoint) (hall : JournalState) (jobs : List Job) (ends : List JobEnd) → length ends ≡ length jobs →
     ((place : ℕ) → BorneOutAt begun hall jobs ends place) → NamesWithin ends (length hall.entries)
 names_within begun hall jobs ends same borne place index names =
     let n = named (slice_get ends place) index names in
@@ -146,7 +146,7 @@ same_some {A} x y is = ap (some_or x) is
     some_or other (Some z) = z
 
 -- the end at a place is borne out where this one is, which stands there
-pub borne_there : (begun : StartPoint) (hall : HallState) (jobs : List Job) (ends : List JobEnd) (place : ℕ) (job : Job) (end : JobEnd) →
+pub borne_there : (begun : StartPoint) (hall : JournalState) (jobs : List Job) (ends : List JobEnd) (place : ℕ) (job : Job) (end : JobEnd) →
     slice_get jobs place ≡ Some job → slice_get ends place ≡ Some end → IsBorneOut begun hall job end ↔ BorneOutAt begun hall jobs ends place
 borne_there begun hall jobs ends place job end job_is end_is = (
   (λ borne other another other_is another_is.
@@ -171,7 +171,7 @@ next_place P n before here p below = ⊎_elim
     (cases_lt p n)
 
 -- a place without an end or a job says nothing
-pub all_places : (begun : StartPoint) (hall : HallState) (jobs : List Job) (ends : List JobEnd) →
+pub all_places : (begun : StartPoint) (hall : JournalState) (jobs : List Job) (ends : List JobEnd) →
     ((p : ℕ) → p < length ends → BorneOutAt begun hall jobs ends p) → (place : ℕ) → BorneOutAt begun hall jobs ends place
 all_places begun hall jobs ends below place job end job_is end_is = below place (within ends place end end_is) job end job_is end_is
 
@@ -303,7 +303,7 @@ each_shown h r (a ∷ reads) zero read shown at = subst (λ (x : ReadAnswer). Sh
 each_shown h r (a ∷ reads) (suc place) read shown at = each_shown h r reads place read shown.1 at
 
 -- the revision that reads of one state are of
-pub of_its_revision : (begun : StartPoint) (hall : HallState) (reads : List ReadAnswer) → AreOfOneState begun hall reads →
+pub of_its_revision : (begun : StartPoint) (hall : JournalState) (reads : List ReadAnswer) → AreOfOneState begun hall reads →
     (begun.revision ≤ revision_of begun.revision reads) × (revision_of begun.revision reads ≤ now hall.standing.history)
     × AreShownAt hall.standing.history (revision_of begun.revision reads) reads
 of_its_revision begun hall [] one =
@@ -313,21 +313,21 @@ of_its_revision begun hall (a ∷ reads) one =
     (one.begins, one.reached, one.shown)
 
 -- what the tests say of it
-pub before_the_run : (begun : StartPoint) (hall : HallState) (reads : List ReadAnswer) (revision : ℕ) → revision ≡ revision_of begun.revision reads →
+pub before_the_run : (begun : StartPoint) (hall : JournalState) (reads : List ReadAnswer) (revision : ℕ) → revision ≡ revision_of begun.revision reads →
     revision < begun.revision → (false ≡ true) ↔ AreOfOneState begun hall reads
 before_the_run begun hall reads revision is early = (
   (λ yes. absurd (cc)),
   (λ one. let low = (of_its_revision begun hall reads one).0 in absurd (omega (arith, low, is, early))),
 )
 
-pub above_the_counter : (begun : StartPoint) (hall : HallState) (reads : List ReadAnswer) (revision counter : ℕ) → revision ≡ revision_of begun.revision reads →
+pub above_the_counter : (begun : StartPoint) (hall : JournalState) (reads : List ReadAnswer) (revision counter : ℕ) → revision ≡ revision_of begun.revision reads →
     counter ≡ now hall.standing.history → counter < revision → (false ≡ true) ↔ AreOfOneState begun hall reads
 above_the_counter begun hall reads revision counter is counts late = (
   (λ yes. absurd (cc)),
   (λ one. let high = (of_its_revision begun hall reads one).1 in absurd (omega (arith, high, is, counts, late))),
 )
 
-pub shown_at_its_revision : (begun : StartPoint) (hall : HallState) (reads : List ReadAnswer) (revision counter : ℕ) (b : Bool) →
+pub shown_at_its_revision : (begun : StartPoint) (hall : JournalState) (reads : List ReadAnswer) (revision counter : ℕ) (b : Bool) →
     revision ≡ revision_of begun.revision reads → counter ≡ now hall.standing.history → begun.revision ≤ revision → revision ≤ counter →
     (b ≡ true) ↔ AreShownAt hall.standing.history revision reads → (b ≡ true) ↔ AreOfOneState begun hall reads
 shown_at_its_revision begun hall reads revision counter b is counts low high test = (

@@ -1,7 +1,7 @@
 -- The law of the ends of jobs.
 use Rattle.std.proofs.Common.{◌≡◌, ℕ, zero, suc, ◌<◌, List, [], ◌∷◌, length, Option, None, Some, option_and_then, slice_get, refl, subst, ⊎_elim, arith}
 use Rattle.std.proofs.lemmas.Bool.{cases_order}
-use Rattle.stm_hall.specs.HallState.{HallState}
+use Rattle.stm_journal.specs.JournalState.{JournalState}
 use Rattle.stm_workers.specs.declared.start_point.StartPoint.{StartPoint}
 use Rattle.stm_job.specs.declared.job.Job.{Job}
 use Rattle.stm_job.specs.declared.job_end.JobEnd.{JobEnd}
@@ -33,7 +33,7 @@ there (x ∷ xs) zero short = record { item = x; is = refl }
 there (x ∷ xs) (suc k) short = let r = there xs k (omega arith) in record { item = r.item; is = r.is }
 
 -- an end that stands names an entry that none before it has named
-later_is_new : (begun : StartPoint) (hall : HallState) (jobs : List Job) (ends : List JobEnd) → length ends ≡ length jobs → AllStand begun hall jobs ends
+later_is_new : (begun : StartPoint) (hall : JournalState) (jobs : List Job) (ends : List JobEnd) → length ends ≡ length jobs → AllStand begun hall jobs ends
     → (k index : ℕ) → option_and_then entry_named (slice_get ends k) ≡ Some index → IsNew ends k index
 later_is_new begun hall jobs ends same stand k index names =
     let n = named (slice_get ends k) index names in

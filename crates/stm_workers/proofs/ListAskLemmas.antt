@@ -14,14 +14,14 @@ use Rattle.stm_outcome.specs.Terms.{Terms}
 use Rattle.stm_txn.specs.Standing.{Standing, terms_of}
 use Rattle.stm_compile.specs.Answers.{answer_now}
 use Rattle.stm_attempt.specs.Fetches.{AllShow, ShowOneRevision}
-use Rattle.stm_calls.specs.Fetched.{fetch_all_of}
-use Rattle.stm_calls.specs.Reads.{reads_in}
-use Rattle.stm_calls.proofs.ListFetchLemmas.{all_come, too_many_come, reads_shown}
-use Rattle.stm_calls.proofs.ReadLemmas.{reads_fit}
-use Rattle.stm_hall.specs.declared.refusal.FetchRefusal.{FetchRefusal}
-use Rattle.stm_hall.specs.declared.refusal.FetchRefusal.TheVariants.{Behind}
-use Rattle.stm_hall.specs.Fetching.{OnlyReads, is_read, answered}
-use Rattle.stm_hall.specs.HallState.{HallState}
+use Rattle.stm_journal.specs.Fetched.{fetch_all_of}
+use Rattle.stm_journal.specs.Reads.{reads_in}
+use Rattle.stm_journal.proofs.ListFetchLemmas.{all_come, too_many_come, reads_shown}
+use Rattle.stm_journal.proofs.ReadLemmas.{reads_fit}
+use Rattle.stm_journal.specs.declared.refusal.FetchRefusal.{FetchRefusal}
+use Rattle.stm_journal.specs.declared.refusal.FetchRefusal.TheVariants.{Behind}
+use Rattle.stm_journal.specs.Fetching.{OnlyReads, is_read, answered}
+use Rattle.stm_journal.specs.JournalState.{JournalState}
 use Rattle.stm_workers.specs.Calls.{AnswersInSomeHall}
 use Rattle.stm_workers.proofs.AskLemmas.{of_answered, of_test}
 
@@ -44,7 +44,7 @@ shown_by_count terms keys done false few named came =
     }
 
 -- a fetch that is answered, in whichever hall it was made
-pub shows_keys : (handed : HallState) (seen : ℕ) (keys : List (List ℕ)) (txn : Txn) (result : Result TxnAnswer FetchRefusal) (answer : TxnAnswer) → txn ≡ fetch_all_of keys →
+pub shows_keys : (handed : JournalState) (seen : ℕ) (keys : List (List ℕ)) (txn : Txn) (result : Result TxnAnswer FetchRefusal) (answer : TxnAnswer) → txn ≡ fetch_all_of keys →
     AreNamed keys → AnswersInSomeHall handed seen txn result → result ≡ Ok answer → ShowsKeys keys answer
 shows_keys handed seen keys txn result answer is named reported came =
     let here : AnswersInSomeHall handed seen (fetch_all_of keys) (Ok answer) =
@@ -90,7 +90,7 @@ pub all_taken_fit : (answer : TxnAnswer) (answers : List ReadAnswer) → AnswerF
 all_taken_fit answer answers fits taken = subst (All ReadFits) (sym taken) (reads_fit answer.answers fits.answers)
 
 -- the fetch of a list, as it was asked for
-pub list_in_some_hall : (handed : HallState) (seen : ℕ) (keys : List (List ℕ)) (txn : Txn) (result came : Result TxnAnswer FetchRefusal) → txn ≡ fetch_all_of keys →
+pub list_in_some_hall : (handed : JournalState) (seen : ℕ) (keys : List (List ℕ)) (txn : Txn) (result came : Result TxnAnswer FetchRefusal) → txn ≡ fetch_all_of keys →
     AnswersInSomeHall handed seen txn result → result ≡ came → AnswersInSomeHall handed seen (fetch_all_of keys) came
 list_in_some_hall handed seen keys txn result came is by same =
     subst (λ (t : Txn). AnswersInSomeHall handed seen t came) is (subst (λ (r : Result TxnAnswer FetchRefusal). AnswersInSomeHall handed seen txn r) same by)

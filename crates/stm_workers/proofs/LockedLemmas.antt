@@ -19,12 +19,12 @@ use Rattle.stm_program.specs.declared.level.Level.TheVariants.{SerializableSnaps
 use Rattle.stm_attempt.specs.ReadyRun.{ReadyRun}
 use Rattle.stm_entries.specs.declared.entry.Entry.{Entry}
 use Rattle.stm_entries.specs.declared.entry.Entry.TheVariants.{Program, Foreign, Grant, Renew, Revoke, Expire}
-use Rattle.stm_hall.specs.declared.verdict.Verdict.{Verdict}
-use Rattle.stm_hall.specs.declared.refusal.CommitRefusal.{CommitRefusal}
-use Rattle.stm_hall.specs.HallState.{HallState, HallStep, hall_of}
+use Rattle.stm_journal.specs.declared.verdict.Verdict.{Verdict}
+use Rattle.stm_journal.specs.declared.refusal.CommitRefusal.{CommitRefusal}
+use Rattle.stm_journal.specs.JournalState.{JournalState, JournalStep, journal_of}
 use Rattle.stm_hall.specs.Locked.{Opening}
 use Rattle.stm_hall.specs.Laws.{GoesOn}
-use Rattle.stm_hall.specs.Verdicts.{txn_of, entry_of, first_unvouched, taken, unless_unvouched, by_compares, unless_at_fault, verdict_of}
+use Rattle.stm_journal.specs.Verdicts.{txn_of, entry_of, first_unvouched, taken, taken_by_store, refused_by_store, unless_unvouched, by_compares, unless_at_fault, verdict_of}
 use Rattle.stm_hall.proofs.Opening.{goes_nowhere, gone_front, goes_on_by, goes_on_twice}
 use Rattle.stm_job.specs.declared.job.Job.{Job}
 use Rattle.stm_workers.specs.Commits.{is_commit, commits_in, IsOfAJob, TookCommitsOf}
@@ -33,33 +33,33 @@ use Rattle.stm_workers.specs.Calls.{IsRunOfJob}
 
 -- ---- a hall goes on
 
-pub has_gone_on : (before after : HallState) → GoesOn before after → HasGoneOn before after
+pub has_gone_on : (before after : JournalState) → GoesOn before after → HasGoneOn before after
 has_gone_on before after g =
     (gone_front before after g, g.start, ap (λ (o : Opening). o.history) g.opening, λ id. ap (λ (o : Opening). o.is_live id) g.opening)
 
-pub goes_on : (before after : HallState) → HasGoneOn before after → GoesOn before after
+pub goes_on : (before after : JournalState) → HasGoneOn before after → GoesOn before after
 goes_on before after g = goes_on_by before after g.0 g.1 g.2 g.3
 
-pub goes_further : (a b c : HallState) → HasGoneOn a b → GoesOn b c → HasGoneOn a c
+pub goes_further : (a b c : JournalState) → HasGoneOn a b → GoesOn b c → HasGoneOn a c
 goes_further a b c first then = has_gone_on a c (goes_on_twice a b c (goes_on a b first) then)
 
-pub has_not_gone : (hall : HallState) → HasGoneOn hall hall
+pub has_not_gone : (hall : JournalState) → HasGoneOn hall hall
 has_not_gone hall = has_gone_on hall hall (goes_nowhere hall)
 
 -- ---- what a verdict leads to
 
-abbrev OfStep : (HallStep Verdict → Type 0) → Result (HallStep Verdict) CommitRefusal → Type 0
+abbrev OfStep : (JournalStep Verdict → Type 0) → Result (JournalStep Verdict) CommitRefusal → Type 0
 OfStep Fact (Ok step) = Fact step
 OfStep Fact (Err cause) = Unit {0}
 
 -- what holds of a commit that the store takes, and of one that fails, holds of each verdict
-module _ (Fact : HallStep Verdict → Type 0) (hall : HallState) (ready : ReadyRun) (made : (done : Done) → OfStep Fact (taken hall ready (Ok done)))
+module _ (Fact : JournalStep Verdict → Type 0) (hall : JournalState) (ready : ReadyRun) (made : (done : Done) → OfStep Fact (refused_by_store (taken hall ready (Ok done))))
     (fails : (failed : FailedCompare) → OfStep Fact (by_compares hall ready (Some failed))) where
-  of_outcome : (o : Result Done Refusal) → OfStep Fact (taken hall ready o)
+  of_outcome : (o : Result Done Refusal) → OfStep Fact (refused_by_store (taken hall ready o))
   of_outcome (Ok done) = made done
   of_outcome (Err cause) = tt
 
-  of_value : (o : Option ReadAnswer) (next : Result (HallStep Verdict) CommitRefusal) → OfStep Fact next → OfStep Fact (unless_unvouched o next)
+  of_value : (o : Option ReadAnswer) (next : Result (JournalStep Verdict) CommitRefusal) → OfStep Fact next → OfStep Fact (unless_unvouched o next)
   of_value None next is = is
   of_value (Some a) next is = tt
 
@@ -67,20 +67,20 @@ module _ (Fact : HallStep Verdict → Type 0) (hall : HallState) (ready : ReadyR
   of_compare (Some failed) = fails failed
   of_compare None =
       of_value (first_unvouched hall.standing.history ready.level ready.answers)
-      (taken hall ready (outcome (terms_of hall.standing) (txn_of ready)))
+      (refused_by_store (taken_by_store hall ready))
       (of_outcome (outcome (terms_of hall.standing) (txn_of ready)))
 
-  of_fault : (o : Option Refusal) (next : Result (HallStep Verdict) CommitRefusal) → OfStep Fact next → OfStep Fact (unless_at_fault o next)
+  of_fault : (o : Option Refusal) (next : Result (JournalStep Verdict) CommitRefusal) → OfStep Fact next → OfStep Fact (unless_at_fault o next)
   of_fault None next is = is
   of_fault (Some cause) next is = tt
 
-  pub of_verdict : (step : HallStep Verdict) → verdict_of hall ready ≡ Ok step → Fact step
+  pub of_verdict : (step : JournalStep Verdict) → verdict_of hall ready ≡ Ok step → Fact step
   of_verdict step is =
       let failed : Option FailedCompare = first_failed (key_now hall.standing.history) 0 (txn_of ready).compares in
       subst (OfStep Fact) is (of_fault (fault_of (terms_of hall.standing).limit (txn_of ready)) (by_compares hall ready failed) (of_compare failed))
 
 -- the commits of the hall after a verdict
-pub verdict_adds : (hall after : HallState) (ready : ReadyRun) (verdict : Verdict) →
+pub verdict_adds : (hall after : JournalState) (ready : ReadyRun) (verdict : Verdict) →
     verdict_of hall ready ≡ Ok record { answer = verdict; next = after } →
     commits_in after.entries ≡ commits_in hall.entries + committed_by verdict
 verdict_adds hall after ready verdict is =
@@ -89,14 +89,14 @@ verdict_adds hall after ready verdict is =
     (λ failed. sym (add-zero (commits_in hall.entries))) (record { answer = verdict; next = after }) is
 
 -- and its store but for the history
-pub verdict_keeps : (hall after : HallState) (ready : ReadyRun) (verdict : Verdict) → verdict_of hall ready ≡ Ok record { answer = verdict; next = after } →
+pub verdict_keeps : (hall after : JournalState) (ready : ReadyRun) (verdict : Verdict) → verdict_of hall ready ≡ Ok record { answer = verdict; next = after } →
     HasKeptStore hall after
 verdict_keeps hall after ready verdict is =
     of_verdict (λ step. HasKeptStore hall step.next) hall ready (λ done. refl) (λ failed. refl) (record { answer = verdict; next = after }) is
 
-pub keeps_further : (a b c : HallState) → HasKeptStore a b → HasKeptStore b c → HasKeptStore a c
+pub keeps_further : (a b c : JournalState) → HasKeptStore a b → HasKeptStore b c → HasKeptStore a c
 keeps_further a b c first then =
-    then ∙ ap (λ (h : HallState). hall_of (with_history h.standing c.standing.history) c.entries c.start) first
+    then ∙ ap (λ (h : JournalState). journal_of (with_history h.standing c.standing.history) c.entries c.start) first
 
 -- ---- what a verdict takes
 
@@ -109,10 +109,10 @@ both_hold true b left right = right
 both_hold false b left right = absurd (cc)
 
 -- what stands behind the entries of a hall after a verdict on an attempt of one of the jobs: its commit, or nothing
-abbrev Adds : List Job → HallState → HallState → Type 0
+abbrev Adds : List Job → JournalState → JournalState → Type 0
 Adds jobs hall after = (more : List Entry) × (after.entries ≡ hall.entries ++ more) × (are_of_jobs jobs more ≡ true)
 
-pub verdict_puts : (jobs : List Job) (hall after : HallState) (ready : ReadyRun) (verdict : Verdict) → is_run_of_some jobs ready.program ready.level ≡ true →
+pub verdict_puts : (jobs : List Job) (hall after : JournalState) (ready : ReadyRun) (verdict : Verdict) → is_run_of_some jobs ready.program ready.level ≡ true →
     verdict_of hall ready ≡ Ok record { answer = verdict; next = after } → Adds jobs hall after
 verdict_puts jobs hall after ready verdict of is =
     of_verdict (λ step. Adds jobs hall step.next) hall ready
@@ -143,22 +143,22 @@ more_taken jobs n old more new low so_far is then =
     ∙ ap (λ (l : List Entry). are_of_jobs jobs l) (drop_front n old more low)
     ∙ all_of_both jobs (drop n old) more so_far then
 
-no_shorter : (before after : HallState) → GoesOn before after → length before.entries ≤ length after.entries
+no_shorter : (before after : JournalState) → GoesOn before after → length before.entries ≤ length after.entries
 no_shorter before after g =
     let long : length after.entries ≡ length (before.entries ++ g.more) = ap (λ (l : List Entry). length l) g.entries in
     let sum : length (before.entries ++ g.more) ≡ length before.entries + length g.more = length-append before.entries g.more in
     omega (arith, long, sum)
 
 -- a hall that took commits of these jobs alone has taken no other after a verdict on an attempt of one of them
-pub verdict_takes : (jobs : List Job) (before old new : HallState) (ready : ReadyRun) (verdict : Verdict) → HasGoneOn before old →
+pub verdict_takes : (jobs : List Job) (before old new : JournalState) (ready : ReadyRun) (verdict : Verdict) → HasGoneOn before old →
     takes_commits_of jobs before old ≡ true → is_run_of_some jobs ready.program ready.level ≡ true →
     verdict_of old ready ≡ Ok record { answer = verdict; next = new } → takes_commits_of jobs before new ≡ true
 verdict_takes jobs before old new ready verdict gone takes of is =
     let adds = verdict_puts jobs old new ready verdict of is in
     more_taken jobs (length before.entries) old.entries adds.0 new.entries (no_shorter before old (goes_on before old gone)) takes adds.1 adds.2
 
-pub same_takes : (jobs : List Job) (before old new : HallState) → new ≡ old → takes_commits_of jobs before old ≡ true → takes_commits_of jobs before new ≡ true
-same_takes jobs before old new same takes = ap (λ (h : HallState). takes_commits_of jobs before h) same ∙ takes
+pub same_takes : (jobs : List Job) (before old new : JournalState) → new ≡ old → takes_commits_of jobs before old ≡ true → takes_commits_of jobs before new ≡ true
+same_takes jobs before old new same takes = ap (λ (h : JournalState). takes_commits_of jobs before h) same ∙ takes
 
 -- ---- the same, entry by entry
 
@@ -235,7 +235,7 @@ beyond zero k xs = let e : k ≡ zero + k = omega arith in ap (λ (m : ℕ). sli
 beyond (suc n) k [] = refl
 beyond (suc n) k (x ∷ xs) = let e : suc n + k ≡ suc (n + k) = omega arith in beyond n k xs ∙ ap (λ (m : ℕ). slice_get (x ∷ xs) m) (sym e)
 
-pub took_commits : (jobs : List Job) (before after : HallState) → takes_commits_of jobs before after ≡ true → TookCommitsOf jobs before after
+pub took_commits : (jobs : List Job) (before after : JournalState) → takes_commits_of jobs before after ≡ true → TookCommitsOf jobs before after
 took_commits jobs before after takes index entry behind at =
     let n : ℕ = length before.entries in
     let k : n + (index - n) ≡ index = omega (arith, behind) in
@@ -244,7 +244,7 @@ took_commits jobs before after takes index entry behind at =
     (beyond n (index - n) after.entries ∙ ap (λ (m : ℕ). slice_get after.entries m) k ∙ at))
 
 -- a run that took nothing took no other
-pub took_nothing : (jobs : List Job) (hall : HallState) → TookCommitsOf jobs hall hall
+pub took_nothing : (jobs : List Job) (hall : JournalState) → TookCommitsOf jobs hall hall
 took_nothing jobs hall = took_commits jobs hall hall (ap (λ (l : List Entry). are_of_jobs jobs l) (drop_whole hall.entries))
 
 -- a job of the list is one of it
@@ -278,14 +278,14 @@ ready_of_some jobs job ready is of =
 
 -- ---- what lies under the lock
 
-pub same_gone : (before old new : HallState) → new ≡ old → HasGoneOn before old → HasGoneOn before new
+pub same_gone : (before old new : JournalState) → new ≡ old → HasGoneOn before old → HasGoneOn before new
 same_gone before old new same gone = subst (HasGoneOn before) (sym same) gone
 
-pub same_count : (before old new : HallState) (total : ℕ) → new ≡ old → commits_in old.entries ≡ commits_in before.entries + total →
+pub same_count : (before old new : JournalState) (total : ℕ) → new ≡ old → commits_in old.entries ≡ commits_in before.entries + total →
     commits_in new.entries ≡ commits_in before.entries + total
-same_count before old new total same counted = ap (λ (h : HallState). commits_in h.entries) same ∙ counted
+same_count before old new total same counted = ap (λ (h : JournalState). commits_in h.entries) same ∙ counted
 
-pub same_kept : (before old new : HallState) → new ≡ old → HasKeptStore before old → HasKeptStore before new
+pub same_kept : (before old new : JournalState) → new ≡ old → HasKeptStore before old → HasKeptStore before new
 same_kept before old new same kept = subst (HasKeptStore before) (sym same) kept
 
 -- what a verdict adds to the hall is what it adds to the book
@@ -293,12 +293,12 @@ pub adds_up : (before old new total later added : ℕ) → new ≡ old + added �
 adds_up before old new total later added more counted booked = omega (arith, more, counted, booked)
 
 -- it begins as the hall was handed in
-pub begins : (jobs : List Job) (before hall : HallState) (total : ℕ) → hall ≡ before → total ≡ 0 →
+pub begins : (jobs : List Job) (before hall : JournalState) (total : ℕ) → hall ≡ before → total ≡ 0 →
     HasGoneOn before hall × HasKeptStore before hall × (takes_commits_of jobs before hall ≡ true)
     × (commits_in hall.entries ≡ commits_in before.entries + total)
 begins jobs before hall total same none = (
   subst (HasGoneOn before) (sym same) (has_not_gone before),
   subst (HasKeptStore before) (sym same) (refl {a = before}),
-  ap (λ (h : HallState). takes_commits_of jobs before h) same ∙ ap (λ (l : List Entry). are_of_jobs jobs l) (drop_whole before.entries),
-  ap (λ (h : HallState). commits_in h.entries) same ∙ sym (add-zero (commits_in before.entries)) ∙ ap (λ n. commits_in before.entries + n) (sym none),
+  ap (λ (h : JournalState). takes_commits_of jobs before h) same ∙ ap (λ (l : List Entry). are_of_jobs jobs l) (drop_whole before.entries),
+  ap (λ (h : JournalState). commits_in h.entries) same ∙ sym (add-zero (commits_in before.entries)) ∙ ap (λ n. commits_in before.entries + n) (sym none),
 )

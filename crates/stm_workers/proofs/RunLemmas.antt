@@ -2,7 +2,7 @@
 use Rattle.std.proofs.Common.{◌≡◌, ℕ, ◌+◌, ◌<◌, true, List, length, count_by, Result, Ok, IfOk, refl, sym, ◌∙◌, ap, subst}
 use Rattle.stm_draw.specs.declared.table.JobSeat.{JobSeat}
 use Rattle.stm_draw.specs.declared.view.Size.{Size}
-use Rattle.stm_hall.specs.HallState.{HallState}
+use Rattle.stm_journal.specs.JournalState.{JournalState}
 use Rattle.stm_workers.specs.declared.start_point.StartPoint.{StartPoint}
 use Rattle.stm_job.specs.declared.job.Job.{Job}
 use Rattle.stm_job.specs.declared.job_end.JobEnd.{JobEnd}
@@ -21,7 +21,7 @@ use Rattle.stm_workers.specs.Calls.{HasGoneOn, HasKeptStore, takes_commits_of}
 use Rattle.stm_workers.proofs.LockedLemmas.{goes_on, has_not_gone, took_commits, took_nothing}
 
 -- the ends were gathered, and each stands
-pub ran_to : (before after : HallState) (jobs : List Job) (ends : List JobEnd) (attempts : List ℕ) (begun : StartPoint) (committed : ℕ) →
+pub ran_to : (before after : JournalState) (jobs : List Job) (ends : List JobEnd) (attempts : List ℕ) (begun : StartPoint) (committed : ℕ) →
     begun ≡ start_point before → HasGoneOn before after → HasKeptStore before after → TookCommitsOf jobs before after →
     (length ends ≡ length jobs) × (length attempts ≡ length jobs) → commits_in after.entries ≡ commits_in before.entries + count_by is_committed ends →
     committed ≡ count_by is_committed ends → AllStand begun after jobs ends → HaveTheirRuns before jobs ends attempts →
@@ -39,7 +39,7 @@ ran_to before after jobs ends attempts begun committed began gone kept takes pla
 }
 
 -- a run that was broken off
-pub broke_off : (before after : HallState) (jobs : List Job) (cause : FaultCause) (ends : List JobEnd) → HasGoneOn before after → HasKeptStore before after →
+pub broke_off : (before after : JournalState) (jobs : List Job) (cause : FaultCause) (ends : List JobEnd) → HasGoneOn before after → HasKeptStore before after →
     TookCommitsOf jobs before after → OnAudit cause (IsAtFault before jobs ends after) → BrokeOff before jobs cause ends after
 broke_off before after jobs cause ends gone kept takes fault =
     record { at_fault = fault; takes = takes; goes_on = goes_on before after gone; keeps = kept }
@@ -49,23 +49,23 @@ no_audit : (lost : ThreadFault) (fact : ℕ → Type 0) → OnAudit (cause_of lo
 no_audit NoMemory fact = tt
 no_audit NoThread fact = tt
 
-pub given_up : (before after reported : HallState) (jobs : List Job) (lost : ThreadFault) (cause : FaultCause) (ends : List JobEnd) → HasGoneOn before after →
+pub given_up : (before after reported : JournalState) (jobs : List Job) (lost : ThreadFault) (cause : FaultCause) (ends : List JobEnd) → HasGoneOn before after →
     HasKeptStore before after → TookCommitsOf jobs before after → reported ≡ after → cause ≡ cause_of lost → BrokeOff before jobs cause ends reported
 given_up before after reported jobs lost cause ends gone kept takes same is =
-    subst (λ (h : HallState). BrokeOff before jobs cause ends h) (sym same)
+    subst (λ (h : JournalState). BrokeOff before jobs cause ends h) (sym same)
     (broke_off before after jobs cause ends gone kept takes
     (subst (λ (c : FaultCause). OnAudit c (IsAtFault before jobs ends after)) (sym is) (no_audit lost (IsAtFault before jobs ends after))))
 
 -- or before it began
-pub broke_off_early : (before reported : HallState) (jobs : List Job) (cause : FaultCause) (ends : List JobEnd) → reported ≡ before → cause ≡ OutOfMemory →
+pub broke_off_early : (before reported : JournalState) (jobs : List Job) (cause : FaultCause) (ends : List JobEnd) → reported ≡ before → cause ≡ OutOfMemory →
     BrokeOff before jobs cause ends reported
 broke_off_early before reported jobs cause ends same is =
     subst (λ (c : FaultCause). BrokeOff before jobs c ends reported) (sym is)
-    (subst (λ (h : HallState). BrokeOff before jobs OutOfMemory ends h) (sym same)
+    (subst (λ (h : JournalState). BrokeOff before jobs OutOfMemory ends h) (sym same)
     (broke_off before before jobs OutOfMemory ends (has_not_gone before) (refl {a = before}) (took_nothing jobs before) tt))
 
 -- the end of this job does not stand
-began_there : (before after : HallState) (jobs : List Job) (ends : List JobEnd) (begun : StartPoint) (cause : FaultCause) → begun ≡ start_point before →
+began_there : (before after : JournalState) (jobs : List Job) (ends : List JobEnd) (begun : StartPoint) (cause : FaultCause) → begun ≡ start_point before →
     OnAudit cause (λ (job : ℕ). (job < length jobs) × (length ends ≡ length jobs) × (StandsAt begun after jobs ends job → ⊥)) →
     OnAudit cause (IsAtFault before jobs ends after)
 began_there before after jobs ends begun OutOfMemory began reported = tt
@@ -73,55 +73,55 @@ began_there before after jobs ends begun Spawn began reported = tt
 began_there before after jobs ends begun (Audit job) began reported =
     (reported.0, reported.1, subst (λ (b : StartPoint). StandsAt b after jobs ends job → ⊥) began reported.2)
 
-pub fault_found : (before after reported : HallState) (jobs : List Job) (ends : List JobEnd) (begun : StartPoint) (cause : FaultCause) →
+pub fault_found : (before after reported : JournalState) (jobs : List Job) (ends : List JobEnd) (begun : StartPoint) (cause : FaultCause) →
     begun ≡ start_point before → HasGoneOn before after → HasKeptStore before after → TookCommitsOf jobs before after → reported ≡ after →
     OnAudit cause (λ (job : ℕ). (job < length jobs) × (length ends ≡ length jobs) × (StandsAt begun after jobs ends job → ⊥)) →
     BrokeOff before jobs cause ends reported
 fault_found before after reported jobs ends begun cause began gone kept takes same fault =
-    subst (λ (h : HallState). BrokeOff before jobs cause ends h) (sym same)
+    subst (λ (h : JournalState). BrokeOff before jobs cause ends h) (sym same)
     (broke_off before after jobs cause ends gone kept takes (began_there before after jobs ends begun cause began fault))
 
 -- ---- one run
 
 -- the hall that was handed in is the one that the run is of
-pub gone_from : (hall before after : HallState) → hall ≡ before → HasGoneOn before after → HasGoneOn hall after
-gone_from hall before after same gone = subst (λ (h : HallState). HasGoneOn h after) (sym same) gone
+pub gone_from : (hall before after : JournalState) → hall ≡ before → HasGoneOn before after → HasGoneOn hall after
+gone_from hall before after same gone = subst (λ (h : JournalState). HasGoneOn h after) (sym same) gone
 
-pub kept_from : (hall before after : HallState) → hall ≡ before → HasKeptStore before after → HasKeptStore hall after
-kept_from hall before after same kept = subst (λ (h : HallState). HasKeptStore h after) (sym same) kept
+pub kept_from : (hall before after : JournalState) → hall ≡ before → HasKeptStore before after → HasKeptStore hall after
+kept_from hall before after same kept = subst (λ (h : JournalState). HasKeptStore h after) (sym same) kept
 
 -- and the jobs are the run's
-pub taken_from : (jobs its : List Job) (hall before after : HallState) → jobs ≡ its → hall ≡ before → takes_commits_of its before after ≡ true →
+pub taken_from : (jobs its : List Job) (hall before after : JournalState) → jobs ≡ its → hall ≡ before → takes_commits_of its before after ≡ true →
     TookCommitsOf jobs hall after
 taken_from jobs its hall before after are same takes =
     took_commits jobs hall after
-    (ap (λ (js : List Job). takes_commits_of js hall after) are ∙ ap (λ (h : HallState). takes_commits_of its h after) same ∙ takes)
+    (ap (λ (js : List Job). takes_commits_of js hall after) are ∙ ap (λ (h : JournalState). takes_commits_of its h after) same ∙ takes)
 
 -- it has the commits that it had, and one for each end that is one
-pub run_commits : (hall before after : HallState) (amount reported counted : ℕ) → hall ≡ before →
+pub run_commits : (hall before after : JournalState) (amount reported counted : ℕ) → hall ≡ before →
     commits_in after.entries ≡ commits_in before.entries + amount → amount ≡ reported → counted ≡ reported →
     commits_in after.entries ≡ commits_in hall.entries + counted
 run_commits hall before after amount reported counted same closed shared sorted =
     closed
-    ∙ ap (λ (h : HallState). commits_in h.entries + amount) (sym same)
+    ∙ ap (λ (h : JournalState). commits_in h.entries + amount) (sym same)
     ∙ ap (λ (n : ℕ). commits_in hall.entries + n) (shared ∙ sym sorted)
 
 -- ---- what the audit says
 
 -- it clears the ends, which it was shown
-pub all_clear : (begun : StartPoint) (hall : HallState) (jobs : List Job) (shown ends : List JobEnd) → shown ≡ ends → AllStand begun hall jobs shown →
+pub all_clear : (begun : StartPoint) (hall : JournalState) (jobs : List Job) (shown ends : List JobEnd) → shown ≡ ends → AllStand begun hall jobs shown →
     AllStand begun hall jobs ends
 all_clear begun hall jobs shown ends same clear = subst (λ (es : List JobEnd). AllStand begun hall jobs es) same clear
 
 -- it tells a job that is at fault, of the ends that are handed back
-reported_of : (begun : StartPoint) (hall : HallState) (jobs : List Job) (ends : List JobEnd) (cause : FaultCause) → length ends ≡ length jobs →
+reported_of : (begun : StartPoint) (hall : JournalState) (jobs : List Job) (ends : List JobEnd) (cause : FaultCause) → length ends ≡ length jobs →
     OnAudit cause (λ (job : ℕ). (job < length jobs) × (StandsAt begun hall jobs ends job → ⊥)) →
     OnAudit cause (λ (job : ℕ). (job < length jobs) × (length ends ≡ length jobs) × (StandsAt begun hall jobs ends job → ⊥))
 reported_of begun hall jobs ends OutOfMemory places fault = tt
 reported_of begun hall jobs ends Spawn places fault = tt
 reported_of begun hall jobs ends (Audit job) places fault = (fault.0, places, fault.1)
 
-pub at_fault : (begun : StartPoint) (hall : HallState) (jobs : List Job) (shown ends given : List JobEnd) (cause reported : FaultCause) → shown ≡ ends →
+pub at_fault : (begun : StartPoint) (hall : JournalState) (jobs : List Job) (shown ends given : List JobEnd) (cause reported : FaultCause) → shown ≡ ends →
     given ≡ ends → reported ≡ cause → length ends ≡ length jobs →
     OnAudit cause (λ (job : ℕ). (job < length jobs) × (StandsAt begun hall jobs shown job → ⊥)) →
     OnAudit reported (λ (job : ℕ). (job < length jobs) × (length given ≡ length jobs) × (StandsAt begun hall jobs given job → ⊥))
@@ -139,10 +139,10 @@ pub at_ok : {A E : Type 0} (P : A → Type 0) (outcome : Result A E) (made : A) 
 at_ok {A} {E} P outcome made is holds = subst (λ (r : Result A E). IfOk r P) is holds
 
 -- the same run, told by the hall, the ends and the attempts that were gathered
-pub ran_on : (before after reported : HallState) (jobs : List Job) (ends given : List JobEnd) (attempts made : List ℕ) (committed : ℕ) → reported ≡ after →
+pub ran_on : (before after reported : JournalState) (jobs : List Job) (ends given : List JobEnd) (attempts made : List ℕ) (committed : ℕ) → reported ≡ after →
     given ≡ ends → made ≡ attempts → RanTo before jobs ends attempts committed after → RanTo before jobs given made committed reported
 ran_on before after reported jobs ends given attempts made committed same are were ran =
-    subst (λ (h : HallState). RanTo before jobs given made committed h) (sym same)
+    subst (λ (h : JournalState). RanTo before jobs given made committed h) (sym same)
     (subst (λ (es : List JobEnd). RanTo before jobs es made committed after) (sym are)
     (subst (λ (ns : List ℕ). RanTo before jobs ends ns committed after) (sym were) ran))
 

@@ -14,7 +14,7 @@ use Rattle.atomic_table.specs.Seated.{TableId}
 use Rattle.stm_draw.specs.Seats.{IsSeatAt, seat_view}
 use Rattle.stm_draw.specs.Draw.{EachOnce, Knows, times, once_below, fresh, given, drew, joined, after_none}
 use Rattle.stm_draw.proofs.Counted.{as_many}
-use Rattle.stm_hall.specs.HallState.{HallState}
+use Rattle.stm_journal.specs.JournalState.{JournalState}
 use Rattle.stm_job.specs.declared.job_end.JobEnd.{JobEnd}
 use Rattle.stm_job.specs.declared.job.Job.{Job}
 use Rattle.stm_workers.specs.Attempts.{HasCome, HasSomeRun}
@@ -321,7 +321,7 @@ attempts_at (e ∷ es) (suc k) made is d = attempts_at es k made is d
 -- so each job has come to the end at its place
 pub sorted_ran : (ended sorted : List EndOf) (ends : List JobEnd) (attempts : List ℕ) → EachOnce (length ended) (jobs_of ended) →
     IsPermutation ended sorted → IsNonDecreasingBy (λ (e : EndOf). e.job) sorted → ends ≡ ends_in sorted → attempts ≡ attempts_in sorted →
-    (handed : HallState) (jobs : List Job) → All (HasItsRun handed jobs) ended → HaveTheirRuns handed jobs ends attempts
+    (handed : JournalState) (jobs : List Job) → All (HasItsRun handed jobs) ended → HaveTheirRuns handed jobs ends attempts
 sorted_ran ended sorted ends attempts each moved rises are were handed jobs ran place job end made job_is end_is made_is =
     let here = ended_at sorted place end (ap (λ (l : List JobEnd). slice_get l place) (sym are) ∙ end_is) in
     let own : EndOf = record { job = place; end = end; attempts = made } in
@@ -337,7 +337,7 @@ sorted_ran ended sorted ends attempts each moved rises are were handed jobs ran 
 -- ---- a job that a worker brought to its end
 
 -- the same of the job at its place
-pub come_there : (handed : HallState) (jobs : List Job) (place : ℕ) (job : Job) (seen : ℕ) (end : JobEnd) (after made : ℕ) → slice_get jobs place ≡ Some job →
+pub come_there : (handed : JournalState) (jobs : List Job) (place : ℕ) (job : Job) (seen : ℕ) (end : JobEnd) (after made : ℕ) → slice_get jobs place ≡ Some job →
     HasCome handed job seen end after made → (other : Job) → slice_get jobs place ≡ Some other → HasCome handed other seen end after made
 come_there handed jobs place job seen end after made at came other is =
     subst (λ (j : Job). HasCome handed j seen end after made) (same job other (sym at ∙ is)) came
@@ -350,7 +350,7 @@ come_there handed jobs place job seen end after made at came other is =
     same x y e = ap (job_or x) e
 
 -- and so has the run of which it is one
-pub some_run : (handed : HallState) (jobs its : List Job) (job : Job) (ended : EndOf) (seen after : ℕ) → jobs ≡ its → slice_get jobs ended.job ≡ Some job →
+pub some_run : (handed : JournalState) (jobs its : List Job) (job : Job) (ended : EndOf) (seen after : ℕ) → jobs ≡ its → slice_get jobs ended.job ≡ Some job →
     HasCome handed job seen ended.end after ended.attempts → HasItsRun handed its ended
 some_run handed jobs its job ended seen after are at came other is =
     ∣ (

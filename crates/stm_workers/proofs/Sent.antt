@@ -25,7 +25,7 @@ use Rattle.stm_outcome.proofs.txn.Txn.TheSendSync as txn
 use Rattle.stm_txn.proofs.store.Store.TheSendSync as store
 use Rattle.std.proofs.alloc.Global.TheSendSync as heap
 use Rattle.stm_entries.specs.contracts.entry.Entry as Entry
-use Rattle.stm_hall.specs.contracts.log.Log as Log
+use Rattle.stm_journal.specs.contracts.journal.Journal as Journal
 use Rattle.stm_hall.specs.contracts.hall.Hall as Hall
 use Rattle.stm_job.specs.contracts.job.Job as Job
 use Rattle.stm_workers.specs.contracts.locked.Locked as Locked
@@ -117,11 +117,11 @@ entry_send = search held depth 12
 
 -- ---- the hall, which stands behind a lock, and the jobs, which are read by all
 
-pub log_send : IsSend Log.the_row
-log_send = let entries = Vec-send Entry.the_row entry_send in search (store.the_send, sendable) depth 12
+pub journal_send : IsSend Journal.the_row
+journal_send = let entries = Vec-send Entry.the_row entry_send in search (store.the_send, sendable) depth 12
 
 pub hall_send : IsSend Hall.the_row
-hall_send = search (log_send, heap.the_field_send, sendable) depth 12
+hall_send = search (journal_send, heap.the_field_send, sendable) depth 12
 
 pub job_sync : IsSync Job.the_row
 job_sync = search (program_sync, level.the_field_sync, sendable) depth 12

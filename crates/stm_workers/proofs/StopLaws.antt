@@ -20,11 +20,11 @@ use Rattle.stm_compile.specs.Answers.{state_as_of, AreTrue}
 use Rattle.stm_program.specs.Levels.{is_serializable}
 use Rattle.stm_compile.proofs.AgreeLemmas.{answers_of_one_revision}
 use Rattle.stm_attempt.specs.Settled.{run_on}
-use Rattle.stm_hall.specs.declared.refusal.FetchRefusal.{FetchRefusal}
-use Rattle.stm_hall.specs.declared.refusal.CommitRefusal.{CommitRefusal}
-use Rattle.stm_hall.specs.declared.verdict.Verdict.{Verdict}
-use Rattle.stm_hall.specs.declared.verdict.Verdict.TheVariants.{Committed, Failed}
-use Rattle.stm_hall.specs.HallState.{HallState}
+use Rattle.stm_journal.specs.declared.refusal.FetchRefusal.{FetchRefusal}
+use Rattle.stm_journal.specs.declared.refusal.CommitRefusal.{CommitRefusal}
+use Rattle.stm_journal.specs.declared.verdict.Verdict.{Verdict}
+use Rattle.stm_journal.specs.declared.verdict.Verdict.TheVariants.{Committed, Failed}
+use Rattle.stm_journal.specs.JournalState.{JournalState}
 use Rattle.stm_hall.specs.Showing.{AreShownAt}
 use Rattle.stm_workers.specs.declared.start_point.StartPoint.{StartPoint}
 use Rattle.stm_job.specs.declared.job.Job.{Job}
@@ -83,7 +83,7 @@ no_commit (Aborted text reads) end cause reports reported = absurd (cc)
 no_commit (Faulted fault reads) end cause reports reported = absurd (cc)
 no_commit (Refused refusal) end cause reports reported = absurd (cc)
 
-by_stop : (handed : HallState) (job : Job) (at : JobState) (stop : Stop) (reads : List ReadAnswer) (end : End) → end_reported stop ≡ Some end →
+by_stop : (handed : JournalState) (job : Job) (at : JobState) (stop : Stop) (reads : List ReadAnswer) (end : End) → end_reported stop ≡ Some end →
     reads_reported stop ≡ Some reads →
     IsStop handed job at stop → RunsTo (run_on job.program reads) end
 by_stop handed job at stop reads end reports on (inl ended) = (
@@ -127,7 +127,7 @@ same_reported (Faulted fault reads) job_end reported =
 same_reported (Refused refusal) job_end reported =
     let same = some_of _ _ reported in (ap reported_end same, ap reported_reads same)
 
-by_come : (handed : HallState) (job : Job) (seen : ℕ) (job_end : JobEnd) (after attempts : ℕ) (end : End) (reads : List ReadAnswer) →
+by_come : (handed : JournalState) (job : Job) (seen : ℕ) (job_end : JobEnd) (after attempts : ℕ) (end : End) (reads : List ReadAnswer) →
     reported_end job_end ≡ Some end →
     reported_reads job_end ≡ Some reads → HasCome handed job seen job_end after attempts → RunsTo (run_on job.program reads) end
 by_come handed job seen job_end after attempts end reads reports on (inl came) =
@@ -154,7 +154,7 @@ the_run {A} (EndedRun own) end some is = (own, refl, ∥∥₁_elim some (Coded-
         run_of : (x y : Run) → EndedRun x ≡ EndedRun y → x ≡ y
         run_of x y reported = ap (run_or x) reported
 
-runs_to : (handed : HallState) (job : Job) (job_end : JobEnd) (attempts : ℕ) (end : End) (reads : List ReadAnswer) → reported_end job_end ≡ Some end →
+runs_to : (handed : JournalState) (job : Job) (job_end : JobEnd) (attempts : ℕ) (end : End) (reads : List ReadAnswer) → reported_end job_end ≡ Some end →
     reported_reads job_end ≡ Some reads → HasSomeRun handed job job_end attempts → RunsTo (run_on job.program reads) end
 runs_to handed job job_end attempts end reads reports on some =
     the_run (run_on job.program reads) end some (λ came. by_come handed job came.0 job_end came.1 attempts end reads reports on came.2)
@@ -162,7 +162,7 @@ runs_to handed job job_end attempts end reads reports on some =
 -- ---- the law
 
 -- the run on reads of one state
-ends_alone : (begun : StartPoint) (hall : HallState) (job : Job) (reads : List ReadAnswer) (end : End) → AreOfOneState begun hall reads →
+ends_alone : (begun : StartPoint) (hall : JournalState) (job : Job) (reads : List ReadAnswer) (end : End) → AreOfOneState begun hall reads →
     RunsTo (run_on job.program reads) end → IsEndAlone begun hall job end
 ends_alone begun hall job reads end one ran = record {
   revision = one.revision;
@@ -173,7 +173,7 @@ ends_alone begun hall job reads end one ran = record {
   ends = ran.2;
 }
 
-on_stop : (handed : HallState) (begun : StartPoint) (hall : HallState) (job : Job) (job_end : JobEnd) (attempts : ℕ) → is_serializable job.level ≡ true →
+on_stop : (handed : JournalState) (begun : StartPoint) (hall : JournalState) (job : Job) (job_end : JobEnd) (attempts : ℕ) → is_serializable job.level ≡ true →
     HasSomeRun handed job job_end attempts → IsBorneOut begun hall job job_end → OnStop job_end (IsEndAlone begun hall job)
 on_stop handed begun hall job (CommittedJob index revision) attempts serializable some borne = tt
 on_stop handed begun hall job (AbortedJob text reads) attempts serializable some borne =

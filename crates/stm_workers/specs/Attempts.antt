@@ -19,15 +19,15 @@ use Rattle.stm_attempt.specs.Next.{next_of}
 use Rattle.stm_attempt.specs.ReadyRun.{ReadyRun}
 use Rattle.stm_attempt.specs.Settled.{run_on}
 use Rattle.stm_attempt.specs.Entering.{is_due, gone_on}
-use Rattle.stm_calls.specs.Fetched.{fetch_of, fetch_all_of}
-use Rattle.stm_calls.specs.Reads.{reads_in}
-use Rattle.stm_hall.specs.declared.refusal.FetchRefusal.{FetchRefusal}
-use Rattle.stm_hall.specs.declared.refusal.FetchRefusal.TheVariants.{Behind as FetchBehind, Store as FetchRefused}
-use Rattle.stm_hall.specs.declared.refusal.CommitRefusal.{CommitRefusal}
-use Rattle.stm_hall.specs.declared.refusal.CommitRefusal.TheVariants.{Unvouched as CommitUnvouched, Store as CommitRefused}
-use Rattle.stm_hall.specs.HallState.{HallState}
-use Rattle.stm_hall.specs.declared.verdict.Verdict.{Verdict}
-use Rattle.stm_hall.specs.declared.verdict.Verdict.TheVariants.{Committed, Failed}
+use Rattle.stm_journal.specs.Fetched.{fetch_of, fetch_all_of}
+use Rattle.stm_journal.specs.Reads.{reads_in}
+use Rattle.stm_journal.specs.declared.refusal.FetchRefusal.{FetchRefusal}
+use Rattle.stm_journal.specs.declared.refusal.FetchRefusal.TheVariants.{Behind as FetchBehind, Store as FetchRefused}
+use Rattle.stm_journal.specs.declared.refusal.CommitRefusal.{CommitRefusal}
+use Rattle.stm_journal.specs.declared.refusal.CommitRefusal.TheVariants.{Unvouched as CommitUnvouched, Store as CommitRefused}
+use Rattle.stm_journal.specs.JournalState.{JournalState}
+use Rattle.stm_journal.specs.declared.verdict.Verdict.{Verdict}
+use Rattle.stm_journal.specs.declared.verdict.Verdict.TheVariants.{Committed, Failed}
 use Rattle.stm_job.specs.declared.job.Job.{Job}
 use Rattle.stm_job.specs.declared.job_end.JobEnd.{JobEnd}
 use Rattle.stm_job.specs.declared.job_end.JobEnd.TheVariants.{Committed as CommittedJob, Aborted as AbortedJob, Faulted as FaultedJob, Refused as RefusedJob}
@@ -94,39 +94,39 @@ abbrev pub state_of : AttemptState → ℕ → JobState
 state_of attempt seen = record { attempt = attempt; seen = seen }
 
 -- a hall that was asked for a key at a revision, by who has seen this, answered so
-pub record IsAnswered (handed : HallState) (seen : ℕ) (key : List ℕ) (at : ℕ) (answer : ReadAnswer) : Type 0 where
+pub record IsAnswered (handed : JournalState) (seen : ℕ) (key : List ℕ) (at : ℕ) (answer : ReadAnswer) : Type 0 where
   pub reported : TxnAnswer
   pub by_hall : AnswersInSomeHall handed seen (fetch_of key at) (Ok reported)
   pub is_read : reported.answers ≡ GetAnswer answer ∷ []
 
 -- it refused, as the stop tells
-pub record IsUnanswered (handed : HallState) (seen : ℕ) (key : List ℕ) (at : ℕ) (stop : Stop) : Type 0 where
+pub record IsUnanswered (handed : JournalState) (seen : ℕ) (key : List ℕ) (at : ℕ) (stop : Stop) : Type 0 where
   pub cause : FetchRefusal
   pub by_hall : AnswersInSomeHall handed seen (fetch_of key at) (Err cause)
   pub reported : fetch_refusal_reported stop ≡ Some cause
 
 -- a hall that was asked for the keys of a list, by who has seen this, answered so, and carried this revision
-pub record AreAnswered (handed : HallState) (seen : ℕ) (keys : List (List ℕ)) (answers : List ReadAnswer) (revision : ℕ) : Type 0 where
+pub record AreAnswered (handed : JournalState) (seen : ℕ) (keys : List (List ℕ)) (answers : List ReadAnswer) (revision : ℕ) : Type 0 where
   pub reported : TxnAnswer
   pub by_hall : AnswersInSomeHall handed seen (fetch_all_of keys) (Ok reported)
   pub are_read : answers ≡ reads_in reported.answers
   pub carries : revision ≡ reported.revision
 
 -- it refused, as the stop tells
-pub record AreUnanswered (handed : HallState) (seen : ℕ) (keys : List (List ℕ)) (stop : Stop) : Type 0 where
+pub record AreUnanswered (handed : JournalState) (seen : ℕ) (keys : List (List ℕ)) (stop : Stop) : Type 0 where
   pub cause : FetchRefusal
   pub by_hall : AnswersInSomeHall handed seen (fetch_all_of keys) (Err cause)
   pub reported : fetch_refusal_reported stop ≡ Some cause
 
 -- a hall refused the commit of a ready attempt, as the stop tells
-pub record IsTurnedAway (handed : HallState) (ready : ReadyRun) (stop : Stop) : Type 0 where
+pub record IsTurnedAway (handed : JournalState) (ready : ReadyRun) (stop : Stop) : Type 0 where
   pub cause : CommitRefusal
   pub by_hall : JudgedInSomeHall handed ready (Err cause)
   pub reported : commit_refusal_reported stop ≡ Some cause
 
 -- A fetch of a key: the attempt wants a key at a revision; that is asked for, with exactly what was seen; and the attempt goes on with the answer, whose revision is
 -- what was seen then.
-pub record IsKeyFetch (handed : HallState) (job : Job) (before after : JobState) : Type 0 where
+pub record IsKeyFetch (handed : JournalState) (job : Job) (before after : JobState) : Type 0 where
   pub key : List ℕ
   pub at : ℕ
   pub wants : next_of job.program before.attempt.level before.attempt.known ≡ Fetch key at
@@ -136,7 +136,7 @@ pub record IsKeyFetch (handed : HallState) (job : Job) (before after : JobState)
   pub sees : after.seen ≡ answer.revision
 
 -- A fetch of a list: the attempt wants its keys; all are asked for at once, with exactly what was seen; and the attempt goes on with the answers.
-pub record IsListFetch (handed : HallState) (job : Job) (before after : JobState) : Type 0 where
+pub record IsListFetch (handed : JournalState) (job : Job) (before after : JobState) : Type 0 where
   pub keys : List (List ℕ)
   pub at : ℕ
   pub wants : next_of job.program before.attempt.level before.attempt.known ≡ FetchAll keys at
@@ -144,15 +144,15 @@ pub record IsListFetch (handed : HallState) (job : Job) (before after : JobState
   pub answered : AreAnswered handed before.seen keys answers after.seen
   pub goes_on : after.attempt ≡ supplied_all answers (advanced job.program before.attempt)
 
-abbrev pub IsFetch : HallState → Job → JobState → JobState → Type 0
+abbrev pub IsFetch : JournalState → Job → JobState → JobState → Type 0
 IsFetch handed job before after = IsKeyFetch handed job before after ⊎ IsListFetch handed job before after
 
 -- so many fetches, one after the other
-abbrev pub AreFetches : HallState → Job → ℕ → JobState → JobState → Type 0
+abbrev pub AreFetches : JournalState → Job → ℕ → JobState → JobState → Type 0
 AreFetches handed job zero before after = after ≡ before
 AreFetches handed job (suc n) before after = (between : JobState) × AreFetches handed job n before between × IsFetch handed job between after
 
-abbrev pub HasFetched : HallState → Job → JobState → JobState → Type 0
+abbrev pub HasFetched : JournalState → Job → JobState → JobState → Type 0
 HasFetched handed job before after = (n : ℕ) × AreFetches handed job n before after
 
 -- the attempt is ready to commit
@@ -160,14 +160,14 @@ abbrev pub IsReadyAt : Job → JobState → ReadyRun → Type 0
 IsReadyAt job at ready = next_of job.program at.attempt.level at.attempt.known ≡ Ready ready
 
 -- after some fetches it is
-pub record IsEvaluated (handed : HallState) (job : Job) (before : JobState) (ready : ReadyRun) (seen : ℕ) : Type 0 where
+pub record IsEvaluated (handed : JournalState) (job : Job) (before : JobState) (ready : ReadyRun) (seen : ℕ) : Type 0 where
   pub at : JobState
   pub fetches : HasFetched handed job before at
   pub is_ready : IsReadyAt job at ready
   pub sees : seen ≡ at.seen
 
 -- and this is the verdict on it, of which the revisions are seen
-pub record HasTried (handed : HallState) (job : Job) (before : JobState) (verdict : Verdict) (seen : ℕ) : Type 0 where
+pub record HasTried (handed : JournalState) (job : Job) (before : JobState) (verdict : Verdict) (seen : ℕ) : Type 0 where
   pub ready : ReadyRun
   pub fetched : ℕ
   pub evaluated : IsEvaluated handed job before ready fetched
@@ -185,40 +185,40 @@ pub record IsEndOfRun (job : Job) (at : JobState) (stop : Stop) : Type 0 where
   pub reads : reads_reported stop ≡ Some (gone_on job.program at.attempt.known)
 
 -- the key that it wants is refused
-pub record IsKeyRefused (handed : HallState) (job : Job) (at : JobState) (stop : Stop) : Type 0 where
+pub record IsKeyRefused (handed : JournalState) (job : Job) (at : JobState) (stop : Stop) : Type 0 where
   pub key : List ℕ
   pub of_rev : ℕ
   pub wants : next_of job.program at.attempt.level at.attempt.known ≡ Fetch key of_rev
   pub refused : IsUnanswered handed at.seen key of_rev stop
 
 -- or its list
-pub record IsListRefused (handed : HallState) (job : Job) (at : JobState) (stop : Stop) : Type 0 where
+pub record IsListRefused (handed : JournalState) (job : Job) (at : JobState) (stop : Stop) : Type 0 where
   pub keys : List (List ℕ)
   pub of_rev : ℕ
   pub wants : next_of job.program at.attempt.level at.attempt.known ≡ FetchAll keys of_rev
   pub refused : AreUnanswered handed at.seen keys stop
 
-abbrev pub IsFetchRefused : HallState → Job → JobState → Stop → Type 0
+abbrev pub IsFetchRefused : JournalState → Job → JobState → Stop → Type 0
 IsFetchRefused handed job at stop = IsKeyRefused handed job at stop ⊎ IsListRefused handed job at stop
 
 -- its commit is
-pub record IsCommitRefused (handed : HallState) (job : Job) (at : JobState) (stop : Stop) : Type 0 where
+pub record IsCommitRefused (handed : JournalState) (job : Job) (at : JobState) (stop : Stop) : Type 0 where
   pub ready : ReadyRun
   pub is_ready : IsReadyAt job at ready
   pub refused : IsTurnedAway handed ready stop
 
 -- it goes no further from here, for one of these
-abbrev pub IsStop : HallState → Job → JobState → Stop → Type 0
+abbrev pub IsStop : JournalState → Job → JobState → Stop → Type 0
 IsStop handed job at stop = IsEndOfRun job at stop ⊎ IsFetchRefused handed job at stop ⊎ IsCommitRefused handed job at stop
 
-pub record StopsAt (handed : HallState) (job : Job) (before : JobState) (stop : Stop) (seen : ℕ) : Type 0 where
+pub record StopsAt (handed : JournalState) (job : Job) (before : JobState) (stop : Stop) (seen : ℕ) : Type 0 where
   pub at : JobState
   pub fetches : HasFetched handed job before at
   pub is_stop : IsStop handed job at stop
   pub sees : seen ≡ at.seen
 
 -- after some fetches it goes no further, or memory was wanted somewhere
-abbrev pub HasStopped : HallState → Job → JobState → Stop → ℕ → Type 0
+abbrev pub HasStopped : JournalState → Job → JobState → Stop → ℕ → Type 0
 HasStopped handed job before stop seen = (stop ≡ OutOfMemory) ⊎ StopsAt handed job before stop seen
 
 -- ---- a job
@@ -232,18 +232,18 @@ IsNextAttempt job (Committed index revision) next = ⊥
 IsNextAttempt job (Failed key seen modified answers) next = next ≡ next_attempt job answers
 
 -- an attempt whose commit failed, and where the next one begins
-pub record HasFailed (handed : HallState) (job : Job) (before after : JobState) : Type 0 where
+pub record HasFailed (handed : JournalState) (job : Job) (before after : JobState) : Type 0 where
   pub verdict : Verdict
   pub tried : HasTried handed job before verdict after.seen
   pub next : IsNextAttempt job verdict after.attempt
 
 -- so many, one after the other
-abbrev pub HaveFailed : HallState → Job → ℕ → JobState → JobState → Type 0
+abbrev pub HaveFailed : JournalState → Job → ℕ → JobState → JobState → Type 0
 HaveFailed handed job zero before after = after ≡ before
 HaveFailed handed job (suc n) before after = (between : JobState) × HaveFailed handed job n before between × HasFailed handed job between after
 
 -- an attempt, the last one or not, that ends its job by the verdict on its commit: the commit was made, or no attempt comes after it
-pub record HasEnded (handed : HallState) (job : Job) (before : JobState) (is_last : Bool) (end : JobEnd) (seen : ℕ) : Type 0 where
+pub record HasEnded (handed : JournalState) (job : Job) (before : JobState) (is_last : Bool) (end : JobEnd) (seen : ℕ) : Type 0 where
   pub verdict : Verdict
   pub tried : HasTried handed job before verdict seen
   pub reported : end ≡ end_after verdict
@@ -251,7 +251,7 @@ pub record HasEnded (handed : HallState) (job : Job) (before : JobState) (is_las
 
 -- A job has come to an attempt with this number, from 1 on, of which this is so: that is one more than the commits of it that failed before, and at most the
 -- commits that it may send. The first attempt begins with nothing prefetched.
-pub record ComesTo (handed : HallState) (job : Job) (seen attempts : ℕ) (Then : JobState → Type 0) : Type 0 where
+pub record ComesTo (handed : JournalState) (job : Job) (seen attempts : ℕ) (Then : JobState → Type 0) : Type 0 where
   pub failed : ℕ
   pub counted : attempts ≡ failed + 1
   pub within : attempts ≤ job.limit
@@ -260,24 +260,24 @@ pub record ComesTo (handed : HallState) (job : Job) (seen attempts : ℕ) (Then 
   pub then_is : Then last
 
 -- the end by the verdict on a commit: it was made, or it failed and was the last one that the job may send
-pub record EndsByVerdict (handed : HallState) (job : Job) (end : JobEnd) (seen attempts : ℕ) (before : JobState) : Type 0 where
+pub record EndsByVerdict (handed : JournalState) (job : Job) (end : JobEnd) (seen attempts : ℕ) (before : JobState) : Type 0 where
   pub verdict : Verdict
   pub tried : HasTried handed job before verdict seen
   pub reported : end ≡ end_after verdict
   pub last : committed_by verdict ≡ 0 → attempts ≡ job.limit
 
 -- the end by an attempt that goes no further
-pub record EndsByStop (handed : HallState) (job : Job) (end : JobEnd) (seen : ℕ) (before : JobState) : Type 0 where
+pub record EndsByStop (handed : JournalState) (job : Job) (end : JobEnd) (seen : ℕ) (before : JobState) : Type 0 where
   pub stop : Stop
   pub stopped : StopsAt handed job before stop seen
   pub reported : job_end_reported stop ≡ Some end
 
 -- A job that was begun by who had seen the one revision has come to this end after so many attempts, and the other was seen then. It has sent at most as many
 -- commits as it may; and it gave up only where it has sent exactly so many, which all failed.
-abbrev pub HasCome : HallState → Job → ℕ → JobEnd → ℕ → ℕ → Type 0
+abbrev pub HasCome : JournalState → Job → ℕ → JobEnd → ℕ → ℕ → Type 0
 HasCome handed job seen end after attempts =
     ComesTo handed job seen attempts (EndsByVerdict handed job end after attempts) ⊎ ComesTo handed job seen attempts (EndsByStop handed job end after)
 
 -- the same, whatever its worker had seen before and after
-abbrev pub HasSomeRun : HallState → Job → JobEnd → ℕ → Type 0
+abbrev pub HasSomeRun : JournalState → Job → JobEnd → ℕ → Type 0
 HasSomeRun handed job end attempts = ∥ ((seen : ℕ) × (after : ℕ) × HasCome handed job seen end after attempts) ∥₁

@@ -14,28 +14,28 @@ use Rattle.stm_attempt.specs.AttemptState.{AttemptState, IsOf}
 use Rattle.stm_attempt.specs.ReadyRun.{ReadyRun}
 use Rattle.stm_entries.specs.declared.entry.Entry.{Entry}
 use Rattle.stm_entries.specs.declared.entry.Entry.TheVariants.{Program, Foreign, Grant, Renew, Revoke, Expire}
-use Rattle.stm_hall.specs.declared.refusal.FetchRefusal.{FetchRefusal}
-use Rattle.stm_hall.specs.declared.refusal.CommitRefusal.{CommitRefusal}
-use Rattle.stm_hall.specs.Fetching.{fetched, FetchReturns}
-use Rattle.stm_hall.specs.Verdicts.{verdict_of, CommitReturns}
-use Rattle.stm_hall.specs.declared.verdict.Verdict.{Verdict}
-use Rattle.stm_hall.specs.declared.verdict.Verdict.TheVariants.{Committed, Failed}
-use Rattle.stm_hall.specs.HallState.{HallState, hall_of, made_over}
+use Rattle.stm_journal.specs.declared.refusal.FetchRefusal.{FetchRefusal}
+use Rattle.stm_journal.specs.declared.refusal.CommitRefusal.{CommitRefusal}
+use Rattle.stm_journal.specs.Fetching.{fetched, FetchReturns}
+use Rattle.stm_journal.specs.Verdicts.{verdict_of, CommitReturns}
+use Rattle.stm_journal.specs.declared.verdict.Verdict.{Verdict}
+use Rattle.stm_journal.specs.declared.verdict.Verdict.TheVariants.{Committed, Failed}
+use Rattle.stm_journal.specs.JournalState.{JournalState, journal_of, made_over}
 use Rattle.stm_hall.specs.Locked.{opening_of}
 use Rattle.stm_job.specs.declared.job.Job.{Job}
 use Rattle.stm_job.specs.declared.job_end.JobEnd.{JobEnd}
 use Rattle.stm_job.specs.Ends.{is_committed}
 
 -- the hall has gone on from another: that one's entries are its first ones, and it began as that one did
-abbrev pub HasGoneOn : HallState → HallState → Type 0
+abbrev pub HasGoneOn : JournalState → JournalState → Type 0
 HasGoneOn before after =
     (take (length before.entries) after.entries ≡ before.entries) × (after.start ≡ before.start) × ((opening_of after).history ≡ (opening_of before).history)
     × ((id : ℕ) → (opening_of after).is_live id ≡ (opening_of before).is_live id)
 
 -- the store of a hall is as another's but for its history: the floor, the limit of operations, the leases with their terms, the moment and the watchers are the
 -- same
-abbrev pub HasKeptStore : HallState → HallState → Type 0
-HasKeptStore before after = after ≡ hall_of (with_history before.standing after.standing.history) after.entries after.start
+abbrev pub HasKeptStore : JournalState → JournalState → Type 0
+HasKeptStore before after = after ≡ journal_of (with_history before.standing after.standing.history) after.entries after.start
 
 -- ---- what a run takes
 
@@ -69,7 +69,7 @@ abbrev pub are_of_jobs : List Job → List Entry → Bool
 are_of_jobs jobs entries = list_all (is_of_some jobs) entries
 
 -- what a hall has beyond the entries of another are commits of these jobs
-abbrev pub takes_commits_of : List Job → HallState → HallState → Bool
+abbrev pub takes_commits_of : List Job → JournalState → JournalState → Bool
 takes_commits_of jobs before after = are_of_jobs jobs (drop (length before.entries) after.entries)
 
 -- an attempt is one of a job, and what is ready is a run of it
@@ -97,13 +97,13 @@ shown_at at revision = if nat_eq at 0 then revision else at
 -- ---- in some hall
 
 -- What a fetch answered, in whichever hall it was made: one whose store is that of the hall handed in, but for its history.
-abbrev pub AnswersInSomeHall : HallState → ℕ → Txn → Result TxnAnswer FetchRefusal → Type 0
-AnswersInSomeHall handed seen txn result = (hall : HallState) × HasKeptStore handed hall × FetchReturns (fetched hall.standing seen txn) result
+abbrev pub AnswersInSomeHall : JournalState → ℕ → Txn → Result TxnAnswer FetchRefusal → Type 0
+AnswersInSomeHall handed seen txn result = (hall : JournalState) × HasKeptStore handed hall × FetchReturns (fetched hall.standing seen txn) result
 
 -- the verdict on a ready attempt, or its refusal, in whichever such hall it was sent
-abbrev pub JudgedInSomeHall : HallState → ReadyRun → Result Verdict CommitRefusal → Type 0
+abbrev pub JudgedInSomeHall : JournalState → ReadyRun → Result Verdict CommitRefusal → Type 0
 JudgedInSomeHall handed ready result =
-    (before : HallState) × (after : HallState) × HasKeptStore handed before × CommitReturns (verdict_of before ready) before result after
+    (before : JournalState) × (after : JournalState) × HasKeptStore handed before × CommitReturns (verdict_of before ready) before result after
 
 -- how many commits a verdict counts
 abbrev pub committed_by : Verdict → ℕ
@@ -114,7 +114,7 @@ committed_by (Failed key seen now answers) = 0
 abbrev pub no_table : TableId
 no_table = record { words = 0; slots = 0; views_name = 0; atom = 0; block = 0; offset = 0; slot_names = [] }
 
-abbrev pub no_hall : HallState
+abbrev pub no_hall : JournalState
 no_hall = made_over (opening (at_revision 1))
 
 -- how many commits the end of a job counts

@@ -6,12 +6,12 @@ use Rattle.stm_history.specs.contracts.revisions.Revisions as revisions
 use Rattle.stm_entries.specs.declared.entry.Entry.{Entry}
 use Rattle.stm_entries.specs.contracts.entry.Entry as entries
 use Rattle.stm_hall.specs.contracts.hall.Hall as halls
-use Rattle.stm_hall.specs.HallState.{HallState}
+use Rattle.stm_journal.specs.JournalState.{JournalState}
 
 pub entries_set : IsSet (List Entry)
 entries_set = Coded-set (coded_list entries.the_row.coded)
 
-pub halls_set : IsSet HallState
+pub halls_set : IsSet JournalState
 halls_set = Coded-set halls.the_row.coded
 
 pub histories_set : IsSet History

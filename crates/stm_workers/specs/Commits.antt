@@ -2,7 +2,7 @@
 use Rattle.std.specs.Prelude.{◌≡◌, ℕ, ◌≤◌, Bool, true, false, List, length, Some, slice_get, count_by}
 use Rattle.stm_entries.specs.declared.entry.Entry.{Entry}
 use Rattle.stm_entries.specs.declared.entry.Entry.TheVariants.{Program, Foreign, Grant, Renew, Revoke, Expire}
-use Rattle.stm_hall.specs.HallState.{HallState}
+use Rattle.stm_journal.specs.JournalState.{JournalState}
 use Rattle.stm_job.specs.declared.job.Job.{Job}
 
 abbrev pub is_commit : Entry → Bool
@@ -27,6 +27,6 @@ IsOfAJob jobs (Revoke id) = ⊥
 IsOfAJob jobs (Expire id) = ⊥
 
 -- what a hall has beyond the entries of another are commits of these jobs
-abbrev pub TookCommitsOf : List Job → HallState → HallState → Type 0
+abbrev pub TookCommitsOf : List Job → JournalState → JournalState → Type 0
 TookCommitsOf jobs before after =
     (index : ℕ) (entry : Entry) → length before.entries ≤ index → slice_get after.entries index ≡ Some entry → IsOfAJob jobs entry

@@ -10,7 +10,7 @@ use Rattle.stm_program.specs.Levels.{is_comparing, is_serializable}
 use Rattle.stm_compile.specs.Conflicts.{IsChangedAbove}
 use Rattle.stm_entries.specs.declared.entry.Entry.{Entry}
 use Rattle.stm_entries.specs.declared.entry.Entry.TheVariants.{Program, Foreign, Grant, Renew, Revoke, Expire}
-use Rattle.stm_hall.specs.HallState.{HallState}
+use Rattle.stm_journal.specs.JournalState.{JournalState}
 use Rattle.stm_hall.specs.Showing.{AreShownAt}
 use Rattle.stm_job.specs.declared.job.Job.{Job}
 use Rattle.stm_job.specs.declared.job_end.JobEnd.{JobEnd}
@@ -18,7 +18,7 @@ use Rattle.stm_job.specs.declared.job_end.JobEnd.TheVariants.{Committed, Aborted
 use Rattle.stm_workers.specs.declared.start_point.StartPoint.{StartPoint}
 
 -- how far a hall had come when it was handed in: how many entries it had, and its store's counter
-abbrev pub start_point : HallState → StartPoint
+abbrev pub start_point : JournalState → StartPoint
 start_point hall = record { entries = length hall.entries; revision = now hall.standing.history }
 
 -- ---- ends
@@ -51,32 +51,32 @@ names_entry index (GaveUp key) = false
 
 -- a job gave up over this key: at a level that compares; the key was changed since the hall was handed in, and the counter has grown by
 -- the commits that the job could send
-abbrev pub IsGivenUp : StartPoint → HallState → Job → List ℕ → Type 0
+abbrev pub IsGivenUp : StartPoint → JournalState → Job → List ℕ → Type 0
 IsGivenUp begun hall job key =
     (is_comparing job.level ≡ true) × IsChangedAbove hall.standing.history begun.revision key × (begun.revision + job.limit ≤ now hall.standing.history)
 
 -- What was read is of one state of the hall's history: at this revision, which is not before the one at which the hall was handed in. Where nothing was
 -- read, any state serves.
-pub record AreOfOneState (begun : StartPoint) (hall : HallState) (reads : List ReadAnswer) : Type 0 where
+pub record AreOfOneState (begun : StartPoint) (hall : JournalState) (reads : List ReadAnswer) : Type 0 where
   pub revision : ℕ
   pub begins : begun.revision ≤ revision
   pub reached : revision ≤ now hall.standing.history
   pub shown : AreShownAt hall.standing.history revision reads
 
 -- a job may have aborted, or come to a fault, on these reads: at a serializable level they are of one state
-abbrev pub MayHaveStopped : StartPoint → HallState → Job → List ReadAnswer → Type 0
+abbrev pub MayHaveStopped : StartPoint → JournalState → Job → List ReadAnswer → Type 0
 MayHaveStopped begun hall job reads = is_serializable job.level ≡ true → AreOfOneState begun hall reads
 
 -- What an end says is so: a commit is an entry made since the hall was handed in, who gave up could, and so could who aborted or came to a fault. Of a
 -- refusal nothing is said.
-abbrev pub IsBorneOut : StartPoint → HallState → Job → JobEnd → Type 0
+abbrev pub IsBorneOut : StartPoint → JournalState → Job → JobEnd → Type 0
 IsBorneOut begun hall job (Committed index revision) = (begun.entries ≤ index) × IsCommitOf job revision (slice_get hall.entries index)
 IsBorneOut begun hall job (GaveUp key) = IsGivenUp begun hall job key
 IsBorneOut begun hall job (Aborted text reads) = MayHaveStopped begun hall job reads
 IsBorneOut begun hall job (Faulted fault reads) = MayHaveStopped begun hall job reads
 IsBorneOut begun hall job (Refused cause) = Unit {0}
 
-abbrev pub BorneOutAt : StartPoint → HallState → List Job → List JobEnd → ℕ → Type 0
+abbrev pub BorneOutAt : StartPoint → JournalState → List Job → List JobEnd → ℕ → Type 0
 BorneOutAt begun hall jobs ends place =
     (job : Job) (end : JobEnd) → slice_get jobs place ≡ Some job → slice_get ends place ≡ Some end → IsBorneOut begun hall job end
 
@@ -85,16 +85,16 @@ abbrev pub IsNew : List JobEnd → ℕ → ℕ → Type 0
 IsNew ends place index = (k : ℕ) → k < place → option_and_then entry_named (slice_get ends k) ≡ Some index → ⊥
 
 -- the end of a job stands: what it says is so, and no job before it has named its entry
-pub record Stands (begun : StartPoint) (hall : HallState) (ends : List JobEnd) (place : ℕ) (job : Job) (end : JobEnd) : Type 0 where
+pub record Stands (begun : StartPoint) (hall : JournalState) (ends : List JobEnd) (place : ℕ) (job : Job) (end : JobEnd) : Type 0 where
   pub borne_out : IsBorneOut begun hall job end
   pub is_new : (index : ℕ) → entry_named end ≡ Some index → IsNew ends place index
 
-abbrev pub StandsAt : StartPoint → HallState → List Job → List JobEnd → ℕ → Type 0
+abbrev pub StandsAt : StartPoint → JournalState → List Job → List JobEnd → ℕ → Type 0
 StandsAt begun hall jobs ends place =
     (job : Job) (end : JobEnd) → slice_get jobs place ≡ Some job → slice_get ends place ≡ Some end → Stands begun hall ends place job end
 
 -- each does
-abbrev pub AllStand : StartPoint → HallState → List Job → List JobEnd → Type 0
+abbrev pub AllStand : StartPoint → JournalState → List Job → List JobEnd → Type 0
 AllStand begun hall jobs ends = (place : ℕ) → StandsAt begun hall jobs ends place
 
 -- ---- a law
@@ -108,5 +108,5 @@ NameDifferentEntries ends =
 -- where all ends stand, each commit among them is an entry of its own
 abbrev pub CommitsAreApart : Type 0
 CommitsAreApart =
-    (begun : StartPoint) (hall : HallState) (jobs : List Job) (ends : List JobEnd) → length ends ≡ length jobs → AllStand begun hall jobs ends
+    (begun : StartPoint) (hall : JournalState) (jobs : List Job) (ends : List JobEnd) → length ends ≡ length jobs → AllStand begun hall jobs ends
     → NameDifferentEntries ends

@@ -2,7 +2,7 @@
 --
 -- The documentation of the Go package `clientv3/concurrency`, "STM": a transaction whose commit fails is run again. How often it is run is our own.
 use Rattle.std.specs.Prelude.{◌≡◌, ℕ, ◌≤◌, List, Some, slice_get}
-use Rattle.stm_hall.specs.HallState.{HallState}
+use Rattle.stm_journal.specs.JournalState.{JournalState}
 use Rattle.stm_job.specs.declared.job.Job.{Job}
 use Rattle.stm_job.specs.declared.job_end.JobEnd.{JobEnd}
 use Rattle.stm_job.specs.declared.job_end.JobEnd.TheVariants.{Committed, Aborted, Faulted, Refused, GaveUp}
@@ -25,7 +25,7 @@ pub record AreAttemptsOf (job : Job) (end : JobEnd) (attempts : ℕ) : Type 0 wh
 -- Of each job that was run at least one attempt was made, and at most as many as it may send commits; of one that gave up it was exactly so many.
 abbrev pub AttemptsAreCounted : Type 0
 AttemptsAreCounted =
-    (before : HallState) (jobs : List Job) (ends : List JobEnd) (attempts : List ℕ) (committed : ℕ) (after : HallState)
+    (before : JournalState) (jobs : List Job) (ends : List JobEnd) (attempts : List ℕ) (committed : ℕ) (after : JournalState)
     → RanTo before jobs ends attempts committed after
     → (place : ℕ) (job : Job) (end : JobEnd) (made : ℕ) → slice_get jobs place ≡ Some job → slice_get ends place ≡ Some end
     → slice_get attempts place ≡ Some made → AreAttemptsOf job end made

@@ -1,24 +1,24 @@
 -- How the jobs of a list came to their ends, on the hall that was handed in (`handed`).
 use Rattle.std.specs.Prelude.{◌≡◌, ℕ, List, [], ◌∷◌, ◌++◌, Some, slice_get}
-use Rattle.stm_hall.specs.HallState.{HallState}
+use Rattle.stm_journal.specs.JournalState.{JournalState}
 use Rattle.stm_job.specs.declared.job.Job.{Job}
 use Rattle.stm_job.specs.declared.job_end.JobEnd.{JobEnd}
 use Rattle.stm_workers.specs.Attempts.{HasCome, HasSomeRun}
 use Rattle.stm_workers.specs.declared.worker.EndOf.{EndOf}
 
 -- a worker that had seen so much, and these ends, has brought the job at a place to its end
-pub record BringsToEnd (handed : HallState) (jobs : List Job) (place seen : ℕ) (before : List EndOf) (seen_then : ℕ) (after : List EndOf) : Type 0 where
+pub record BringsToEnd (handed : JournalState) (jobs : List Job) (place seen : ℕ) (before : List EndOf) (seen_then : ℕ) (after : List EndOf) : Type 0 where
   pub end : JobEnd
   pub attempts : ℕ
   pub ended : after ≡ before ++ record { job = place; end = end; attempts = attempts } ∷ []
   pub came : (job : Job) → slice_get jobs place ≡ Some job → HasCome handed job seen end seen_then attempts
 
 -- the job whose end this is has come to it
-abbrev pub HasItsRun : HallState → List Job → EndOf → Type 0
+abbrev pub HasItsRun : JournalState → List Job → EndOf → Type 0
 HasItsRun handed jobs ended = (job : Job) → slice_get jobs ended.job ≡ Some job → HasSomeRun handed job ended.end ended.attempts
 
 -- each job has come to the end at its place, after so many attempts as stand there
-abbrev pub HaveTheirRuns : HallState → List Job → List JobEnd → List ℕ → Type 0
+abbrev pub HaveTheirRuns : JournalState → List Job → List JobEnd → List ℕ → Type 0
 HaveTheirRuns handed jobs ends attempts =
     (place : ℕ) (job : Job) (end : JobEnd) (made : ℕ) → slice_get jobs place ≡ Some job → slice_get ends place ≡ Some end
     → slice_get attempts place ≡ Some made → HasSomeRun handed job end made

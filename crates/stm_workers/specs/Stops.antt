@@ -11,7 +11,7 @@ use Rattle.stm_steps.specs.declared.run.Answered.TheVariants.{Ended as EndedRun}
 use Rattle.stm_meaning.specs.Meaning.{run_over}
 use Rattle.stm_program.specs.Levels.{is_serializable}
 use Rattle.stm_compile.specs.Answers.{state_as_of}
-use Rattle.stm_hall.specs.HallState.{HallState}
+use Rattle.stm_journal.specs.JournalState.{JournalState}
 use Rattle.stm_workers.specs.declared.start_point.StartPoint.{StartPoint}
 use Rattle.stm_job.specs.declared.job.Job.{Job}
 use Rattle.stm_job.specs.declared.job_end.JobEnd.{JobEnd}
@@ -21,7 +21,7 @@ use Rattle.stm_workers.specs.Gathered.{RanTo}
 
 -- The job's program, run alone on the state at some revision of the hall's history, comes to this end. The revision is not before the one at which the hall was
 -- handed in.
-pub record IsEndAlone (begun : StartPoint) (hall : HallState) (job : Job) (end : End) : Type 0 where
+pub record IsEndAlone (begun : StartPoint) (hall : JournalState) (job : Job) (end : End) : Type 0 where
   pub revision : ℕ
   pub begins : begun.revision ≤ revision
   pub reached : revision ≤ now hall.standing.history
@@ -41,7 +41,7 @@ OnStop (GaveUp key) fact = Unit {0}
 -- ends so: also where its commit would have failed.
 abbrev pub StopsAreOfOneState : Type 0
 StopsAreOfOneState =
-    (before : HallState) (jobs : List Job) (ends : List JobEnd) (attempts : List ℕ) (committed : ℕ) (after : HallState)
+    (before : JournalState) (jobs : List Job) (ends : List JobEnd) (attempts : List ℕ) (committed : ℕ) (after : JournalState)
     → RanTo before jobs ends attempts committed after
     → (place : ℕ) (job : Job) (end : JobEnd) → slice_get jobs place ≡ Some job → slice_get ends place ≡ Some end → is_serializable job.level ≡ true
     → OnStop end (IsEndAlone (start_point before) after job)

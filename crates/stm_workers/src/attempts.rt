@@ -1,8 +1,8 @@
 //! One job of a worker, from its first attempt to its end.
 ghost use Rattle.std.specs.Prelude.{◌≡◌, ◌⊎◌, ℕ, ◌+◌, ◌<◌, ◌≤◌, true, false, [], None, IfOk, IfErr, IfSome, OnOk, OnErr};
 ghost use Rattle.stm_attempt.specs.AttemptState.{begun};
-ghost use Rattle.stm_calls.specs.Prefetch.{MayBePrefetched};
-ghost use Rattle.stm_hall.specs.Verdicts.{CanGoOn};
+ghost use Rattle.stm_journal.specs.Prefetch.{MayBePrefetched};
+ghost use Rattle.stm_journal.specs.Verdicts.{CanGoOn};
 ghost use Rattle.stm_workers.specs.declared.stop.Stop.TheVariants.{OutOfMemory};
 ghost use Rattle.stm_workers.specs.Attempts.{state_of, next_attempt, end_after, IsFetch, IsReadyAt, IsEvaluated, IsStop, IsNextAttempt};
 ghost use Rattle.stm_workers.specs.Attempts.{HasTried, HasStopped, HasFailed, HasEnded, HasCome, ComesTo, EndsByVerdict};

@@ -4,7 +4,7 @@ ghost use Rattle.stm_history.specs.declared.key_state.ReadAnswer.{ReadAnswer as 
 ghost use Rattle.stm_outcome.specs.Numbers.{ReadFits};
 ghost use Rattle.stm_outcome.specs.Commits.{AreNamed};
 ghost use Rattle.stm_attempt.specs.Fetches.{ShowOneRevision};
-ghost use Rattle.stm_hall.specs.Verdicts.{CanGoOn};
+ghost use Rattle.stm_journal.specs.Verdicts.{CanGoOn};
 ghost use Rattle.stm_workers.specs.declared.stop.Stop.TheVariants.{OutOfMemory};
 ghost use Rattle.stm_workers.specs.Attempts.{IsAnswered, IsUnanswered, AreAnswered, AreUnanswered, IsTurnedAway};
 ghost use Rattle.stm_workers.specs.Calls.{committed_by, is_run_of_some, shown_at, JudgedInSomeHall};
@@ -16,8 +16,8 @@ use std::alloc::Global;
 use std::sync::ledger::Share;
 use std::sync::{Mutex, Wait};
 use stm_attempt::{ReadAnswer, Ready, Text};
-use stm_calls::{read_all, take_reads};
 use stm_hall::{Verdict, prepare};
+use stm_journal::{read_all, take_reads};
 
 /// What each worker of a run calls the hall with: the lock round it, which is held for one fetch or one commit at a time, and the gate.
 #[derive(Drop)]

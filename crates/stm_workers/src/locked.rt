@@ -3,9 +3,9 @@
 ghost use Rattle.stm_workers.specs.Codes.{entries_set, halls_set, histories_set, numbers_set, truths_set};
 ghost use Rattle.std.specs.Prelude.{◌≡◌, ◌+◌, ◌<◌, ◌≤◌, true, OnErr, IfOk};
 ghost use Rattle.stm_outcome.specs.Numbers.{AnswerFits, ReadFits};
-ghost use Rattle.stm_calls.specs.Fetched.{fetch_of};
-ghost use Rattle.stm_hall.specs.Fetching.{OnlyReads, reported_alone};
-ghost use Rattle.stm_hall.specs.Verdicts.{CanGoOn, CommitReturns, verdict_of};
+ghost use Rattle.stm_journal.specs.Fetched.{fetch_of};
+ghost use Rattle.stm_journal.specs.Fetching.{OnlyReads, reported_alone};
+ghost use Rattle.stm_journal.specs.Verdicts.{CanGoOn, CommitReturns, verdict_of};
 ghost use Rattle.stm_workers.specs.Commits.{commits_in};
 ghost use Rattle.stm_workers.specs.Calls.{HasGoneOn, HasKeptStore, AnswersInSomeHall, JudgedInSomeHall, committed_by, is_run_of_some, takes_commits_of};
 
@@ -21,7 +21,7 @@ pub(crate) trait RunOfJobs: Ledger {
     ghost use Rattle.atomic_table.specs.Seated.{TableId};
     ghost use Rattle.stm_draw.specs.declared.view.Size.{Size};
     ghost use Rattle.std.specs.Prelude.{List};
-    ghost use Rattle.stm_hall.specs.HallState.{HallState};
+    ghost use Rattle.stm_journal.specs.JournalState.{JournalState};
     ghost use Rattle.stm_job.specs.declared.job.Job.{Job};
 
     ghost table: { TableId };
@@ -30,7 +30,7 @@ pub(crate) trait RunOfJobs: Ledger {
 
     ghost jobs: { List Job };
 
-    ghost before: { HallState };
+    ghost before: { JournalState };
 }
 
 impl RunOfJobs for Brand {

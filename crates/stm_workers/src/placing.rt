@@ -1,7 +1,7 @@
 //! The ends of jobs, each at the place of its job.
 ghost use Rattle.std.specs.Prelude.{◌≡◌, List, All, length, count_by, IfOk, IfErr};
 ghost use Rattle.stm_draw.specs.Draw.{EachOnce};
-ghost use Rattle.stm_hall.specs.HallState.{HallState};
+ghost use Rattle.stm_journal.specs.JournalState.{JournalState};
 ghost use Rattle.stm_job.specs.declared.job.Job.{Job as AnyJob};
 ghost use Rattle.stm_job.specs.Ends.{is_committed};
 ghost use Rattle.stm_workers.specs.declared.thread_fault.ThreadFault.TheVariants.{OutOfMemory};
@@ -54,7 +54,7 @@ pub(crate) fn place_ends(
     ensures places { IfOk result (λ placed. EachAtItsPlace ended.items placed.ends.items) }
     ensures length { IfOk result (λ placed. (length placed.ends.items ≡ length ended.items) × (length placed.attempts.items ≡ length ended.items)) }
     ensures counted { IfOk result (λ placed. count_by is_committed placed.ends.items ≡ committed_in ended.items) }
-    ensures ran { IfOk result (λ placed. (hall : HallState) (jobs : List AnyJob) → All (HasItsRun hall jobs) ended.items
+    ensures ran { IfOk result (λ placed. (hall : JournalState) (jobs : List AnyJob) → All (HasItsRun hall jobs) ended.items
         → HaveTheirRuns hall jobs placed.ends.items placed.attempts.items) }
     ensures seat { IfOk result (λ placed. placed.seat ≡ seat) }
     ensures fault { IfErr result (λ fault. fault ≡ OutOfMemory) }

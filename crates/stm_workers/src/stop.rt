@@ -2,8 +2,8 @@
 ghost use Rattle.std.specs.Prelude.{◌≡◌, ◌≢◌, ◌↔◌, false, Some, IfOk, IfErr, OnOk, IsTrue};
 ghost use Rattle.stm_steps.specs.declared.run.End.TheVariants.{Done};
 ghost use Rattle.stm_outcome.specs.declared.refusal.Refusal.TheVariants.{OutOfMemory as Want};
-ghost use Rattle.stm_hall.specs.declared.refusal.FetchRefusal.TheVariants.{Store as FetchRefused};
-ghost use Rattle.stm_hall.specs.declared.refusal.CommitRefusal.TheVariants.{Store as CommitRefused};
+ghost use Rattle.stm_journal.specs.declared.refusal.FetchRefusal.TheVariants.{Store as FetchRefused};
+ghost use Rattle.stm_journal.specs.declared.refusal.CommitRefusal.TheVariants.{Store as CommitRefused};
 ghost use Rattle.stm_job.specs.Ends.{is_committed};
 ghost use Rattle.stm_workers.specs.Attempts.{end_reported, reads_reported, fetch_refusal_reported, commit_refusal_reported, job_end_reported};
 

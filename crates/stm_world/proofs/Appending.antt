@@ -20,7 +20,7 @@ use Rattle.stm_outcome.specs.Terms.{is_below_floor}
 use Rattle.stm_outcome.specs.declared.refusal.Refusal.TheVariants.{TooManyOps as TooManyOpsRefusal, Compacted as CompactedRefusal}
 use Rattle.stm_watch.specs.declared.watched.Watched.TheVariants.{Key, Range}
 use Rattle.stm_compile.specs.Committed.{committed}
-use Rattle.stm_compile.specs.Conflicts.{Seen, seen_by}
+use Rattle.stm_compile.specs.Conflicts.{Seen, seen_by, seen_in}
 use Rattle.stm_attempt.specs.Settled.{run_on}
 use Rattle.stm_attempt.specs.Entering.{is_due}
 use Rattle.stm_attempt.specs.Fetches.{at_of}
@@ -39,8 +39,8 @@ use Rattle.stm_world.specs.declared.refusal.Refusal.TheVariants.{BadLimit}
 use Rattle.stm_world.specs.Reported.{store_after_call, store_after_poll}
 use Rattle.stm_world.specs.Task.{Task, answer_at, modified_now, after_list, after_fetch, after_conflict}
 use Rattle.stm_world.specs.World.{World, Runner, Slot, Over, Live, runner_at, with_slot, refused, replied, begin, start_runner, fetch, fetch_list, entry_of}
-use Rattle.stm_world.specs.World.{seen_in, decided, commit_reported, commit, finish, step_on, step_live, step_runner, if_taken, if_changed}
-use Rattle.stm_world.specs.World.{expiries, step}
+use Rattle.stm_world.specs.World.{decided, commit_reported, commit, finish, step_on, step_live, step_runner}
+use Rattle.stm_world.specs.World.{step}
 use Rattle.stm_world.specs.Sound.{IsSound}
 use Rattle.stm_world.proofs.Entered.{EntriesFollow, nothing_follows}
 use Rattle.stm_world.proofs.Calls.{txn_follows, grant_follows, keep_follows, revoke_follows, advance_follows}
@@ -51,6 +51,7 @@ use Rattle.std.proofs.lemmas.List.{append-nil}
 use Rattle.stm_compile.specs.Answers.{AreTrue}
 use Rattle.stm_compile.proofs.AgreeLemmas.{commit_is_the_run_now}
 use Rattle.stm_entries.proofs.Replaying.{replay_goes_on, all_legal}
+use Rattle.stm_entries.specs.Entered.{if_taken, if_changed, expiries}
 use Rattle.stm_world.specs.declared.reply.Reply.{Reply}
 use Rattle.stm_world.specs.declared.refusal.Denied.{Denied}
 use Rattle.stm_world.specs.Reported.{denied, reply_to, advance_reply, poll_reply}

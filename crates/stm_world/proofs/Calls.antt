@@ -28,8 +28,8 @@ use Rattle.stm_entries.specs.Replayed.{with_history, with_live, without_moment, 
 use Rattle.stm_entries.specs.Alone.{history_left}
 use Rattle.stm_entries.specs.Replay.{replay, renewed_at}
 use Rattle.stm_entries.specs.Legal.{AreLegal}
+use Rattle.stm_entries.specs.Entered.{if_taken, if_changed, expiries}
 use Rattle.stm_world.specs.Reported.{store_after_call}
-use Rattle.stm_world.specs.World.{if_taken, if_changed, expiries}
 use Rattle.stm_world.proofs.Truth.{Keeps, keeps_same, keeps_changes, keeps_twice}
 use Rattle.stm_world.proofs.Entered.{GoesOn, EntriesFollow, floor_stays, nothing_follows}
 use Rattle.stm_world.proofs.KeptFor.{kept_by_changes}

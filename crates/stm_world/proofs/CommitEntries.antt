@@ -22,7 +22,8 @@ use Rattle.stm_compile.specs.Laws.{CommitIsTheRunNow}
 use Rattle.stm_attempt.specs.Settled.{run_on}
 use Rattle.stm_entries.specs.Replayed.{Replayed, without_moment, replay_terms}
 use Rattle.stm_entries.specs.Alone.{seen_at, history_left, left_by, left_by_run}
-use Rattle.stm_world.specs.Task.{Task, answers_reported}
+use Rattle.stm_entries.specs.Entered.{answers_kept}
+use Rattle.stm_world.specs.Task.{Task}
 use Rattle.stm_world.specs.World.{entry_of}
 use Rattle.stm_world.proofs.Truth.{Keeps, keeps_changes}
 use Rattle.stm_world.proofs.Entered.{EntriesFollow, floor_stays}
@@ -61,7 +62,7 @@ pub record Takes (s : Standing) (task : Task) (reads : List ReadAnswer) (run : R
 pub record Taken (s : Standing) (task : Task) (reads : List ReadAnswer) (run : Run) (done : Done) : Type 0 where
   pub alone : run_over (seen_at task.level reads s.history) task.program.statements ≡ EndedRun run
   pub applies : applied (terms_of s) (map as_change (latest_writes run.writes)) ≡ Ok done
-  pub replayed : left_by_run (run_over (seen_at task.level (answers_reported task.level reads) s.history) task.program.statements) (without_moment s)
+  pub replayed : left_by_run (run_over (seen_at task.level (answers_kept task.level reads) s.history) task.program.statements) (without_moment s)
       ≡ record { history = done.history; live = s.live }
 
 -- the run of a program that committed, at its point
@@ -76,7 +77,7 @@ committed_run s task reads run done law t clear =
 replayed_run : (s : Standing) (task : Task) (reads : List ReadAnswer) (run : Run) (done : Done) →
     run_over (seen_at task.level reads s.history) task.program.statements ≡ EndedRun run → run.end ≡ DoneEnd →
     applied (terms_of s) (map as_change (latest_writes run.writes)) ≡ Ok done →
-    left_by_run (run_over (seen_at task.level (answers_reported task.level reads) s.history) task.program.statements) (without_moment s)
+    left_by_run (run_over (seen_at task.level (answers_kept task.level reads) s.history) task.program.statements) (without_moment s)
     ≡ record { history = done.history; live = s.live }
 replayed_run s task reads run done alone is_done applies =
     ap (λ look. left_by_run (run_over look task.program.statements) (without_moment s)) (same_seen (is_comparing task.level) s.history reads)

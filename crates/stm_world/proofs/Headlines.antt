@@ -16,6 +16,7 @@ use Rattle.stm_attempt.specs.Known.{HaveDistinctKeys}
 use Rattle.stm_entries.specs.declared.entry.Entry.{Entry}
 use Rattle.stm_entries.specs.declared.entry.Entry.TheVariants.{Grant as GrantEntry, Renew, Revoke as RevokeEntry}
 use Rattle.stm_entries.specs.Replayed.{without_moment}
+use Rattle.stm_entries.specs.Entered.{if_changed, if_taken, expiries}
 use Rattle.stm_world.specs.declared.event.WorldEvent.{WorldEvent}
 use Rattle.stm_world.specs.declared.event.WorldEvent.TheVariants.{Start, Step, Txn, Grant, Keep, Revoke, Advance}
 use Rattle.stm_world.specs.declared.event.WorldEvent.TheVariants.{WatchKey, WatchRange, Poll, Cancel, Compact}
@@ -27,8 +28,8 @@ use Rattle.stm_world.specs.Reported.{denied, reply_to, store_after_call, advance
 use Rattle.stm_world.specs.Task.{Task}
 use Rattle.stm_world.specs.Log.{Line, begun, running, started, store, runner_started, if_reported, expired_reported, entries_reported, reported}
 use Rattle.stm_world.specs.Right.{RunnerIsRight}
-use Rattle.stm_world.specs.World.{World, Runner, Slot, Live, live_in, runner_at, begin, opened, refused, start_runner, step_runner, if_changed}
-use Rattle.stm_world.specs.World.{if_taken, expiries, step}
+use Rattle.stm_world.specs.World.{World, Runner, Slot, Live, live_in, runner_at, begin, opened, refused, start_runner, step_runner}
+use Rattle.stm_world.specs.World.{step}
 use Rattle.stm_world.specs.World.{world_after, replies_to}
 use Rattle.stm_world.specs.Headline.{runner_for, runner_in_log, AreOfOneState, Headline, OneState, ReadOnce}
 use Rattle.stm_world.specs.Sound.{KnowsTruth}

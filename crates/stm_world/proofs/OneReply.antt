@@ -19,7 +19,7 @@ use Rattle.stm_txn.specs.Standing.{terms_of}
 use Rattle.stm_txn.specs.Standing.{Setup}
 use Rattle.stm_outcome.specs.Terms.{is_below_floor}
 use Rattle.stm_compile.specs.Committed.{committed}
-use Rattle.stm_compile.specs.Conflicts.{Seen, seen_by}
+use Rattle.stm_compile.specs.Conflicts.{Seen, seen_by, seen_in}
 use Rattle.stm_attempt.specs.Settled.{run_on}
 use Rattle.stm_attempt.specs.Entering.{is_due}
 use Rattle.stm_attempt.specs.Fetches.{at_of}
@@ -30,10 +30,11 @@ use Rattle.stm_world.specs.declared.reply.Reply.{Reply}
 use Rattle.stm_world.specs.declared.reply.Reply.TheVariants.{Started, Prefetched, Fetched, Committed, Conflict, GaveUp, Aborted, Faulted, Ended}
 use Rattle.stm_world.specs.declared.reply.Reply.TheVariants.{Txn as TxnDone, Granted, Kept, Revoked, Advanced, Watching, Batch, Cancelled, Compacted, Lost}
 use Rattle.stm_world.specs.declared.refusal.Denied.{Denied}
-use Rattle.stm_world.specs.Task.{Task, modified_now, answers_reported}
+use Rattle.stm_world.specs.Task.{Task, modified_now}
+use Rattle.stm_entries.specs.Entered.{answers_kept}
 use Rattle.stm_world.specs.Log.{Line, IsLogOf, running, started}
 use Rattle.stm_world.specs.Right.{Situation, HasList, Commits, IsConflicted, IsRefused, ReplyIsRight, StepIsRight, RunnerIsRight, StartIsRight, IsRight, AreRight, situation}
-use Rattle.stm_world.specs.World.{seen_in, opened, replies_to}
+use Rattle.stm_world.specs.World.{opened, replies_to}
 use Rattle.stm_world.specs.Headline.{Headline}
 use Rattle.stm_world.specs.OneReply.{OneRightReply}
 
@@ -44,7 +45,7 @@ by_limit at seen modified true = Conflict at.id seen.key seen.mod_rev modified
 by_limit at seen modified false = GaveUp at.id (at.failures + 1) seen.key seen.mod_rev modified
 
 abbrev by_compare : Situation → Run → Done → Option FailedCompare → Reply
-by_compare at run done None = Committed at.id (now done.history) (at.failures + 1) run.output run.trace (answers_reported at.task.level at.reads)
+by_compare at run done None = Committed at.id (now done.history) (at.failures + 1) run.output run.trace (answers_kept at.task.level at.reads)
 by_compare at run done (Some failed) =
     by_limit at (seen_in (slice_get (seen_by at.reads (latest_writes run.writes)) failed.index)) failed.mod_rev (nat_lt (at.failures + 1) at.task.limit)
 

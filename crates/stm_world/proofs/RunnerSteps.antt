@@ -23,7 +23,7 @@ use Rattle.stm_outcome.specs.Terms.{is_below_floor}
 use Rattle.stm_outcome.specs.declared.refusal.Refusal.TheVariants.{TooManyOps as TooManyOpsRefusal, Compacted as CompactedRefusal}
 use Rattle.stm_compile.specs.Answers.{AreTrue}
 use Rattle.stm_compile.specs.Committed.{committed}
-use Rattle.stm_compile.specs.Conflicts.{Seen, seen_by, IsConflict}
+use Rattle.stm_compile.specs.Conflicts.{Seen, seen_by, IsConflict, seen_in}
 use Rattle.stm_compile.specs.Laws.{CommitIsTheRunNow, FailedComparesConflict}
 use Rattle.stm_attempt.specs.Known.{Known}
 use Rattle.stm_attempt.specs.Settled.{run_on}
@@ -31,16 +31,17 @@ use Rattle.stm_attempt.specs.Entering.{is_due}
 use Rattle.stm_attempt.specs.Fetches.{at_of}
 use Rattle.stm_entries.specs.declared.entry.Entry.{Entry}
 use Rattle.stm_entries.specs.Replayed.{Replayed, without_moment}
+use Rattle.stm_entries.specs.Entered.{answers_kept}
 use Rattle.stm_world.specs.declared.event.WorldEvent.TheVariants.{Step}
 use Rattle.stm_world.specs.declared.reply.Reply.{Reply}
 use Rattle.stm_world.specs.declared.reply.Reply.TheVariants.{Prefetched, Fetched, Committed, Conflict, GaveUp, Aborted, Faulted, Ended}
 use Rattle.stm_world.specs.declared.reply.KeyRead.{KeyRead}
-use Rattle.stm_world.specs.Task.{Task, answer_at, modified_now, after_list, after_fetch, after_conflict, answers_reported}
+use Rattle.stm_world.specs.Task.{Task, answer_at, modified_now, after_list, after_fetch, after_conflict}
 use Rattle.stm_world.specs.Log.{Line, begun, is_over, running, failures, is_id, runner_started, runner_ended, store, reported, with_commit, commit_entry}
 use Rattle.stm_world.specs.Log.{line_entries}
 use Rattle.stm_world.specs.Right.{IsRight, RunnerIsRight, situation, HasList, ReplyIsRight, IsConflicted}
 use Rattle.stm_world.specs.World.{Runner, Slot, Over, Live, live_in, runner_at, with_slot, replied, fetch, fetch_list, entry_of, take_commit}
-use Rattle.stm_world.specs.World.{seen_in, decided}
+use Rattle.stm_world.specs.World.{decided}
 use Rattle.stm_world.specs.World.{commit_reported, commit, finish, step_on, step_live}
 use Rattle.stm_world.specs.Sound.{KnowsTruth}
 use Rattle.stm_world.specs.Headline.{runner_for, runner_in_log}
@@ -287,7 +288,7 @@ taken_follows start log runners entries id task run done law x listed is_run is_
     let takes : Takes s task reads run done =
     record { truth = reads_truth start log runners entries id task x; is_run = is_run; is_done = is_done; comes_to = is; succeeds = none } in
     let came : Taken s task reads run done = taken s task reads run done law takes in
-    let answers : List ReadAnswer = answers_reported task.level reads in
+    let answers : List ReadAnswer = answers_kept task.level reads in
     let reply : Reply = Committed id (now done.history) (failures id log + 1) run.output run.trace answers in
     let after : List Line = with_line (Step id) (Ok reply) log in
     let begun_is : begun id log ≡ Some task = begun_by (is_over id log) (begun id log) task x.running in

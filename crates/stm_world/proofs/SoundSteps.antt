@@ -22,7 +22,7 @@ use Rattle.stm_outcome.specs.declared.refusal.Refusal.TheVariants.{TooManyOps as
 use Rattle.stm_txn.specs.Standing.{terms_of}
 use Rattle.stm_watch.specs.declared.watched.Watched.TheVariants.{Key, Range}
 use Rattle.stm_compile.specs.Committed.{committed}
-use Rattle.stm_compile.specs.Conflicts.{Seen, seen_by}
+use Rattle.stm_compile.specs.Conflicts.{Seen, seen_by, seen_in}
 use Rattle.stm_compile.specs.Laws.{CommitIsTheRunNow}
 use Rattle.stm_attempt.specs.Settled.{run_on}
 use Rattle.stm_attempt.specs.Entering.{is_due}
@@ -34,6 +34,7 @@ use Rattle.stm_entries.specs.Replay.{replay}
 use Rattle.stm_entries.specs.Legal.{AreLegal}
 use Rattle.stm_entries.proofs.Replaying.{replay_goes_on, all_legal}
 use Rattle.stm_entries.proofs.Adding.{replay_only_adds}
+use Rattle.stm_entries.specs.Entered.{if_taken, if_changed, expiries}
 use Rattle.stm_world.specs.declared.event.WorldEvent.{WorldEvent}
 use Rattle.stm_world.specs.declared.event.WorldEvent.TheVariants.{Start, Step, Txn, Grant, Keep, Revoke, Advance}
 use Rattle.stm_world.specs.declared.event.WorldEvent.TheVariants.{WatchKey, WatchRange, Poll, Cancel, Compact}
@@ -43,8 +44,8 @@ use Rattle.stm_world.specs.declared.refusal.Refusal.TheVariants.{BadLimit}
 use Rattle.stm_world.specs.Reported.{store_after_call, store_after_poll}
 use Rattle.stm_world.specs.Task.{Task, answer_at, modified_now, after_list, after_fetch, after_conflict}
 use Rattle.stm_world.specs.World.{World, Runner, Slot, Over, Live, live_in, runner_at, with_slot, refused, replied, begin, start_runner, fetch, fetch_list, entry_of}
-use Rattle.stm_world.specs.World.{take_commit, seen_in, decided, commit_reported, commit, finish, step_on, step_live, step_runner, if_taken, if_changed}
-use Rattle.stm_world.specs.World.{expiries, step}
+use Rattle.stm_world.specs.World.{take_commit, decided, commit_reported, commit, finish, step_on, step_live, step_runner}
+use Rattle.stm_world.specs.World.{step}
 use Rattle.stm_world.specs.Sound.{KnowsTruth, IsSound}
 use Rattle.stm_world.proofs.Truth.{known_stays, prefetch_true, fetch_true, conflict_true}
 use Rattle.stm_world.proofs.Entered.{EntriesFollow, nothing_follows}

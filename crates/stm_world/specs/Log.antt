@@ -1,10 +1,10 @@
 -- A log of events and replies, the newest first, and what follows from it of each runner, of the store and of the entries.
 --
 -- Nothing here knows how a world makes its replies.
-use Rattle.std.specs.Prelude.{◌≡◌, ℕ, ◌+◌, nat_eq, nat_lt, Bool, true, false, ◌||◌, if◌then◌else◌, List, [], ◌∷◌, ◌++◌, map, reverse, Option, Some, None}
+use Rattle.std.specs.Prelude.{◌≡◌, ℕ, ◌+◌, nat_eq, Bool, true, false, ◌||◌, if◌then◌else◌, List, [], ◌∷◌, ◌++◌, map, reverse, Option, Some, None}
 use Rattle.std.specs.Prelude.{Result, Ok, Err}
 use Rattle.stm_history.specs.declared.key_state.ReadAnswer.{ReadAnswer}
-use Rattle.stm_history.specs.History.{History, now}
+use Rattle.stm_history.specs.History.{History}
 use Rattle.stm_steps.specs.declared.value.Value.{Value}
 use Rattle.stm_steps.specs.declared.trace_item.TraceItem.{TraceItem}
 use Rattle.stm_meaning.specs.Meaning.{run_over}
@@ -14,7 +14,8 @@ use Rattle.stm_txn.specs.Standing.{Setup}
 use Rattle.stm_watch.specs.declared.watched.Watched.TheVariants.{Key, Range}
 use Rattle.stm_attempt.specs.Known.{Known}
 use Rattle.stm_entries.specs.declared.entry.Entry.{Entry}
-use Rattle.stm_entries.specs.declared.entry.Entry.TheVariants.{Program, Foreign, Grant as GrantEntry, Renew, Revoke as RevokeEntry, Expire}
+use Rattle.stm_entries.specs.declared.entry.Entry.TheVariants.{Program, Grant as GrantEntry, Renew, Revoke as RevokeEntry}
+use Rattle.stm_entries.specs.Entered.{if_changed, expiries}
 use Rattle.stm_entries.specs.Replayed.{without_moment}
 use Rattle.stm_entries.specs.Alone.{seen_at, left_by_run}
 use Rattle.stm_world.specs.declared.event.WorldEvent.{WorldEvent}
@@ -156,11 +157,11 @@ expired_reported (Err refusal) = refusal.expired
 abbrev pub entries_of : (ℕ → Option Task) → Standing → Standing → WorldEvent → Result Reply Denied → List Entry
 entries_of task_of before after (Start program level limit) reply = []
 entries_of task_of before after (Step runner) reply = entries_of_step task_of reply
-entries_of task_of before after (Txn txn) reply = if nat_lt (now before.history) (now after.history) then Foreign txn ∷ [] else []
+entries_of task_of before after (Txn txn) reply = if_changed before after txn
 entries_of task_of before after (Grant id ttl) reply = if_reported reply (GrantEntry id ttl before.moment)
 entries_of task_of before after (Keep id) reply = if_reported reply (Renew id before.moment)
 entries_of task_of before after (Revoke id) reply = if_reported reply (RevokeEntry id)
-entries_of task_of before after (Advance moment) reply = map (λ (e : Expired). Expire e.id) (expired_reported reply)
+entries_of task_of before after (Advance moment) reply = expiries (expired_reported reply)
 entries_of task_of before after (WatchKey key from) reply = []
 entries_of task_of before after (WatchRange first end from) reply = []
 entries_of task_of before after (Poll watcher most) reply = []

@@ -28,6 +28,7 @@ use Rattle.stm_attempt.specs.Settled.{run_on}
 use Rattle.stm_attempt.specs.Entering.{is_due}
 use Rattle.stm_attempt.specs.Fetches.{at_of}
 use Rattle.stm_entries.specs.Alone.{seen_at}
+use Rattle.stm_entries.specs.Entered.{answers_kept}
 use Rattle.stm_world.specs.declared.event.WorldEvent.{WorldEvent}
 use Rattle.stm_world.specs.declared.event.WorldEvent.TheVariants.{Start, Step, Txn, Grant, Keep, Revoke, Advance}
 use Rattle.stm_world.specs.declared.event.WorldEvent.TheVariants.{WatchKey, WatchRange, Poll, Cancel, Compact}
@@ -38,7 +39,7 @@ use Rattle.stm_world.specs.declared.reply.KeyRead.{KeyRead}
 use Rattle.stm_world.specs.declared.refusal.Refusal.TheVariants.{BadLimit, NoRunner}
 use Rattle.stm_world.specs.declared.refusal.Denied.{Denied}
 use Rattle.stm_world.specs.Reported.{denied, reply_to, advance_reply, poll_reply}
-use Rattle.stm_world.specs.Task.{Task, modified_now, answers_reported}
+use Rattle.stm_world.specs.Task.{Task, modified_now}
 use Rattle.stm_world.specs.Asked.{keys_read, keys_first_read}
 use Rattle.stm_world.specs.Log.{Line, running, started, failures, store, reported}
 
@@ -112,7 +113,7 @@ pub record IsCommitted (at : Situation) (revision : ℕ) (output : List Value) (
   pub emits : output ≡ commits.run.output
   pub sees : trace ≡ commits.run.trace
   pub reached : revision ≡ now done.history
-  pub reported : answers ≡ answers_reported at.task.level at.reads
+  pub reported : answers ≡ answers_kept at.task.level at.reads
   pub in_order : keys_first_read at.task.program.prefetch commits.run.reads ≡ keys_read at.reads
 
 -- A commit that fails changes nothing: a compare failed, it is about this key, and it is a conflict.

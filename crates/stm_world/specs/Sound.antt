@@ -15,8 +15,9 @@ use Rattle.stm_attempt.specs.Fetches.{at_of}
 use Rattle.stm_entries.specs.Replayed.{opening, without_moment}
 use Rattle.stm_entries.specs.Replay.{replay}
 use Rattle.stm_entries.specs.Legal.{AreLegal}
+use Rattle.stm_entries.specs.Entered.{expiries}
 use Rattle.stm_world.specs.declared.event.WorldEvent.{WorldEvent}
-use Rattle.stm_world.specs.World.{World, Runner, runner_at, opened, step, expiries, world_after}
+use Rattle.stm_world.specs.World.{World, Runner, runner_at, opened, step, world_after}
 
 -- what an attempt has read, and what is prefetched for it, is true
 abbrev pub KnowsTruth : History → Known → Type 0

@@ -1,14 +1,13 @@
 -- What a runner has to do, what it knows, and how its attempts go on.
 --
 -- The Go package `concurrency`, "STM": a program is run at a level, and again after a failed commit, whose answers the next
--- attempt may use; and `WithPrefetch`: the keys of a list are read at the start of each attempt. That a run may only send a given number of
--- commits is our own.
-use Rattle.std.specs.Prelude.{ℕ, if◌then◌else◌, List, [], ◌∷◌, ◌++◌, map}
+-- attempt may use; and `WithPrefetch`: the keys of a list are read at the start of each attempt. That a run may send so many commits is
+-- our own.
+use Rattle.std.specs.Prelude.{ℕ, List, [], ◌∷◌, ◌++◌, map}
 use Rattle.stm_history.specs.declared.key_state.ReadAnswer.{ReadAnswer}
 use Rattle.stm_history.specs.History.{History, now, key_at, key_now, mod_of}
 use Rattle.stm_program.specs.Syntax.{ProgramTree}
 use Rattle.stm_program.specs.declared.level.Level.{Level}
-use Rattle.stm_program.specs.Levels.{is_comparing}
 use Rattle.stm_compile.specs.Answers.{answer_now}
 use Rattle.stm_compile.specs.CommitTxn.{reread_keys}
 use Rattle.stm_attempt.specs.Known.{Known}
@@ -29,7 +28,7 @@ nothing_known = record { reads = []; prefetched = [] }
 abbrev pub answer_at : History → List ℕ → ℕ → ReadAnswer
 answer_at h key r = record { key = key; kv = key_at h key r; of_rev = r; revision = now h }
 
--- what is reported of the read of a key as it is now: its modification revision
+-- what is told of the read of a key as it is now: its modification revision
 abbrev pub modified_now : History → List ℕ → KeyRead
 modified_now h key = record { key = key; mod_rev = mod_of (key_now h key) }
 
@@ -51,7 +50,3 @@ after_list task h known = with_served task (record { reads = map (answer_now h) 
 abbrev pub after_conflict : Task → History → Known → Known
 after_conflict task h known =
     with_served task (record { reads = []; prefetched = map (answer_now h) (reread_keys task.level known.reads) })
-
--- the answers that a commit is reported with: those that it read at ReadCommitted, and none at the other levels
-abbrev pub answers_reported : Level → List ReadAnswer → List ReadAnswer
-answers_reported level reads = if is_comparing level then [] else reads

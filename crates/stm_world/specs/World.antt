@@ -16,8 +16,6 @@ use Rattle.stm_steps.specs.declared.run.End.TheVariants.{Done as DoneEnd, Aborte
 use Rattle.stm_steps.specs.declared.run.Run.{Run}
 use Rattle.stm_steps.specs.declared.run.Answered.{Answered}
 use Rattle.stm_steps.specs.declared.run.Answered.TheVariants.{Ended as EndedRun, Wants}
-use Rattle.stm_outcome.specs.declared.txn.Txn.{Txn as StoreTxn}
-use Rattle.stm_outcome.specs.declared.advance.Expired.{Expired}
 use Rattle.stm_outcome.specs.declared.answer.FailedCompare.{FailedCompare}
 use Rattle.stm_outcome.specs.declared.refusal.Refusal.{Refusal as StoreRefusal}
 use Rattle.stm_outcome.specs.declared.refusal.Refusal.TheVariants.{TooManyOps as TooManyOpsRefusal, Compacted as CompactedRefusal}
@@ -29,13 +27,14 @@ use Rattle.stm_txn.specs.Standing.{Setup}
 use Rattle.stm_outcome.specs.Terms.{is_below_floor}
 use Rattle.stm_watch.specs.declared.watched.Watched.TheVariants.{Key, Range}
 use Rattle.stm_compile.specs.Committed.{committed}
-use Rattle.stm_compile.specs.Conflicts.{Seen, seen_by}
+use Rattle.stm_compile.specs.Conflicts.{Seen, seen_in, seen_by}
 use Rattle.stm_attempt.specs.Known.{Known}
 use Rattle.stm_attempt.specs.Settled.{run_on}
 use Rattle.stm_attempt.specs.Entering.{is_due}
 use Rattle.stm_attempt.specs.Fetches.{at_of}
 use Rattle.stm_entries.specs.declared.entry.Entry.{Entry}
-use Rattle.stm_entries.specs.declared.entry.Entry.TheVariants.{Program, Foreign, Grant as GrantEntry, Renew, Revoke as RevokeEntry, Expire}
+use Rattle.stm_entries.specs.declared.entry.Entry.TheVariants.{Program, Grant as GrantEntry, Renew, Revoke as RevokeEntry}
+use Rattle.stm_entries.specs.Entered.{if_taken, if_changed, expiries, answers_kept}
 use Rattle.stm_world.specs.declared.event.WorldEvent.{WorldEvent}
 use Rattle.stm_world.specs.declared.event.WorldEvent.TheVariants.{Start, Step, Txn, Grant, Keep, Revoke, Advance}
 use Rattle.stm_world.specs.declared.event.WorldEvent.TheVariants.{WatchKey, WatchRange, Poll, Cancel, Compact}
@@ -46,7 +45,7 @@ use Rattle.stm_world.specs.declared.refusal.Refusal.{Refusal}
 use Rattle.stm_world.specs.declared.refusal.Refusal.TheVariants.{BadLimit, NoRunner}
 use Rattle.stm_world.specs.declared.refusal.Denied.{Denied}
 use Rattle.stm_world.specs.Reported.{denied, reply_to, store_after_call, advance_reply, poll_reply, store_after_poll}
-use Rattle.stm_world.specs.Task.{Task, nothing_known, answer_at, modified_now, after_list, after_fetch, after_conflict, answers_reported}
+use Rattle.stm_world.specs.Task.{Task, nothing_known, answer_at, modified_now, after_list, after_fetch, after_conflict}
 
 -- a runner whose run goes on: its task, the commits of it that failed, and what it knows in its attempt
 pub record Runner : Type 0 where
@@ -134,23 +133,18 @@ fetch_list id r w =
 
 -- the entry of a commit
 abbrev pub entry_of : Task → List ReadAnswer → Run → ℕ → Entry
-entry_of task reads run revision = Program task.program task.level (answers_reported task.level reads) run.output run.trace revision
+entry_of task reads run revision = Program task.program task.level (answers_kept task.level reads) run.output run.trace revision
 
 -- a commit that succeeded is an entry, and the run is over
 abbrev pub take_commit : ℕ → Runner → List ReadAnswer → Run → Done → World → Stepped
 take_commit id r reads run done w = record {
-  reply = Ok (Committed id (now done.history) (r.failures + 1) run.output run.trace (answers_reported r.task.level reads));
+  reply = Ok (Committed id (now done.history) (r.failures + 1) run.output run.trace (answers_kept r.task.level reads));
   next = record {
     standing = with_history w.standing done.history;
     runners = with_slot id Over w.runners;
     entries = w.entries ++ entry_of r.task reads run (now done.history) ∷ [];
   };
 }
-
--- what the failed compare is about
-abbrev pub seen_in : Option Seen → Seen
-seen_in None = record { key = []; mod_rev = 0; at = 0 }
-seen_in (Some seen) = seen
 
 -- a commit that failed: the next attempt, or the end of the run where it may send no more
 abbrev pub fail_commit : ℕ → Runner → Seen → ℕ → World → Stepped
@@ -200,18 +194,6 @@ step_runner id (Some r) w = step_live id r w
 abbrev pub called : Result Reply Denied → Standing → List Entry → World → Stepped
 called reply next entries w =
     record { reply = reply; next = record { standing = next; runners = w.runners; entries = w.entries ++ entries } }
-
--- an entry of a call that was not refused
-abbrev pub if_taken : {A : Type 0} → Result A StoreRefusal → Entry → List Entry
-if_taken (Ok done) entry = entry ∷ []
-if_taken (Err cause) entry = []
-
--- a transaction is an entry where it changed something
-abbrev pub if_changed : Standing → Standing → StoreTxn → List Entry
-if_changed before after txn = if nat_lt (now before.history) (now after.history) then Foreign txn ∷ [] else []
-
-abbrev pub expiries : List Expired → List Entry
-expiries expired = map (λ (e : Expired). Expire e.id) expired
 
 -- a call that is no entry: one about watchers, or a compaction
 abbrev pub quietly_called : Result Reply Denied → Standing → World → Stepped

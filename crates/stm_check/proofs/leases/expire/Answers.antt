@@ -2,7 +2,7 @@ use Rattle.std.proofs.Common.{List, take, subst}
 use Rattle.stm_outcome.specs.declared.advance.Expired.{Expired}
 use Rattle.stm_entries.specs.Replay.{replay}
 use Rattle.stm_entries.specs.LiveLeases.{HasLeases}
-use Rattle.stm_check.specs.Point.{expiries}
+use Rattle.stm_entries.specs.Entered.{expiries}
 use Rattle.stm_check.proofs.LeaseLemmas.{expired_more}
 use Rattle.stm_check.proofs.leases.expire.Goals as goal
 

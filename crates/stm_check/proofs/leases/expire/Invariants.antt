@@ -2,7 +2,7 @@ use Rattle.std.proofs.Common.{take}
 use Rattle.stm_entries.specs.Replayed.{Replayed}
 use Rattle.stm_entries.specs.Replay.{replay}
 use Rattle.stm_entries.specs.LiveLeases.{HasLeases}
-use Rattle.stm_check.specs.Point.{expiries}
+use Rattle.stm_entries.specs.Entered.{expiries}
 use Rattle.stm_check.proofs.leases.expire.Given as goal
 
 -- those that have expired so far are live no more

@@ -8,4 +8,4 @@ pub returns-clause-listed : goal.returns-clause-listed
 returns-clause-listed c = λ s keys reached. listed_kept s reached keys
 
 pub returns-clause-sent : goal.returns-clause-sent
-returns-clause-sent c = λ s level reads run reached. sent_kept s reached level reads run
+returns-clause-sent c = λ journal ready reached. sent_kept journal reached ready

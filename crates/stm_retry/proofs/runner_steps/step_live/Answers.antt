@@ -4,7 +4,7 @@ use Rattle.stm_outcome.specs.Commits.{AreNamed as KeysAreNamed}
 use Rattle.stm_txn.specs.Standing.{Standing}
 use Rattle.stm_attempt.specs.declared.next.Next.TheVariants.{FetchAll, Fetch, Ready, Aborted, Faulted}
 use Rattle.stm_attempt.specs.Next.{list_asked}
-use Rattle.stm_calls.specs.Fetched.{fetch_reported, fetch_all_reported}
+use Rattle.stm_journal.specs.Fetched.{fetch_reported, fetch_all_reported}
 use Rattle.stm_world.specs.World.{Runner}
 use Rattle.stm_retry.specs.RunnerView.{next_for}
 use Rattle.stm_retry.specs.RunnerReturns.{workplace, after_reported_fetch, reported_of_list, after_reported_list}
@@ -26,16 +26,16 @@ fetch_list-requires-clause-named c =
 pub returns-in_ok-reported-in-FetchAll : goal.returns-in_ok-reported-in-FetchAll
 returns-in_ok-reported-in-FetchAll c =
     let r : Runner = c.args.runner.now.runner in
-    let s : Standing = c.args.store.now.standing in
+    let s : Standing = c.args.journal.now.standing in
     let keys : List (List ℕ) = c.in-FetchAll.keys in
     let reported : next_for r ≡ FetchAll keys _ = sym c.in_ok-next.ensures.next ∙ c.in-FetchAll.is in
-    list_leaves c.args.id r c.fetch_list.new.runner.runner s c.fetch_list.new.store.standing c.args.entries.now.items keys
+    list_leaves c.args.id r c.fetch_list.new.runner.runner c.args.journal.now c.fetch_list.new.journal keys
     c.in_ok-reported-in-FetchAll.reported (is_listing r keys _ reported)
     (c.in_ok-reported-in-FetchAll.ensures.reported ∙ ap (λ (l : List (List ℕ)). reported_of_list c.args.id (now s.history) (fetch_all_reported s l)) c.as_slice.ensures)
     (c.in_ok-reported-in-FetchAll.ensures.ok
     ∙ ap (λ (l : List (List ℕ)). after_reported_list (fetch_all_reported s l) c.advance.new.self.runner) c.as_slice.ensures
     ∙ ap (after_reported_list (fetch_all_reported s keys)) c.in_ok-next.ensures.same)
-    c.in_ok-reported-in-FetchAll.ensures.store
+    c.in_ok-reported-in-FetchAll.ensures.journal
 
 pub fetch-requires-clause-named : goal.fetch-requires-clause-named
 fetch-requires-clause-named c =
@@ -46,38 +46,37 @@ pub fetch-requires-clause-reached : goal.fetch-requires-clause-reached
 fetch-requires-clause-reached c =
     let r : Runner = c.args.runner.now.runner in
     let reported : next_for r ≡ Fetch c.in-Fetch.key c.in-Fetch.at = sym c.in_ok-next.ensures.next ∙ c.in-Fetch.is in
-    subst (λ (n : ℕ). n ≤ now c.args.store.now.standing.history) (is_wanting r c.in-Fetch.key c.in-Fetch.at reported).at_is c.requires
+    subst (λ (n : ℕ). n ≤ now c.args.journal.now.standing.history) (is_wanting r c.in-Fetch.key c.in-Fetch.at reported).at_is c.requires
 
 pub returns-in_ok-reported-in-Fetch : goal.returns-in_ok-reported-in-Fetch
 returns-in_ok-reported-in-Fetch c =
     let r : Runner = c.args.runner.now.runner in
-    let s : Standing = c.args.store.now.standing in
+    let s : Standing = c.args.journal.now.standing in
     let key : List ℕ = c.in-Fetch.key in
     let at : ℕ = c.in-Fetch.at in
     let reported : next_for r ≡ Fetch key at = sym c.in_ok-next.ensures.next ∙ c.in-Fetch.is in
-    fetch_leaves c.args.id r c.fetch.new.runner.runner s c.fetch.new.store.standing c.args.entries.now.items key at c.in_ok-reported-in-Fetch.reported
+    fetch_leaves c.args.id r c.fetch.new.runner.runner c.args.journal.now c.fetch.new.journal key at c.in_ok-reported-in-Fetch.reported
     (is_wanting r key at reported) c.in_ok-reported-in-Fetch.ensures.reported
     (c.in_ok-reported-in-Fetch.ensures.ok ∙ ap (after_reported_fetch (fetch_reported s key at)) c.in_ok-next.ensures.same)
-    c.in_ok-reported-in-Fetch.ensures.store
+    c.in_ok-reported-in-Fetch.ensures.journal
 
 pub returns-in_ok-reported-in-Ready : goal.returns-in_ok-reported-in-Ready
 returns-in_ok-reported-in-Ready c =
     let r : Runner = c.args.runner.now.runner in
     let reported : next_for r ≡ Ready c.in-Ready.ready = sym c.in_ok-next.ensures.next ∙ c.in-Ready.is in
-    ready_leaves c.args.id r c.advance.new.self.runner c.in-Ready.ready (Ok c.in_ok-reported-in-Ready.reported) c.args.store.now.standing
-    c.args.entries.now.items (workplace c.commit.new.store.standing c.commit.new.entries.items c.commit.new.runner.runner) c.in_ok-next.ensures.same
-    reported c.in_ok-reported-in-Ready.ensures
+    ready_leaves c.args.id r c.advance.new.self.runner c.in-Ready.ready (Ok c.in_ok-reported-in-Ready.reported) c.args.journal.now
+    (workplace c.commit.new.journal c.commit.new.runner.runner) c.in_ok-next.ensures.same reported c.in_ok-reported-in-Ready.ensures
 
 pub returns-in-Aborted : goal.returns-in-Aborted
 returns-in-Aborted c =
     let r : Runner = c.args.runner.now.runner in
     let reported : next_for r ≡ Aborted c.in-Aborted.run' = sym c.in_ok-next.ensures.next ∙ c.in-Aborted.is in
-    end_leaves c.args.id r c.advance.new.self.runner c.args.store.now.standing c.args.entries.now.items c.in-Aborted.run' c.reply_at_end.result
+    end_leaves c.args.id r c.advance.new.self.runner c.args.journal.now c.in-Aborted.run' c.reply_at_end.result
     (has_aborted r c.in-Aborted.run' reported) c.reply_at_end.ensures
 
 pub returns-in-Faulted : goal.returns-in-Faulted
 returns-in-Faulted c =
     let r : Runner = c.args.runner.now.runner in
     let reported : next_for r ≡ Faulted c.in-Faulted.run' = sym c.in_ok-next.ensures.next ∙ c.in-Faulted.is in
-    end_leaves c.args.id r c.advance.new.self.runner c.args.store.now.standing c.args.entries.now.items c.in-Faulted.run'
+    end_leaves c.args.id r c.advance.new.self.runner c.args.journal.now c.in-Faulted.run'
     c.reply_at_end-in-Faulted.result (has_faulted r c.in-Faulted.run' reported) c.reply_at_end-in-Faulted.ensures

@@ -1,17 +1,22 @@
-use Rattle.std.proofs.Common.{ap, refl}
-use Rattle.stm_txn.specs.Standing.{Standing, transacted}
-use Rattle.stm_txn.specs.Store.{StoreView}
-use Rattle.stm_retry.specs.CallReturns.{or_out_of_memory}
-use Rattle.stm_retry.proofs.CallLemmas.{wanted, txn_refused}
+use Rattle.std.proofs.Common.{Ok, refl}
+use Rattle.stm_txn.specs.Standing.{transacted}
+use Rattle.stm_journal.specs.JournalState.{JournalState}
+use Rattle.stm_journal.specs.Entering.{made}
+use Rattle.stm_world.specs.declared.event.WorldEvent.TheVariants.{Txn}
+use Rattle.stm_world.specs.declared.reply.Reply.TheVariants.{Txn as TxnDone}
+use Rattle.stm_world.proofs.Wants.{transacted_never}
+use Rattle.stm_retry.proofs.CallLemmas.{call_taken, call_refused, txn_is_call, txn_never}
 use Rattle.stm_retry.proofs.store_calls.make_txn.Goals as goal
 
-pub returns-in_default : goal.returns-in_default
-returns-in_default c =
-    let s : Standing = c.args.store.now.standing in
-    txn_refused c.args.txn.now s s c.args.entries.now.items c.prepare_txn.new.entries.items c.refuse_or_out_of_memory.result (or_out_of_memory c.txn_refusal.result)
-    (wanted (transacted s c.args.txn.now) c.txn_refusal.result c.txn_refusal.ensures) c.refuse_or_out_of_memory.ensures refl c.prepare_txn.ensures.same
+pub returns-in-Ok : goal.returns-in-Ok
+returns-in-Ok c =
+    let j : JournalState = c.args.journal.now in
+    call_taken (Txn c.args.txn.now) TxnDone j c.make_txn.new.self (made j c.args.txn.now) c.in-Ok.answer (Ok (TxnDone c.in-Ok.answer))
+    (λ runners. txn_is_call j c.args.txn.now runners (transacted j.standing c.args.txn.now)) c.in-Ok.ensures.made refl
 
 pub returns-in-Err : goal.returns-in-Err
 returns-in-Err c =
-    txn_refused c.args.txn.now c.args.store.now.standing c.txn.new.self.standing c.args.entries.now.items c.prepare_txn.new.entries.items c.refuse.result
-    c.in-Err.cause c.in-Err.ensures.step c.refuse.ensures (ap (λ (v : StoreView). v.standing) c.in-Err.ensures.err) c.prepare_txn.ensures.same
+    let j : JournalState = c.args.journal.now in
+    call_refused (Txn c.args.txn.now) TxnDone j c.make_txn.new.self (made j c.args.txn.now) c.in-Err.cause c.refuse.result
+    (λ runners. txn_is_call j c.args.txn.now runners (transacted j.standing c.args.txn.now)) (λ runners taken. ((refl, refl), taken))
+    (txn_never j c.args.txn.now (transacted j.standing c.args.txn.now) (transacted_never j.standing c.args.txn.now)) c.in-Err.ensures.made c.refuse.ensures

@@ -3,7 +3,7 @@ use Rattle.std.proofs.lemmas.Result.{IfOk-weaker}
 use Rattle.stm_draw.specs.declared.table.JobSeat.{JobSeat}
 use Rattle.stm_draw.specs.declared.view.Size.{Size}
 use Rattle.stm_draw.specs.Draw.{size_of}
-use Rattle.stm_hall.specs.HallState.{HallState}
+use Rattle.stm_journal.specs.JournalState.{JournalState}
 use Rattle.stm_job.specs.declared.job.Job.{Job}
 use Rattle.stm_job.specs.Ends.{is_committed}
 use Rattle.stm_workers.specs.Drawn.{HasDrawnAll}
@@ -45,7 +45,7 @@ returns-in-Ok-clause-ran g c =
     IfOk-weaker c.place_ends.result _ _
     (λ placed reported.
     reported c.args.hall c.args.jobs.now
-    (subst (λ (h : HallState). All (HasItsRun h c.args.jobs.now) c.parts-share.result.1.items) (sym c.requires.hall)
+    (subst (λ (h : JournalState). All (HasItsRun h c.args.jobs.now) c.parts-share.result.1.items) (sym c.requires.hall)
     (subst (λ (js : List Job). All (HasItsRun g.R.RunOfJobs.before js) c.parts-share.result.1.items) (sym c.requires.jobs) c.parts-share.ensures.ran)))
     c.place_ends.ensures.ran
 

@@ -3,19 +3,19 @@ use Rattle.stm_hall.proofs.hall.Hall.commit_prepared.Goals as goal
 
 pub invariant_of-self : goal.invariant_of-self
 invariant_of-self c =
-    let kept = commit_keeps c.self.inside.log c.commit_prepared.new.self c.args.prepared c.commit_prepared.result c.self.invariant
+    let kept = commit_keeps c.self.inside.journal c.commit_prepared.new.self c.args.prepared c.commit_prepared.result c.self.invariant
     c.commit_prepared.ensures.run c.commit_prepared.ensures.verdict in
     kept.locked
 
 pub returns-clause-goes_on : goal.returns-clause-goes_on
 returns-clause-goes_on c =
-    let kept = commit_keeps c.self.inside.log c.commit_prepared.new.self c.args.prepared c.commit_prepared.result c.self.invariant
+    let kept = commit_keeps c.self.inside.journal c.commit_prepared.new.self c.args.prepared c.commit_prepared.result c.self.invariant
     c.commit_prepared.ensures.run c.commit_prepared.ensures.verdict in
     rw c.self.view_is at kept.goes
 
 -- the program alone changes the store so
 pub returns-clause-alone : goal.returns-clause-alone
 returns-clause-alone c =
-    let alone = commit_alone c.self.inside.log c.commit_prepared.new.self c.args.prepared c.commit_prepared.result c.self.invariant c.commit_prepared.ensures.run
+    let alone = commit_alone c.self.inside.journal c.commit_prepared.new.self c.args.prepared c.commit_prepared.result c.self.invariant c.commit_prepared.ensures.run
     c.commit_prepared.ensures.verdict in
     rw c.self.view_is at alone

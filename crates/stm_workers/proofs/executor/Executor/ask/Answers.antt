@@ -1,5 +1,5 @@
 use Rattle.std.proofs.Common.{◌∙◌, Ok, Err, inr, refl}
-use Rattle.stm_calls.specs.Fetched.{one_read}
+use Rattle.stm_journal.specs.Fetched.{one_read}
 use Rattle.stm_workers.proofs.AskLemmas.{read_shows, in_some_hall}
 use Rattle.stm_workers.proofs.executor.Executor.ask.Goals as goal
 

@@ -1,9 +1,0 @@
-pub mod ReadLemmas
-pub mod FetchLemmas
-pub mod ListFetchLemmas
-pub mod SeenLemmas
-pub mod CommitLemmas
-pub mod PrefetchLemmas
-pub mod Cases
-pub mod PresentLemmas
-pub mod StateLemmas

@@ -1,9 +1,0 @@
-pub mod Reads
-pub mod Fetched
-pub mod ReadRefusals
-pub mod Sent
-pub mod Prefetch
-pub mod Numbers
-pub mod PresentKeys
-pub mod StateOf
-pub mod Kept

@@ -1,0 +1,17 @@
+pub mod ReadLemmas
+pub mod FetchLemmas
+pub mod ListFetchLemmas
+pub mod BehindLemmas
+pub mod SeenLemmas
+pub mod PrefetchLemmas
+pub mod CopyLemmas
+pub mod WholeFaults
+pub mod FirstFailed
+pub mod StillLemmas
+pub mod Sending
+pub mod Judging
+pub mod CallLemmas
+pub mod CommitLemmas
+pub mod Cases
+pub mod PresentLemmas
+pub mod StateLemmas

@@ -1,0 +1,13 @@
+pub mod Reads
+pub mod Fetched
+pub mod ReadRefusals
+pub mod Prefetch
+pub mod PresentKeys
+pub mod StateOf
+pub mod JournalState
+pub mod Fetching
+pub mod Verdicts
+pub mod Judging
+pub mod Prepared
+pub mod Entering
+pub mod Names

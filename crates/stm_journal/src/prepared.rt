@@ -1,0 +1,141 @@
+//! What a commit needs beside its attempt.
+ghost use Rattle.std.specs.Prelude.{◌≡◌, map, IfOk};
+ghost use Rattle.stm_compile.specs.Now.{as_change};
+ghost use Rattle.stm_attempt.specs.ReadyRun.{IsRunOnItsAnswers};
+ghost use Rattle.stm_journal.specs.Judging.{cause_of};
+
+use crate::causes::{Cause, find_cause};
+use crate::copying::copy_of;
+use crate::faults::names_empty_key;
+use std::alloc::{AllocError, Global};
+use std::marker::Model;
+use stm_attempt::{Ready, WriteBuffer};
+use stm_history::Change;
+use stm_program::Write;
+use stm_txn::Store;
+
+/// An attempt that is ready, with what its commit needs beside it: whether the commit names an empty key, and the changes that its writes make.
+/// Contracts see the attempt.
+///
+/// It is made without the journal, so that one that is locked has nothing to copy: the changes are moved into its store, and the attempt into its entry.
+pub struct Prepared {
+    ready: Ready,
+    has_empty: bool,
+    changes: Vec<Change>,
+}
+
+impl Drop for Prepared {
+    fn drop(self) {
+        let Prepared {
+            ready: _,
+            has_empty: _,
+            changes: _,
+        } = self;
+    }
+}
+
+impl Model for Prepared {
+    ghost use Rattle.std.specs.Coded.{codes};
+    ghost use Rattle.stm_program.specs.Coding.{coded_program};
+    ghost use Rattle.stm_attempt.specs.ReadyRun.{ReadyRun};
+    ghost use Rattle.stm_journal.specs.Prepared.{IsPrepared};
+
+    ghost Value = { ReadyRun };
+
+    ghost coded = { Prim.hlevel (codes, coded_program) };
+
+    ghost view = { λ p. p.ready };
+
+    ghost invariant = { λ p. IsPrepared p.ready p.has_empty p.changes.items };
+}
+
+impl Prepared {
+    /// Why a store turns its commit down before anything is written, as it is now. It takes no memory.
+    ///
+    /// The attempt's type tells that it is a run on its answers.
+    pub(crate) fn find_cause(&self, store: &Store) -> Option<Cause>
+        ensures cause { result ≡ cause_of store.now.standing self.now }
+        ensures run { IsRunOnItsAnswers self.now }
+    {
+        find_cause(store, self.has_empty, &self.ready)
+    }
+
+    /// The attempt.
+    pub(crate) fn attempt(&self) -> &Ready
+        ensures { result.now ≡ self.now }
+    {
+        &self.ready
+    }
+
+    /// The attempt, and the changes that its writes make.
+    pub(crate) fn into_parts(self) -> (Ready, Vec<Change>)
+        ensures ready { result.0 ≡ self }
+        ensures changes { result.1.items ≡ map as_change self.writes }
+    {
+        let Prepared {
+            ready,
+            has_empty: _,
+            changes,
+        } = self;
+        (ready, changes)
+    }
+}
+
+/// A write, as a change.
+fn change_of(write: &Write) -> Result<Change, AllocError>
+    ensures { IfOk result (λ change. change ≡ as_change write.now) }
+{
+    match write {
+        Write::Put { key, value, lease } => {
+            let key = key.clone()?;
+            let value = value.clone()?;
+            Ok(Change::Put {
+                key,
+                value,
+                lease: *lease,
+            })
+        }
+        Write::Del { key } => {
+            let key = key.clone()?;
+            Ok(Change::Del { key })
+        }
+    }
+}
+
+/// The writes, as changes.
+pub(crate) fn changes_of(alloc: Global, writes: &WriteBuffer) -> Result<Vec<Change>, AllocError>
+    ensures { IfOk result (λ changes. changes.items ≡ map as_change writes.now) }
+{
+    let mut changes = Vec::with_capacity(alloc, writes.len())?;
+    for place in 0..writes.len() {
+        changes.push(change_of(writes.at(place))?)?;
+    }
+    Ok(changes)
+}
+
+/// Prepares the commit of an attempt. That memory runs out is the only refusal.
+pub fn prepare(alloc: Global, ready: Ready) -> Result<Prepared, AllocError>
+    ensures { IfOk result (λ prepared. prepared ≡ ready) }
+{
+    let Ok(changes) = changes_of(alloc, &ready.writes) else {
+        drop(ready);
+        return Err(AllocError);
+    };
+    let has_empty = names_empty_key(&ready);
+    Ok(Prepared {
+        ready,
+        has_empty,
+        changes,
+    })
+}
+
+/// Prepares the commit of a copy of an attempt. That memory runs out is the only refusal.
+pub(crate) fn prepare_copy(alloc: Global, ready: &Ready) -> Result<Prepared, AllocError>
+    ensures prepared { IfOk result (λ prepared. prepared ≡ ready.now) }
+    ensures run { IsRunOnItsAnswers ready.now }
+{
+    // (the attempt's type tells that it is a run on its answers)
+    let _is_run = ready.answers.as_slice();
+    let copy = copy_of(alloc, ready)?;
+    prepare(alloc, copy)
+}

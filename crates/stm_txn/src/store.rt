@@ -26,7 +26,7 @@ use crate::attach::{move_keys, prepare_attaches};
 use crate::branch::{makes_changes, put_of, run_branch};
 use crate::changes::Changes;
 use crate::refuse::find_refusal;
-use crate::refused::{find_grant_refusal, find_txn_refusal};
+use crate::refused::find_txn_refusal;
 use crate::writes::{any_names_dead_lease, are_used_up, only_effective};
 use std::alloc::{AllocError, Global};
 use std::marker::Model;
@@ -332,7 +332,7 @@ impl Store {
         ensures memory { IsOkUnless result Refusal.OutOfMemory }
         ensures err { OnErr result (self.new ≡ self.old) }
     {
-        let _ids_are_in_range = self.leases.is_live(0);
+        self.leases.ids_are_in_range();
         let attaches = prepare_attaches(self.alloc, changes.as_slice())?;
         self.leases.reserve_attach(attaches.len())?;
         match changes.apply(&mut self.keys) {
@@ -520,7 +520,7 @@ impl Store {
         ensures err { OnErr result (self.new ≡ self.old) }
     {
         let _counter = self.keys.revision();
-        let _ids_are_in_range = self.leases.is_live(0);
+        self.leases.ids_are_in_range();
         self.transact(txn)
     }
 
@@ -658,7 +658,7 @@ impl Store {
         ensures numbers { OnOk result (ExpiredFits (expired_in id self.new.standing)) }
     {
         let _counter = self.keys.revision();
-        let _ids_are_in_range = self.leases.is_live(id);
+        self.leases.ids_are_in_range();
         if self.is_stuck(id) {
             return Err(Refusal::RevisionsUsedUp);
         }
@@ -858,7 +858,10 @@ impl Store {
     pub fn grant_refusal(&self, id: u64, ttl: u64) -> Option<Refusal>
         ensures { result ≡ refusal_of (granted self.now.standing id ttl) }
     {
-        find_grant_refusal(&self.leases, id, ttl)
+        match self.leases.grant_refusal(id, ttl) {
+            None => None,
+            Some(cause) => Some(cause_of(cause)),
+        }
     }
 
     /// Why a revocation would be refused now, other than for want of memory. It takes no memory.

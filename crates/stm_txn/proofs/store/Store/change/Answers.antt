@@ -54,7 +54,7 @@ invariant_of-self-2 c =
       (
         c.self.invariant.1.0,
         (
-          attached_fit c.self.inside.leases.live cs c.is_live-ids_are_in_range.ensures.in_range
+          attached_fit c.self.inside.leases.live cs c.ids_are_in_range.ensures
               (subst (λ (s : StoreView). AttachedToLive s.standing.live (attached_of cs)) (sym c.self.view_is) c.requires.live),
           c.self.invariant.1.1,
         ),

@@ -10,7 +10,7 @@ use anyhow::Result;
 use std::alloc::{AllocError, Global};
 use std::rt::Clock;
 use std::time::{Duration, Instant};
-use stm_txn::{Keys, Op, ShortList, Store, Text, Txn};
+use stm_txn::{Keys, Op, Refusal, ShortList, Store, Text, Txn};
 
 /// How many transactions are timed.
 const PUTS: u32 = 1_000_000;
@@ -53,7 +53,7 @@ fn put_of(alloc: Global, number: u32) -> Result<Txn, AllocError> {
     })
 }
 
-fn put(alloc: Global, store: &mut Store, number: u32) -> Result<()> {
+fn put(alloc: Global, store: &mut Store, number: u32) -> Result<(), Refusal> {
     let txn = put_of(alloc, number)?;
     let answer = store.txn(&txn)?;
     drop(answer);

@@ -288,3 +288,11 @@ pub below_present : (p : List ℕ → Bool) (n : ℕ) (keys : List (List ℕ)) (
     slice_get keys place ≡ Some key →
     p key ≡ true
 below_present p n keys place key first less at = first.each place key at ∙ lt-ltb place n less
+
+-- after one event a key is as the event leaves it, or as it was
+pub left_only : (e : Event) (k : List ℕ) (before : Bool) → is_left (event_about k (e ∷ [])) before ≡ cond (bytes_eq (key_of_event e) k) (is_put e) before
+left_only e k before = by_test (bytes_eq (key_of_event e) k)
+  where
+    by_test : (b : Bool) → is_left (cond b (Some e) None) before ≡ cond b (is_put e) before
+    by_test true = refl
+    by_test false = refl

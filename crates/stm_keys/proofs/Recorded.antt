@@ -22,7 +22,7 @@ same_text : (a b : List ℕ) → bytes_eq a b ≡ true → a ≡ b
 same_text a b equal = (bytes_eq-Decides a b).0 equal
 
 -- the event of a change is about the change's key, and shows the change
-key_of_event-event_of : (n : ℕ) (before : List ℕ → Option KeyState) (c : Change) → key_of_event (event_of n before c) ≡ key_of c
+pub key_of_event-event_of : (n : ℕ) (before : List ℕ → Option KeyState) (c : Change) → key_of_event (event_of n before c) ≡ key_of c
 key_of_event-event_of n before (Put key value lease) = refl
 key_of_event-event_of n before (Del key) = refl
 

@@ -45,9 +45,21 @@ fn find_chain<'a>(chains: &'a Chains, key: &str, hint: usize) -> Option<(usize, 
     }
 }
 
-/// Where the chain of a key stands: a hint, `NO_HINT` where it has none.
+/// Where the chain of a key stands, if it has one.
+pub(crate) fn find_place(chains: &Chains, key: &str) -> Option<usize>
+    ensures none { result ≡ None → get_by_text chains.now key.now ≡ None }
+    ensures named { IfSome result (λ index. slice_get (names_of chains.now) index ≡ Some key.now) }
+    ensures within { IfSome result (λ index. index < length chains.now.entries) }
+{
+    match chains.get_full(key) {
+        None => None,
+        Some((index, _, _)) => Some(index),
+    }
+}
+
+/// A hint for the chain of a key: where it stands, `NO_HINT` where the key has none.
 pub(crate) fn hint_of(chains: &Chains, key: &str) -> usize {
-    chains.get_index_of(key).unwrap_or(NO_HINT)
+    find_place(chains, key).unwrap_or(NO_HINT)
 }
 
 /// The oldest number that is not below a bound, in the chain of a key.
@@ -244,8 +256,35 @@ fn make_room_of(
     }
 }
 
-/// Makes room for one more version in the chain of each event's key, which is looked for at its hint first. Want of
-/// memory leaves every version as it was.
+/// Makes room for one more version in the chain of a key, which stands at the place if it has one. Answers where the chain stands.
+pub(crate) fn make_room_at_place(
+    chains: &mut Chains,
+    alloc: Global,
+    key: &Text,
+    place: Option<usize>,
+) -> Result<usize, AllocError>
+    requires none { place ≡ None → get_by_text chains.old key.now ≡ None }
+    requires named { IfSome place (λ index. slice_get (names_of chains.old) index ≡ Some key.now) }
+    requires within { IfSome place (λ index. index < length chains.old.entries) }
+    ensures versions { (k : List ℕ) → versions_in (get_by_text chains.new k) ≡ versions_in (get_by_text chains.old k) }
+    ensures room { OnOk result (0 < room_in (get_by_text chains.new key.now)) }
+    ensures present { KeepsPresent (λ k. versions_in (get_by_text chains.old k)) (names_of chains.old) (names_of chains.new) }
+    ensures named { IfOk result (λ index. slice_get (names_of chains.new) index ≡ Some key.now) }
+{
+    match place {
+        Some(index) => {
+            make_room_at(chains, index)?;
+            Ok(index)
+        }
+        None => {
+            add_chain(chains, alloc, key)?;
+            Ok(index_of(chains, key.as_str(), NO_HINT))
+        }
+    }
+}
+
+/// Makes room for one more version in the chain of each event's key, which is looked for at its hint first. Where memory runs
+/// out, every version is as it was.
 pub(crate) fn make_room(
     chains: &mut Chains,
     alloc: Global,
@@ -322,7 +361,32 @@ fn take_out(chains: &mut Chains, present: &mut usize, index: usize)
     }
 }
 
-/// Adds a version to the chain of an event's key, which has room for it, and moves the chain to where it belongs.
+/// Adds a version to the chain of an event's key, which stands at an index and has room for it, and moves the chain to where it
+/// belongs.
+pub(crate) fn add_version_at(
+    chains: &mut Chains,
+    present: &mut usize,
+    event: &Event,
+    version: Version,
+    index: usize,
+)
+    requires named { slice_get (names_of chains.old) index ≡ Some (key_of_event event.now) }
+    requires room { 0 < room_in (get_by_text chains.old (key_of_event event.now)) }
+    requires bound { present.old ≤ length chains.old.entries }
+    ensures versions { (k : List ℕ) → versions_in (get_by_text chains.new k) ≡ with_version (bytes_eq (key_of_event event.now) k) (number_of version) (versions_in (get_by_text chains.old k)) }
+    ensures room { (k : List ℕ) → bytes_eq (key_of_event event.now) k ≡ false → room_in (get_by_text chains.new k) ≡ room_in (get_by_text chains.old k) }
+    ensures bound { present.new ≤ length chains.new.entries }
+    ensures first { (is_present : List ℕ → Bool) → StandFirst is_present present.old (names_of chains.old) →
+        StandFirst (λ k. if bytes_eq (key_of_event event.now) k then is_put event.now else is_present k) present.new (names_of chains.new) }
+{
+    push_at(chains, index, version);
+    match event {
+        Event::Put { .. } => bring_in(chains, present, index),
+        Event::Delete { .. } => take_out(chains, present, index),
+    }
+}
+
+/// The same of a chain that is looked for at the hint first.
 fn add_version(
     chains: &mut Chains,
     present: &mut usize,
@@ -339,11 +403,7 @@ fn add_version(
         StandFirst (λ k. if bytes_eq (key_of_event event.now) k then is_put event.now else is_present k) present.new (names_of chains.new) }
 {
     let index = index_of(chains, event.key().as_str(), hint);
-    push_at(chains, index, version);
-    match event {
-        Event::Put { .. } => bring_in(chains, present, index),
-        Event::Delete { .. } => take_out(chains, present, index),
-    }
+    add_version_at(chains, present, event, version, index);
 }
 
 /// Adds a version to the chain of each event's key. Each has room for it, and is looked for at its hint first.

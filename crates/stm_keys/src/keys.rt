@@ -10,9 +10,11 @@ ghost use Rattle.stm_keys.specs.Chains.{versions_in, with_version, no_versions, 
 ghost use Rattle.stm_keys.specs.NextChange.{next_change};
 ghost use Rattle.stm_keys.specs.Keys.{key_read, DeletePresent, HasSmallNumbers, ListsPresent, with_floor, without_up_to, compacted_at};
 
+use crate::chain::Version;
 use crate::chains::{
-    Chains, NO_HINT, Revisions, add_versions, find_before, find_newest, find_now, find_number_from,
-    find_present, find_state, forget_events, make_room,
+    Chains, NO_HINT, Revisions, add_version_at, add_versions, find_before, find_newest, find_now,
+    find_number_from, find_place, find_present, find_state, forget_events, make_room,
+    make_room_at_place,
 };
 use crate::copies::{copy_chains, copy_revisions};
 use crate::event::Event;
@@ -167,6 +169,38 @@ fn add_recorded(
     make_room_in(revisions)?;
     add_versions(chains, present, events.as_slice(), number, hints);
     revisions.push_back_reserved(events);
+    Ok(())
+}
+
+/// Adds a recorded revision of one event, and its number to the chain of its key, which stands at the place if it has one.
+/// Every growth comes before the first change.
+fn add_only(
+    revisions: &mut Revisions,
+    chains: &mut Chains,
+    present: &mut usize,
+    event: Event,
+    number: u64,
+    place: Option<usize>,
+) -> Result<(), AllocError>
+    requires none { place ≡ None → get_by_text chains.old (key_of_event event) ≡ None }
+    requires named { IfSome place (λ index. slice_get (names_of chains.old) index ≡ Some (key_of_event event)) }
+    requires within { IfSome place (λ index. index < length chains.old.entries) }
+    requires bound { present.old ≤ length chains.old.entries }
+    ensures recorded { OnOk result (revisions.new.items ≡ revisions.old.items ++ (event ∷ []) ∷ []) }
+    ensures reported { OnOk result ((k : _) → versions_in (get_by_text chains.new k) ≡
+        with_version (is_some (event_about k (event ∷ []))) number (versions_in (get_by_text chains.old k))) }
+    ensures first { OnOk result ((is_present : List ℕ → Bool) → ((k : _) → versions_in (get_by_text chains.old k) ≡ no_versions → is_present k ≡ false) →
+        StandFirst is_present present.old (names_of chains.old) →
+        StandFirst (λ k. is_left (event_about k (event ∷ [])) (is_present k)) present.new (names_of chains.new)) }
+    ensures err { OnErr result (revisions.new.items ≡ revisions.old.items) }
+    ensures count { OnErr result (present.new ≡ present.old) }
+    ensures same { OnErr result ((k : List ℕ) → versions_in (get_by_text chains.new k) ≡ versions_in (get_by_text chains.old k)) }
+    ensures kept { OnErr result (KeepsPresent (λ k. versions_in (get_by_text chains.old k)) (names_of chains.old) (names_of chains.new)) }
+{
+    let index = make_room_at_place(chains, *revisions.allocator(), event.key(), place)?;
+    make_room_in(revisions)?;
+    add_version_at(chains, present, &event, Version { number, spot: 0 }, index);
+    revisions.push_back_reserved(Events::one(event));
     Ok(())
 }
 
@@ -339,15 +373,6 @@ impl Keys {
         }
     }
 
-    /// What the only change of the next revision shows.
-    fn show_only(&self, changes: Vec<Change>, hints: Hints) -> Result<Events, AllocError>
-        requires { length changes.items ≡ 1 }
-        ensures { IfOk result (λ events. events ≡ map (event_of (now self.now.history + 1) (key_now self.now.history)) changes.items) }
-    {
-        let event = self.show_change(take_only(changes), hints.at(0))?;
-        Ok(Events::one(event))
-    }
-
     /// What each change of the next revision shows, in their order.
     fn show_each(&self, changes: Vec<Change>, hints: Hints) -> Result<Events, AllocError>
         ensures { IfOk result (λ events. events ≡ map (event_of (now self.now.history + 1) (key_now self.now.history)) changes.items) }
@@ -360,15 +385,59 @@ impl Keys {
         Ok(Events::of(events))
     }
 
-    /// What the changes of the next revision show, in their order. Their values are moved, and the text of a key that has no event yet.
-    fn show_changes(&self, changes: Vec<Change>, hints: Hints) -> Result<Events, AllocError>
-        ensures { IfOk result (λ events. events ≡ map (event_of (now self.now.history + 1) (key_now self.now.history)) changes.items) }
+    /// Adds one revision with one change, as `apply` does.
+    ///
+    /// It is refused for the causes of `apply`, and then changes nothing.
+    pub fn apply_one(&mut self, change: Change) -> Result<u64, ApplyRefusal>
+        requires present { DeletePresent self.old.history (change ∷ []) }
+        ensures number { IfOk result (λ number. number ≡ now self.new.history) }
+        ensures ok { OnOk result (self.new.history ≡ add_revision self.old.history (change ∷ [])) }
+        ensures kept { (self.new.opened ≡ self.old.opened) × (self.new.floor ≡ self.old.floor) }
+        ensures used_up { (result ≡ Err ApplyRefusal.RevisionsUsedUp) ↔ (now self.old.history ≡ HIGHEST_REVISION) }
+        ensures err { OnErr result (self.new ≡ self.old) }
     {
-        if changes.len() == 1 {
-            self.show_only(changes, hints)
-        } else {
-            self.show_each(changes, hints)
+        let before = self.revision();
+        if before == HIGHEST_REVISION {
+            return Err(ApplyRefusal::RevisionsUsedUp);
         }
+        let place = find_place(&self.chains, change.key().as_str());
+        let event = self.show_change(change, place.unwrap_or(NO_HINT))?;
+        add_only(
+            &mut self.revisions,
+            &mut self.chains,
+            &mut self.present,
+            event,
+            before + 1,
+            place,
+        )?;
+        Ok(before + 1)
+    }
+
+    /// Adds one revision with these changes, as `apply` does. A key that one of the first changes is about is looked up by its text once.
+    fn apply_each(&mut self, changes: Vec<Change>) -> Result<u64, ApplyRefusal>
+        requires revision { IsRevision changes.items }
+        requires present { DeletePresent self.old.history changes.items }
+        ensures number { IfOk result (λ number. number ≡ now self.new.history) }
+        ensures ok { OnOk result (self.new.history ≡ add_revision self.old.history changes.items) }
+        ensures kept { (self.new.opened ≡ self.old.opened) × (self.new.floor ≡ self.old.floor) }
+        ensures used_up { (result ≡ Err ApplyRefusal.RevisionsUsedUp) ↔ (now self.old.history ≡ HIGHEST_REVISION) }
+        ensures err { OnErr result (self.new ≡ self.old) }
+    {
+        let before = self.revision();
+        if before == HIGHEST_REVISION {
+            return Err(ApplyRefusal::RevisionsUsedUp);
+        }
+        let hints = Hints::of(&self.chains, changes.as_slice());
+        let events = self.show_each(changes, hints)?;
+        add_recorded(
+            &mut self.revisions,
+            &mut self.chains,
+            &mut self.present,
+            events,
+            before + 1,
+            hints,
+        )?;
+        Ok(before + 1)
     }
 
     /// Adds one revision with these changes, in this order, and answers its number. There is a change, no key
@@ -385,21 +454,11 @@ impl Keys {
         ensures used_up { (result ≡ Err ApplyRefusal.RevisionsUsedUp) ↔ (now self.old.history ≡ HIGHEST_REVISION) }
         ensures err { OnErr result (self.new ≡ self.old) }
     {
-        let before = self.revision();
-        if before == HIGHEST_REVISION {
-            return Err(ApplyRefusal::RevisionsUsedUp);
+        if changes.len() == 1 {
+            self.apply_one(take_only(changes))
+        } else {
+            self.apply_each(changes)
         }
-        let hints = Hints::of(&self.chains, changes.as_slice());
-        let events = self.show_changes(changes, hints)?;
-        add_recorded(
-            &mut self.revisions,
-            &mut self.chains,
-            &mut self.present,
-            events,
-            before + 1,
-            hints,
-        )?;
-        Ok(before + 1)
     }
 
     /// The events of a revision, in the order of operations: none where it is below those that are kept. They are not

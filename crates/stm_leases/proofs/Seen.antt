@@ -1,5 +1,5 @@
 -- What callers see of the tables, and what each change of a table makes of it.
-use Rattle.std.proofs.Common.{◌≡◌, ◌≢◌, ℕ, ◌-◌, ◌≤◌, Bool, true, false, cond, is_some, ◌&&◌, nat_le, IsTrue, List, length, Option, Some, None, option_map}
+use Rattle.std.proofs.Common.{◌≡◌, ◌≢◌, ℕ, ◌-◌, ◌≤◌, Bool, true, false, cond, is_some, not, IsTrue, List, length, Option, Some, None, option_map}
 use Rattle.std.proofs.Common.{String, nat_eq, refl, sym, ap, subst, ◌∙◌, arith}
 use Rattle.std.proofs.lemmas.Bool.{true≢false, eqb-true, leb-false}
 use Rattle.std.proofs.lemmas.Cmp.{nat_list_cmp_total}
@@ -13,10 +13,10 @@ use Rattle.indexmap.specs.IndexMap.{IndexMap, get, get_by_text, ContainsKey}
 use Rattle.stm_lists.specs.Lists.{Lists, entries_at}
 use Rattle.stm_leases.specs.LeaseLog.{LogItem, Term, term_of}
 use Rattle.stm_leases.specs.Leases.{Leases, StandsFor, IsLive, AttachedToLive, lease_of}
-use Rattle.stm_leases.specs.declared.bounds.TheConstants.{HIGHEST_ID, HIGHEST_TTL}
 use Rattle.stm_leases.specs.declared.lease.Lease.{Lease}
 use Rattle.stm_leases.specs.declared.lease.Attachment.{Attachment}
-use Rattle.stm_leases.specs.Live.{is_id, is_ttl, AreInRange}
+use Rattle.stm_leases.specs.Live.{Live, is_id, is_ttl, is_live_in, AreInRange, grant_refusal}
+use Rattle.stm_leases.specs.declared.errors.GrantError.TheVariants.{LeaseIdOutOfRange, TtlOutOfRange, LeaseExists}
 use Rattle.stm_leases.specs.Kept.{term_in, view_of, list_in, AllInRange, AreInStep, Holds}
 use Rattle.stm_leases.proofs.Tables.{get-live, get-attached, live-insert, live-remove, attached-insert, attached-remove, log-insert, log-remove, log-renew}
 use Rattle.stm_leases.proofs.Tables.{len-entries}
@@ -33,21 +33,16 @@ pub list-updates : {S : Type 0} (old new : IndexMap ℕ Lease S) (id : ℕ) (o :
     → list_in new q ≡ cond (nat_eq id q) (option_map (λ (l : Lease). l.keys) o) (list_in old q)
 list-updates old new id o updates q = ap (option_map (λ (l : Lease). l.keys)) (updates q) ∙ through_list (nat_eq id q) o (get nat_eq old q)
 
--- a number that passes both tests of a range from 1 is in it
-in_range_from_1 : (number most : ℕ) → number ≢ 0 → number ≤ most → (nat_le 1 number && nat_le number most) ≡ true
-in_range_from_1 number most positive within = by_tests (nat_le 1 number) (nat_le number most) refl refl
+-- what a grant that only memory can refuse is for
+pub may-grant : (live : Live) (id ttl : ℕ) → grant_refusal live id ttl ≡ None → (IsTrue (is_id id) × IsTrue (is_ttl ttl)) × (is_live_in live id ≡ false)
+may-grant live id ttl = by_tests (is_id id) (is_ttl ttl) (is_live_in live id)
   where
-    by_tests : (a b : Bool) → nat_le 1 number ≡ a → nat_le number most ≡ b → (a && b) ≡ true
-    by_tests true true x y = refl
-    by_tests true false x y = let above = leb-false number most y in absurd (omega arith)
-    by_tests false b x y = let below = leb-false 1 number x in absurd (positive (omega arith))
-
--- an id and a time to live that pass the tests of a grant are in range
-pub id-fits : (id : ℕ) → id ≢ 0 → id ≤ HIGHEST_ID → IsTrue (is_id id)
-id-fits id = in_range_from_1 id HIGHEST_ID
-
-pub ttl-fits : (ttl : ℕ) → ttl ≢ 0 → ttl ≤ HIGHEST_TTL → IsTrue (is_ttl ttl)
-ttl-fits ttl = in_range_from_1 ttl HIGHEST_TTL
+    by_tests : (i t l : Bool) → cond (not i) (Some LeaseIdOutOfRange) (cond (not t) (Some TtlOutOfRange) (cond l (Some LeaseExists) None)) ≡ None
+        → (IsTrue i × IsTrue t) × (l ≡ false)
+    by_tests true true false none = ((refl, refl), refl)
+    by_tests true true true none = absurd (cc)
+    by_tests true false l none = absurd (cc)
+    by_tests false t l none = absurd (cc)
 
 -- what holds of each lease of the table, and of one more, holds of each lease after it
 pub one-more : {S : Type 0} (old new : IndexMap ℕ Lease S) (id : ℕ) (now : Lease)

@@ -3,6 +3,7 @@ ghost use Rattle.std.specs.Prelude.{◌≡◌, ◌≢◌, ℕ, ◌-◌, ◌<◌,
 ghost use Rattle.std.specs.FinMap as finmap;
 ghost use Rattle.std.specs.Str.{bytes_eq};
 ghost use Rattle.indexmap.specs.IndexMap.{get_by_text, spare};
+ghost use Rattle.stm_leases.specs.Live.{is_id, is_ttl};
 ghost use Rattle.stm_leases.specs.LeaseLog.{LogItem, Grant, Renew, Revoke, Expire, Term};
 
 use crate::bounds::{HIGHEST_ID, HIGHEST_TTL};
@@ -70,6 +71,18 @@ fn take_out(attached: &mut IndexMap<String, Attachment>, key: &str) -> Option<At
     attached.swap_remove(key)
 }
 
+fn is_id(id: u64) -> bool
+    ensures { result ≡ is_id id }
+{
+    1 <= id && id <= HIGHEST_ID
+}
+
+fn is_ttl(ttl: u64) -> bool
+    ensures { result ≡ is_ttl ttl }
+{
+    1 <= ttl && ttl <= HIGHEST_TTL
+}
+
 impl Leases {
     ghost use Rattle.stm_leases.specs.Live.{AreInRange, is_live_in, grant_refusal};
     ghost use Rattle.stm_leases.specs.DueFirst.{first_due};
@@ -92,24 +105,29 @@ impl Leases {
         }
     }
 
-    /// Grants a lease of this id, which lives for `ttl` seconds from `now` on and from each renewal.
-    ///
-    /// It is refused for the first cause that `GrantError` lists; a refusal changes nothing.
-    pub fn grant(&mut self, id: u64, ttl: u64, now: u64) -> Result<(), GrantError>
-        ensures refusal { MatchOption (grant_refusal self.old.live id ttl) (IsOkUnless result GrantError.OutOfMemory) (λ cause. result ≡ Err cause) }
+    /// Why a grant would be refused, other than because memory runs out: the first cause that holds. It takes no memory.
+    pub fn grant_refusal(&self, id: u64, ttl: u64) -> Option<GrantError>
+        ensures { result ≡ grant_refusal self.now.live id ttl }
+    {
+        if !is_id(id) {
+            Some(GrantError::LeaseIdOutOfRange)
+        } else if !is_ttl(ttl) {
+            Some(GrantError::TtlOutOfRange)
+        } else if self.is_live(id) {
+            Some(GrantError::LeaseExists)
+        } else {
+            None
+        }
+    }
+
+    /// Grants a lease that only memory can refuse.
+    fn add(&mut self, id: u64, ttl: u64, now: u64) -> Result<(), GrantError>
+        requires { grant_refusal self.old.live id ttl ≡ None }
+        ensures memory { IsOkUnless result GrantError.OutOfMemory }
         ensures ok { OnOk result (self.new ≡ record self.old { live = finmap.insert self.old.live id (record { ttl = ttl; renewed = now }) }) }
         ensures log { OnOk result ((log : List LogItem) → StandsFor self.old.live log → StandsFor self.new.live (Grant id ttl now ∷ log)) }
         ensures err { OnErr result (self.new ≡ self.old) }
     {
-        if id == 0 || id > HIGHEST_ID {
-            return Err(GrantError::LeaseIdOutOfRange);
-        }
-        if ttl == 0 || ttl > HIGHEST_TTL {
-            return Err(GrantError::TtlOutOfRange);
-        }
-        if self.leases.contains_key(&id) {
-            return Err(GrantError::LeaseExists);
-        }
         if self.leases.reserve(1).is_err() {
             return Err(GrantError::OutOfMemory);
         }
@@ -129,6 +147,21 @@ impl Leases {
         match self.leases.insert(id, lease) {
             Ok(_) => Ok(()),
             Err(_) => unreachable!(),
+        }
+    }
+
+    /// Grants a lease of this id, which lives for `ttl` seconds from `now` on and from each renewal.
+    ///
+    /// It is refused for the first cause that `GrantError` lists; a refusal changes nothing.
+    pub fn grant(&mut self, id: u64, ttl: u64, now: u64) -> Result<(), GrantError>
+        ensures refusal { MatchOption (grant_refusal self.old.live id ttl) (IsOkUnless result GrantError.OutOfMemory) (λ cause. result ≡ Err cause) }
+        ensures ok { OnOk result (self.new ≡ record self.old { live = finmap.insert self.old.live id (record { ttl = ttl; renewed = now }) }) }
+        ensures log { OnOk result ((log : List LogItem) → StandsFor self.old.live log → StandsFor self.new.live (Grant id ttl now ∷ log)) }
+        ensures err { OnErr result (self.new ≡ self.old) }
+    {
+        match self.grant_refusal(id, ttl) {
+            Some(cause) => Err(cause),
+            None => self.add(id, ttl, now),
         }
     }
 
@@ -164,6 +197,13 @@ impl Leases {
         ensures attach_on_live { AttachedToLive self.now }
     {
         self.leases.contains_key(&id)
+    }
+
+    /// The law that every live id and its time to live are in their ranges.
+    pub fn ids_are_in_range(&self)
+        ensures { AreInRange self.now.live }
+    {
+        let _leases = &self.leases;
     }
 
     /// Makes sure of room for `additional` attaches. Want of memory changes nothing.

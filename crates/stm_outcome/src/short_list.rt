@@ -45,6 +45,17 @@ impl<T> ShortList<T> {
     }
 }
 
+impl<T> ShortList<T> {
+    /// The list of one element. It takes no memory.
+    pub fn one(alloc: Global, item: T) -> ShortList<T>
+        ensures { result ≡ item ∷ [] }
+    {
+        ShortList {
+            items: SmallVec::from_buf(alloc, [item]),
+        }
+    }
+}
+
 impl<T: MadeWith<Global> + Drop> ShortList<T> {
     /// The empty list. It allocates nothing.
     pub fn new(alloc: Global) -> ShortList<T>

@@ -7,3 +7,4 @@ pub mod Standing
 pub mod WatchReported
 pub mod Advances
 pub mod Store
+pub mod ChangesHeld

@@ -90,12 +90,12 @@ fn answer(keys: &Keys, changes: &[Change], op: &Op) -> Result<OpAnswer, AllocErr
 }
 
 /// The change of a put.
-fn put_of(key: &Text, value: &Text, lease: u64) -> Result<Option<Change>, AllocError>
-    ensures { IfOk result (λ c. c ≡ Some (Put key.now value.now lease)) }
+pub(crate) fn put_of(key: &Text, value: &Text, lease: u64) -> Result<Change, AllocError>
+    ensures { IfOk result (λ c. c ≡ Put key.now value.now lease) }
 {
     let key = key.clone()?;
     let value = value.clone()?;
-    Ok(Some(Change::Put { key, value, lease }))
+    Ok(Change::Put { key, value, lease })
 }
 
 /// The change of a delete.
@@ -112,7 +112,7 @@ fn change(keys: &Keys, changes: &[Change], op: &Op) -> Result<Option<Change>, Al
 {
     match op {
         Op::Get { .. } => Ok(None),
-        Op::Put { key, value, lease } => put_of(key, value, *lease),
+        Op::Put { key, value, lease } => Ok(Some(put_of(key, value, *lease)?)),
         Op::Del { key } => {
             if is_copied(keys, changes, key.as_str()) {
                 deletion_of(key)

@@ -7,6 +7,7 @@
 
 mod attach;
 mod branch;
+mod changes;
 pub mod laws;
 mod refuse;
 mod refused;

@@ -1,18 +1,16 @@
 //! Why a call would be refused, found without changing anything.
 ghost use Rattle.std.specs.Prelude.{◌≡◌, ℕ, Option, None};
 ghost use Rattle.stm_outcome.specs.Terms.{terms_at, terms_above};
-ghost use Rattle.stm_leases.specs.Live.{is_id, is_ttl, grant_refusal};
 ghost use Rattle.stm_outcome.specs.declared.answer.FailedCompare.{FailedCompare as AFailedCompare};
 ghost use Rattle.stm_outcome.specs.Checks.{fault_of, has_clash};
 ghost use Rattle.stm_outcome.specs.LookUps.{outcome_copied};
 ghost use Rattle.stm_outcome.specs.Outcome.{outcome};
-ghost use Rattle.stm_txn.specs.Grants.{reported_refusal};
 ghost use Rattle.stm_txn.specs.Standing.{refusal_of};
 
 use crate::refuse::find_refusal;
 use crate::store::{choose, uses_up};
 use stm_keys::Keys;
-use stm_leases::{HIGHEST_ID, HIGHEST_TTL, Leases};
+use stm_leases::Leases;
 use stm_outcome::{Op, Refusal, Txn, find_failed, find_fault};
 
 /// Why a branch would be refused, whose first failed compare does not matter for that.
@@ -50,32 +48,5 @@ pub(crate) fn find_txn_refusal(
     match find_fault(txn, limit) {
         Some(refusal) => Some(refusal),
         None => find_chosen_refusal(keys, leases, txn),
-    }
-}
-
-fn is_id(id: u64) -> bool
-    ensures { result ≡ is_id id }
-{
-    1 <= id && id <= HIGHEST_ID
-}
-
-fn is_ttl(ttl: u64) -> bool
-    ensures { result ≡ is_ttl ttl }
-{
-    1 <= ttl && ttl <= HIGHEST_TTL
-}
-
-/// Why a grant would be refused.
-pub(crate) fn find_grant_refusal(leases: &Leases, id: u64, ttl: u64) -> Option<Refusal>
-    ensures { result ≡ reported_refusal (grant_refusal leases.now.live id ttl) }
-{
-    if !is_id(id) {
-        Some(Refusal::LeaseIdOutOfRange)
-    } else if !is_ttl(ttl) {
-        Some(Refusal::TtlOutOfRange)
-    } else if leases.is_live(id) {
-        Some(Refusal::LeaseExists)
-    } else {
-        None
     }
 }

@@ -16,13 +16,17 @@ ghost use Rattle.stm_outcome.specs.Branches.{branch_refusal};
 ghost use Rattle.stm_outcome.specs.Terms.{most_operations};
 ghost use Rattle.stm_outcome.specs.LookUps.{changes_copied, answers_copied, outcome_copied};
 ghost use Rattle.stm_outcome.specs.Outcome.{is_used_up, chosen, would_change};
+ghost use Rattle.stm_txn.specs.ChangesHeld.{changes_held};
+ghost use Rattle.stm_history.specs.declared.change.Change.TheVariants.{Put as PutChange};
+ghost use Rattle.stm_outcome.specs.declared.answer.OpAnswer.TheVariants.{Put as PutAnswer};
 ghost use Rattle.stm_txn.specs.Grants.{grant_refusal_of, grant_reported};
 ghost use Rattle.stm_txn.specs.WatchReported.{watch_reported, poll_reported};
 
 use crate::attach::{move_keys, prepare_attaches};
-use crate::branch::{makes_changes, run_branch};
+use crate::branch::{makes_changes, put_of, run_branch};
+use crate::changes::Changes;
 use crate::refuse::find_refusal;
-use crate::refused::{find_grant_refusal, find_txn_refusal};
+use crate::refused::find_txn_refusal;
 use crate::writes::{any_names_dead_lease, are_used_up, only_effective};
 use std::alloc::{AllocError, Global};
 use std::marker::Model;
@@ -30,8 +34,8 @@ use stm_history::{Change, Sequence, Text};
 use stm_keys::{ApplyRefusal, HIGHEST_REVISION, Keys, ReadRefusal};
 use stm_leases::{GrantError, KeysError, Leases};
 use stm_outcome::{
-    AdvanceRefused, Expired, FailedCompare, Op, OperationLimit, Refusal, Txn, TxnAnswer,
-    find_failed, find_fault,
+    AdvanceRefused, Expired, FailedCompare, Op, OpAnswer, OperationLimit, Refusal, ShortList, Txn,
+    TxnAnswer, find_failed, find_fault,
 };
 use stm_watch::{Batch, PollRefusal, WatchRefusal, Watchers};
 
@@ -314,12 +318,12 @@ impl Store {
     }
 
     /// Adds a revision with these changes, moves their keys to their leases, and tells the watchers.
-    fn change(&mut self, changes: Vec<Change>) -> Result<(), Refusal>
-        requires revision { IsRevision changes.items }
+    fn change(&mut self, changes: Changes) -> Result<(), Refusal>
+        requires revision { IsRevision (changes_held changes) }
         requires room { now self.old.standing.history < HIGHEST_REVISION }
-        requires live { AttachedToLive self.old.standing.live (attached_of changes.items) }
-        requires present { DeletePresent self.old.standing.history changes.items }
-        ensures ok { OnOk result (self.new.standing.history ≡ add_revision self.old.standing.history changes.items) }
+        requires live { AttachedToLive self.old.standing.live (attached_of (changes_held changes)) }
+        requires present { DeletePresent self.old.standing.history (changes_held changes) }
+        ensures ok { OnOk result (self.new.standing.history ≡ add_revision self.old.standing.history (changes_held changes)) }
         ensures floor { self.new.standing.floor ≡ self.old.standing.floor }
         ensures limit { self.new.standing.limit ≡ self.old.standing.limit }
         ensures live { self.new.standing.live ≡ self.old.standing.live }
@@ -328,10 +332,10 @@ impl Store {
         ensures memory { IsOkUnless result Refusal.OutOfMemory }
         ensures err { OnErr result (self.new ≡ self.old) }
     {
-        let _ids_are_in_range = self.leases.is_live(0);
+        self.leases.ids_are_in_range();
         let attaches = prepare_attaches(self.alloc, changes.as_slice())?;
         self.leases.reserve_attach(attaches.len())?;
-        match self.keys.apply(changes) {
+        match changes.apply(&mut self.keys) {
             Ok(_) => {}
             Err(ApplyRefusal::OutOfMemory) => return Err(Refusal::OutOfMemory),
             Err(ApplyRefusal::RevisionsUsedUp) => unreachable!(),
@@ -360,13 +364,17 @@ impl Store {
             [] => Ok(()),
             [_, ..] => {
                 let _highest = self.keys.revision();
-                self.change(changes)
+                self.change(Changes::More(changes))
             }
         }
     }
 
-    /// Runs a branch that nothing but memory can refuse.
-    fn finish(&mut self, ops: &[Op], failed: Option<FailedCompare>) -> Result<TxnAnswer, Refusal>
+    /// Runs a branch, however many operations it has, that nothing but memory can refuse.
+    fn finish_each(
+        &mut self,
+        ops: &[Op],
+        failed: Option<FailedCompare>,
+    ) -> Result<TxnAnswer, Refusal>
         requires apart { has_clash ops.now ≡ false }
         requires allowed { branch_refusal (terms_of self.old.standing) ops.now ≡ None }
         requires room { is_used_up self.old.standing.history (changes_copied self.old.standing.history [] ops.now) ≡ false }
@@ -389,6 +397,59 @@ impl Store {
             answers: branch.answers,
             failed,
         })
+    }
+
+    /// Runs a branch of one put that nothing but memory can refuse: it needs no list of changes.
+    fn finish_put(
+        &mut self,
+        key: &Text,
+        value: &Text,
+        lease: u64,
+        failed: Option<FailedCompare>,
+    ) -> Result<TxnAnswer, Refusal>
+        requires live { AttachedToLive self.old.standing.live (attached_of (PutChange key.now value.now lease ∷ [])) }
+        requires room { now self.old.standing.history < HIGHEST_REVISION }
+        ensures answer { IfOk result (λ answer. answer ≡ answer_of self.old.standing.history failed (PutChange key.now value.now lease ∷ []) (PutAnswer ∷ [])) }
+        ensures history { OnOk result (self.new.standing.history ≡ add_revision self.old.standing.history (PutChange key.now value.now lease ∷ [])) }
+        ensures floor { self.new.standing.floor ≡ self.old.standing.floor }
+        ensures limit { self.new.standing.limit ≡ self.old.standing.limit }
+        ensures live { self.new.standing.live ≡ self.old.standing.live }
+        ensures moment { self.new.standing.moment ≡ self.old.standing.moment }
+        ensures watchers { self.new.standing.watchers ≡ self.old.standing.watchers }
+        ensures memory { IsOkUnless result Refusal.OutOfMemory }
+        ensures err { OnErr result (self.new ≡ self.old) }
+    {
+        let change = put_of(key, value, lease)?;
+        self.change(Changes::One(change))?;
+        Ok(TxnAnswer {
+            succeeded: failed.is_none(),
+            revision: self.keys.revision(),
+            answers: ShortList::one(self.alloc, OpAnswer::Put),
+            failed,
+        })
+    }
+
+    /// Runs a branch that nothing but memory can refuse.
+    fn finish(&mut self, ops: &[Op], failed: Option<FailedCompare>) -> Result<TxnAnswer, Refusal>
+        requires apart { has_clash ops.now ≡ false }
+        requires allowed { branch_refusal (terms_of self.old.standing) ops.now ≡ None }
+        requires room { is_used_up self.old.standing.history (changes_copied self.old.standing.history [] ops.now) ≡ false }
+        ensures answer { IfOk result (λ answer. answer ≡ answer_of self.old.standing.history failed
+            (changes_copied self.old.standing.history [] ops.now) (answers_copied self.old.standing.history [] ops.now)) }
+        ensures history { OnOk result (self.new.standing.history ≡ with_changes self.old.standing.history (changes_copied self.old.standing.history [] ops.now)) }
+        ensures floor { self.new.standing.floor ≡ self.old.standing.floor }
+        ensures limit { self.new.standing.limit ≡ self.old.standing.limit }
+        ensures live { self.new.standing.live ≡ self.old.standing.live }
+        ensures moment { self.new.standing.moment ≡ self.old.standing.moment }
+        ensures watchers { self.new.standing.watchers ≡ self.old.standing.watchers }
+        ensures memory { IsOkUnless result Refusal.OutOfMemory }
+        ensures err { OnErr result (self.new ≡ self.old) }
+    {
+        let _highest = self.keys.revision();
+        if let [Op::Put { key, value, lease }] = ops {
+            return self.finish_put(key, value, *lease, failed);
+        }
+        self.finish_each(ops, failed)
     }
 
     /// The first refusal along a branch.
@@ -459,7 +520,7 @@ impl Store {
         ensures err { OnErr result (self.new ≡ self.old) }
     {
         let _counter = self.keys.revision();
-        let _ids_are_in_range = self.leases.is_live(0);
+        self.leases.ids_are_in_range();
         self.transact(txn)
     }
 
@@ -597,7 +658,7 @@ impl Store {
         ensures numbers { OnOk result (ExpiredFits (expired_in id self.new.standing)) }
     {
         let _counter = self.keys.revision();
-        let _ids_are_in_range = self.leases.is_live(id);
+        self.leases.ids_are_in_range();
         if self.is_stuck(id) {
             return Err(Refusal::RevisionsUsedUp);
         }
@@ -797,7 +858,10 @@ impl Store {
     pub fn grant_refusal(&self, id: u64, ttl: u64) -> Option<Refusal>
         ensures { result ≡ refusal_of (granted self.now.standing id ttl) }
     {
-        find_grant_refusal(&self.leases, id, ttl)
+        match self.leases.grant_refusal(id, ttl) {
+            None => None,
+            Some(cause) => Some(cause_of(cause)),
+        }
     }
 
     /// Why a revocation would be refused now, other than for want of memory. It takes no memory.

@@ -4,6 +4,7 @@ use Rattle.stm_history.specs.History.{History, now, add_revision, key_now, chang
 use Rattle.stm_keys.specs.Events.{change_of_event, events_of}
 use Rattle.stm_leases.specs.Leases.{Leases, lease_of}
 use Rattle.stm_watch.specs.Calls.{StandFor}
+use Rattle.stm_txn.specs.ChangesHeld.{changes_held}
 use Rattle.stm_txn.specs.Leasing.{attaching, attached_after, attached_of, AttachedToLive}
 use Rattle.stm_outcome.specs.Numbers.{LeasesFit}
 use Rattle.stm_txn.specs.Store.{StoreView}
@@ -14,13 +15,13 @@ use Rattle.stm_txn.proofs.store.Store.change.Goals as goal
 
 pub notify_watchers-requires : goal.notify_watchers-requires
 notify_watchers-requires c =
-    let more : now c.apply.new.self.history ≡ now (add_revision c.self.inside.keys.history c.args.changes.items) = ap now c.in-Ok.ensures.ok in
+    let more : now c.apply.new.keys.history ≡ now (add_revision c.self.inside.keys.history (changes_held c.args.changes)) = ap now c.in-Ok.ensures.ok in
     omega (arith, c.self.invariant.3, c.self.invariant.4, more)
 
 pub move_keys-requires-clause-distinct : goal.move_keys-requires-clause-distinct
 move_keys-requires-clause-distinct c =
     let h : History = c.self.inside.keys.history in
-    let cs : List Change = c.args.changes.items in
+    let cs : List Change = changes_held c.args.changes in
     let shown : map change_of_event c.last_events.result.now ≡ cs =
     ap (map change_of_event) c.last_events.ensures ∙ ap (λ (x : History). map change_of_event (events_of x (now x))) c.in-Ok.ensures.ok
     ∙ last_changes h cs in
@@ -29,21 +30,21 @@ move_keys-requires-clause-distinct c =
 pub move_keys-requires-clause-attaches : goal.move_keys-requires-clause-attaches
 move_keys-requires-clause-attaches c =
     let h : History = c.self.inside.keys.history in
-    let cs : List Change = c.args.changes.items in
+    let cs : List Change = changes_held c.args.changes in
     let shown : map change_of_event c.last_events.result.now ≡ cs =
     ap (map change_of_event) c.last_events.ensures ∙ ap (λ (x : History). map change_of_event (events_of x (now x))) c.in-Ok.ensures.ok
     ∙ last_changes h cs in
-    c.in_ok-attaches.ensures ∙ ap attached_of c.as_slice.ensures.value ∙ ap attached_of (sym shown)
+    c.in_ok-attaches.ensures ∙ ap attached_of c.as_slice.ensures ∙ ap attached_of (sym shown)
 
 pub invariant_of-self-2 : goal.invariant_of-self-2
 invariant_of-self-2 c =
     let h : History = c.self.inside.keys.history in
-    let cs : List Change = c.args.changes.items in
+    let cs : List Change = changes_held c.args.changes in
     let shown : map change_of_event c.last_events.result.now ≡ cs =
     ap (map change_of_event) c.last_events.ensures ∙ ap (λ (x : History). map change_of_event (events_of x (now x))) c.in-Ok.ensures.ok
     ∙ last_changes h cs in
     subst (λ (next : History). ((key : List ℕ) → lease_of c.move_keys.new.leases key ≡ attaching (key_now next key)) × LeasesFit next
-    × StandFor next c.notify_watchers.new.watchers × (c.notify_watchers.new.watchers.floor ≡ c.apply.new.self.floor) × (c.apply.new.self.floor ≤ now next))
+    × StandFor next c.notify_watchers.new.watchers × (c.notify_watchers.new.watchers.floor ≡ c.apply.new.keys.floor) × (c.apply.new.keys.floor ≤ now next))
     (sym c.in-Ok.ensures.ok) (
       λ key.
           still_stored h cs key (lease_of c.reserve_attach.new.self key) (lease_of c.move_keys.new.leases key)
@@ -53,7 +54,7 @@ invariant_of-self-2 c =
       (
         c.self.invariant.1.0,
         (
-          attached_fit c.self.inside.leases.live cs c.is_live-ids_are_in_range.ensures.in_range
+          attached_fit c.self.inside.leases.live cs c.ids_are_in_range.ensures
               (subst (λ (s : StoreView). AttachedToLive s.standing.live (attached_of cs)) (sym c.self.view_is) c.requires.live),
           c.self.invariant.1.1,
         ),

@@ -11,5 +11,5 @@ returns-clause-numbers c =
     expired_fits c.args.self.now.standing c.end_lease.new.self.standing c.args.id
     (subst (λ (s : StoreView). now s.standing.history ≤ HIGHEST_REVISION) c.self.view_is
     (subst (λ n. n ≤ HIGHEST_REVISION) c.revision-counter.ensures.value c.revision-counter.ensures.bounded))
-    (subst (λ (s : StoreView). AreInRange s.standing.live) c.self.view_is c.is_live-ids_are_in_range.ensures.in_range)
+    (subst (λ (s : StoreView). AreInRange s.standing.live) c.self.view_is c.ids_are_in_range.ensures)
     c.requires c.in_ok-end_lease.ensures.ok

@@ -23,4 +23,4 @@ returns-clause-numbers c =
     (subst (λ (v : StoreView). now v.standing.history ≤ HIGHEST_REVISION) c.self.view_is
     (subst (λ n. n ≤ HIGHEST_REVISION) c.revision-counter.ensures.value c.revision-counter.ensures.bounded))
     (subst (λ (v : StoreView). LeasesFit v.standing.history) c.self.view_is c.self.invariant.1)
-    (subst (λ (v : StoreView). AreInRange v.standing.live) c.self.view_is c.is_live-ids_are_in_range.ensures.in_range))
+    (subst (λ (v : StoreView). AreInRange v.standing.live) c.self.view_is c.ids_are_in_range.ensures))

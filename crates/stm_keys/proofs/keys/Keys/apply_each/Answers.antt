@@ -13,7 +13,7 @@ use Rattle.stm_keys.proofs.Recorded.{events_apart}
 use Rattle.stm_keys.proofs.Fields.{pushed}
 use Rattle.stm_keys.proofs.Order.{names_long}
 use Rattle.stm_keys.proofs.Walked.{unchanged_key, view_kept, on_any, kept_with_room, first_after, no_version_absent, opening_kept, before_with}
-use Rattle.stm_keys.proofs.keys.Keys.apply.Goals as goal
+use Rattle.stm_keys.proofs.keys.Keys.apply_each.Goals as goal
 
 pub add_recorded-requires-clause-apart : goal.add_recorded-requires-clause-apart
 add_recorded-requires-clause-apart c =

@@ -11,7 +11,7 @@ use Rattle.stm_txn.specs.Standing.{terms_of}
 use Rattle.stm_txn.specs.Store.{StoreView}
 use Rattle.stm_outcome.proofs.Branching.{changes_are_distinct}
 use Rattle.stm_txn.proofs.Running.{all_readable, attaches_live, deletes_present}
-use Rattle.stm_txn.proofs.store.Store.finish.Goals as goal
+use Rattle.stm_txn.proofs.store.Store.finish_each.Goals as goal
 
 pub run_branch-requires : goal.run_branch-requires
 run_branch-requires c =

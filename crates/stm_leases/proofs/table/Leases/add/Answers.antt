@@ -10,32 +10,14 @@ use Rattle.std.proofs.lemmas.Option.{same_Some}
 use Rattle.stm_leases.specs.Tournament.{slot_of}
 use Rattle.stm_leases.specs.Kept.{list_in, AreInStep}
 use Rattle.stm_leases.proofs.InStep.{dropped_again, granted, lists_stay}
-use Rattle.stm_leases.proofs.Seen.{id-fits, ttl-fits, same-range, one-more, contains-now, inserted-view, granted-log, list-updates}
+use Rattle.stm_leases.proofs.Seen.{may-grant, same-range, one-more, contains-now, inserted-view, granted-log, list-updates}
 use Rattle.stm_leases.proofs.Timed.{on_ok, retimed, same_timed, still_timed, fresh_slot}
-use Rattle.stm_leases.proofs.table.Leases.grant.Goals as goal
+use Rattle.stm_leases.proofs.table.Leases.add.Goals as goal
 
 -- an id that the table lacks has no list
 no_list : (o : Option Lease) → is_some o ≡ false → option_map (λ (l : Lease). l.keys) o ≡ None
 no_list None none = refl
 no_list (Some l) none = absurd (cc)
-
-pub returns-then-contains_key-clause-refusal : goal.returns-then-contains_key-clause-refusal
-returns-then-contains_key-clause-refusal c =
-    let known : finmap.contains_key c.args.self.now.live c.args.id ≡ true =
-    contains-now c.self.inside.leases c.self.inside.attached _ _ c.self.view_is c.args.id ∙ sym c.contains_key.ensures ∙ c.if-contains_key.true in
-    first_of (search rules, grind (arith, common_steps))
-
-pub returns-then-is_err-clause-refusal : goal.returns-then-is_err-clause-refusal
-returns-then-is_err-clause-refusal c =
-    let known : finmap.contains_key c.args.self.now.live c.args.id ≡ false =
-    contains-now c.self.inside.leases c.self.inside.attached _ _ c.self.view_is c.args.id ∙ sym c.contains_key.ensures ∙ c.if-contains_key.false in
-    first_of (search rules, grind (arith, common_steps))
-
-pub returns-in_default-clause-refusal : goal.returns-in_default-clause-refusal
-returns-in_default-clause-refusal c =
-    let known : finmap.contains_key c.args.self.now.live c.args.id ≡ false =
-    contains-now c.self.inside.leases c.self.inside.attached _ _ c.self.view_is c.args.id ∙ sym c.contains_key.ensures ∙ c.if-contains_key.false in
-    first_of (search rules, grind (arith, common_steps))
 
 pub invariant_of-self : goal.invariant_of-self
 invariant_of-self c = record {
@@ -82,15 +64,11 @@ invariant_of-self-then-is_err-2 c =
       list_room = omega (arith, c.self.invariant.list_room, c.in-Ok.ensures.spare, c.drop_list.ensures.spare);
     }
 
-pub returns-then-is_err-2-clause-refusal : goal.returns-then-is_err-2-clause-refusal
-returns-then-is_err-2-clause-refusal c =
-    let known : finmap.contains_key c.args.self.now.live c.args.id ≡ false =
-    contains-now c.self.inside.leases c.self.inside.attached _ _ c.self.view_is c.args.id ∙ sym c.contains_key.ensures ∙ c.if-contains_key.false in
-    first_of (search rules, grind (arith, common_steps))
-
 pub invariant_of-self-2 : goal.invariant_of-self-2
 invariant_of-self-2 c =
-    let unknown : is_some (get nat_eq c.self.inside.leases c.args.id) ≡ false = sym c.contains_key.ensures ∙ c.if-contains_key.false in
+    let free = may-grant c.args.self.now.live c.args.id c.args.ttl c.requires in
+    let unknown : is_some (get nat_eq c.self.inside.leases c.args.id) ≡ false =
+    sym (contains-now c.self.inside.leases c.self.inside.attached _ _ c.self.view_is c.args.id) ∙ free.1 in
     record {
       in_step = granted (list_in c.self.inside.leases) (list_in c.insert.new.self) (get_by_text c.self.inside.attached)
           (get_by_text c.self.inside.attached) c.self.inside.keys c.new_list.new.self c.self.invariant.in_step c.args.id c.in-Ok.keys
@@ -120,16 +98,10 @@ invariant_of-self-2 c =
           (λ n. c.in-Ok-insert.ensures.updates.0 n
           ∙ ap (λ es. cond (nat_eq c.args.id n) (Some (record { ttl = c.args.ttl; renewed = c.args.now; keys = c.in-Ok.keys })) (lookup (nat_eq n) es))
           c.reserve.ensures.entries) c.self.invariant.in_range
-          (id-fits c.args.id c.if-id-eq0.false c.if-id-gt-HIGHEST_ID.false, ttl-fits c.args.ttl c.if-ttl-eq0.false c.if-ttl-gt-HIGHEST_TTL.false) q l is;
+          free.0 q l is;
       table_room = c.self.invariant.table_room;
       list_room = omega (arith, c.self.invariant.list_room, c.in-Ok.ensures.spare);
     }
-
-pub returns-clause-refusal : goal.returns-clause-refusal
-returns-clause-refusal c =
-    let known : finmap.contains_key c.args.self.now.live c.args.id ≡ false =
-    contains-now c.self.inside.leases c.self.inside.attached _ _ c.self.view_is c.args.id ∙ sym c.contains_key.ensures ∙ c.if-contains_key.false in
-    first_of (search rules, grind (arith, common_steps))
 
 pub returns-clause-ok : goal.returns-clause-ok
 returns-clause-ok c =

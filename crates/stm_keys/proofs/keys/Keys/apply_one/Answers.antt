@@ -1,0 +1,135 @@
+use Rattle.std.proofs.Common.{◌≡◌, ℕ, ◌+◌, ◌≤◌, ◌∙◌, ◌∷◌, [], refl, sym, ap, subst, arith, length, map, reverse, is_some, Bool, List, Option, Some, None, IfSome, slice_get}
+use Rattle.std.proofs.lemmas.List.{length-map, length_push}
+use Rattle.indexmap.specs.IndexMap.{get_by_text}
+use Rattle.stm_history.specs.declared.change.Change.{Change}
+use Rattle.stm_history.specs.declared.key_state.KeyState.{KeyState}
+use Rattle.stm_history.specs.Opening.{Opening}
+use Rattle.stm_history.specs.History.{History, now, key_of, key_now, key_after, add_revision}
+use Rattle.stm_keys.specs.declared.event.Event.{Event}
+use Rattle.stm_keys.specs.Events.{change_of_event, event_of, event_about, key_of_event}
+use Rattle.stm_keys.specs.Keys.{Contents, IsKept, changes_of}
+use Rattle.stm_keys.specs.Chains.{Chain, Versions, versions_in, StandFirst, names_of, opening_of}
+use Rattle.stm_keys.proofs.Recorded.{key_of_event-event_of}
+use Rattle.stm_keys.proofs.Fields.{pushed}
+use Rattle.stm_keys.proofs.Order.{names_long}
+use Rattle.stm_keys.proofs.Walked.{unchanged_key, view_kept, on_any, kept_with_room, first_after, no_version_absent, opening_kept, before_with}
+use Rattle.stm_keys.proofs.keys.Keys.apply_one.Goals as goal
+
+-- the event is about the key of the change
+abbrev keyed : (n : ℕ) (before : List ℕ → Option KeyState) (change : Change) (event : Event) (key : List ℕ) → event ≡ event_of n before change → key ≡ key_of change
+    → key ≡ key_of_event event
+keyed n before change event key made is = is ∙ sym (ap key_of_event made ∙ key_of_event-event_of n before change)
+
+pub add_only-requires-clause-none : goal.add_only-requires-clause-none
+add_only-requires-clause-none c = λ none.
+    let is = keyed (now c.args.self.now.history + 1) (key_now c.args.self.now.history) c.args.change c.in_ok-event.event c.as_str.result.now
+    c.in_ok-event.ensures (c.as_str.ensures ∙ c.key.ensures) in
+    subst (λ (k : List ℕ). get_by_text c.self.inside.chains k ≡ None) is (c.find_place-place.ensures.none none)
+
+pub add_only-requires-clause-named : goal.add_only-requires-clause-named
+add_only-requires-clause-named c =
+    let is = keyed (now c.args.self.now.history + 1) (key_now c.args.self.now.history) c.args.change c.in_ok-event.event c.as_str.result.now
+    c.in_ok-event.ensures (c.as_str.ensures ∙ c.key.ensures) in
+    subst (λ (k : List ℕ). IfSome c.find_place-place.result (λ index. slice_get (names_of c.self.inside.chains) index ≡ Some k)) is c.find_place-place.ensures.named
+
+pub add_only-requires-clause-bound : goal.add_only-requires-clause-bound
+add_only-requires-clause-bound c = omega (arith, c.self.invariant.1.within, names_long c.self.inside.chains)
+
+-- a refused growth leaves the revisions, and at most keys without a version
+pub returns-in_err-add_only-clause-err : goal.returns-in_err-add_only-clause-err
+returns-in_err-add_only-clause-err c =
+    let opening : Opening = opening_of c.self.inside.below c.self.inside.chains in
+    let recorded : List (List Event) = reverse c.self.inside.revisions.items in
+    on_any c.from_residual-in_err-add_only.result
+    (view_kept opening (opening_of c.self.inside.below c.add_only.new.chains) c.self.inside.opened c.self.inside.floor
+    c.self.inside.revisions.items c.add_only.new.revisions.items (names_of c.self.inside.chains)
+    (names_of c.add_only.new.chains) c.args.self.now
+    (opening_kept c.self.inside.chains c.add_only.new.chains c.self.inside.below
+    (λ key. ap (λ (v : Versions). v.before) (c.in_err-add_only.ensures.same key)))
+    c.in_err-add_only.ensures.err
+    (c.in_err-add_only.ensures.kept.listed (λ key. key_after opening key (changes_of recorded))
+    (λ key none. unchanged_key opening recorded (get_by_text c.self.inside.chains) key c.self.invariant.0 none))
+    c.self.view_is)
+
+pub invariant_of-self : goal.invariant_of-self
+invariant_of-self c =
+    let opening : Opening = opening_of c.self.inside.below c.self.inside.chains in
+    let xs : List (List Event) = c.self.inside.revisions.items in
+    let next : List ℕ → Option Chain = get_by_text c.add_only.new.chains in
+    let names : List (List ℕ) = names_of c.add_only.new.chains in
+    let present : List ℕ → Bool = λ key. is_some (key_after opening key (changes_of (reverse xs))) in
+    subst (λ (o : Opening). IsKept o (reverse c.add_only.new.revisions.items) next
+    × StandFirst (λ key. is_some (key_after o key (changes_of (reverse c.add_only.new.revisions.items)))) c.add_only.new.present names
+    × (c.self.inside.floor ≤ c.self.inside.below + length c.add_only.new.revisions.items))
+    (sym (opening_kept c.self.inside.chains c.add_only.new.chains c.self.inside.below
+    (λ key. ap (λ (v : Versions). v.before) (c.in_err-add_only.ensures.same key))))
+    (subst (λ (l : List (List Event)). IsKept opening (reverse l) next
+    × StandFirst (λ key. is_some (key_after opening key (changes_of (reverse l)))) c.add_only.new.present names
+    × (c.self.inside.floor ≤ c.self.inside.below + length l))
+    (sym c.in_err-add_only.ensures.err) (
+      kept_with_room opening (reverse xs) (get_by_text c.self.inside.chains) next c.self.invariant.0 c.in_err-add_only.ensures.same,
+      subst (λ n. StandFirst present n names) (sym c.in_err-add_only.ensures.count)
+          (c.in_err-add_only.ensures.kept.first present c.self.inside.present
+          (λ key none. no_version_absent opening (reverse xs) (get_by_text c.self.inside.chains) key c.self.invariant.0 none) c.self.invariant.1),
+      c.self.invariant.2,
+    ))
+
+pub invariant_of-self-2 : goal.invariant_of-self-2
+invariant_of-self-2 c =
+    let opening : Opening = opening_of c.self.inside.below c.self.inside.chains in
+    let xs : List (List Event) = c.self.inside.revisions.items in
+    let ys : List (List Event) = c.add_only.new.revisions.items in
+    let state : List ℕ → Option KeyState = key_now c.args.self.now.history in
+    let before : c.revision-before.result ≡ opening.number + length (changes_of (reverse xs)) =
+    c.revision-before.ensures.value ∙ sym (ap (λ (v : Contents). now v.history) c.self.view_is) in
+    let count : length (changes_of (reverse xs)) ≡ length (reverse xs) = length-map (reverse xs) (map change_of_event) in
+    let next : List ℕ → Option Chain = get_by_text c.add_only.new.chains in
+    let added = pushed opening (c.revision-before.result + 1) xs ys (get_by_text c.self.inside.chains) next
+    state (c.args.change ∷ []) (c.in_ok-event.event ∷ []) c.self.invariant.0
+    (omega (arith, before, count))
+    (omega (arith, c.revision-before.ensures.bounded, c.if-before-eq-HIGHEST_REVISION.false))
+    (omega arith, (refl, tt))
+    (λ key. sym (ap (λ (v : Contents). key_now v.history key) c.self.view_is))
+    ((ap (λ (e : Event). e ∷ []) c.in_ok-event.ensures) ∙ ap (λ n. map (event_of (n + 1) state) (c.args.change ∷ [])) (sym c.revision-before.ensures.value))
+    c.in_ok-add_only.ensures.reported
+    c.in_ok-add_only.ensures.recorded in
+    let present : List ℕ → Bool = λ key. is_some (key_after opening key (changes_of (reverse xs))) in
+    subst (λ (o : Opening). IsKept o (reverse ys) next
+    × StandFirst (λ key. is_some (key_after o key (changes_of (reverse ys)))) c.add_only.new.present (names_of c.add_only.new.chains)
+    × (c.self.inside.floor ≤ c.self.inside.below + length ys))
+    (sym (opening_kept c.self.inside.chains c.add_only.new.chains c.self.inside.below
+    (λ key. ap (λ (v : Versions). v.before) (c.in_ok-add_only.ensures.reported key)
+    ∙ before_with (is_some (event_about key (c.in_ok-event.event ∷ []))) (c.revision-before.result + 1) (versions_in (get_by_text c.self.inside.chains key))))) (
+      added.0,
+      first_after opening xs ys (get_by_text c.self.inside.chains) next (c.in_ok-event.event ∷ []) c.add_only.new.present
+          (names_of c.add_only.new.chains) c.self.invariant.0 added.0 c.in_ok-add_only.ensures.recorded
+          (c.in_ok-add_only.ensures.first present
+          (λ key none. no_version_absent opening (reverse xs) (get_by_text c.self.inside.chains) key c.self.invariant.0 none) c.self.invariant.1),
+      (let long : length ys ≡ length xs + 1 = ap (λ (l : List (List Event)). length l) c.in_ok-add_only.ensures.recorded
+          ∙ length_push xs (c.in_ok-event.event ∷ []) in
+          omega (arith, c.self.invariant.2, long)),
+    )
+
+pub returns-clause-ok : goal.returns-clause-ok
+returns-clause-ok c =
+    let opening : Opening = opening_of c.self.inside.below c.self.inside.chains in
+    let xs : List (List Event) = c.self.inside.revisions.items in
+    let state : List ℕ → Option KeyState = key_now c.args.self.now.history in
+    let before : c.revision-before.result ≡ opening.number + length (changes_of (reverse xs)) =
+    c.revision-before.ensures.value ∙ sym (ap (λ (v : Contents). now v.history) c.self.view_is) in
+    let count : length (changes_of (reverse xs)) ≡ length (reverse xs) = length-map (reverse xs) (map change_of_event) in
+    let added = pushed opening (c.revision-before.result + 1) xs c.add_only.new.revisions.items (get_by_text c.self.inside.chains)
+    (get_by_text c.add_only.new.chains) state (c.args.change ∷ []) (c.in_ok-event.event ∷ []) c.self.invariant.0
+    (omega (arith, before, count))
+    (omega (arith, c.revision-before.ensures.bounded, c.if-before-eq-HIGHEST_REVISION.false))
+    (omega arith, (refl, tt))
+    (λ key. sym (ap (λ (v : Contents). key_now v.history key) c.self.view_is))
+    ((ap (λ (e : Event). e ∷ []) c.in_ok-event.ensures) ∙ ap (λ n. map (event_of (n + 1) state) (c.args.change ∷ [])) (sym c.revision-before.ensures.value))
+    c.in_ok-add_only.ensures.reported
+    c.in_ok-add_only.ensures.recorded in
+    ap (λ (o : Opening). let h : History = record { opening = o; revisions = changes_of (reverse c.add_only.new.revisions.items) } in h)
+    (opening_kept c.self.inside.chains c.add_only.new.chains c.self.inside.below
+    (λ key. ap (λ (v : Versions). v.before) (c.in_ok-add_only.ensures.reported key)
+    ∙ before_with (is_some (event_about key (c.in_ok-event.event ∷ []))) (c.revision-before.result + 1) (versions_in (get_by_text c.self.inside.chains key))))
+    ∙ ap (λ (l : List (List Change)). let h : History = record { opening = opening; revisions = l } in h) added.1
+    ∙ ap (λ (v : Contents). add_revision v.history (c.args.change ∷ [])) c.self.view_is

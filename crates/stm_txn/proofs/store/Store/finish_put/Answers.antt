@@ -1,0 +1,8 @@
+use Rattle.std.proofs.Common.{sym, subst, List, [], ◌∷◌}
+use Rattle.stm_history.specs.declared.change.Change.{Change}
+use Rattle.stm_txn.specs.Leasing.{attached_of, AttachedToLive}
+use Rattle.stm_txn.proofs.store.Store.finish_put.Goals as goal
+
+pub change-requires-clause-live : goal.change-requires-clause-live
+change-requires-clause-live c =
+    subst (λ (x : Change). AttachedToLive c.args.self.now.standing.live (attached_of (x ∷ []))) (sym c.in_ok-change.ensures) c.requires.live

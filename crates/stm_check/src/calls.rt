@@ -7,9 +7,9 @@ ghost use Rattle.stm_reports.specs.Reported.{cause_reported};
 ghost use Rattle.stm_reports.specs.declared.line.ReportLine.TheVariants.{Refused};
 ghost use Rattle.stm_txn.specs.Standing.{transacted, granted, kept_alive, revoked, advanced, raised};
 ghost use Rattle.stm_outcome.specs.declared.refusal.Refusal.TheVariants.{OutOfMemory};
-ghost use Rattle.stm_world.specs.Reported.{reply_to, advance_reply};
-ghost use Rattle.stm_world.specs.declared.reply.Reply.TheVariants.{Txn as TxnDone, Granted, Kept, Revoked, Compacted};
-ghost use Rattle.stm_world.specs.declared.event.WorldEvent.TheVariants.{Advance as AdvanceEvent, Compact as CompactEvent};
+ghost use Rattle.stm_events.specs.Replies.{reply_to, advance_reply};
+ghost use Rattle.stm_events.specs.declared.reply.Reply.TheVariants.{Txn as TxnDone, Granted, Kept, Revoked, Compacted};
+ghost use Rattle.stm_events.specs.declared.event.WorldEvent.TheVariants.{Advance as AdvanceEvent, Compact as CompactEvent};
 
 use std::alloc::AllocError;
 use stm_reports::{

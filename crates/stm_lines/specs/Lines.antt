@@ -22,13 +22,13 @@ use Rattle.stm_reports.specs.declared.line.ReportedRead.{ReportedRead}
 use Rattle.stm_reports.specs.LineData.{text_or_null, answer_data, op_data, read_data as reported_read_data, event_data, line_data}
 use Rattle.stm_reports.specs.Reported.{cause_reported, op_reported, txn_line}
 use Rattle.stm_outcome.specs.declared.answer.OpAnswer.{OpAnswer}
-use Rattle.stm_world.specs.declared.reply.KeyRead.{KeyRead}
-use Rattle.stm_world.specs.declared.reply.Reply.{Reply}
-use Rattle.stm_world.specs.declared.reply.Reply.TheVariants.{Started, Prefetched, Fetched, Committed, Conflict, GaveUp, Aborted, Faulted, Ended}
-use Rattle.stm_world.specs.declared.reply.Reply.TheVariants.{Txn, Granted, Kept, Revoked, Advanced, Compacted, Watching, Batch, Lost, Cancelled}
-use Rattle.stm_world.specs.declared.refusal.Denied.{Denied}
-use Rattle.stm_world.specs.declared.refusal.Refusal.{Refusal}
-use Rattle.stm_world.specs.declared.refusal.Refusal.TheVariants as refusal
+use Rattle.stm_events.specs.declared.reply.KeyRead.{KeyRead}
+use Rattle.stm_events.specs.declared.reply.Reply.{Reply}
+use Rattle.stm_events.specs.declared.reply.Reply.TheVariants.{Started, Prefetched, Fetched, Committed, Conflict, GaveUp, Aborted, Faulted, Ended}
+use Rattle.stm_events.specs.declared.reply.Reply.TheVariants.{Txn, Granted, Kept, Revoked, Advanced, Compacted, Watching, Batch, Lost, Cancelled}
+use Rattle.stm_events.specs.declared.refusal.Denied.{Denied}
+use Rattle.stm_events.specs.declared.refusal.Refusal.{Refusal}
+use Rattle.stm_events.specs.declared.refusal.Refusal.TheVariants as refusal
 
 -- ---- the line of an event
 

@@ -3,7 +3,7 @@ ghost use Rattle.std.specs.Prelude.{◌≡◌, [], ◌∷◌, false, IfOk};
 ghost use Rattle.serde_json.specs.View.{view};
 ghost use Rattle.serde_json.specs.Data.{string};
 ghost use Rattle.serde_json.specs.Written.{has_float};
-ghost use Rattle.stm_world.specs.declared.reply.Reply.TheVariants.{Txn, Revoked, Advanced, Batch, Lost};
+ghost use Rattle.stm_events.specs.declared.reply.Reply.TheVariants.{Txn, Revoked, Advanced, Batch, Lost};
 ghost use Rattle.stm_reports.specs.LineData.{list, whole};
 ghost use Rattle.stm_lines.specs.Lines.{refusal_reported, reply_line, event_line, IsOfRunner, IsOfCommit};
 
@@ -15,10 +15,10 @@ use crate::runners::{
 use crate::spelled::{with_events, with_list};
 use serde_json::Value as Json;
 use std::alloc::{AllocError, Global};
+use stm_events::{Denied, Refusal, Reply};
 use stm_keys::Event;
 use stm_outcome::{Expired, TxnAnswer};
 use stm_reports::{RefusalName, reported_cause};
-use stm_world::{Denied, Refusal, Reply};
 
 /// The line of a runner, a lease, a revision or a watcher that is named and no more.
 fn named_json(alloc: Global, number: u64, word: &str, id: u64) -> Result<Json, AllocError>

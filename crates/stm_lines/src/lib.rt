@@ -13,5 +13,5 @@ mod standing;
 
 pub use events::event_json;
 pub use standing::{end_json, key_json, lease_json};
+pub use stm_events::{Denied, Reply};
 pub use stm_history::KeyState;
-pub use stm_world::{Denied, Reply};

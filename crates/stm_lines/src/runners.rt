@@ -1,16 +1,16 @@
 //! The lines of a runner's steps.
 ghost use Rattle.std.specs.Prelude.{◌≡◌, IfOk};
 ghost use Rattle.serde_json.specs.View.{view};
-ghost use Rattle.stm_world.specs.declared.reply.Reply.TheVariants.{Prefetched, Fetched, Committed, Conflict, GaveUp};
+ghost use Rattle.stm_events.specs.declared.reply.Reply.TheVariants.{Prefetched, Fetched, Committed, Conflict, GaveUp};
 ghost use Rattle.stm_lines.specs.Lines.{reply_line};
 
 use crate::parts::Parts;
 use crate::spelled::{with_answers, with_list, with_reads};
 use serde_json::Value as Json;
 use std::alloc::{AllocError, Global};
+use stm_events::KeyRead;
 use stm_history::ReadAnswer;
 use stm_meaning::{TraceItem, Value};
-use stm_world::KeyRead;
 
 /// The line of a list that was fetched.
 pub(crate) fn prefetched_json(

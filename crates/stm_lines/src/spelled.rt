@@ -11,11 +11,11 @@ ghost use Rattle.stm_lines.specs.Lines.{answer_reported, key_read_reported, even
 use crate::parts::Parts;
 use serde_json::Value as Json;
 use std::alloc::{AllocError, Global};
+use stm_events::KeyRead;
 use stm_history::{KeyState, ReadAnswer};
 use stm_keys::Event;
 use stm_meaning::{TraceItem, Value};
 use stm_outcome::Expired;
-use stm_world::KeyRead;
 
 /// A value that a line spells.
 pub(crate) trait Spelled {

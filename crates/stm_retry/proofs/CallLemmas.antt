@@ -16,13 +16,13 @@ use Rattle.stm_txn.specs.Standing.{at_moment, HasCome, IsStopped, IsCutShort as 
 use Rattle.stm_entries.specs.declared.entry.Entry.{Entry}
 use Rattle.stm_entries.specs.declared.entry.Entry.TheVariants.{Foreign}
 use Rattle.stm_entries.specs.Entered.{if_changed, expiries}
-use Rattle.stm_world.specs.declared.event.WorldEvent.{WorldEvent}
-use Rattle.stm_world.specs.declared.event.WorldEvent.TheVariants.{Txn, Advance}
-use Rattle.stm_world.specs.declared.reply.Reply.{Reply}
-use Rattle.stm_world.specs.declared.reply.Reply.TheVariants.{Txn as TxnDone}
-use Rattle.stm_world.specs.declared.refusal.Refusal.TheVariants.{Store}
-use Rattle.stm_world.specs.declared.refusal.Denied.{Denied}
-use Rattle.stm_world.specs.Reported.{denied, reply_to, store_after_call, advance_reply}
+use Rattle.stm_events.specs.declared.event.WorldEvent.{WorldEvent}
+use Rattle.stm_events.specs.declared.event.WorldEvent.TheVariants.{Txn, Advance}
+use Rattle.stm_events.specs.declared.reply.Reply.{Reply}
+use Rattle.stm_events.specs.declared.reply.Reply.TheVariants.{Txn as TxnDone}
+use Rattle.stm_events.specs.declared.refusal.Refusal.TheVariants.{Store}
+use Rattle.stm_events.specs.declared.refusal.Denied.{Denied}
+use Rattle.stm_events.specs.Replies.{denied, reply_to, store_after_call, advance_reply}
 use Rattle.stm_world.specs.World.{World, Slot, step}
 use Rattle.stm_retry.specs.Returns.{IsStep, OutOfMemoryReturns, StoreRefusalReturns, Returns}
 use Rattle.stm_retry.specs.CallReturns.{world_of, CallReturns, or_out_of_memory}

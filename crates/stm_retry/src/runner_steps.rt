@@ -13,7 +13,7 @@ ghost use Rattle.stm_attempt.specs.Fetches.{ShowOneRevision, at_of};
 ghost use Rattle.stm_calls.specs.Fetched.{fetch_reported, fetch_all_reported};
 ghost use Rattle.stm_entries.specs.declared.entry.Entry.TheVariants.{Program as ProgramEntry};
 ghost use Rattle.stm_entries.specs.Entered.{answers_kept};
-ghost use Rattle.stm_world.specs.declared.reply.Reply.TheVariants.{Prefetched, Fetched, Started, Committed, Ended};
+ghost use Rattle.stm_events.specs.declared.reply.Reply.TheVariants.{Prefetched, Fetched, Started, Committed, Ended};
 ghost use Rattle.stm_world.specs.World.{Runner as LiveRunner, start_runner, step_runner, step_live, commit as commit_of, runner_at};
 ghost use Rattle.stm_retry.specs.declared.step_outcome.StepOutcome.TheVariants.{GoesOn, Ends};
 ghost use Rattle.stm_retry.specs.MachineReturns.{Returns};

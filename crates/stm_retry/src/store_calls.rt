@@ -7,9 +7,9 @@ ghost use Rattle.stm_outcome.specs.Outcome.{would_change};
 ghost use Rattle.stm_txn.specs.Standing.{kept_alive, refusal_of};
 ghost use Rattle.stm_entries.specs.declared.entry.Entry.TheVariants.{Foreign};
 ghost use Rattle.stm_entries.specs.Entered.{expiries};
-ghost use Rattle.stm_world.specs.declared.event.WorldEvent.TheVariants.{Txn as TxnEvent, Grant as GrantEvent, Keep as KeepEvent, Revoke as RevokeEvent, Advance as AdvanceEvent};
-ghost use Rattle.stm_world.specs.declared.refusal.Refusal.TheVariants.{Store as OfStore};
-ghost use Rattle.stm_world.specs.Reported.{denied as denied_for};
+ghost use Rattle.stm_events.specs.declared.event.WorldEvent.TheVariants.{Txn as TxnEvent, Grant as GrantEvent, Keep as KeepEvent, Revoke as RevokeEvent, Advance as AdvanceEvent};
+ghost use Rattle.stm_events.specs.declared.refusal.Refusal.TheVariants.{Store as OfStore};
+ghost use Rattle.stm_events.specs.Replies.{denied as denied_for};
 ghost use Rattle.stm_retry.specs.CallReturns.{CallReturns, or_out_of_memory};
 
 use crate::machine::denied;

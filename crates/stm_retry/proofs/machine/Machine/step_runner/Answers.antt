@@ -2,8 +2,8 @@ use Rattle.std.proofs.Common.{◌≡◌, List, Some, Result, sym, ◌∙◌, ap,
 use Rattle.std.specs.declared.alloc.AllocError.{AllocError}
 use Rattle.stm_txn.specs.Standing.{Standing}
 use Rattle.stm_entries.specs.declared.entry.Entry.{Entry}
-use Rattle.stm_world.specs.declared.reply.Reply.{Reply}
-use Rattle.stm_world.specs.declared.refusal.Denied.{Denied}
+use Rattle.stm_events.specs.declared.reply.Reply.{Reply}
+use Rattle.stm_events.specs.declared.refusal.Denied.{Denied}
 use Rattle.stm_world.specs.World.{World, Runner, Slot, Over, runner_at, with_slot, step_runner}
 use Rattle.stm_retry.specs.declared.step_outcome.StepOutcome.{StepOutcome}
 use Rattle.stm_retry.specs.MachineReturns.{Returns}

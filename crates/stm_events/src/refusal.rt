@@ -1,6 +1,6 @@
 //! Why an event is refused.
 ghost use Rattle.std.specs.Prelude.{◌≡◌};
-ghost use Rattle.stm_world.specs.Names.{refusal_name};
+ghost use Rattle.stm_events.specs.Names.{refusal_name};
 
 use std::fmt;
 use stm_history::Sequence;
@@ -34,7 +34,7 @@ impl Refusal {
 
 impl fmt::Display for Refusal {
     ghost use Rattle.std.specs.Prelude.{Some};
-    ghost use Rattle.stm_world.specs.Names.{refusal_name};
+    ghost use Rattle.stm_events.specs.Names.{refusal_name};
 
     ghost output = { λ refusal. Some (refusal_name refusal) };
 

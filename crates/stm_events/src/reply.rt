@@ -1,7 +1,7 @@
 //! The replies to events.
 use stm_history::{ReadAnswer, Sequence, Text};
 use stm_keys::Event;
-use stm_meaning::{Fault, TraceItem, Value};
+use stm_steps::{Fault, TraceItem, Value};
 use stm_txn::{Expired, Refusal, TxnAnswer};
 
 /// A key that was read, and its modification revision: 0 where it is absent.

@@ -21,7 +21,7 @@ use Rattle.stm_check.specs.Fits.{fits}
 use Rattle.stm_txn.specs.Standing.{Standing, at_revision, transacted, granted, raised}
 use Rattle.stm_events.specs.declared.reply.Reply.TheVariants.{Txn as TxnDone, Granted, Compacted}
 use Rattle.stm_events.specs.Replies.{reply_to}
-use Rattle.stm_lines.specs.Lines.{line_reported}
+use Rattle.stm_reports.specs.Lines.{line_reported}
 use Rattle.stm_check.specs.Wrong.{IsOff, IsFirstWrong, point_after}
 
 -- ---- the scenario

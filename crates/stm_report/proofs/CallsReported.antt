@@ -41,7 +41,7 @@ use Rattle.stm_events.specs.declared.refusal.Denied.{Denied}
 use Rattle.stm_events.specs.declared.refusal.Refusal.TheVariants.{Store}
 use Rattle.stm_events.specs.Replies.{denied, reply_to, store_after_call, store_after_poll, advance_reply, batch_reply, poll_reply}
 use Rattle.stm_world.specs.Log.{if_reported, expired_reported}
-use Rattle.stm_lines.specs.Lines.{line_reported}
+use Rattle.stm_reports.specs.Lines.{line_reported}
 use Rattle.stm_check.specs.declared.runner.Runner.{Runner}
 use Rattle.stm_check.specs.Fits.{can_have}
 use Rattle.stm_check.specs.Point.{led_by, moment_after, standing_after, txn_entries, grant_entries, keep_entries, revoke_entries, advance_entries}

@@ -36,7 +36,7 @@ use Rattle.stm_world.proofs.Headlines.{Follows, step_follows, opened_follows}
 use Rattle.stm_world.proofs.RunnerSteps.{CommitLaws}
 use Rattle.stm_world.proofs.Slots.{same_number, other_number}
 use Rattle.stm_world.proofs.Untouched.{IsFresh}
-use Rattle.stm_lines.specs.Lines.{line_reported, answer_reported}
+use Rattle.stm_reports.specs.Lines.{line_reported, answer_reported}
 use Rattle.stm_check.specs.declared.runner.Runner.{Runner}
 use Rattle.stm_check.specs.Fits.{number_of, is_number, can_have, fits}
 use Rattle.stm_check.specs.Point.{Point, committed_entry, commit_entries, entries_reported as reported_entries, led_by, standing_after, after}

@@ -11,7 +11,7 @@ use Rattle.stm_events.specs.declared.reply.Reply.TheVariants.{Started, Prefetche
 use Rattle.stm_events.specs.declared.reply.Reply.TheVariants.{Txn, Granted, Kept, Revoked, Advanced, Compacted, Watching, Batch, Lost, Cancelled}
 use Rattle.stm_events.specs.declared.refusal.Denied.{Denied}
 use Rattle.stm_world.specs.World.{World}
-use Rattle.stm_lines.specs.Lines.{event_line, key_line, lease_line, end_line}
+use Rattle.stm_reports.specs.Lines.{event_line, key_line, lease_line, end_line}
 use Rattle.stm_reports.specs.Text.{line_text, lines_text}
 
 -- ---- a line with names

@@ -21,7 +21,7 @@ use stm_compile::{ReadSet, WriteBuffer};
 use stm_history::{Sequence, Text};
 use stm_keys::Keys;
 use stm_meaning::{Answered, End, Run, TraceItem, Value, run_answered};
-use stm_program::{Level, Program, Write, is_listed};
+use stm_program::{Program, Write, is_listed};
 use stm_reports::{ReportedAnswer, are_same_traces, are_same_values};
 use stm_txn::{Change, Refusal, Store};
 
@@ -33,18 +33,6 @@ pub(crate) struct CommitLine<'a> {
     pub(crate) output: &'a [Value],
     pub(crate) trace: &'a [TraceItem],
     pub(crate) answers: &'a [ReportedAnswer],
-}
-
-/// Whether commits of a level compare what was read.
-fn compares(level: Level) -> bool
-    ensures { result ≡ is_comparing level }
-{
-    match level {
-        Level::SerializableSnapshot => true,
-        Level::Serializable => true,
-        Level::RepeatableReads => true,
-        Level::ReadCommitted => false,
-    }
 }
 
 /// Whether a commit is the next of its run, and one that the run may send.
@@ -218,7 +206,7 @@ fn run_reported(
     requires { StatesFit keys.now.history }
     ensures { IfOk result (IsFound runner.now.level keys.now.history runner.now.program answers.now) }
 {
-    if compares(runner.level) {
+    if runner.level.is_comparing() {
         run_now(alloc, keys, runner, answers)
     } else {
         run_on_reported(alloc, keys, runner, answers)

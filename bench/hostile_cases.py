@@ -1,6 +1,6 @@
-"""The worst scenarios that are known, for bench/hostile. What each asks for is told in its description.
+"""The worst scenarios that are known, for bench/hostile. What each asks for is said in its description.
 
-Where a program asks for work by the numbers that it holds, its case is sized by what it asks for, which the description tells: what a step costs
+Where a program asks for work by the numbers that it holds, its case is sized by what it asks for, which the description says: what a step costs
 is in proportion to the nodes that it evaluates and the bytes that it copies, and a scenario may have some 50,000 such steps.
 """
 import json
@@ -121,7 +121,7 @@ def ranges_yet_to_start(part):
 
 @case()
 def polls_of_idle_watchers(part):
-    """46,700 watchers of keys, each polled behind 768,000 puts of others."""
+    """46,700 watchers of keys, each polled after 768,000 puts of others."""
     scenario = Scenario()
     count = int(46700 * part)
     scenario.add(*(["watch_key", f"w{number}", 0] for number in range(count)))
@@ -132,7 +132,7 @@ def polls_of_idle_watchers(part):
 
 @case()
 def polls_of_ready_watchers(part):
-    """46,700 watchers of keys that are put once, each polled behind 704,000 puts of others."""
+    """46,700 watchers of keys that are put once, each polled after 704,000 puts of others."""
     scenario = Scenario()
     count = int(46700 * part)
     scenario.add(*(["watch_key", f"w{number}", 0] for number in range(count)))
@@ -145,7 +145,7 @@ def polls_of_ready_watchers(part):
 
 @case()
 def polls_of_no_revision(part):
-    """A watcher with one pending event, behind 857,000 puts of other keys, polled 93,000 times for none."""
+    """A watcher with one pending event, after 857,000 puts of other keys, polled 93,000 times for none."""
     scenario = Scenario()
     add_history(scenario, int(6700 * part), end=True)
     scenario.add(["watch_key", "w", 1])
@@ -155,7 +155,7 @@ def polls_of_no_revision(part):
 
 @case()
 def watches_from_the_past(part):
-    """93,000 watchers of a key that was never put, from the first revision on, behind 768,000 puts of others."""
+    """93,000 watchers of a key that was never put, from the first revision on, after 768,000 puts of others."""
     scenario = Scenario()
     add_history(scenario, int(6000 * part))
     scenario.add(*[["watch_key", "w", 1]] * int(93000 * part))
@@ -164,7 +164,7 @@ def watches_from_the_past(part):
 
 @case()
 def ranges_from_the_past(part):
-    """93,000 watchers of a range that never had a key, from the first revision on, behind 729,000 puts of others."""
+    """93,000 watchers of a range that never had a key, from the first revision on, after 729,000 puts of others."""
     scenario = Scenario()
     add_history(scenario, int(5700 * part))
     scenario.add(*[["watch_range", "w", "x", 1]] * int(93000 * part))
@@ -189,14 +189,14 @@ def leases_before_ranges(part):
 
 
 def add_compactions(scenario, count):
-    """Puts of a key, behind each a compaction at its revision, where the store was at 1."""
+    """Puts of a key, after each a compaction at its revision, where the store was at 1."""
     for number in range(count):
         scenario.add(txn(put("k")), ["compact", number + 2])
 
 
 @case()
 def compactions_behind_each_put(part):
-    """49,000 puts of a key, behind each a compaction at its revision."""
+    """49,000 puts of a key, after each a compaction at its revision."""
     scenario = Scenario()
     add_compactions(scenario, int(49000 * part))
     return scenario.text()
@@ -204,7 +204,7 @@ def compactions_behind_each_put(part):
 
 @case(command="check")
 def compactions_that_are_checked(part):
-    """49,000 puts of a key, behind each a compaction at its revision, and their report: a check drops nothing."""
+    """49,000 puts of a key, after each a compaction at its revision, and their report: a check drops nothing."""
     scenario = Scenario()
     add_compactions(scenario, int(49000 * part))
     return scenario.text()
@@ -212,7 +212,7 @@ def compactions_that_are_checked(part):
 
 @case()
 def compactions_beside_watchers(part):
-    """48,000 watchers of keys that are never put, beside 25,000 puts of another, behind each a compaction at its revision."""
+    """48,000 watchers of keys that are never put, beside 25,000 puts of another, after each a compaction at its revision."""
     scenario = Scenario()
     scenario.add(*(["watch_key", f"w{number}", 0] for number in range(int(48000 * part))))
     add_compactions(scenario, int(25000 * part))
@@ -221,7 +221,7 @@ def compactions_beside_watchers(part):
 
 @case()
 def compaction_of_a_long_history(part):
-    """One compaction that drops 768,000 puts of 256 keys, and 90,000 that are refused behind it."""
+    """One compaction that drops 768,000 puts of 256 keys, and 90,000 that are refused after it."""
     scenario = Scenario()
     count = int(6000 * part)
     add_history(scenario, count)
@@ -372,7 +372,7 @@ class FoldedHash:
         self.state = (self.START + length) & self.MASK
 
     def after(self, block):
-        """The state behind a block."""
+        """The state after a block."""
         front, back = int.from_bytes(block[:8], "little"), int.from_bytes(block[8:], "little")
         product = (front ^ self.state) * (back ^ self.MULTIPLIER)
         return product & self.MASK ^ product >> 64
@@ -383,7 +383,7 @@ class FoldedHash:
         return bytes(byte ^ other for byte, other in zip(block[8:] + block[:8], apart + apart))
 
     def next_pair(self):
-        """A block and its twin, both of plain letters, behind which there is such a pair again."""
+        """A block and its twin, both of plain letters, after which there is such a pair again."""
         apart = (self.state ^ self.MULTIPLIER).to_bytes(8, "little") * 2
         letters = [[byte for byte in self.PLAIN if byte ^ other in self.PLAIN] for other in apart]
         trial = 0
@@ -398,7 +398,7 @@ class FoldedHash:
 
 
 def colliding_texts(count):
-    """So many texts of one hash: a block behind which there is a pair of blocks, one of each of 16 pairs, and an end."""
+    """This many texts of one hash: a block after which there is a pair of blocks, one of each of 16 pairs, and an end."""
     folded = FoldedHash(18 * 16)
     number = 0
     while (folded.after(f"{number:016}".encode()) ^ folded.MULTIPLIER) & folded.HIGH_BITS:
@@ -583,7 +583,7 @@ def copies_of_a_long_value(part):
 
 @case()
 def looks_at_one_key(part):
-    """One step that looks at a key 4.5 million times, all of which its commit tells."""
+    """One step that looks at a key 4.5 million times, all of which its commit shows."""
     scenario = Scenario()
     scenario.add(["start", "Serializable", 1, [loops(10000, [["set", 2, ["rev", "k"]]] * int(500 * part))]], ["step", 1], ["step", 1])
     return scenario.text()
@@ -718,7 +718,7 @@ def report_of_end_lines(part):
 
 @case(command="check", statuses=(1,))
 def report_of_one_long_line(part):
-    """A report of one line, which tells 2,000,000 answers to a transaction of one."""
+    """A report of one line, which has 2,000,000 answers to a transaction of one."""
     return '[["txn",[],[["put","k","",0]],[]]]', '[1,"txn",true,2,[' + '["put"],' * int(2000000 * part) + '["put"]]]\n'
 
 
@@ -736,7 +736,7 @@ def report_of_brackets(part):
 
 @case(command="check", statuses=(1,))
 def report_of_one_long_trace(part):
-    """A report whose commit tells a trace of 1,150,000 looks at a key, for a program that looks at none."""
+    """A report whose commit has a trace of 1,150,000 looks at a key, for a program that looks at none."""
     looks = ",".join(['["rev","k",0]'] * int(1150000 * part))
     return '[["start","ReadCommitted",1,[]],["step",1]]', f'[1,"started",1]\n[2,"committed",1,1,1,[],[{looks}],[]]\n["end",1,1]\n'
 
@@ -785,7 +785,7 @@ def long_jobs(part):
 
 @case(command="threads")
 def jobs_behind_a_history(part):
-    """32,000 jobs that give up or commit behind 690,000 puts of other keys."""
+    """32,000 jobs that give up or commit after 690,000 puts of other keys."""
     program = [["put", "w", ["text_of", ["add", ["num_of", ["get", "w"]], 1]], 0]]
     scenario = Scenario()
     scenario.add(txn(put("w", "0")))

@@ -1,4 +1,4 @@
-/* Loaded before the C library: refuses the growth number REFUSE of a program, or the start of the thread number THREAD, and says
+/* Loaded before the C library: fails the allocation number REFUSE of a program, or the start of the thread number THREAD, and says
    so with a line on standard error. Growths are counted from the first on, and by an atomic step, since threads grow at once. It
    looks at the program from outside; no crate holds C.
    cc -shared -fPIC -O2 refusals.c -o refusals.so -ldl; LD_PRELOAD=./refusals.so REFUSE=3 PROGRAM */

@@ -1,4 +1,4 @@
-"""Runs of the program: what a scenario costs, for bench/leases and bench/watchers, and what it comes to where a growth of memory is refused, for
+"""Runs of the program: what a scenario costs, for bench/leases and bench/watchers, and what it comes to where an allocation fails, for
 bench/growths, bench/attempts and bench/refusals. What is measured is a difference: of a scenario with it and one without."""
 import argparse
 import concurrent.futures
@@ -28,7 +28,7 @@ def parser_of(description):
 
 
 def proved():
-    """Builds the proved program, and gives where it is: what counts instructions or refuses growths is not to meet the script ./stmrun."""
+    """Builds the proved program, and gives where it is: what counts instructions or makes allocations fail is not to meet the script ./stmrun."""
     subprocess.run([TOP / "stmrun", "--prove"], check=True)
     return TOP / "crates" / "stmrun" / "out" / "stmrun"
 
@@ -52,7 +52,7 @@ def asked_refusals(description):
 
 
 def timed(words, out, memory=None, seconds=None):
-    """The status, the processor time and the words on standard error of a run, which may use so much memory and is stopped after so many seconds."""
+    """The status, the processor time and the words on standard error of a run, which may use this much memory and is stopped after this many seconds."""
 
     def limit():
         if memory is not None:
@@ -100,7 +100,7 @@ class Costs:
 
 
 class Refusals:
-    """Scripts of a program in which one growth is refused, by a library that is loaded before it. It needs a C compiler."""
+    """Scripts of a program in which one allocation fails, by a library that is loaded before it. It needs a C compiler."""
 
     def __init__(self, program, folder):
         self.program = program
@@ -108,7 +108,7 @@ class Refusals:
         subprocess.run(["cc", "-shared", "-fPIC", "-O2", HERE / "refusals.c", "-o", self.library, "-ldl"], check=True)
 
     def run(self, scenario, growth):
-        """The status of a script in which this growth is refused, 0 for none, what it wrote and said, and whether it came to the refusal."""
+        """The status of a script in which this allocation fails, 0 for none, what it wrote and said, and whether it came to the refusal."""
         env = {**os.environ, "LD_PRELOAD": self.library, "REFUSE": str(growth)}
         ran = subprocess.run([self.program, "script"], input=scenario.encode(), env=env, capture_output=True, timeout=60, check=False)
         said = ran.stderr.decode().splitlines()
@@ -116,7 +116,7 @@ class Refusals:
         return ran.returncode, ran.stdout.decode(), said[1:] if met else said, met
 
     def count(self, scenario):
-        """How many growths a script makes: a growth that it does not make is not refused."""
+        """How many allocations a script makes: one that it does not make does not fail."""
         least, above = 0, 1
         while self.run(scenario, above)[3]:
             least, above = above, 2 * above
@@ -129,7 +129,7 @@ class Refusals:
         return least
 
     def is_kept(self, scenario, report, growth):
-        """Whether the refusal of this growth keeps the report from being made. Ends the script where the run is wrong."""
+        """Whether the failure of this allocation keeps the report from being made. Ends the script where the run is wrong."""
         status, written, said, met = self.run(scenario, growth)
         if (status, written, said) == (0, report, []):
             return False
@@ -139,7 +139,7 @@ class Refusals:
         sys.exit(f"script with growth {growth} refused: status {status}\n{written}{told}")
 
     def refuse_each(self, scenario, report):
-        """Makes a script with no growth refused, and with each in a run of its own, as many runs at a time as there are processors. Prints how many there
+        """Makes a script with no allocation failing, and with each failing in a run of its own, as many runs at a time as there are processors. Prints how many there
         are, and how often the report was not made."""
         count = self.count(scenario)
         with concurrent.futures.ThreadPoolExecutor(os.cpu_count()) as pool:

@@ -213,7 +213,7 @@ class Reader:
         return int(found.group(1), 16)
 
 
-# parts that are no nodes: each looks at a value that stands behind some indices
+# parts that are no nodes: each looks at a value that stands at some indices
 
 
 def ranged(low, high):
@@ -257,7 +257,7 @@ def list_of(forms):
 
 
 def form_of(value, path, forms):
-    """The parts that the form of an array's word has; the array has as many elements behind the word."""
+    """The parts that the form of an array's word has; the array has as many elements after the word."""
     word = value[0] if isinstance(value, list) and value else None
     parts = forms.get(word) if isinstance(word, str) else None
     if parts is None or len(value) != len(parts) + 1:
@@ -317,7 +317,7 @@ class Program:
         self.nodes = 0
 
     def statements(self, value, path, depth, front=0):
-        """Looks at a list of statements of a depth, behind so many other elements."""
+        """Looks at a list of statements of a depth, after this many other elements."""
         if not isinstance(value, list):
             raise Fault(path, "Shape")
         for index in range(front, len(value)):

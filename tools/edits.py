@@ -9,7 +9,7 @@ IMPLEMENTATION = re.compile(r"impl\s*(?:<.*?>)?\s*(?:([\w:]+)(?:<.*>)? for )?&?(
 
 
 def ending(path, lines, place):
-    """The end of the name by which the prover tells the function that a line of a source stands in; None where it stands in none."""
+    """The end of the name that the prover has for the function that a line of a source stands in; None where it stands in none."""
     while place and not FUNCTION.match(lines[place]):
         if ITEM.match(lines[place]):
             return None

@@ -23,5 +23,5 @@ def load():
 
 
 def crates(rt):
-    """Returns the crates of this repository by name, each behind those that it stands on."""
+    """Returns the crates of this repository by name, each after those that it stands on."""
     return {it.name: it for it in rt.rtlib.crates_below(TOP)}

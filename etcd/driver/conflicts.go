@@ -16,7 +16,7 @@ type failedCompare struct {
 	seen, now int64
 }
 
-// firstFailed finds the first compare that fails, the keys read standing before those written and each in the order of the program; etcd itself tells
+// firstFailed finds the first compare that fails, the keys read standing before those written and each in the order of the program; etcd itself says
 // only that one fails, so the keys are read once more at the revision of that answer.
 func (w *world) firstFailed(attempt *session, compares []clientv3.Cmp, revision int64) (*failedCompare, error) {
 	ordered := inOrder(attempt, compares)

@@ -47,7 +47,7 @@ func (e *revokeEvent) take(w *world) (line, error) {
 	return line{"revoked", e.id, revision}, nil
 }
 
-// revoke ends a lease, and tells the revision after it.
+// revoke ends a lease, and returns the revision after it.
 func (w *world) revoke(id int64) (int64, error) {
 	attached, err := w.client.TimeToLive(w.context, clientv3.LeaseID(id), clientv3.WithAttachedKeys())
 	if err != nil {

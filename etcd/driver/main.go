@@ -73,7 +73,7 @@ func answer(arguments []string) int {
 	return report(read, notes)
 }
 
-// readInput reads the file or standard input, and of it no more than tells that it is too long.
+// readInput reads the file or standard input, and of it no more than shows that it is too long.
 func readInput(arguments []string) ([]byte, error) {
 	input := os.Stdin
 	if len(arguments) == 1 {

@@ -25,7 +25,7 @@ type node struct {
 	blocks   [][]*node
 }
 
-// What the elements behind a word are: e an expression, c a condition, b a list of statements, v a variable, l a lease, n the limit of a loop.
+// What the elements after a word are: e an expression, c a condition, b a list of statements, v a variable, l a lease, n the limit of a loop.
 var (
 	statementForms = map[string]string{
 		"set": "ve", "put": "eel", "del": "e", "if": "cbb", "for": "venb", "emit": "e", "abort": "e",
@@ -180,7 +180,7 @@ func (r *programReader) worded(value interface{}, place string, depth int, forms
 	return read, nil
 }
 
-// element reads what stands behind a node's word, and puts it into the node.
+// element reads what follows a node's word, and puts it into the node.
 func (r *programReader) element(read *node, kind rune, value interface{}, place string, depth int) error {
 	var err error
 	switch kind {

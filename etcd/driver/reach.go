@@ -20,7 +20,7 @@ func (o *outOfReach) Error() string {
 	return fmt.Sprintf("out of reach at %s: %s: %s", o.place, o.name, o.reason)
 }
 
-// checkReach tells the first event that a real etcd cannot be driven to.
+// checkReach returns the first event that a real etcd cannot be driven to.
 func checkReach(s *scenario) error {
 	if s.begin == 2 || s.begin > highestReach {
 		return &outOfReach{"/0/1", "Begin", "an empty etcd can be brought to revision 1 and to those from 3 to 1000"}

@@ -20,7 +20,7 @@ type runner struct {
 	hasEnded bool
 	noted    *session // the last attempt of which a note was made
 	session  *session // the attempt; the driver looks at it only while the runner stands at the gate or has ended
-	answers  line     // what was fetched, as ReadCommitted tells it
+	answers  line     // what was fetched, as ReadCommitted reports it
 	arrivals chan arrival
 	replies  chan reply
 }
@@ -130,7 +130,7 @@ func (e *stepEvent) take(w *world) (line, error) {
 	return r.commit(w, came.sent)
 }
 
-// note tells once of an attempt, where notes are wanted, that etcd's client does otherwise than stmrun in it.
+// note prints once of an attempt, where notes are wanted, that etcd's client does otherwise than stmrun in it.
 func (r *runner) note(w *world) {
 	isSerializable := r.level == concurrency.SerializableSnapshot || r.level == concurrency.Serializable
 	if w.notes != nil && isSerializable && r.session.isApart && r.noted != r.session {
@@ -139,7 +139,7 @@ func (r *runner) note(w *world) {
 	}
 }
 
-// endLine tells the end by the program.
+// endLine is the line of an end by the program.
 func (r *runner) endLine(err error) (line, error) {
 	switch end := err.(type) {
 	case aborted:
@@ -150,7 +150,7 @@ func (r *runner) endLine(err error) (line, error) {
 	return nil, fmt.Errorf("runner %d ended with %v", r.number, err)
 }
 
-// isFetch tells the one read of a fetch from a commit, whose operations are writes.
+// isFetch says whether a transaction is the one read of a fetch, and not a commit, whose operations are writes.
 func isFetch(sent *request) bool {
 	return len(sent.then) == 1 && sent.then[0].IsGet()
 }

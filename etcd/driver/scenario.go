@@ -64,7 +64,7 @@ var eventLengths = map[string]int{
 	"watch_key": 3, "watch_range": 4, "poll": 3, "cancel": 2,
 }
 
-// readScenario reads a scenario, or tells its first fault.
+// readScenario reads a scenario, or returns its first fault.
 func readScenario(text []byte) (*scenario, error) {
 	value, err := readValue(text)
 	if err != nil {

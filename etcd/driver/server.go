@@ -187,7 +187,7 @@ func (s *server) awaitPort(patience context.Context) error {
 	}
 }
 
-// silence is a log of the client that tells nothing: each error comes to the driver, too.
+// silence is a log of the client that prints nothing: each error comes to the driver, too.
 func silence() *zap.Config {
 	return &zap.Config{Level: zap.NewAtomicLevelAt(zap.FatalLevel), Encoding: "json"}
 }

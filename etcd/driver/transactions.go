@@ -201,7 +201,7 @@ func refusedBy(err error) (line, error) {
 	return refused(name), nil
 }
 
-// answerLine is what the report tells of an operation's answer.
+// answerLine is what the report has of an operation's answer.
 func answerLine(operation clientv3.Op, answer *pb.ResponseOp) line {
 	switch {
 	case operation.IsPut():

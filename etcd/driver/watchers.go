@@ -10,17 +10,17 @@ import (
 	"go.etcd.io/etcd/clientv3"
 )
 
-// longestWait is how long an event is waited for that etcd has to tell.
+// longestWait is how long an event is waited for that etcd has to send.
 const longestWait = 20 * time.Second
 
-// watcher is a watch of etcd's client, and what it has told.
+// watcher is a watch of etcd's client, and what it has received.
 type watcher struct {
 	watched  watchEvent
 	channel  clientv3.WatchChan
 	cancel   context.CancelFunc // nil once it is cancelled
-	told     int64              // the polls have told everything up to this revision
-	received []*clientv3.Event  // what etcd told and no poll has
-	newest   int64              // the revision of the last event that etcd told
+	told     int64              // the polls have given everything up to this revision
+	received []*clientv3.Event  // what etcd sent and no poll has given
+	newest   int64              // the revision of the last event that etcd sent
 	lost     int64              // the compacted revision where etcd has cancelled it for that, else 0
 }
 
@@ -78,7 +78,7 @@ func (e *watchEvent) matches(key string) bool {
 	return e.first <= key && key < e.end
 }
 
-// lastDue is the last revision whose events etcd has to tell a watcher, 0 where there is none.
+// lastDue is the last revision whose events etcd has to send to a watcher, 0 where there is none.
 func (w *world) lastDue(t *watcher) int64 {
 	for i := len(w.changes) - 1; i >= 0; i-- {
 		if w.changes[i].revision <= t.told {
@@ -93,7 +93,7 @@ func (w *world) lastDue(t *watcher) int64 {
 	return 0
 }
 
-// await receives until etcd has told the last revision that is due.
+// await receives until etcd has sent the last revision that is due.
 func (w *world) await(number int64, t *watcher) {
 	due := w.lastDue(t)
 	for until := time.Now().Add(longestWait); t.newest < due; {

@@ -60,7 +60,7 @@ fn put(alloc: Global, store: &mut Store, number: u32) -> Result<()> {
     Ok(())
 }
 
-/// Puts so many keys in turn, so many times in all.
+/// Puts `keys` keys in turn, `count` puts in all.
 fn put_in_turn(alloc: Global, store: &mut Store, keys: u32, count: u32) -> Result<()>
     requires { 0 < keys }
 {
@@ -70,7 +70,7 @@ fn put_in_turn(alloc: Global, store: &mut Store, keys: u32, count: u32) -> Resul
     Ok(())
 }
 
-/// Times transactions over so many keys, in an empty store.
+/// Times transactions over this many keys, in an empty store.
 fn puts_over(rt: &(impl Clock + Eprint), alloc: Global, store: &mut Store, keys: u32) -> Result<()>
     requires { 0 < keys }
 {
@@ -91,7 +91,7 @@ fn time_puts(rt: &(impl Clock + Eprint), alloc: Global, keys: u32) -> Result<()>
     outcome
 }
 
-/// Reads the first key at so many revisions, from the first change on, and counts where it was present.
+/// Reads the first key at `count` revisions, from the first change on, and counts where it was present.
 fn read_often(keys: &Keys, count: u32) -> Result<u32> {
     let mut present = 0_u32;
     for number in 0..count {
@@ -103,7 +103,7 @@ fn read_often(keys: &Keys, count: u32) -> Result<u32> {
     Ok(present)
 }
 
-/// Puts one key once, and then another one so many times.
+/// Puts one key once, and then another one `count` times.
 fn put_behind(alloc: Global, store: &mut Store, count: u32) -> Result<()> {
     put(alloc, store, 0)?;
     for _ in 0..count {
@@ -112,7 +112,7 @@ fn put_behind(alloc: Global, store: &mut Store, count: u32) -> Result<()> {
     Ok(())
 }
 
-/// Times reads of a key at each of so many revisions, of which every eighth changed it, in an empty store.
+/// Times reads of a key at each of these revisions, of which every eighth changed it, in an empty store.
 fn reads_back(
     rt: &(impl Clock + Eprint),
     alloc: Global,
@@ -138,7 +138,7 @@ fn time_reads(rt: &(impl Clock + Eprint), alloc: Global, revisions: u32) -> Resu
     outcome
 }
 
-/// Adds so many revisions of one short put to an empty store, and prints a line. `bench/store` counts the bytes there, from
+/// Adds this many revisions of one short put to an empty store, and prints a line. `bench/store` counts the bytes there, from
 /// outside.
 fn print_beside(rt: &impl Eprint, alloc: Global, store: &mut Store, revisions: u32) -> Result<()> {
     put_behind(alloc, store, revisions)?;
@@ -155,7 +155,7 @@ fn hold_revisions(rt: &impl Eprint, alloc: Global, revisions: u32) -> Result<()>
     outcome
 }
 
-/// Puts a few keys in turn, so many times in all. Behind every thousandth put the store is compacted at its newest revision.
+/// Puts a few keys in turn, `count` puts in all. After every thousandth put the store is compacted at its newest revision.
 fn put_compacting(alloc: Global, store: &mut Store, count: u32) -> Result<()> {
     for number in 0..count {
         put(alloc, store, number % KEYS)?;
@@ -167,7 +167,7 @@ fn put_compacting(alloc: Global, store: &mut Store, count: u32) -> Result<()> {
     Ok(())
 }
 
-/// Adds so many revisions to a store that is compacted as it grows, and prints a line, beside which the bytes are counted.
+/// Adds this many revisions to a store that is compacted as it grows, and prints a line, beside which the bytes are counted.
 fn print_compacted(rt: &impl Eprint, alloc: Global, store: &mut Store, more: u32) -> Result<()> {
     put_compacting(alloc, store, more)?;
     let counter = store.keys().revision();

@@ -6,7 +6,7 @@ use std::io;
 use std::io::{ErrorKind, Read, Write};
 
 /// How a device moves bytes, and when it fails: it moves pieces of a length, and one of its calls, counted from 0, fails with an error of
-/// a kind, or moves no byte where there is none. Those behind it would go on, so that a command that goes on after a fault comes to a good
+/// a kind, or moves no byte where there is none. Later calls would succeed, so that a command that goes on after a fault comes to a good
 /// end.
 #[derive(Clone, Copy)]
 pub struct Fault {
@@ -115,7 +115,7 @@ pub fn writer_of(alloc: Global, fault: Fault) -> Taker {
     }
 }
 
-/// So many pieces from the front of a text.
+/// The first pieces of a text, or all of it.
 pub fn front(text: &str, pieces: usize, piece: usize) -> &[u8] {
     let bytes = text.as_bytes();
     let end = pieces.saturating_mul(piece).min(bytes.len());

@@ -8,7 +8,7 @@ use std::io::ErrorKind;
 use std::process::Abort;
 use stm_commands::RecipeWords;
 
-/// 60 bytes: 61 reads of at most one byte, the last of which tells the end, or 10 of at most seven.
+/// 60 bytes: 61 reads of at most one byte, the last of which finds the end, or 10 of at most seven.
 const SCENARIO: &str = "[[\"start\",\"ReadCommitted\",1,[[\"put\",\"a\",\"1\",0]]],[\"step\",1]]";
 
 /// 83 bytes: 83 writes of one, or 12 of at most seven, and one read more.
@@ -139,7 +139,7 @@ fn ends(
     is_left(rt, &left, "a device fails", status, written, said);
 }
 
-/// A device that needs so many calls, of which each fails in turn, and at last none. Until then the front of a text is written, piece by
+/// A device that needs `calls` calls, of which each fails in turn, and at last none. Until then a prefix of a text is written, piece by
 /// piece; without a fault it is another one.
 fn each_breaks(
     rt: &impl Abort,
@@ -184,7 +184,7 @@ fn each_breaks(
     );
 }
 
-/// A standard error of which each of so many calls fails in turn, one a byte: the status stays.
+/// A standard error each of whose `calls` calls, one a byte, fails in turn: the status stays.
 fn each_refuses(
     rt: &impl Abort,
     alloc: Global,

@@ -33,7 +33,7 @@ fn leaves(rt: &impl Abort, alloc: Global, scenario: &str, status: u8, said: &str
     is_left(rt, &left, scenario, status, b"".as_slice(), said.as_bytes());
 }
 
-// The scenario is read and judged before the report, so what is wrong with it is told, whatever comes of the report.
+// The scenario is read and judged before the report, so what is wrong with it is reported, whatever comes of the report.
 #[test]
 fn a_bad_scenario_comes_before_a_report_that_fails(rt: HostRuntime) {
     for (scenario, status, said) in BESIDE {

@@ -1,4 +1,4 @@
-//! Texts that no file of `tests/` holds: each front of one, texts that are too long, one that is not UTF-8, and reports whose last line is not
+//! Texts that no file of `tests/` holds: each prefix of one, texts that are too long, one that is not UTF-8, and reports whose last line is not
 //! ended. What is expected comes from the formats, and never from a run.
 
 use crate::commands::{Left, check, check_explained, is_left, script, script_explained};
@@ -35,7 +35,7 @@ fn fronts_of_a_scenario(rt: HostRuntime) {
     assert_eq!(rt; left.status, 0);
 }
 
-/// As many steps as a scenario may have events, and this behind them.
+/// As many steps as a scenario may have events, followed by this.
 fn steps_and(alloc: Global, last: &str) -> Result<String, AllocError> {
     let mut text = String::from_str(alloc, "[")?;
     for _ in 0..100000 {

@@ -22,7 +22,7 @@ fn draw(alloc: Global, table: &JobTable, seat: &mut JobSeat) -> Result<String, A
     show(alloc, drawn, seat.left())
 }
 
-/// What so many draws give, one after another.
+/// What `count` draws give, one after another.
 fn draws(
     alloc: Global,
     table: &JobTable,

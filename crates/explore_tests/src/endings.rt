@@ -1,4 +1,4 @@
-//! An observer is told once that a search has ended, also where nothing was told before, and so nothing shown that would be wiped out.
+//! An observer is notified once that a search has ended, also where it was notified of nothing before and so has shown nothing to wipe out.
 
 use std::alloc::Global;
 use stm_exploring::{Budget, Observer, Std, explore_to};
@@ -7,7 +7,7 @@ use stm_exploring::{Budget, Observer, Std, explore_to};
 const TWO_PUTS: &str =
     r#"[["start","ReadCommitted",1,[["put","a","1",0]]],["start","ReadCommitted",1,[["put","b","1",0]]]]"#;
 
-/// An observer who counts how often it is told that a search has ended.
+/// An observer who counts how often it is notified that a search has ended.
 #[derive(Clone, Copy)]
 struct Listener {
     endings: u8,
@@ -23,7 +23,7 @@ impl Observer for Listener {
     }
 }
 
-/// How often it is told of a search for a schedule that breaks this rule.
+/// How often it is notified by a search for a schedule that breaks this rule.
 fn endings(alloc: Global, keeps: &str) -> u8 {
     let mut scenario = Std::new(TWO_PUTS.as_bytes());
     let mut keeps = Std::new(keeps.as_bytes());

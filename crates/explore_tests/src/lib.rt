@@ -1,5 +1,5 @@
-//! Tests of what an observer of a search is told that nobody sees from outside. The command `explore` itself is tested from outside, by the cases
-//! of `tests/explore`.
+//! Tests of the notifications to an observer of a search that nobody sees from outside. The command `explore` itself is tested from outside, by
+//! the cases of `tests/explore`.
 //!
 //! This crate has no code but tests. They stand here, and not beside what they test, since a crate with tests is proved twice.
 #![tactic(auto)]

@@ -1,4 +1,4 @@
-//! Attempts of the program that emits "a", which are told some answer of it.
+//! Attempts of the program that emits "a", which are given some answer for it.
 ghost use Rattle.std.specs.Prelude.{◌≡◌, ◌≤◌, IfOk};
 ghost use Rattle.stm_outcome.specs.Numbers.{ReadFits};
 ghost use Rattle.stm_attempt.specs.AttemptState.{IsOf, awaited};

@@ -179,7 +179,7 @@ fn report_attempt(alloc: Global, reported: &mut String, revision: u64) -> Result
     Ok(done?)
 }
 
-/// Asserts what is told of that program's attempt, to which "b" is absent at a revision.
+/// Asserts what is shown of that program's attempt, to which "b" is absent at a revision.
 fn is_reported(rt: &impl Abort, alloc: Global, revision: u64, expected: &str) -> Result<(), Fail>
     requires { revision ≤ HIGHEST_NUMBER }
 {

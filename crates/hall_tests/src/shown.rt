@@ -1,4 +1,4 @@
-//! How answers of a hall are told in the texts of the examples.
+//! How answers of a hall are shown in the texts of the examples.
 use std::alloc::AllocError;
 use stm_hall::{CommitRefusal, Entry, FetchRefusal, Verdict};
 use stm_history::ReadAnswer;

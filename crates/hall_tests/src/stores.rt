@@ -1,4 +1,4 @@
-//! What a store tells its callers beside what a scenario shows: which watcher is ready, reads behind a floor that was raised and dropped
+//! What a store answers its callers beside what a scenario shows: which watcher is ready, reads below a floor that was raised and dropped
 //! nothing, and each of a thousand versions. What is expected comes from the rules of the store and of watches, and never from a run.
 
 mod keys;
@@ -24,7 +24,7 @@ const DELETE_A: &[Change] = &[Change::Delete("a")];
 
 /// Which watcher is ready.
 const READY: [(&[Step], &str); 7] = [
-    // A watcher that starts below the counter is ready at once, until it was told all.
+    // A watcher that starts below the counter is ready at once, until it was notified of all.
     (
         &[
             Step::Change(PUT_A),
@@ -69,7 +69,7 @@ const READY: [(&[Step], &str); 7] = [
         ],
         "1; 2; none; 3; 1; done; NoWatcher; NoWatcher; none; ",
     ),
-    // Of three watchers two are ready, and one of them is told.
+    // Of three watchers two are ready, and one of them is notified.
     (
         &[
             Step::Watch("a", 0),

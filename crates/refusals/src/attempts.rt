@@ -124,7 +124,7 @@ fn supply_again(alloc: Global, attempt: &mut Attempt, key: &Text, at: u64) -> Re
     }
 }
 
-/// The values that were emitted, each behind a space and in quotes.
+/// The values that were emitted, each in quotes and after a space.
 fn shown(alloc: Global, ready: &Ready) -> Result<String, AllocError> {
     let mut line = String::from_str(alloc, "ready")?;
     for value in ready.output.as_slice() {
@@ -135,7 +135,7 @@ fn shown(alloc: Global, ready: &Ready) -> Result<String, AllocError> {
     Ok(line)
 }
 
-/// What is told of where the attempt stands.
+/// Where the attempt stands, in words.
 fn reported(alloc: Global, next: &Next) -> Result<String, AllocError> {
     match next {
         Next::Fetch { key, at } => format!(in alloc; "fetch {key} at {at}"),
@@ -144,7 +144,7 @@ fn reported(alloc: Global, next: &Next) -> Result<String, AllocError> {
     }
 }
 
-/// What is told of where it stood first and where it stands then.
+/// Where it stood first and where it stands then.
 fn line_of(alloc: Global, first: &Next, then: &Next) -> Result<String, AllocError> {
     let first = reported(alloc, first)?;
     let then = reported(alloc, then)?;
@@ -159,7 +159,7 @@ fn line_again(alloc: Global, first: &Next, then: &Next) -> Result<String, AllocE
     }
 }
 
-/// Answers the first fetch at a revision, goes on, and tells both.
+/// Answers the first fetch at a revision, goes on, and returns a line of both.
 fn line_after(
     alloc: Global,
     attempt: &mut Attempt,

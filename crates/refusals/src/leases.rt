@@ -1,4 +1,4 @@
-//! Two leases that are due at one moment. Where the growth for the second one is refused, the first stays expired and is told, the
+//! Two leases that are due at one moment. Where the allocation for the second one fails, the first stays expired and is reported, the
 //! key of the second is still present, and the next advance ends the second alone.
 use crate::transactions::{store_again, txn_again};
 use anyhow::{Result, bail};
@@ -8,7 +8,7 @@ use stm_txn::{AdvanceRefused, Expired, Op, Refusal, ShortList, Store, Text, Txn}
 /// When both leases are due.
 const DUE: u64 = 5;
 
-/// Grants a lease, in a second call where the first was refused for want of memory.
+/// Grants a lease, in a second call where an allocation failed in the first.
 fn grant_again(store: &mut Store, id: u64) -> Result<(), Refusal> {
     match store.grant(id, DUE) {
         Err(Refusal::OutOfMemory) => store.grant(id, DUE),
@@ -91,7 +91,7 @@ fn advance_again(store: &mut Store, expired: &mut Vec<Expired>) -> Result<()> {
     }
 }
 
-/// Tells how far an advance had come.
+/// Prints how far an advance had come.
 fn report_cut(rt: &impl Eprint, leases: usize) -> Result<()> {
     eprintln!(rt; "stopped with {leases} leases told")?;
     Ok(())

@@ -1,10 +1,10 @@
-//! Runs in which a growth of memory, or the start of a thread, may be refused. The one word of the command line says which.
+//! Runs in which an allocation may fail, or the start of a thread may be refused. The one word of the command line says which.
 //!
-//! A call that is refused for want of memory is made once more, so that a run prints the same lines on standard output whether a
+//! A call that is refused because an allocation failed is made once more, so that a run prints the same lines on standard output whether an
 //! allocation failed in it or not. A second refusal, or another one than is expected, ends it with status 1. Where the refused call
-//! had done a part of its work, that is told on standard error.
+//! had done a part of its work, that is printed on standard error.
 //!
-//! `bench/refusals` refuses the growths from outside, each in a run of its own.
+//! `bench/refusals` makes the allocations fail from outside, each in a run of its own.
 #![tactic(auto)]
 
 mod attempts;

@@ -47,7 +47,7 @@ pub(crate) const EXPIRING_LEASES: &str = r#"[
     ["poll",1,10]
 ]"#;
 
-/// A watcher of a range is told the three puts of one revision.
+/// A watcher of a range is notified of the three puts of one revision.
 pub(crate) const ONE_REVISION: &str = r#"[
     ["watch_range","a","d",0],
     ["txn",[],[["put","c","1",0],["put","a","1",0],["put","b","1",0]],[]],

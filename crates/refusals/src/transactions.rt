@@ -1,4 +1,4 @@
-//! Transactions of a store, each of which is made again where it was refused for want of memory.
+//! Transactions of a store, each of which is made again where it was refused because an allocation failed.
 use crate::scenarios::{TRANSACTIONS, scenario_of};
 use anyhow::{Result, bail};
 use serde_json::Value as Json;
@@ -19,7 +19,7 @@ pub(crate) fn store_again(alloc: Global) -> Result<Store, AllocError> {
     }
 }
 
-/// Makes a transaction, in a second call where the first was refused for want of memory.
+/// Makes a transaction, in a second call where an allocation failed in the first.
 pub(crate) fn txn_again(store: &mut Store, txn: &Txn) -> Result<TxnAnswer, StoreRefusal> {
     match store.txn(txn) {
         Err(StoreRefusal::OutOfMemory) => store.txn(txn),
@@ -48,7 +48,7 @@ fn reply_to(alloc: Global, store: &mut Store, event: &WorldEvent) -> Result<Resu
     }
 }
 
-/// Room for so many replies, by a second call where the first was refused.
+/// Room for this many replies, by a second call where the first was refused.
 fn room_again(alloc: Global, count: usize) -> Result<Replies, AllocError> {
     match Vec::with_capacity(alloc, count) {
         Ok(replies) => Ok(replies),
@@ -90,7 +90,7 @@ fn text_again(alloc: Global, replies: &[Result<Reply, Denied>]) -> Result<String
     }
 }
 
-/// Makes transactions of a store, and tells the replies.
+/// Makes transactions of a store, and returns the lines of the replies.
 fn lines_on(alloc: Global, store: &mut Store, events: &[WorldEvent]) -> Result<String> {
     let replies = replies_to(alloc, store, events)?;
     let text = text_again(alloc, replies.as_slice());
@@ -98,7 +98,7 @@ fn lines_on(alloc: Global, store: &mut Store, events: &[WorldEvent]) -> Result<S
     Ok(text?)
 }
 
-/// Makes transactions of a new store, and tells the replies.
+/// Makes transactions of a new store, and returns the lines of the replies.
 fn lines_of(alloc: Global, events: &[WorldEvent]) -> Result<String> {
     let mut store = store_again(alloc)?;
     let text = lines_on(alloc, &mut store, events);

@@ -105,7 +105,7 @@ fn run_rest<T: Threads + Wait + Sync>(
     }
 }
 
-/// Tells why a run was broken off. Fails where it should not have been.
+/// Prints why a run was broken off. Fails where it should not have been.
 fn report_cause(rt: &impl Eprint, cause: FaultCause) -> Result<()> {
     match cause {
         FaultCause::OutOfMemory => eprintln!(rt; "broken off for want of memory")?,
@@ -115,7 +115,7 @@ fn report_cause(rt: &impl Eprint, cause: FaultCause) -> Result<()> {
     Ok(())
 }
 
-/// Tells why a run was broken off, and what the accounts have together.
+/// Prints why a run was broken off, and returns what the accounts have together.
 fn look_between(rt: &impl Eprint, fault: &RunFault) -> Result<u64> {
     report_cause(rt, fault.cause)?;
     add_up(&fault.hall)
@@ -161,7 +161,7 @@ fn line_again(alloc: Global, sum: u64) -> Result<String, AllocError> {
     }
 }
 
-/// Runs the transfers, and tells what the accounts have together.
+/// Runs the transfers, and returns a line with what the accounts have together.
 fn lines_of<T: Threads + Wait + Sync>(
     rt: &impl Eprint,
     threads: &T,

@@ -1,7 +1,7 @@
-//! The events of a world. Where want of memory stopped their run, the rest of them is run again.
+//! The events of a world. Where a failed allocation stopped their run, the rest of them is run again.
 //!
-//! The replies to the events before the stop went with it. They are taken from a new world, so that all replies can be told;
-//! those behind the stop, the keys, the leases and the entries are of the world that was stopped.
+//! The replies to the events before the stop were lost with it. They are taken from a new world, so that all replies can be printed;
+//! those after the stop, the keys, the leases and the entries are of the world that was stopped.
 ghost use Rattle.std.specs.Prelude.{Some};
 ghost use Rattle.stm_texts.specs.Opens.{IsOpening};
 
@@ -44,7 +44,7 @@ fn replies_anew(alloc: Global, opening: Opening, events: &[WorldEvent]) -> Resul
     replies
 }
 
-/// The leases that expired before an advance was cut short, and behind them those that expired when it was made again.
+/// The leases that expired before an advance was cut short, followed by those that expired when it was made again.
 fn joined(
     before: Sequence<Expired>,
     after: Sequence<Expired>,
@@ -79,7 +79,7 @@ fn whole_reply(
     }
 }
 
-/// Adds the replies to the stopped event and to those behind it.
+/// Adds the replies to the stopped event and to those after it.
 fn add_rest(replies: &mut Replies, before: Sequence<Expired>, rest: Replies) -> Result<()> {
     let mut before = Some(before);
     for reply in rest {
@@ -91,7 +91,7 @@ fn add_rest(replies: &mut Replies, before: Sequence<Expired>, rest: Replies) -> 
     Ok(())
 }
 
-/// Tells how far a run had come.
+/// Prints how far a run had come.
 fn report_stop(rt: &impl Eprint, stop: &RunStop) -> Result<()> {
     let leases = stop.expired.len();
     eprintln!(rt; "stopped with {leases} leases told")?;

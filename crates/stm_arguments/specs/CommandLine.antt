@@ -75,7 +75,7 @@ explore_app =
 abbrev pub IsAddedAs : App → Command → Type 0
 IsAddedAs app command = (old new : Command) → AddsSubcommand old command new → app_of new ≡ with_subcommand (app_of old) app.top
 
--- stmrun: it has a version, and wants a subcommand, script, check, threads, recipe or explore
+-- stmrun: it has a version, and needs a subcommand, script, check, threads, recipe or explore
 abbrev pub stmrun_app : App
 stmrun_app =
     with_subcommand

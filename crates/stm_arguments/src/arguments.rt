@@ -26,7 +26,7 @@ pub enum Asked<'a> {
         /// Whether a fault is explained.
         explain: bool,
     },
-    /// A check of a report, by the paths of its scenario and of itself: of each line, where it is to be whole.
+    /// A check of a report, by the paths of its scenario and of the report: of every line, where `whole` is set.
     Check {
         scenario: &'a str,
         report: &'a str,
@@ -507,7 +507,7 @@ fn files_of<'a>(found: &ArgMatches<'a>) -> Option<Asked<'a>>
     })
 }
 
-/// A number that was read, where it is one of workers.
+/// A number that was read, where it is from 1 to `MOST_WORKERS`.
 fn workers_at(number: usize) -> Option<usize>
     ensures some { IfSome result (λ workers. (1 ≤ workers) × (workers ≤ 16) × (workers ≡ number)) }
     ensures none { IfNone result ((1 ≤ number) × (number ≤ 16) → ⊥) }
@@ -521,7 +521,7 @@ fn workers_at(number: usize) -> Option<usize>
     Some(number)
 }
 
-/// The number that a text spells, where it is one of workers.
+/// The number that a text spells, where it is from 1 to `MOST_WORKERS`.
 fn workers_in(text: &str) -> Option<usize>
     ensures number { IfSome result (λ workers. (1 ≤ workers) × (workers ≤ 16) × NamesNumber text.now workers) }
     ensures none { IfNone result (IsUnsignedIn 1 16 text.now → ⊥) }
@@ -532,8 +532,8 @@ fn workers_in(text: &str) -> Option<usize>
     }
 }
 
-/// What a run by threads with these arguments asks for; `None` where the number of threads is missing, or is no number of workers, or the number of
-/// runs is none.
+/// What a run by threads with these arguments asks for; `None` where the number of threads is missing or no number
+/// from 1 to `MOST_WORKERS`, or the number of runs is none from 1 to `MOST_RUNS`.
 fn threads_of<'a>(found: &ArgMatches<'a>) -> Option<Asked<'a>>
     ensures asks { IfSome result (AsksAt (codes "threads") (rows_of (found_of found.now))) }
     ensures missing { IfNone result (HasNumbers (rows_of (found_of found.now)) → ⊥) }
@@ -602,7 +602,7 @@ fn asked_at<'a>(name: &str, found: &ArgMatches<'a>) -> Option<Asked<'a>>
     None
 }
 
-/// What the words ask for of which `clap` has found this; `None` where they name no command of this program.
+/// What the words ask for in which `clap` has found this; `None` where they name no command of this program.
 fn asked_by<'a>(matches: &ArgMatches<'a>) -> Option<Asked<'a>>
     ensures asks { IfSome result (AsksBy (subcommand_rows_of matches.now)) }
     ensures missing { IfNone result (IsWhole (subcommand_rows_of matches.now) → ⊥) }
@@ -615,7 +615,7 @@ fn asked_by<'a>(matches: &ArgMatches<'a>) -> Option<Asked<'a>>
 
 /// What these words ask for, of which the first is the program's name.
 ///
-/// Where they are refused, or ask for help or the version, that was printed, and nothing more is asked for: the status is 0 for help and
+/// Where they are refused, or ask for help or the version, the answer was printed, and nothing more is asked for: the status is 0 for help and
 /// version, 2 for usage, printed or not, and 3 where an allocation failed or help or version could not be printed.
 pub fn asked_of<'a, R: Print + Eprint>(rt: &R, alloc: Global, words: &'a [String]) -> Asked<'a>
     ensures { Asks (map string_bytes words.now) result }

@@ -10,7 +10,7 @@ use clap::{Arg, ArgMatches, Command};
 use std::alloc::{AllocError, Global};
 use stm_program::Level;
 
-/// So many events are taken at most, where no number is named.
+/// At most this many events are taken, where no number is named.
 pub(crate) const USUAL_BUDGET: u64 = 5000000;
 
 const EXAMPLE: &str =
@@ -45,7 +45,7 @@ and of stmrun explore --level Serializable s.json none of the lines has both key
 Statuses: 0 always, or all outcomes were found, 1 broken, 2 bad input or usage, 3 want of memory or a failed device,
 4 open.";
 
-/// What is said of a name that is that of no level, in the manner of the other usage faults.
+/// What is said of a name that no level has, in the manner of the other usage faults.
 const UNKNOWN_LEVEL: &str = "error: unknown level for '--level <LEVEL>'
   [possible values: SerializableSnapshot, Serializable, RepeatableReads, ReadCommitted]
 
@@ -122,7 +122,7 @@ fn level_named(name: &str) -> Option<Level>
     }
 }
 
-/// The level that is named, where one is, or status 2 where the name is that of none. What is wrong was then printed, or could not be.
+/// The level that is named, where one is, or status 2 where no level has the name. What is wrong was then printed, or could not be.
 pub fn read_level<R: Eprint>(rt: &R, name: Option<&str>) -> Result<Option<Level>, u8>
     ensures level { IfOk result (LevelAt (option_map (λ n. n.now) name.entry)) }
     ensures unknown { IfErr result (λ status. (status ≡ 2) × IsSomeAnd name.entry (λ n. level_named n.now ≡ None)) }
@@ -147,7 +147,7 @@ fn number_in(text: &str) -> Option<u64>
     }
 }
 
-/// How many events are taken at most; `None` where what is named is no number.
+/// How many events are taken at most; `None` where the word is no number.
 fn budget_at(text: Option<&str>) -> Option<u64>
     ensures budget { IfSome result (BudgetAt (option_map (λ t. t.now) text.entry)) }
     ensures none { IfNone result (IfSome text.entry (λ t. IsUnsignedIn 0 18446744073709551615 t.now) → ⊥) }

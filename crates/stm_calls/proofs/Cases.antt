@@ -1,4 +1,4 @@
--- What a commit came to, by cases of what it is told as: for the proofs of those that call it.
+-- What a commit came to, by cases of what it returns: for the proofs of those that call it.
 use Rattle.std.proofs.Common.{◌≡◌, ℕ, List, map, Option, Some, None, Ok, Err, refl, sym, ap}
 use Rattle.std.specs.Prelude.{Result, slice_get}
 use Rattle.stm_history.specs.declared.key_state.ReadAnswer.{ReadAnswer}
@@ -22,7 +22,7 @@ use Rattle.stm_calls.specs.Sent.{seen_in, failed_at, decided, sent_as, sent}
 step_to : Sent → Standing → Step Sent
 step_to answer next = record { answer = answer; next = next }
 
--- ---- it is told as done
+-- ---- it is returned as done
 
 pub record HasCommitted (s after : Standing) (o : Result Done Refusal) (revision : ℕ) : Type 0 where
   pub done : Done
@@ -59,7 +59,7 @@ unfolding step_to
 has_committed s after level reads run revision reported =
     committed_as s after level reads (latest_writes run.writes) revision (committed (terms_of s) level reads run) reported
 
--- ---- it is told as failed
+-- ---- it is returned as failed
 
 pub record HasFailed (s after : Standing) (level : Level) (reads : List ReadAnswer) (writes : List Write) (o : Result Done Refusal) (key : List ℕ)
     (seen now_modified : ℕ) (answers : List ReadAnswer) : Type 0 where
@@ -73,7 +73,7 @@ pub record HasFailed (s after : Standing) (level : Level) (reads : List ReadAnsw
   pub answers_are : answers ≡ map (answer_now s.history) (reread_keys level reads)
   pub unchanged : after ≡ s
 
--- the parts of what is told
+-- the parts of what is returned
 record AreAlike (seen : Seen) (number : ℕ) (answers : List ReadAnswer) (key : List ℕ) (mod_rev now_modified : ℕ) (others : List ReadAnswer) : Type 0 where
   key_is : key ≡ seen.key
   seen_is : mod_rev ≡ seen.mod_rev

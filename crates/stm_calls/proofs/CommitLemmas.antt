@@ -74,7 +74,7 @@ is_taken s after answer (Ok done) step =
     record { done = done; taken = refl; answered = ap (λ (x : Step TxnAnswer). x.answer) same; left = ap (λ (x : Step TxnAnswer). x.next) same }
 is_taken s after answer (Err cause) step = absurd (cc)
 
--- either its writes are applied, and the revision is told, or it was turned down
+-- either its writes are applied, and the revision is returned, or it was turned down
 data IsJudged (h : History) (level : Level) (reads : List ReadAnswer) (done : Done) : Type 0 where
   applies : done.answer.failed ≡ None → done.answer.revision ≡ now done.history → IsJudged h level reads done
   turns_down : (failed : FailedCompare) → turned_down h failed (reread_keys level reads) ≡ done → IsJudged h level reads done
@@ -105,7 +105,7 @@ is_judged terms level reads run done is =
     judged_by terms level reads run done (sends_too_many terms.limit level reads (latest_writes run.writes))
     (conflict_now terms.history level reads (latest_writes run.writes)) is
 
--- ---- as it is told
+-- ---- as it is returned
 
 reported_as : Sent → Standing → Result (Step Sent) Refusal
 reported_as answer next = Ok record { answer = answer; next = next }
@@ -178,7 +178,7 @@ reports_failed s after level reads run answer failed step some =
     ∙ ap (λ (l : List ReadAnswer). reported_as (failed_at about failed.mod_rev l) s) (sym down.rereads)
     ∙ ap (λ (x : Standing). reported_as (failed_at about failed.mod_rev (reads_in answer.answers)) x) (sym down.unchanged)
 
--- as the code tells it, by the parts of the ready attempt
+-- as the code returns it, by the parts of the ready attempt
 pub reports_reported : (s after : Standing) (ready : ReadyRun) (run : Run) (answer : TxnAnswer) (failed : FailedCompare) (reported : Sent) →
     ready.writes ≡ latest_writes run.writes →
     step_of s (committed (terms_of s) ready.level ready.answers run) ≡ Ok record { answer = answer; next = after } →
@@ -205,7 +205,7 @@ reports_refused : (s : Standing) (level : Level) (reads : List ReadAnswer) (run 
 reports_refused s level reads run cause refused =
     refused_by s level reads (latest_writes run.writes) cause (committed (terms_of s) level reads run) refused
 
--- as the code tells it
+-- as the code returns it
 pub is_refused : (s after : Standing) (ready : ReadyRun) (run : Run) (txn : Txn) (cause : Refusal) → IsRunOnItsAnswers ready →
     All (λ (a : ReadAnswer). 0 < length a.key) ready.answers → run_on ready.program ready.answers ≡ Ended run →
     txn ≡ commit_of ready.level ready.answers ready.writes → IsRefusalOf (transacted s txn) cause → after ≡ s →

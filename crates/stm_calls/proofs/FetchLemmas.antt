@@ -86,7 +86,7 @@ pub read_comes_to : (s : Standing) (key : List ℕ) (at : ℕ) → 0 < s.limit �
 read_comes_to s key at some =
     comes_by s key at (nat_eq (length key) 0) (nat_lt (now s.history) at) (is_below_floor s.floor at) some refl refl refl
 
--- ---- what a read is told
+-- ---- what a read returns
 
 -- by the three tests: its key is empty, its revision is above the counter, it is below the floor
 abbrev reported_by : Bool → Bool → Bool → ReadAnswer → Result ReadAnswer Refusal
@@ -166,7 +166,7 @@ read_by s key at read false true below over reported = absurd (cc)
 read_by s key at read false false true over reported = absurd (cc)
 read_by s key at read false false false over reported = (ltb-false (now s.history) at over, cc)
 
--- the numbers of a read that is told fit
+-- the numbers of a read that is returned fit
 pub read_fits : (s : Standing) (key : List ℕ) (at : ℕ) (read : ReadAnswer) → now s.history ≤ HIGHEST_REVISION → StatesFit s.history →
     read_reported s key at ≡ Ok read → ReadFits read
 read_fits s key at read bounded fit reported =
@@ -183,7 +183,7 @@ read_revision s key at read reported =
 
 -- ---- the fetch of a key that can be read
 
--- where the key is named and the revision reached, a read is told what a fetch is
+-- where the key is named and the revision reached, a read returns what a fetch does
 pub read_is_fetch : (s : Standing) (key : List ℕ) (at : ℕ) → 0 < length key → at ≤ now s.history → read_reported s key at ≡ fetch_reported s key at
 read_is_fetch s key at named reached =
     by_tests s key at false false (is_below_floor s.floor at) (is_named key named) (le-ltb (now s.history) at reached) refl

@@ -163,7 +163,7 @@ list_by s keys false few named = all_come_to s keys (fetch_all_of keys) refl nam
 pub list_is_one_transaction : ListIsOneTransaction
 list_is_one_transaction s keys named = list_by s keys (nat_lt s.limit (length keys)) refl named
 
--- ---- what was told
+-- ---- what was returned
 
 pub record AreRead (s after : Standing) (keys : List (List ℕ)) (answers : List OpAnswer) : Type 0 where
   pub reported : fetch_all_reported s keys ≡ Ok (reads_in answers)
@@ -204,7 +204,7 @@ pub all_refused : (s : Standing) (keys : List (List ℕ)) (txn : Txn) (cause : R
     → IsRefusalOf (transacted s txn) cause → IsRefusalOfAll s keys cause
 all_refused s keys txn cause is named refused = refused_by s keys txn cause (nat_lt s.limit (length keys)) refl is named refused
 
--- what is told of the reads of the answer
+-- the reads of the answer that are returned
 pub all_reported : (s after : Standing) (keys : List (List ℕ)) (answers : List OpAnswer) (reads : List ReadAnswer) → AreRead s after keys answers
     → reads ≡ reads_in answers → fetch_all_reported s keys ≡ Ok reads
 all_reported s after keys answers reads x same = x.reported ∙ ap (λ (l : List ReadAnswer). (let r : Result (List ReadAnswer) Refusal = Ok l in r)) (sym same)

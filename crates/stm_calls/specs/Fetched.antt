@@ -52,7 +52,7 @@ abbrev pub IsFetch : Result ReadAnswer Refusal → Result ReadAnswer Refusal →
 IsFetch defined (Ok answer) = defined ≡ Ok answer
 IsFetch defined (Err cause) = (cause ≡ OutOfMemory) ⊎ (defined ≡ Err cause)
 
--- A read comes to what its definition says. Want of memory is told only where the definition answers.
+-- A read comes to what its definition says. OutOfMemory is returned only where the definition answers.
 abbrev pub ReadReturns : Result ReadAnswer Refusal → Result ReadAnswer Refusal → Type 0
 ReadReturns defined (Ok answer) = defined ≡ Ok answer
 ReadReturns defined (Err cause) = (defined ≡ Err cause) ⊎ ((cause ≡ OutOfMemory) × IsOk defined)

@@ -1,4 +1,4 @@
--- The numbers that a commit is told with fit into 63 bits.
+-- The numbers that a commit returns fit into 63 bits.
 use Rattle.std.specs.Prelude.{◌≤◌}
 use Rattle.stm_history.specs.declared.revisions.TheConstants.{HIGHEST_NUMBER}
 use Rattle.stm_calls.specs.declared.sent.Sent.{Sent}

@@ -1,8 +1,8 @@
--- What a commit is told as, and what it leaves.
+-- What a commit returns, and what it leaves.
 --
 -- The documentation of the Go package `clientv3/concurrency`, "STM": a commit is one transaction. Where no compare fails the
 -- writes are applied; else nothing is changed, and the keys that were read are read again for the next attempt. That the key
--- of the failed compare is told, with what was seen of it, is our own.
+-- of the failed compare is returned, with what was seen of it, is our own.
 use Rattle.std.specs.Prelude.{◌≡◌, ◌⊎◌, ℕ, List, [], map, Option, None, Some, Result, Ok, Err, slice_get}
 use Rattle.stm_history.specs.declared.key_state.ReadAnswer.{ReadAnswer}
 use Rattle.stm_history.specs.History.{now}
@@ -22,7 +22,7 @@ use Rattle.stm_compile.specs.Conflicts.{Seen, seen_by}
 use Rattle.stm_calls.specs.declared.sent.Sent.{Sent}
 use Rattle.stm_calls.specs.declared.sent.Sent.TheVariants.{Committed, Failed}
 
--- what the failed compare is about; the place that is told is that of a compare, so there always is one
+-- what the failed compare is about; the place that is given is that of a compare, so there always is one
 abbrev pub seen_in : Option Seen → Seen
 seen_in None = record { key = []; mod_rev = 0; at = 0 }
 seen_in (Some seen) = seen

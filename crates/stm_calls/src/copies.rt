@@ -9,7 +9,7 @@ use stm_history::{ReadAnswer, Sequence};
 use stm_meaning::{TraceItem, Value};
 use stm_program::Level;
 
-/// Copies of what is told or kept of the commit of an attempt.
+/// Copies of what is returned or kept of the commit of an attempt.
 #[derive(Debug, Drop)]
 pub struct Copies {
     /// What the run emitted, in order.
@@ -60,7 +60,7 @@ fn copy_kept(
     }
 }
 
-/// Copies what is told or kept of the commit of an attempt. Want of memory is the only refusal.
+/// Copies what is returned or kept of the commit of an attempt. It fails only where an allocation failed.
 pub fn copies_of(alloc: Global, ready: &Ready) -> Result<Copies, AllocError>
     ensures output { IfOk result (λ copies. copies.output ≡ ready.now.output) }
     ensures trace { IfOk result (λ copies. copies.trace ≡ ready.now.trace) }

@@ -65,7 +65,7 @@ fn revision_of(keys: &Keys, at: u64) -> u64
     if at == 0 { keys.revision() } else { at }
 }
 
-/// The answer to a read of a key, which was this. Want of memory is the only refusal.
+/// The answer to a read of a key, which was this. It fails only where an allocation failed.
 fn answer_to(
     alloc: Global,
     keys: &Keys,
@@ -127,8 +127,8 @@ fn read_now(key: &Text) -> Result<Op, AllocError>
     Ok(Op::Get { key, rev: 0 })
 }
 
-/// The transaction that reads these keys as they are now, in their order, and does nothing else. Want of memory is the only
-/// refusal.
+/// The transaction that reads these keys as they are now, in their order, and does nothing else. It fails only where an
+/// allocation failed.
 pub fn read_all(alloc: Global, keys: &[Text]) -> Result<Txn, AllocError>
     ensures { IfOk result (λ txn. txn ≡ fetch_all_of keys.now) }
 {

@@ -1,5 +1,5 @@
 //! What an attempt asks of a store: the fetch of a key, or of a list of keys, and the commit. A list is one transaction, and so is a commit.
-//! Beside them what those who keep such a store have in common: copies of what a commit tells, and the store's present keys and its state.
+//! Beside them what those who keep such a store have in common: copies of what a commit returns, and the store's present keys and its state.
 #![tactic(auto)]
 
 mod answers;

@@ -23,7 +23,7 @@ fn listed_keys(alloc: Global, keys: &Keys) -> Result<Vec<String>, AllocError>
 
 /// The keys that are present, ascending by bytes.
 ///
-/// They are copied and sorted once. Want of memory is the only refusal.
+/// They are copied and sorted once. It fails only where an allocation failed.
 pub fn present_keys(alloc: Global, keys: &Keys) -> Result<Vec<String>, AllocError>
     ensures present { IfOk result (λ present. ArePresent keys.now.history (map string_bytes present.items)) }
     ensures computed { IfOk result (λ present. map string_bytes present.items ≡ keys_present keys.now.history) }

@@ -58,8 +58,8 @@ fn revision_seen(reads: &ReadSet, writes: &WriteBuffer, place: usize) -> u64
     }
 }
 
-/// What is told of a commit of which a compare failed: the key that it is about, what was seen of it, its modification
-/// revision now, and what was read again. Want of memory is its only refusal.
+/// What is returned of a commit of which a compare failed: the key that it is about, what was seen of it, its modification
+/// revision now, and what was read again. It fails only where an allocation failed.
 pub fn conflict(
     alloc: Global,
     reads: &ReadSet,

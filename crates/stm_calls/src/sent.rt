@@ -1,4 +1,4 @@
-//! What a commit is told as.
+//! What a commit returns.
 use stm_history::{ReadAnswer, Sequence, Text};
 
 /// A commit that the store did not refuse.

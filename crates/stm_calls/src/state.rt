@@ -25,8 +25,8 @@ fn add_key(alloc: Global, state: &mut State, keys: &Keys, key: &str) -> Result<(
 
 /// The state of a store's keys at its last revision.
 ///
-/// The keys come ascending, so that each entry is put behind those before it and none is moved. Want of memory is the
-/// only refusal.
+/// The keys come ascending, so that each entry is appended to those before it and none is moved. It fails only where an
+/// allocation failed.
 pub fn state_of(alloc: Global, keys: &Keys) -> Result<State, AllocError>
     ensures { IfOk result (λ state. IsStateOf keys.now.history state) }
 {

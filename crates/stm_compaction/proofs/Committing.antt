@@ -98,7 +98,7 @@ committed_grows terms level reads run =
     judged_grows terms level reads run (sends_too_many terms.limit level reads (latest_writes run.writes))
     (conflict_now terms.history level reads (latest_writes run.writes))
 
--- ---- as it is told
+-- ---- as it is reported
 
 abbrev reported_as : Sent → Standing → Result (Step Sent) Refusal
 reported_as answer next = Ok record { answer = answer; next = next }

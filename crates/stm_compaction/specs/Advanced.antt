@@ -1,4 +1,4 @@
--- What an advance of a store that has dropped its revisions below the floor tells of the whole one.
+-- What an advance of a store that has dropped its revisions below the floor says of that of the whole one.
 use Rattle.std.specs.Prelude.{◌≡◌, ℕ, ◌≤◌, List, None}
 use Rattle.stm_outcome.specs.declared.advance.Expired.{Expired}
 use Rattle.stm_outcome.specs.declared.refusal.Refusal.{Refusal}

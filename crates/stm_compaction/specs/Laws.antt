@@ -57,7 +57,7 @@ KeptExpires = (s : Standing) (many : ℕ) → s.floor ≤ now s.history → expi
 abbrev pub KeptAdvances : Type 0
 KeptAdvances = (s : Standing) (moment : ℕ) → s.floor ≤ now s.history → advanced (kept s) moment ≡ kept_advance (advanced s moment)
 
--- What an advance has come to tells what that of the whole store has come to,
+-- From what an advance has come to follows what that of the whole store has come to,
 abbrev pub KeptAdvanceComes : Type 0
 KeptAdvanceComes =
     (s : Standing) (moment : ℕ) (expired : List Expired) (left : Standing) → s.floor ≤ now s.history

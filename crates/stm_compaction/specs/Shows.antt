@@ -7,8 +7,8 @@ use Rattle.stm_keys.specs.Events.{events_of}
 use Rattle.stm_txn.specs.LeaseKeys.{keys_of_lease}
 use Rattle.stm_txn.specs.PresentKeys.{keys_present}
 
--- One history shows what another does: the counter, the keys now, which of them are present and which hang on each lease, and from a floor
--- on the keys at each revision, and its events.
+-- One history shows what another does: the counter, the keys now, which of them are present and which are attached to each lease, and from a
+-- floor on the keys at each revision, and its events.
 pub record ShowsTheSame (floor : ℕ) (g h : History) : Type 0 where
   pub counter : now g ≡ now h
   pub keys_now : (key : List ℕ) → key_now g key ≡ key_now h key

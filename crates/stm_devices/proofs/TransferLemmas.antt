@@ -22,14 +22,14 @@ reads_end old mid new before after piece n most taken joined long none more end 
     subst (λ (bytes : List ℕ). IfSome old (λ all. bytes ≡ take most all)) (sym joined)
     (Consumes-end old new (before ++ piece) most (Consumes-trans old mid new before piece taken more) end (omega (arith, length-append before piece)))
 
--- what was taken, as much as was wanted, is the front of what there was
+-- what was taken, as much as was wanted, is a prefix of what there was
 pub reads_most : (old new : Option (List ℕ)) (bytes : List ℕ) (most : ℕ) →
     Consumes old new bytes → most ≡ length bytes → IfSome old (λ all. bytes ≡ take most all)
 reads_most None new bytes most taken long = tt
 reads_most (Some all) None bytes most taken long = absurd taken
 reads_most (Some all) (Some rest) bytes most taken long = sym (ap (take most) taken ∙ take_at bytes rest most (sym long))
 
--- a front was written, and so was the next piece
+-- a prefix was written, and so was the next piece
 pub writes_on : (old mid new : Option (List ℕ)) (bytes front rest : List ℕ) (n : ℕ) →
     bytes ≡ front ++ rest → Appends old mid front → Appends mid new (take n rest)
     → (more : List ℕ) × (bytes ≡ more ++ drop n rest) × Appends old new more

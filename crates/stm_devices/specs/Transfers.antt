@@ -10,8 +10,8 @@ abbrev pub ReadFails : Bool → ReadFault → Type 0
 ReadFails failed OutOfMemory = failed ≡ false
 ReadFails failed Device = failed ≡ true
 
--- what reading one piece did: the bytes left before and after, whether the source has failed then, how many were wanted at
--- most, the answer, and the bytes read before and after
+-- what reading one piece did: the bytes left before and after, whether the source has failed then, the most bytes that were
+-- asked for, the answer, and the bytes read before and after
 abbrev pub HasTaken : Option (List ℕ) → Option (List ℕ) → Bool → ℕ → Result ℕ ReadFault → List ℕ → List ℕ → Type 0
 HasTaken old new failed most (Ok n) before after =
     (failed ≡ false) × (n ≤ most) × (n ≡ 0 → IsAtEnd new) × (piece : List ℕ) × (length piece ≡ n) × (after ≡ before ++ piece) × Consumes old new piece
@@ -22,7 +22,7 @@ abbrev pub HasRead : {X : Type 0} → (X → List ℕ) → Option (List ℕ) →
 HasRead view known failed (Ok x) = (failed ≡ false) × IfSome known (λ all. view x ≡ take MOST_READ all)
 HasRead view known failed (Err fault) = ReadFails failed fault
 
--- a front of these bytes was written
+-- a prefix of these bytes was written
 abbrev pub WritesFront : Option (List ℕ) → Option (List ℕ) → List ℕ → Type 0
 WritesFront old new bytes = (front : List ℕ) × (rest : List ℕ) × (bytes ≡ front ++ rest) × Appends old new front
 

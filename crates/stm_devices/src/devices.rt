@@ -22,7 +22,7 @@ pub trait Source {
     /// it ensures of this number bounds its reads.
     ghost reads: { Self → ℕ } = { λ _. 0 };
 
-    /// Reads some bytes into the front of the buffer, and returns how many: 0 only at the end, or for an empty
+    /// Reads some bytes into the start of the buffer, and returns how many: 0 only at the end, or for an empty
     /// buffer. It fails exactly where the device has then failed, and is not called again.
     fn read(&mut self, buffer: &mut [u8]) -> Result<usize, DeviceFault>
         requires { failed self.old ≡ false }
@@ -38,7 +38,7 @@ pub trait Sink {
     /// Whether a write has failed.
     ghost failed: { Self → Bool };
 
-    /// Writes at least one byte from the front of these, and returns how many. It fails exactly where the device
+    /// Writes at least one byte from the start of these, and returns how many. It fails exactly where the device
     /// has then failed, writes nothing then, and is not called again.
     fn write(&mut self, bytes: &[u8]) -> Result<usize, DeviceFault>
         requires works { failed self.old ≡ false }

@@ -8,7 +8,7 @@ use std::alloc::{AllocError, Global};
 /// `read_all` reads at most this many bytes, in at most this many reads: one byte more than a scenario may have.
 pub const MOST_READ: usize = 16777217;
 
-/// So many bytes are read at a time.
+/// How many bytes are read at a time.
 const PIECE: usize = 4096;
 
 /// Why reading stopped.
@@ -81,7 +81,7 @@ pub fn read_all<S: Source>(alloc: Global, source: &mut S) -> Result<Vec<u8>, Rea
     Ok(bytes)
 }
 
-/// Writes all these bytes. It fails exactly where the sink has failed: then a front of them was written.
+/// Writes all these bytes. It fails exactly where the sink has failed: then a prefix of them was written.
 pub fn write_all<W: Sink>(sink: &mut W, bytes: &[u8]) -> Result<(), DeviceFault>
     requires { W.failed sink.old ≡ false }
     ensures { HasWritten (W.held sink.old) (W.held sink.new) (W.failed sink.new) result bytes.now }

@@ -1,4 +1,4 @@
--- Each step keeps the rule, and tells what it is said to tell.
+-- Each step keeps the rule, and establishes what its contract says.
 use Rattle.std.proofs.Common.{◌≡◌, ◌≢◌, ℕ, zero, suc, ◌+◌, ◌-◌, ◌%◌, ◌^◌, ◌<◌, ◌≤◌, min, Bool, true, false, cond, ltb, eqb}
 use Rattle.std.proofs.Common.{List, [], ◌∷◌, ◌++◌, length, set, get_or}
 use Rattle.std.proofs.Common.{sum_by, refl, sym, ap, ap₂, ◌∙◌, subst, ⊎_elim, arith, add-zero, length-set, get_or-set_same, lt-ltb, le-ltb, mod-eq_of_lt}

@@ -89,10 +89,10 @@ IsWhole v = (v.past + v.left ≡ v.size.seats) × (0 < v.past)
 abbrev pub Knows : View → Type 0
 Knows v = (v.past + v.left ≤ v.size.seats) × (IsWhole v → EachOnce v.size.jobs v.drawn)
 
--- what a draw tells of the number that it found
+-- what is known after a draw that found this number
 abbrev pub Draws : Step (Unit {0}) → Me (Unit {0}) View → ℕ → Me (Unit {0}) View → Type 0
 Draws st before found after = (after ≡ (after_draw before.0 found, before.1)) × Knows (after_draw before.0 found)
 
--- what a look at the counter tells
+-- what is known after a look at the counter
 abbrev pub Looks : Step (Unit {0}) → Me (Unit {0}) View → ℕ → Me (Unit {0}) View → Type 0
 Looks st before found after = (after ≡ before) × Knows before.0

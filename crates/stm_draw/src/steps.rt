@@ -11,7 +11,7 @@ use std::alloc::{AllocError, Global};
 
 impl JobTable {
     /// A table of the jobs from 0 to `jobs` - 1, and its first seat, which has a pass for each of the `seats` that are to share it.
-    /// `AllocError`: a growth was refused.
+    /// `AllocError`: an allocation failed.
     pub fn new(alloc: Global, jobs: usize, seats: usize) -> Result<(JobTable, JobSeat), AllocError>
         requires { (jobs < 2 ^ 63) × (seats < 2 ^ 63) × (0 < seats) }
         ensures { IfOk result (λ made. (table_size made.0 ≡ size_of jobs seats) × IsSeatOf made.0 made.1 × (seat_view made.1 ≡ newcomer (size_of jobs seats))) }
@@ -67,7 +67,7 @@ impl JobTable {
         let JobSeat { seat: taken, left } = other;
         let shared = &self.table.shared;
         shared.join_seat::<Both>(&mut seat.seat, taken);
-        // The look tells that the passes are among the table's, so the sum fits.
+        // By the look's contract the passes are among the table's, so the sum fits.
         shared.load::<Looking>(&mut seat.seat, 0);
         seat.left += left;
     }

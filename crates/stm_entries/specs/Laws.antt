@@ -11,7 +11,7 @@ use Rattle.stm_entries.specs.Legal.{AreLegal}
 abbrev pub ReplayGoesOn : Type 0
 ReplayGoesOn = (earlier later : List Entry) (r : Replayed) → replay (earlier ++ later) r ≡ replay later (replay earlier r)
 
--- Entries are legal exactly where a front of them is, and the rest from where that leads.
+-- Entries are legal exactly where a prefix of them is, and the rest from where that leads.
 abbrev pub LegalityGoesOn : Type 0
 LegalityGoesOn = (earlier later : List Entry) (r : Replayed) → AreLegal (earlier ++ later) r ↔ (AreLegal earlier r × AreLegal later (replay earlier r))
 

@@ -6,7 +6,7 @@ pub fn replay_goes_on()
     ensures { ReplayGoesOn }
 {}
 
-/// Entries are legal exactly where a front of them is, and the rest from where that front leads.
+/// Entries are legal exactly where a prefix of them is, and the rest from where that prefix leads.
 pub fn legality_goes_on()
     ensures { LegalityGoesOn }
 {}

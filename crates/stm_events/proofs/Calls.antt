@@ -196,7 +196,7 @@ due_by : (P : Standing → Standing → List Entry → Type 0) → KeepsExpiries
 due_by P keeps many s None due goes = keeps.none s
 due_by P keeps many s (Some id) due goes = ended_by P keeps many s id (ended s id) refl (due_lives s.live s.moment id due) goes
 
--- so it is of so many expiries at most
+-- so it is of at most `many` expiries
 pub expiry_cases : (P : Standing → Standing → List Entry → Type 0) → KeepsExpiries P → (many : ℕ) (s : Standing) →
     P s (expire_up_to many s).leaves (expiries (expire_up_to many s).expired)
 expiry_cases P keeps zero s = keeps.none s

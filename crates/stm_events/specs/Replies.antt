@@ -32,12 +32,12 @@ abbrev pub advance_reply : ℕ → List Expired → Option StoreRefusal → Resu
 advance_reply moment expired None = Ok (Advanced moment expired)
 advance_reply moment expired (Some cause) = Err (record { cause = Store cause; expired = expired })
 
--- the batch of a poll: the events, and up to which revision everything is told
+-- the batch of a poll: the events, and up to which revision it completes what the watcher is notified of
 abbrev pub batch_reply : ℕ → Batch → Reply
 batch_reply watcher batch = BatchReported watcher batch.upto batch.events
 
 -- The reply to a poll of a watcher of a store with this floor: its batch, or that it is lost. (etcd's API reference, "Watch": a watch that is
--- behind a compaction is told `compact_revision` and that it is cancelled.)
+-- below the compacted revision is cancelled, and its answer has `compact_revision`.)
 abbrev pub poll_reply : ℕ → ℕ → Result (Step Batch) StoreRefusal → Result Reply Denied
 poll_reply watcher floor (Ok done) = Ok (batch_reply watcher done.answer)
 poll_reply watcher floor (Err CompactedRefusal) = Ok (Lost watcher floor)

@@ -6,7 +6,7 @@ use stm_txn::Txn;
 /// One event. Moments and times to live are in whole seconds.
 #[derive(Debug, Drop)]
 pub enum WorldEvent {
-    /// A new runner gets the program. Its run may send so many commits.
+    /// A new runner gets the program. Its run may send at most `limit` commits.
     Start {
         program: Program,
         level: Level,
@@ -50,7 +50,7 @@ pub enum WorldEvent {
         end: Text,
         from: u64,
     },
-    /// What is pending for a watcher is told, of at most so many revisions.
+    /// What is pending for a watcher is reported, of at most `most` revisions.
     Poll {
         watcher: u64,
         most: u64,
@@ -59,7 +59,7 @@ pub enum WorldEvent {
     Cancel {
         watcher: u64,
     },
-    /// The store is compacted: no revision below this one can be read any more, and watchers that were still to be told of one are
+    /// The store is compacted: no revision below this one can be read any more, and watchers that still had to be notified of one are
     /// lost.
     Compact {
         revision: u64,

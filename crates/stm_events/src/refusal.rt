@@ -11,7 +11,7 @@ use stm_txn::{Expired, Refusal as StoreRefusal};
 /// `Display` gives the refusal's name, as the report spells it.
 #[derive(Clone, Copy, Debug, PartialEq, Eq)]
 pub enum Refusal {
-    /// The store refused the call, or a growth was refused.
+    /// The store refused the call, or an allocation failed.
     Store(StoreRefusal),
     /// A run was to be started with 0 commits.
     BadLimit,

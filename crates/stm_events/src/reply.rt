@@ -55,8 +55,8 @@ pub enum Reply {
         seen: u64,
         now: u64,
     },
-    /// A compare of the last commit that the run may send failed, as it is told of a conflict. Nothing is
-    /// committed, and the run is over, after so many commits.
+    /// A compare of the last commit that the run may send failed, reported as for a conflict. Nothing is
+    /// committed, and the run is over, after `attempts` commits.
     GaveUp {
         runner: u64,
         attempts: u32,
@@ -106,7 +106,7 @@ pub enum Reply {
     Watching {
         watcher: u64,
     },
-    /// What was pending for a watcher: the revision up to which all that it watches from its start on is told now, and the events, by
+    /// What was pending for a watcher: the revision up to which it has now been notified of all that it watches from its start on, and the events, by
     /// their revisions, those of one revision in the order of its operations.
     Batch {
         watcher: u64,
@@ -121,7 +121,7 @@ pub enum Reply {
     Compacted {
         revision: u64,
     },
-    /// A polled watcher had lost events: it was not told of all that it watches below `floor`, the lowest revision that could be read at
+    /// A polled watcher had lost events: it was not notified of all that it watches below `floor`, the lowest revision that could be read at
     /// the poll. The watcher is given up, and its number is not given again.
     Lost {
         watcher: u64,

@@ -9,6 +9,6 @@ abbrev pub place_from : ℕ × ℕ → List ℕ → ℕ × ℕ
 place_from at [] = at
 place_from at (b ∷ bs) = place_from (next at b) bs
 
--- the line and the column after the front of a text, which begins at line 1 and column 1
+-- the line and the column after a prefix of a text, which begins at line 1 and column 1
 abbrev pub place_behind : List ℕ → ℕ × ℕ
 place_behind bytes = place_from (1, 1) bytes

@@ -7,7 +7,7 @@ use crate::forms::{
 use std::alloc::{AllocError, Global};
 use strsim::levenshtein;
 
-/// A word of more bytes than this is near to none.
+/// A word of more bytes than this has no near miss.
 const MOST_NEAR: usize = 60;
 
 /// The elements that follow a word, where it is one of these.

@@ -32,7 +32,7 @@ impl Explained {
     }
 }
 
-/// What is wanted in the place of the whole input.
+/// What is expected in the place of the whole input.
 fn whole_of(input: Input) -> Part {
     match input {
         Input::Scenario | Input::Jobs | Input::Search => Part::Scenario,
@@ -41,7 +41,7 @@ fn whole_of(input: Input) -> Part {
     }
 }
 
-/// What is wanted in such a place of this input.
+/// What is expected in such a place of this input.
 fn wanted(input: Input, part: Part) -> Part {
     match (input, part) {
         (Input::Jobs, Part::Limit) => Part::JobLimit,
@@ -225,7 +225,7 @@ fn reported_in(
     }
 }
 
-/// The same of a fault in one line of a report; the offset is counted from the text's front.
+/// The same of a fault in one line of a report; the offset is counted from the text's start.
 fn reported_in_line(
     alloc: Global,
     text: &[u8],

@@ -138,7 +138,7 @@ impl Parts {
         }
     }
 
-    /// What the element at an index of the array is, which the word begins.
+    /// What the element at an index of an array is that begins with the word.
     pub(crate) fn at(self, index: usize) -> Option<Part> {
         match index {
             1 => self.first(),

@@ -1,4 +1,4 @@
-//! Sources of which is kept what was read.
+//! Sources that keep what was read of them.
 ghost use Rattle.std.specs.Prelude.{◌≡◌, IfSome, string_bytes};
 ghost use Rattle.stm_explain.specs.Explaining.{ExplainsOrNothing};
 
@@ -22,7 +22,7 @@ pub struct Kept<'a, S> {
 }
 
 impl<'a, S> Kept<'a, S> {
-    /// A source of which nothing was read.
+    /// A source of which nothing has been read yet.
     pub fn new(alloc: Global, name: &'a str, source: S) -> Kept<'a, S>
         ensures { result.source ≡ source }
     {

@@ -1,4 +1,4 @@
-//! Texts of JSON of which many places are explained.
+//! Texts of JSON in which many places are explained.
 ghost use Rattle.std.specs.Prelude.{◌≡◌, IfOk, string_bytes};
 ghost use Rattle.std.specs.List.{All};
 ghost use Rattle.stm_explain.specs.Explaining.{IsExplanationOf};
@@ -32,7 +32,7 @@ pub struct Marked<'a> {
     ghost are_marks: { All (IsMark text.now) marks.items },
 }
 
-/// The mark of a text's front.
+/// The mark of a text's start.
 fn front(text: &[u8]) -> Mark
     ensures { IsMark text.now result }
 {
@@ -122,7 +122,7 @@ impl<'a> Marked<'a> {
         ))
     }
 
-    /// The mark of the value that these steps lead to; the text's front, where they lead to no element.
+    /// The mark of the value that these steps lead to; the text's start, where they lead to no element.
     fn mark_of(&self, alloc: Global, steps: &[usize]) -> Result<Mark, AllocError>
         ensures { IfOk result (IsMark self.now.text.now) }
     {

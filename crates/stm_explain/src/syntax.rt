@@ -6,7 +6,7 @@ use crate::offsets::line_start;
 use serde_json::{Error, Value};
 use std::alloc::{AllocError, Global};
 
-/// Arrays and objects nest at most so deep.
+/// How deep arrays and objects may nest.
 const MOST_DEPTH: usize = 127;
 
 /// How many arrays and objects are still open after these bytes.

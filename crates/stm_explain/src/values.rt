@@ -3,10 +3,10 @@
 use serde_json::Value;
 use std::alloc::{AllocError, Global};
 
-/// So many bytes of a value's text are shown at most.
+/// At most this many bytes of a value's text are shown.
 const MOST_SHOWN: usize = 60;
 
-/// A value in its shortest spelling; of one that is long, the front.
+/// A value in its shortest spelling; of a long one, its first bytes.
 pub fn shown(alloc: Global, value: &Value) -> Result<String, AllocError> {
     let text = value.to_string(alloc)?;
     if text.len() <= MOST_SHOWN {

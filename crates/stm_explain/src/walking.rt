@@ -1,4 +1,4 @@
-//! From the place of a fault to the value there, and to what is wanted in its stead.
+//! From the place of a fault to the value there, and to what is expected in its place.
 
 use crate::allowed::parts_behind;
 use crate::forms::Part;
@@ -6,10 +6,10 @@ use serde_json::Value;
 use std::alloc::{AllocError, Global};
 use stm_json::worded_array;
 
-/// A value of an input, and what is wanted in its place.
+/// A value of an input, and what is expected in its place.
 #[derive(Clone, Copy)]
 pub(crate) struct Found<'a> {
-    /// What is wanted.
+    /// What is expected.
     pub(crate) part: Part,
     /// The value.
     pub(crate) value: &'a Value,
@@ -34,13 +34,13 @@ fn begins(value: &Value) -> bool {
     }
 }
 
-/// What is wanted at an index of an array that begins with a word; `None` where the word is not allowed, or has nothing there.
+/// What is expected at an index of an array that begins with a word; `None` where the word is not allowed, or has nothing there.
 fn part_of(part: Part, array: &Value, index: usize) -> Option<Part> {
     let (word, _) = worded_array(array)?;
     parts_behind(part, word)?.at(index)
 }
 
-/// What is wanted at an index of a scenario, whose element there is this.
+/// What is expected at an index of a scenario, whose element there is this.
 fn event_part(index: usize, element: &Value) -> Part {
     if index == 0 && begins(element) {
         Part::Beginning
@@ -49,7 +49,7 @@ fn event_part(index: usize, element: &Value) -> Part {
     }
 }
 
-/// What is wanted at an index of a program.
+/// What is expected at an index of a program.
 fn element_part(index: usize) -> Part {
     if index == 0 {
         Part::FirstElement
@@ -58,7 +58,7 @@ fn element_part(index: usize) -> Part {
     }
 }
 
-/// What is wanted at an index of an array, whose element there is this.
+/// What is expected at an index of an array, whose element there is this.
 fn part_within(part: Part, array: &Value, index: usize, element: &Value) -> Option<Part> {
     match part {
         Part::Scenario => Some(event_part(index, element)),
@@ -72,14 +72,14 @@ fn part_within(part: Part, array: &Value, index: usize, element: &Value) -> Opti
     }
 }
 
-/// The element of an array that was found, and what is wanted there; `None` where it has none there.
+/// The element of an array that was found, and what is expected there; `None` where it has none there.
 fn element<'a>(found: Found<'a>, index: usize) -> Option<Found<'a>> {
     let value = found.value.get(index)?;
     let part = part_within(found.part, found.value, index, value)?;
     Some(Found { part, value })
 }
 
-/// The value that some steps lead to, and what is wanted in its place; `None` where they lead to none.
+/// The value that some steps lead to, and what is expected in its place; `None` where they lead to none.
 pub(crate) fn walk<'a>(part: Part, value: &'a Value, steps: &[usize]) -> Option<Found<'a>> {
     let mut found = Found { part, value };
     for index in steps {

@@ -100,7 +100,7 @@ agree true false there back = sym (there refl)
 agree false true there back = back refl
 agree false false there back = refl
 
--- Where a move can be made behind one of n moves that is looked at, some schedule has one more; and the other way round.
+-- Where a move can be made after one of n moves that is looked at, some schedule has one more; and the other way round.
 pub seen_goes_on : (fewer : FewerAreEnough) (n : ℕ) (p : Place) → seen_go_on n None p ≡ goes_on (suc n) p
 seen_goes_on fewer n p =
     agree (seen_go_on n None p) (goes_on (suc n) p) (to_all n None p) (λ g. from_fewer n None p (fewer.going_on (suc n) p ∙ g))

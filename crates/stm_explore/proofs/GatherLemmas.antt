@@ -96,7 +96,7 @@ gathers_new it found new = record {
 
 -- ---- the moves of a loop ----
 
--- what is gathered behind the moves so far, and behind one more
+-- what is gathered after the moves so far, and after one more
 pub flat_more : (f : Move → List Outcome) (ms : List Move) (i : ℕ) (m : Move) → i < length ms → m ≡ get_or ms i m →
     f m ++ flat_map f (drop (i + 1) ms) ≡ flat_map f (drop i ms)
 flat_more f ms i m within is =
@@ -127,7 +127,7 @@ pub outcomes_at_deeper : (n : ℕ) (last : Option ℕ) (p : Place) (ends : Ends)
 outcomes_at_deeper zero last p ends more = absurd (more refl)
 outcomes_at_deeper (suc n) last p ends more = let e : suc n - 1 ≡ n = omega arith in rw e (fewer_outcomes n last p ends)
 
--- what is yet to be gathered behind the moves that are left, and whether some schedule goes on behind a move so far or one that is left
+-- what is yet to be gathered after the moves that are left, and whether some schedule goes on after a move so far or one that is left
 pub record CollectedSoFar (n : ℕ) (last : Option ℕ) (p : Place) (ends : Ends) (more : Bool) (left : List Move) (found start : List Outcome) : Type 0 where
   pub leading : LeadsTo (flat_map (outcomes_behind (n - 1) last p ends) left) (fewer_outcomes_at n last p ends) found start
   pub going : passes more (goes_on_behind (n - 1) last p) left ≡ seen_go_on n last p
@@ -181,7 +181,7 @@ collected_all n last p ends ms i so_far found start end old = (
       (flat_end (outcomes_behind (n - 1) last p ends) ms i end) old.leading,
 )
 
--- ---- behind a move ----
+-- ---- after a move ----
 
 -- a move that is looked at
 pub going_behind : (n : ℕ) (last : Option ℕ) (m : Move) (p : Place) (more : Bool) → looks last p m ≡ true →

@@ -22,7 +22,7 @@ use Rattle.stm_explore.specs.declared.looked.Looked.TheVariants.{Kept}
 use Rattle.stm_explore.specs.Seen.{looks, bad_behind, IsSeen, KeptBefore, KeptBehind}
 use Rattle.stm_explore.proofs.FewerLooks.{fewer_bad}
 
--- ---- the rule behind a quiet step
+-- ---- the rule after a quiet step
 
 same_standing : (rule : ProgramTree) (w next : World) → next.standing ≡ w.standing → keeps rule w ≡ true → keeps rule next ≡ true
 same_standing rule w next same kept =
@@ -43,7 +43,7 @@ quiet_by : (b : Bool) (id runner : ℕ) → cond b (Some id) None ≡ Some runne
 quiet_by true id runner is = refl
 quiet_by false id runner is = absurd (cc)
 
--- the state behind a quiet step keeps what the state before it keeps
+-- the state after a quiet step keeps what the state before it keeps
 kept_behind_quiet : (rule : ProgramTree) (m : Move) (p : Place) (runner : ℕ) → quiet_runner m p.world ≡ Some runner → keeps rule p.world ≡ true →
     keeps rule (moved m p).world ≡ true
 kept_behind_quiet rule (StepOf id) p runner is kept =

@@ -26,7 +26,7 @@ pub go_on_deeper : (n : ℕ) (last : Option ℕ) (p : Place) → n ≢ 0 → see
 go_on_deeper zero last p more = absurd (more refl)
 go_on_deeper (suc n) last p more = let e : suc n - 1 ≡ n = omega arith in rw e refl
 
--- nothing is found at this one: what is found first is found behind it
+-- nothing is found at this one: what is found first is found after it
 pub none_here : (f : Move → Option (List Move)) (ms : List Move) (i : ℕ) (m : Move) → i < length ms → m ≡ get_or ms i m → f m ≡ None →
     first_of f (drop (i + 1) ms) ≡ first_of f (drop i ms)
 none_here f ms i m within is none =
@@ -69,7 +69,7 @@ passes_left so_far test ms i end = at_drop_all (passes so_far test) ms i end ∙
 
 -- ---- what is seen, move after move ----
 
--- the first bad schedule of all is that of the moves that are left, and some schedule goes on behind a move so far or behind one that is left
+-- the first bad schedule of all is that of the moves that are left, and some schedule goes on after a move so far or after one that is left
 pub record SeenSoFar (rule : ProgramTree) (n : ℕ) (last : Option ℕ) (p : Place) (more : Bool) (left : List Move) : Type 0 where
   pub bad : first_of (bad_behind (keeps rule) (n - 1) last p) left ≡ fewer_bad_at (keeps rule) n last p
   pub going : passes more (goes_on_behind (n - 1) last p) left ≡ seen_go_on n last p
@@ -135,7 +135,7 @@ seen_broken_here rule n last p w ms i d so_far looked found end same seen is wit
 
 -- ---- a move
 
--- what is seen behind a move that is looked at
+-- what is seen after a move that is looked at
 pub looked_behind : (rule : ProgramTree) (n : ℕ) (last : Option ℕ) (m : Move) (p : Place) (looked all : Looked) → looks last p m ≡ true →
     all ≡ in_front_of m looked → IsSeen rule n (quiet_runner m p.world) (moved m p) looked → IsSeenBehind rule n last m p all
 looked_behind rule n last m p (Kept more) all kept is seen =
@@ -151,7 +151,7 @@ looked_behind rule n last m p (Broken ms end) all kept is seen =
       seen.1,
     )
 
--- nothing is seen behind a move that is not looked at
+-- nothing is seen after a move that is not looked at
 pub not_looked_behind : (rule : ProgramTree) (n : ℕ) (last : Option ℕ) (m : Move) (p : Place) → looks last p m ≡ false →
     IsSeenBehind rule n last m p (Kept false)
 not_looked_behind rule n last m p not = (
@@ -159,7 +159,7 @@ not_looked_behind rule n last m p not = (
   ap (λ (b : Bool). cond b (seen_go_on n (quiet_runner m p.world) (moved m p)) false) (sym not),
 )
 
--- the place that a move leads to, by its parts, behind the quiet step that it was
+-- the place that a move leads to, by its parts, after the quiet step that it was
 pub seen_at : (rule : ProgramTree) (n : ℕ) (last quiet : Option ℕ) (p q : Place) (looked : Looked) → quiet ≡ last → q.world ≡ p.world → q.others ≡ p.others →
     IsSeen rule n quiet q looked → IsSeen rule n last p looked
 seen_at rule n last quiet p q looked is world others seen =

@@ -34,7 +34,7 @@ found_all those all n p ends found gathers as_long no_longer =
     both : {A B C : Type 0} → (A ↔ B) → (B ↔ C) → A ↔ C
     both first second = (λ a. second.0 (first.0 a), λ c. first.1 (second.1 c))
 
--- no schedule has the one move more: those found behind it are all
+-- no schedule has one move more: those found after it are all
 pub all_found : (those : OutcomesAreThose) (all : LongestIsAll) (n k : ℕ) (p : Place) (ends : Ends) (found next : List Outcome) → k ≡ suc n →
     Gathers (outcomes_up_to n p ends) [] found → goes_on (suc n) p ≡ true → Gathers (outcomes_at k p ends) found next → goes_on (suc k) p ≡ false →
     AreAllOutcomes p ends next

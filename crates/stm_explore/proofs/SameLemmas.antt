@@ -3,7 +3,7 @@ use Rattle.std.proofs.Common.{◌≡◌, ◌≢◌, ◌∙◌, ◌↔◌, IsTrue
 use Rattle.std.proofs.lemmas.List.{get_or_read, same_lists}
 use borrow.Author.Count.{below_more}
 
--- the first so many elements are the same
+-- the first n elements are the same
 abbrev pub SameBelow : {A : Type 0} → List A → List A → ℕ → Type 0
 SameBelow {A} left right n = (k : ℕ) → k < n → (d : A) → get_or left k d ≡ get_or right k d
 

@@ -15,14 +15,14 @@ use Rattle.stm_explore.specs.declared.exploring.Explored.TheVariants.{Always, Br
 use Rattle.stm_explore.specs.declared.finding.Outcomes.{Outcomes}
 use Rattle.stm_explore.specs.declared.finding.Outcomes.TheVariants.{Found, Open as OpenAt}
 
--- Every schedule keeps the rule, and the longest has so many moves; or this is the first one that does not, with the end that the
--- program comes to behind it; or every schedule of up to so many moves keeps it, and some schedule has more.
+-- Every schedule keeps the rule, and this is the length of the longest; or this is the first one that does not, with the end that the
+-- program comes to after it; or every schedule of up to this length keeps it, and some schedule is longer.
 abbrev pub IsExplored : ProgramTree → Place → Explored → Type 0
 IsExplored rule p (Always longest) = AllKeep (keeps rule) p × IsLongest longest p
 IsExplored rule p (Broken schedule end) = IsFirstBad (keeps rule) p schedule × (end_alone rule (place_after schedule p).world ≡ Some end)
 IsExplored rule p (Open kept) = AllKeepUpTo (keeps rule) kept p × (goes_on (suc kept) p ≡ true)
 
--- The same of steps of any runners, merged with a front of what the others do: whatever their number, or while they are fewer.
+-- The same of steps of any runners, merged with a prefix of what the others do: whatever their number, or while they are fewer.
 abbrev pub MergesAreKept : ProgramTree → Place → Explored → Type 0
 MergesAreKept rule p (Always longest) = (events : List WorldEvent) → IsMerge events p.others → keeps rule (world_after events p.world) ≡ true
 MergesAreKept rule p (Broken schedule end) =
@@ -34,7 +34,7 @@ MergesAreKept rule p (Open kept) =
 abbrev pub AreAllOutcomes : Place → Ends → List Outcome → Type 0
 AreAllOutcomes p ends outcomes = ((it : Outcome) → Contains outcomes it ↔ IsOutcome p ends it) × AreDistinct outcomes
 
--- these are all; or some schedule has more moves than so many (that those of up to so many were gone through is the body's matter)
+-- these are all; or some schedule is longer than this (that those of up to this length were gone through is the body's matter)
 abbrev pub IsCollected : Place → Ends → List Outcome → Option ℕ → Type 0
 IsCollected p ends found None = AreAllOutcomes p ends found
 IsCollected p ends found (Some gone_through) = goes_on (suc gone_through) p ≡ true

@@ -1,25 +1,25 @@
-//! The events that a search may take, and who is told how far it is.
+//! The events that a search may take, and who is notified of how far it is.
 ghost use Rattle.std.specs.Prelude.{◌≡◌, ◌+◌, IfErr, OnOk, OnErr};
 ghost use Rattle.stm_explore.specs.declared.halt.Halt.TheVariants.{Spent};
 
 use crate::halt::Halt;
 
-/// The observer is told where so many events are left, or a multiple of that.
+/// The observer is notified where this many events are left, or a multiple of that.
 const TOLD_EACH: u64 = 5000;
 
-/// Who is told how far a search is. It only hears of it: nothing that it does changes what the search answers.
+/// Who is notified of how far a search is. It only listens: nothing that it does changes what the search answers.
 pub trait Observer {
-    /// All schedules of up to so many moves were gone through, and there are longer ones. So many more events may be taken.
+    /// All schedules of up to `length` moves were gone through, and there are longer ones. At most `left` more events may be taken.
     fn passed(&mut self, length: u64, left: u64);
 
-    /// Events were taken, and so many more may be.
+    /// Events were taken, and at most `left` more may be.
     fn spent(&mut self, left: u64);
 
     /// The search has ended.
     fn ended(&mut self);
 }
 
-/// An observer who looks away.
+/// An observer that ignores everything.
 #[derive(Clone, Copy, Debug, PartialEq, Eq)]
 pub struct Nobody;
 
@@ -31,13 +31,13 @@ impl Observer for Nobody {
     fn ended(&mut self) {}
 }
 
-/// How many events a search may take, and who is told how far it is: before each length of schedules, where the events left are a multiple of
-/// 5000, and at its end.
+/// How many events a search may take, and who is notified of how far it is: before each length of schedules, where the events left are
+/// a multiple of 5000, and at its end.
 #[derive(Debug, Drop)]
 pub struct Budget<O> {
     /// How many events may be taken. A search leaves what it has not taken.
     pub left: u64,
-    /// Who is told.
+    /// Who is notified.
     pub observer: O,
 }
 

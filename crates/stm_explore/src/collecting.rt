@@ -1,4 +1,4 @@
-//! The outcomes of whole schedules of so many moves.
+//! The outcomes of whole schedules of a given length.
 //!
 //! Of schedules that come to the same one is gone through, as where places are looked at.
 ghost use Rattle.std.specs.Prelude.{◌≡◌, ◌<◌, ◌≤◌, true, None, IfOk, OnOk, IsErrOf};
@@ -42,8 +42,8 @@ pub(crate) fn collect_here(
     Ok(false)
 }
 
-/// Adds the outcomes of whole schedules of so many moves. The answer is whether a schedule has one move more. The last move was a quiet
-/// step of the runner `last`, if there is one. World and ends are used up: where they are left is not told.
+/// Adds the outcomes of whole schedules of `depth` moves. The answer is whether a schedule has one move more. The last move was a quiet
+/// step of the runner `last`, if there is one. World and ends are used up: no contract says where they are left.
 #[cycle(collect)]
 fn collect<O: Observer>(
     alloc: Global,
@@ -87,7 +87,7 @@ fn collect<O: Observer>(
     Ok(goes_on)
 }
 
-/// Adds the outcomes of whole schedules that have so many moves behind this one, if one more event may be taken. It is made on copies of the
+/// Adds the outcomes of whole schedules that have `depth` moves after this one, if one more event may be taken. It is made on copies of the
 /// world and of the ends, while other moves are left to be gone through from there, and else in these themselves.
 #[cycle(collect)]
 fn collect_behind<O: Observer>(
@@ -131,7 +131,7 @@ fn collect_behind<O: Observer>(
     Ok(more)
 }
 
-/// Adds the outcomes of whole schedules that have so many moves behind this one, on copies of the world and of the ends.
+/// Adds the outcomes of whole schedules that have `depth` moves after this one, on copies of the world and of the ends.
 #[cycle(collect)]
 fn collect_aside<O: Observer>(
     alloc: Global,
@@ -159,7 +159,7 @@ fn collect_aside<O: Observer>(
     Ok(more)
 }
 
-/// Makes a move, and adds the outcomes of whole schedules that have so many moves behind it, unless it is one not to be looked at.
+/// Makes a move, and adds the outcomes of whole schedules that have `depth` moves after it, unless it is one not to be looked at.
 #[cycle(collect)]
 fn collect_moved<O: Observer>(
     alloc: Global,
@@ -194,7 +194,7 @@ fn collect_moved<O: Observer>(
     Ok(false)
 }
 
-/// Adds the outcomes of whole schedules of so many moves from a world. The answer is whether a schedule has one move more.
+/// Adds the outcomes of whole schedules of `depth` moves from a world. The answer is whether a schedule has one move more.
 pub(crate) fn collect_from<O: Observer>(
     alloc: Global,
     world: &World,

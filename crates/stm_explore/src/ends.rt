@@ -80,7 +80,7 @@ pub(crate) fn known_ends(
     Ok(Sequence::of(list))
 }
 
-/// Puts down how the runner with this number ended.
+/// Records how the runner with this number ended.
 fn set_end(ends: &mut Vec<Option<RunnerEnd>>, runner: u64, end: RunnerEnd)
     ensures { ends.new.items ≡ with_end runner end ends.old.items }
 {
@@ -90,7 +90,7 @@ fn set_end(ends: &mut Vec<Option<RunnerEnd>>, runner: u64, end: RunnerEnd)
     }
 }
 
-/// Puts down what a reply tells of the ends: a runner is begun, or has ended.
+/// Records what a reply says of the ends: a runner is begun, or has ended.
 fn note_reply(ends: &mut Vec<Option<RunnerEnd>>, reply: &Reply) -> Result<(), AllocError>
     ensures { OnOk result (ends.new.items ≡ after_reply reply.now ends.old.items) }
 {
@@ -123,7 +123,7 @@ fn note_reply(ends: &mut Vec<Option<RunnerEnd>>, reply: &Reply) -> Result<(), Al
     Ok(())
 }
 
-/// Puts down what is told of the ends: nothing by a refusal.
+/// Records what a reply or a refusal says of the ends: a refusal says nothing.
 pub(crate) fn note_end(
     ends: &mut Vec<Option<RunnerEnd>>,
     reported: &Result<Reply, Denied>,
@@ -136,9 +136,9 @@ pub(crate) fn note_end(
     }
 }
 
-/// What these replies tell of the ends of runners, by the runners' numbers: nothing of one whose run goes on.
+/// What these replies say of the ends of runners, by the runners' numbers: nothing of one whose run goes on.
 ///
-/// Want of memory is the only refusal.
+/// It fails only when out of memory.
 pub fn ends_reported(
     alloc: Global,
     replies: &[Result<Reply, Denied>],

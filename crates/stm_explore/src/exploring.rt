@@ -28,17 +28,17 @@ pub enum Explored {
     Broken {
         /// The schedule.
         moves: Sequence<Move>,
-        /// The end that the rule's program has behind it: an abort or a fault.
+        /// The end that the rule's program has after it: an abort or a fault.
         end: End,
     },
     /// As many events were taken as may be, before that was decided.
     Open {
-        /// It is kept after each schedule of up to so many moves, and there are longer ones.
+        /// It is kept after each schedule of up to this many moves, and there are longer ones.
         kept: u64,
     },
 }
 
-/// Goes on behind the place itself, where the rule is kept and a move can be made. No schedule is looked at that has more moves than events may
+/// Goes on after the place itself, where the rule is kept and a move can be made. No schedule is looked at that has more moves than events may
 /// be taken.
 fn look_deeper<O: Observer>(
     alloc: Global,
@@ -90,12 +90,12 @@ fn explore_schedules<O: Observer>(
 
 /// Whether a rule is kept after every schedule: the moves of this world's runners, and of others that have these events yet to bring.
 ///
-/// The rule is a program, which is run alone on the state behind each schedule: the schedule keeps it where the run comes to its last
+/// The rule is a program, which is run alone on the state after each schedule: the schedule keeps it where the run comes to its last
 /// statement. Schedules are looked at by length, those of one length in the order of their moves, and at most as many events are taken as
-/// `budget` has left: it keeps those that are not, and the answer is `Open` only where none is left. Its observer is told how far the
-/// search is. The answer is told also of steps of any runners, merged in any way with a front of what the others bring.
+/// `budget` has left: it keeps those that are not, and the answer is `Open` only where none is left. Its observer is notified of how far the
+/// search is. The answer holds also for steps of any runners, merged in any way with a prefix of what the others bring.
 ///
-/// Want of memory is the only refusal. The world is left as it was.
+/// It fails only when out of memory. The world is left as it was.
 pub fn explore<O: Observer>(
     alloc: Global,
     world: &World,

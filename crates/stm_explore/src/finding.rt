@@ -24,7 +24,7 @@ pub enum Outcomes {
     },
     /// As many events were taken as may be, before all of them were found.
     Open {
-        /// Every schedule of up to so many moves was gone through, and there are longer ones.
+        /// Every schedule of up to this many moves was gone through, and there are longer ones.
         gone_through: u64,
     },
 }
@@ -82,11 +82,11 @@ fn collect_all<O: Observer>(
 
 /// What whole schedules come to: those of the moves of this world's runners, and of others that have these events yet to bring.
 ///
-/// In `ends` stands what is known of the runners' ends before, by the runners' numbers, as `ends_reported` tells it. Schedules are gone
+/// `ends` has what is known of the runners' ends before, by the runners' numbers, as `ends_reported` returns it. Schedules are gone
 /// through by length, and at most as many events are taken as `budget` has left: it keeps those that are not, and the answer is `Open`
-/// only where none is left. Its observer is told how far the search is.
+/// only where none is left. Its observer is notified of how far the search is.
 ///
-/// Want of memory is the only refusal. The world is left as it was.
+/// It fails only when out of memory. The world is left as it was.
 pub fn find_outcomes<O: Observer>(
     alloc: Global,
     world: &World,

@@ -6,7 +6,7 @@ use std::alloc::AllocError;
 /// What stops a search before it has an answer.
 #[derive(Debug, Clone, Copy, PartialEq, Eq)]
 pub(crate) enum Halt {
-    /// A growth was refused.
+    /// An allocation failed.
     OutOfMemory,
     /// All events that may be taken were taken.
     Spent,

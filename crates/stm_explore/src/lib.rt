@@ -2,11 +2,11 @@
 //! what whole schedules come to.
 //!
 //! Schedules are gone through by length, those of one length in the order of their moves. Of those that differ by exchanges of steps which
-//! enter nothing only the first is gone through, and what is told holds of all of them. For each length the moves are made anew from the
+//! enter nothing only the first is gone through, and the answer holds for all of them. For each length the moves are made anew from the
 //! beginning; schedules of one length that begin alike share the moves of that beginning. Each move from a place is made on a copy of its
 //! world, but the last one, which is made in the world itself, so that at most one copy more is kept than a schedule has moves.
 //!
-//! An observer is told meanwhile how far the search is.
+//! Meanwhile an observer is notified of how far the search is.
 #![tactic(auto)]
 
 mod budget;

@@ -1,4 +1,4 @@
-//! What a look at places tells.
+//! What a look at places finds.
 ghost use Rattle.std.specs.Prelude.{◌≡◌, ◌||◌, ◌∷◌, IfOk};
 ghost use Rattle.stm_explore.specs.Seen.{in_front_of};
 
@@ -7,7 +7,7 @@ use stm_history::Sequence;
 use stm_meaning::End;
 use stm_schedules::Move;
 
-/// What a look at all places after so many moves tells.
+/// What a look at all places after a given number of moves finds.
 #[derive(Debug, Drop)]
 pub(crate) enum Looked {
     /// In each of them the rule is kept.

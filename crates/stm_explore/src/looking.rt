@@ -1,9 +1,9 @@
-//! A look at all places after so many moves.
+//! A look at all places after a given number of moves.
 //!
 //! Quiet steps of different runners that stand side by side come to the same place in either order. So a quiet step is not looked at
-//! right behind a quiet step of a runner of a higher number: what stands the other way round was looked at before.
+//! right after a quiet step of a runner of a higher number: the other order was looked at before.
 //!
-//! The state behind a quiet step is the one before it, where the rule was found kept: its program is not run there once more.
+//! The state after a quiet step is the one before it, where the rule was found kept: its program is not run there once more.
 ghost use Rattle.std.specs.Prelude.{◌≡◌, ◌<◌, ◌≤◌, true, None, IfOk, OnOk, IsErrOf};
 ghost use Rattle.stm_explore.specs.declared.halt.Halt.TheVariants.{Spent};
 ghost use Rattle.stm_explore.specs.declared.looked.Looked.TheVariants.{Kept};
@@ -49,8 +49,8 @@ pub(crate) fn look_here(
     }
 }
 
-/// Looks at all places after so many moves, in the order of the schedules to them, up to the first where the rule is not kept. The last
-/// move was a quiet step of the runner `last`, if there is one. The world is used up: where it is left is not told.
+/// Looks at all places after `depth` moves, in the order of the schedules to them, up to the first where the rule is not kept. The last
+/// move was a quiet step of the runner `last`, if there is one. The world is used up: no contract says where it is left.
 #[cycle(look)]
 fn look<O: Observer>(
     alloc: Global,
@@ -94,7 +94,7 @@ fn look<O: Observer>(
     Ok(Looked::Kept { goes_on })
 }
 
-/// Looks at all places so many moves behind a move, if one more event may be taken. The move is made on a copy of the world, while other
+/// Looks at all places `depth` moves after a move, if one more event may be taken. The move is made on a copy of the world, while other
 /// moves are left to be looked at from there, and else in the world itself.
 #[cycle(look)]
 fn look_behind<O: Observer>(
@@ -124,7 +124,7 @@ fn look_behind<O: Observer>(
     Ok(looked)
 }
 
-/// Looks at all places so many moves behind a move, on a copy of the world.
+/// Looks at all places `depth` moves after a move, on a copy of the world.
 #[cycle(look)]
 fn look_aside<O: Observer>(
     alloc: Global,
@@ -148,7 +148,7 @@ fn look_aside<O: Observer>(
     Ok(looked)
 }
 
-/// Makes a move, and looks at all places so many moves behind it, unless it is one not to be looked at.
+/// Makes a move, and looks at all places `depth` moves after it, unless it is one not to be looked at.
 #[cycle(look)]
 fn look_moved<O: Observer>(
     alloc: Global,
@@ -182,7 +182,7 @@ fn look_moved<O: Observer>(
     Ok(Looked::Kept { goes_on: false })
 }
 
-/// Looks at all places after so many moves from a world, in the order of the schedules to them, up to the first where the rule is not
+/// Looks at all places after `depth` moves from a world, in the order of the schedules to them, up to the first where the rule is not
 /// kept.
 pub(crate) fn look_from<O: Observer>(
     alloc: Global,

@@ -55,7 +55,7 @@ pub(crate) fn can_move(
     Ok(has_some(left.as_slice()))
 }
 
-/// Whether an event was refused for want of memory.
+/// Whether an event was refused as out of memory.
 fn is_want(reply: &Result<Reply, Denied>) -> bool
     ensures { result ≡ ran_out reply.now }
 {
@@ -65,7 +65,7 @@ fn is_want(reply: &Result<Reply, Denied>) -> bool
     }
 }
 
-/// Takes an event. Its reply is the step's, unless a growth was refused.
+/// Takes an event. Its reply is the step's, unless an allocation failed.
 pub(crate) fn take(
     world: &mut World,
     event: &WorldEvent,
@@ -91,7 +91,7 @@ pub(crate) fn take_step(world: &mut World, runner: u64) -> Result<Result<Reply, 
     reply
 }
 
-/// Whether a reply tells that a step committed.
+/// Whether a reply says that a step committed.
 fn is_committed(reply: &Result<Reply, Denied>) -> bool
     ensures { result ≡ is_committed reply.now }
 {
@@ -149,7 +149,7 @@ pub(crate) fn make_move(
     }
 }
 
-/// Whether a move is looked at behind another one: not so a quiet step behind a quiet step of a runner of a higher number.
+/// Whether a move is looked at after another one: not where both are quiet steps and the first one's runner has the higher number.
 pub(crate) fn is_looked_at(last: Option<u64>, next: Option<u64>) -> bool
     ensures { result ≡ is_looked_at last next }
 {

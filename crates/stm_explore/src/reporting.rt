@@ -1,4 +1,4 @@
-//! Moves, with what they tell of the ends of runners.
+//! Moves, with what they say of the ends of runners.
 ghost use Rattle.std.specs.Prelude.{◌≡◌, IfOk, OnOk};
 ghost use Rattle.stm_events.specs.declared.event.WorldEvent.TheVariants.{Step};
 ghost use Rattle.stm_world.specs.World.{step, world_after, replies_to};
@@ -14,7 +14,7 @@ use stm_retry::World;
 use stm_schedules::{Move, RunnerEnd};
 use stm_world::WorldEvent;
 
-/// Makes a step of a runner, and puts down what it tells of the ends. The answer is the runner, if the step was quiet.
+/// Makes a step of a runner, and records what it says of the ends. The answer is the runner, if the step was quiet.
 fn describe_step(
     world: &mut World,
     runner: u64,
@@ -29,7 +29,7 @@ fn describe_step(
     Ok(quiet_by(runner, &reply))
 }
 
-/// Takes the next event of the others, if they have one, and puts down what it tells of the ends.
+/// Takes the next event of the others, if they have one, and records what it says of the ends.
 fn report_other(
     world: &mut World,
     others: &[WorldEvent],
@@ -45,7 +45,7 @@ fn report_other(
     note_end(ends, &reply)
 }
 
-/// Makes a move, and puts down what it tells of the ends. The answer is the runner whose quiet step it was.
+/// Makes a move, and records what it says of the ends. The answer is the runner whose quiet step it was.
 pub(crate) fn describe_move(
     world: &mut World,
     others: &[WorldEvent],

@@ -11,7 +11,7 @@ pub enum Opened<F, I> {
     File(F),
     /// Standard input.
     Standard(I),
-    /// None could be opened, for this reason.
+    /// No file could be opened, for this reason.
     Missing(io::Error),
 }
 

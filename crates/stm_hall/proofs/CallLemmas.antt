@@ -1,4 +1,4 @@
--- What a foreign transaction and an advance leave of the store is what their entries replay to; and what is told of them.
+-- What a foreign transaction and an advance leave of the store is what their entries replay to; and what each returns.
 use Rattle.std.proofs.Common.{◌≡◌, ◌⊎◌, inl, inr, ℕ, ◌<◌, ◌≤◌, zero, suc, List, [], ◌∷◌, ◌++◌, length, length-append, Option, Some, None, Result, Ok, Err}
 use Rattle.std.proofs.Common.{Bool, true, false, cond, refl, sym, ◌∙◌, ap, subst, arith}
 use Rattle.std.proofs.lemmas.Bool.{ltb-true, ltb-false}
@@ -63,7 +63,7 @@ pub txn_follows : (s : Standing) (txn : Txn) (done : Done) → s.limit ≤ most_
     Follows s (with_history s done.history) (if_changed s (with_history s done.history) txn)
 txn_follows s txn done few is = changed_follows s txn done (nat_lt (now s.history) (now done.history)) few is refl
 
--- ---- what is told of a transaction
+-- ---- what a transaction returns
 
 -- the hall is as it was
 pub same_hall : (s next : Standing) (es more : List Entry) (start : ℕ) → next ≡ s → more ≡ es → hall_of next more start ≡ hall_of s es start
@@ -85,7 +85,7 @@ refused_by : (hall : HallState) (txn : Txn) (o : Result (Step TxnAnswer) Refusal
 refused_by hall txn (Ok step) cause is = inr (is, refl)
 refused_by hall txn (Err first) cause is = inl (ap (λ (c : Refusal). Err c) (sym is))
 
--- it was refused, by the store or for want of room
+-- it was refused, by the store or because no room could be made
 pub reports_refused : (hall after : HallState) (txn : Txn) (cause : Refusal) → IsRefusalOf (transacted hall.standing txn) cause → after ≡ hall →
     TxnReturns (made hall txn) hall (Err cause) after
 reports_refused hall after txn cause is same = (refused_by hall txn (transacted hall.standing txn) cause is, same)
@@ -98,7 +98,7 @@ by_result (Err cause) = refl
 pub wanted : {A : Type 0} (o : Result A Refusal) (found : Option Refusal) → found ≡ refusal_of o → IsRefusalOf o (or_out_of_memory found)
 wanted o found is = subst (λ (f : Option Refusal). IsRefusalOf o (or_out_of_memory f)) (sym is) (by_result o)
 
--- as the code tells it
+-- as the code returns it
 pub reports_wanted : (hall after : HallState) (txn : Txn) (found : Option Refusal) (reported : Refusal) → found ≡ refusal_of (transacted hall.standing txn) →
     reported ≡ or_out_of_memory found → after ≡ hall → TxnReturns (made hall txn) hall (Err reported) after
 reports_wanted hall after txn found reported is same kept =
@@ -150,7 +150,7 @@ due_by : (many : ℕ) (s : Standing) (o : Option ℕ) → first_due s.live s.mom
 due_by many s None due goes = nothing_follows s
 due_by many s (Some id) due goes = ended_by many s id (ended s id) refl (due_lives s.live s.moment id due) goes
 
--- so many expiries at most
+-- at most this many expiries
 expiries_follow : (many : ℕ) (s : Standing) → Follows s (expire_up_to many s).leaves (expiries (expire_up_to many s).expired)
 expiries_follow zero s = nothing_follows s
 expiries_follow (suc many) s = due_by many s (first_due s.live s.moment) refl (λ next. expiries_follow many next)
@@ -181,9 +181,9 @@ pub advance_follows : (s left : Standing) (moment : ℕ) (expired : List Expired
 advance_follows s left moment expired cause is =
     subst (λ (a : Advance). Follows s a.leaves (expiries a.expired)) is (advance_by s moment (nat_lt moment s.moment))
 
--- ---- what is told of an advance
+-- ---- what an advance returns
 
--- it stopped on its way, for its definition's cause or for want of memory
+-- it stopped on its way, for its definition's cause or because an allocation failed
 pub reports_stopped : (before after : HallState) (moment : ℕ) (expired : List Expired) (cause : Refusal) → before.standing.moment ≤ moment →
     StoreCutShort (advanced before.standing moment) expired cause after.standing →
     (before.standing.moment ≤ moment → HasCome (at_moment before.standing moment) expired after.standing) →

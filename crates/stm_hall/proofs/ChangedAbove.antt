@@ -70,7 +70,7 @@ newest opening n (c ∷ revisions) low high = ⊎_elim
     other)
     (cases_order (number_of_last opening (c ∷ revisions)) (suc n))
 
--- whether the revision changes the key is told by its events
+-- whether the revision changes the key is seen from its events
 next_up : (opening : Opening) (since n : ℕ) (key : List ℕ) (revisions : List (List Change)) (r : Newest opening n revisions) → since ≤ n →
     changes_above opening since key (revisions_up_to opening (suc n) revisions)
     ≡ (is_some (event_about key (events_numbered opening (suc n) revisions)) || changes_above opening since key (revisions_up_to opening n revisions))
@@ -183,7 +183,7 @@ moved_up true true c = refl
 moved_up true false c = refl
 moved_up false b c = refl
 
--- so a change above a number is one that the state at the opening tells, or one above both
+-- so a change above a number is one that the state at the opening shows, or one above both
 pub above_the_opening : (opening : Opening) (since : ℕ) (key : List ℕ) (revisions : List (List Change)) →
     changes_above opening since key revisions
     ≡ (nat_lt since (mod_of (opened_state opening key)) || changes_above opening (max since opening.number) key revisions)
@@ -200,7 +200,7 @@ above_the_opening opening since key (c ∷ revisions) =
     ∙ moved_up (nat_lt (max since opening.number) last && is_some (change_of key c)) opened
     (changes_above opening (max since opening.number) key revisions)
 
--- the state at the opening tells a change
+-- the state at the opening shows a change
 pub reported_opened : (h : History) (since : ℕ) (key : List ℕ) → nat_lt since (mod_of (opened_state h.opening key)) ≡ true →
     changes_above h.opening since key h.revisions ≡ true
 reported_opened h since key is =

@@ -56,7 +56,7 @@ revision_unchanged s next txn answer reads step =
     let a : IsAnswered s next txn answer = is_answered s next txn answer step in
     sym (answer_revision s next txn answer a) ∙ ap now (done_unchanged s next txn answer a reads)
 
--- ---- what is told
+-- ---- what is returned
 
 -- the fetch by a caller that has seen more, and by another
 fetched_by : Standing → ℕ → Txn → Bool → Result TxnAnswer FetchRefusal

@@ -25,7 +25,7 @@ drop_all [] (suc i) all = refl
 drop_all (x ∷ xs) zero all = let more : suc (length xs) ≤ zero = all in absurd (omega (arith, more))
 drop_all (x ∷ xs) (suc i) all = let more : suc (length xs) ≤ suc i = all in let fewer : length xs ≤ i = omega (arith, more) in drop_all xs i fewer
 
--- one more element of a front is mapped
+-- one more element of a prefix is mapped
 pub mapped_more : {X Y : Type 0} (f : X → Y) (xs : List X) (i : ℕ) (x : X) → slice_get xs i ≡ Some x →
     map f (take i xs) ++ f x ∷ [] ≡ map f (take (i + 1) xs)
 mapped_more f xs i x at =
@@ -47,7 +47,7 @@ here state f xs before i x b at is =
     ap (λ (l : List _). first_failed state (before + i) (map f l)) (drop_at xs i x at)
     ∙ ap (λ (t : Bool). cond t (first_failed state (before + i + 1) (map f (drop (suc i) xs))) (found_at (before + i) (mod_of (state (f x).key)))) is
 
--- one holds, so it is looked for behind it
+-- one holds, so the failed one is looked for after it
 pub passed_by : {X : Type 0} (state : List ℕ → Option KeyState) (f : X → Compare) (xs : List X) (before i : ℕ) (x : X) (found : Option FailedCompare) →
     slice_get xs i ≡ Some x → holds (f x) (state (f x).key) ≡ true → first_failed state (before + i) (map f (drop i xs)) ≡ found →
     first_failed state (before + (i + 1)) (map f (drop (i + 1) xs)) ≡ found
@@ -74,7 +74,7 @@ pub none_fails : {X : Type 0} (state : List ℕ → Option KeyState) (f : X → 
 none_fails state f xs before i found all so_far =
     sym (ap (λ (l : List _). first_failed state (before + i) (map f l)) (drop_all xs i all)) ∙ so_far
 
--- ---- two lists behind one another
+-- ---- one list after another
 
 pub fails_first : (state : List ℕ → Option KeyState) (from : ℕ) (cs ds : List Compare) (f : FailedCompare) → first_failed state from cs ≡ Some f →
     first_failed state from (cs ++ ds) ≡ Some f
@@ -113,7 +113,7 @@ does_not : (b : Bool) → (b ≡ true → ⊥) → b ≡ false
 does_not true isnt = absurd (isnt refl)
 does_not false isnt = refl
 
--- by what is told of a key that was read
+-- by what is reported of a key that was read
 pub read_holds : (key : List ℕ) (number : ℕ) (s : Option KeyState) (reported : Bool) → (reported ≡ true) ↔ (mod_of s ≡ number) → reported ≡ true →
     holds (mod_is key number) s ≡ true
 read_holds key number s reported means so = (mod_compares.equal key number s).1 (means.0 so)

@@ -137,7 +137,7 @@ written_by s next revision (Err cause) step = absurd (cc)
 committed_to : ℕ → ℕ → HallState → Result (HallStep Verdict) CommitRefusal
 committed_to place revision next = Ok record { answer = Committed place revision; next = next }
 
--- the commit is made: its changes are in the store, and its entry behind the others
+-- the commit is made: its changes are in the store, and its entry after the others
 pub reports_made : (hall after : HallState) (ready : ReadyRun) (changes : List Change) (next : Standing) (index revision : ℕ) →
     cause_of hall.standing ready ≡ None → IsRunOnItsAnswers ready → changes ≡ map as_change ready.writes →
     written hall.standing changes ≡ Ok record { answer = revision; next = next } → index ≡ length hall.entries →
@@ -266,7 +266,7 @@ mod_of_fits : (kv : Option KeyState) → IfSome kv StateFits → mod_of kv ≤ H
 mod_of_fits None fit = omega arith
 mod_of_fits (Some s) fit = fit.numbers.mod_rev
 
--- the modification revision that a failed compare tells
+-- the modification revision that a failed compare reports
 pub failed_fits : (h : History) (compares : List Compare) (f : FailedCompare) → StatesFit h → first_failed (key_now h) 0 compares ≡ Some f →
     f.mod_rev ≤ HIGHEST_NUMBER
 failed_fits h compares f fit is =

@@ -137,7 +137,7 @@ pub stopped_keeps : (before after : HallState) (moment : ℕ) (expired : List Ex
 stopped_keeps before after moment expired cause locked (inl a) = advanced_keeps before after moment expired (Some cause) locked a
 stopped_keeps before after moment expired cause locked (inr want) = want_keeps before after moment expired locked want.left
 
--- as the code tells it
+-- as the code returns it
 pub advance_keeps : {X : Type 0} (items : X → List Expired) (before after : HallState) (moment : ℕ) (result : Result X AdvanceRefused) → IsLocked before →
     IfOk result (λ (x : X). IsAdvanced before moment (items x) None after) →
     IfErr result (λ (stopped : AdvanceRefused). HasStopped before moment stopped.expired stopped.cause after) → Keeps before after

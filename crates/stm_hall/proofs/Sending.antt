@@ -1,4 +1,4 @@
--- What the transaction of a commit comes to is told as the verdict.
+-- What the transaction of a commit comes to is returned as the verdict.
 use Rattle.std.proofs.Common.{◌≡◌, ℕ, ◌<◌, List, length, Option, Some, None, Result, Ok, Err, refl, sym, ◌∙◌, ap, subst}
 use Rattle.std.proofs.Common.{arith}
 use Rattle.std.specs.Prelude.{slice_get}
@@ -83,7 +83,7 @@ is_answered s after txn answer step =
     let a = answered_by s after answer (outcome (terms_of s) txn) step in
     record { done = a.0; came = a.1; answered = a.2; left = a.3 }
 
--- the revision that it tells is the store's after it
+-- the revision that it returns is the store's after it
 pub answer_revision : (s after : Standing) (txn : Txn) (answer : TxnAnswer) (a : IsAnswered s after txn answer) → now a.done.history ≡ answer.revision
 answer_revision s after txn answer a =
     let made = (is_done (terms_of s) txn a.done a.came).made in
@@ -98,7 +98,7 @@ place_seen ready txn i is within =
     let count : length txn.compares ≡ length (compares_of ready.level ready.answers ready.writes) = ap (λ (cs : List Compare). length cs) is in
     omega (arith, count, within, compares_are_seen ready.level ready.answers ready.writes)
 
--- what is told of a commit elsewhere, as a verdict
+-- the outcome of a commit, as a verdict
 verdict_reported : Sent → Verdict
 verdict_reported (SentCommitted revision) = Committed 0 revision
 verdict_reported (SentFailed key seen now_modified answers) = Failed key seen now_modified answers

@@ -28,17 +28,17 @@ entered hall txn (Err cause) = Err cause
 abbrev pub made : HallState → Txn → Result (HallStep TxnAnswer) Refusal
 made hall txn = entered hall txn (transacted hall.standing txn)
 
--- It comes to what its definition says. Want of memory is told only where the definition answers. A refusal leaves the hall as it was.
+-- It comes to what its definition says. OutOfMemory is returned only where the definition answers. A refusal leaves the hall as it was.
 abbrev pub TxnReturns : Result (HallStep TxnAnswer) Refusal → HallState → Result TxnAnswer Refusal → HallState → Type 0
 TxnReturns defined before (Ok answer) after = defined ≡ Ok record { answer = answer; next = after }
 TxnReturns defined before (Err cause) after = ((defined ≡ Err cause) ⊎ ((cause ≡ OutOfMemory) × IsOk defined)) × (after ≡ before)
 
--- the same, of the store and the entries of a hall, whenever that was made
+-- the same, of the store and the entries of a hall, whatever counter it began with
 abbrev pub MakesOf : Txn → Result TxnAnswer Refusal → Standing → List Entry → Standing → List Entry → Type 0
 MakesOf txn result s entries next more = (start : ℕ) →
     TxnReturns (made (hall_of s entries start) txn) (hall_of s entries start) result (hall_of next more start)
 
--- why a call is refused for which room could not be made: the store's cause, or else want of memory
+-- why a call is refused for which no room could be made: the store's cause, or else OutOfMemory
 abbrev pub or_out_of_memory : Option Refusal → Refusal
 or_out_of_memory None = OutOfMemory
 or_out_of_memory (Some cause) = cause
@@ -52,29 +52,29 @@ expiries expired = map (λ (e : Expired). Expire e.id) expired
 abbrev pub after_expiries : HallState → Standing → List Expired → HallState
 after_expiries hall left expired = gone_on hall left (expiries expired)
 
--- what the advance comes to, told with the leases that expired and why it stopped, if it did
+-- what the advance comes to, returned with the leases that expired and why it stopped, if it did
 pub record IsAdvanced (before : HallState) (moment : ℕ) (expired : List Expired) (cause : Option Refusal) (after : HallState) : Type 0 where
   pub advance : advanced before.standing moment ≡ record { expired = expired; leaves = after.standing; cause = cause }
   pub hall : after ≡ after_expiries before after.standing expired
 
--- Want of memory cut it short: the moment is set, these leases expired in their order and are entries, and the rest, of which the
+-- A failed allocation cut it short: the moment is set, these leases expired in their order and are entries, and the rest, of which the
 -- first could end, stays due.
 pub record IsCutShort (before : HallState) (moment : ℕ) (expired : List Expired) (after : HallState) : Type 0 where
   pub come : HasCome (at_moment before.standing moment) expired after.standing
   pub stopped : IsStopped (advanced before.standing moment) expired after.standing
   pub hall : after ≡ after_expiries before after.standing expired
 
--- Want of memory is told only of an advance that does not go back. The hall is as it was, or the advance was cut short.
+-- OutOfMemory is returned only of an advance that does not go back. The hall is as it was, or the advance was cut short.
 pub record IsWant (before : HallState) (moment : ℕ) (expired : List Expired) (cause : Refusal) (after : HallState) : Type 0 where
   pub is_want : cause ≡ OutOfMemory
   pub forward : before.standing.moment ≤ moment
   pub left : ((expired ≡ []) × (after ≡ before)) ⊎ IsCutShort before moment expired after
 
--- an advance that stopped: for its definition's cause, or for want of memory
+-- an advance that stopped: for its definition's cause, or because an allocation failed
 abbrev pub HasStopped : HallState → ℕ → List Expired → Refusal → HallState → Type 0
 HasStopped before moment expired cause after = IsAdvanced before moment expired (Some cause) after ⊎ IsWant before moment expired cause after
 
--- the same, of the store and the entries of a hall, whenever that was made
+-- the same, of the store and the entries of a hall, whatever counter it began with
 abbrev pub AdvancesTo : ℕ → List Expired → Standing → List Entry → Standing → List Entry → Type 0
 AdvancesTo moment expired s entries next more = (start : ℕ) → IsAdvanced (hall_of s entries start) moment expired None (hall_of next more start)
 

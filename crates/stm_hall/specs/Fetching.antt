@@ -1,7 +1,7 @@
 -- What a fetch in a hall answers.
 --
 -- etcd's API reference, "Range" and "Transaction": reads are answered by the store as it is now. That a caller says which revision
--- it has seen, and is told where the store is behind it, is our own.
+-- it has seen, and is refused where the store is behind that, is our own.
 use Rattle.std.specs.Prelude.{◌≡◌, ◌⊎◌, ℕ, Bool, true, false, nat_lt, if◌then◌else◌, Result, Ok, Err, IsOk}
 use Rattle.std.specs.List.{list_all}
 use Rattle.stm_history.specs.declared.key_state.ReadAnswer.{ReadAnswer}
@@ -37,12 +37,12 @@ abbrev pub fetched : Standing → ℕ → Txn → Result TxnAnswer FetchRefusal
 fetched s seen txn =
     if nat_lt (now s.history) seen then Err (Behind seen (now s.history)) else answered (outcome (terms_of s) txn)
 
--- A fetch answers what its definition says. Want of memory is told only where the definition answers.
+-- A fetch answers what its definition says. OutOfMemory is returned only where the definition answers.
 abbrev pub FetchReturns : Result TxnAnswer FetchRefusal → Result TxnAnswer FetchRefusal → Type 0
 FetchReturns defined (Ok answer) = defined ≡ Ok answer
 FetchReturns defined (Err cause) = (defined ≡ Err cause) ⊎ ((cause ≡ Store OutOfMemory) × IsOk defined)
 
--- the fetch of one key, told as the transaction of its read is
+-- the fetch of one key, returned as the transaction of its read is
 abbrev pub reported_alone : Result ReadAnswer FetchRefusal → Result TxnAnswer FetchRefusal
 reported_alone (Ok read) = Ok (one_read read)
 reported_alone (Err cause) = Err cause

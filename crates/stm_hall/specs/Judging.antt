@@ -1,7 +1,7 @@
 -- Why a commit is turned down before anything is written.
 --
 -- The documentation of the Go package `clientv3/concurrency`, "STM": a commit is one transaction. The order in which it is judged is that of a transaction
--- and, behind its compares, this hall's own.
+-- and, after its compares, this hall's own.
 use Rattle.std.specs.Prelude.{◌≡◌, ℕ, List, Option, None, Some, Result}
 use Rattle.stm_history.specs.declared.key_state.ReadAnswer.{ReadAnswer}
 use Rattle.stm_history.specs.History.{History, key_now, mod_of, value_of}

@@ -1,4 +1,4 @@
--- The locked history: what is so of every hall, so whenever nobody is inside a call of it.
+-- The locked history: what holds of every hall whenever nobody is inside one of its calls.
 --
 -- etcd's API reference, "Revisions": one history with one counter. The Go package `clientv3/concurrency`, "STM": the reads and
 -- writes of a committed program are as one step. That a hall keeps its entries, and that they replay, is our own.

@@ -5,7 +5,7 @@ use Rattle.std.specs.Prelude.{◌≡◌, ◌≤◌, ℕ, List, [], ◌∷◌}
 use Rattle.stm_history.specs.declared.key_state.ReadAnswer.{ReadAnswer}
 use Rattle.stm_history.specs.History.{History, IsTrueAnswer}
 
--- the answer is true of the history, at a revision that is no 0
+-- the answer is true of the history, at a revision that is not 0
 abbrev pub IsShown : History → ReadAnswer → Type 0
 IsShown h a = (1 ≤ a.of_rev) × IsTrueAnswer h a
 

@@ -41,7 +41,7 @@ txn_of ready = commit_of ready.level ready.answers ready.writes
 abbrev pub entry_of : ReadyRun → ℕ → Entry
 entry_of ready revision = Program ready.program ready.level (answers_kept ready.level ready.answers) ready.output ready.trace revision
 
--- an answer says another value than its key has now; an absent key has the empty text
+-- an answer has another value than its key has now; an absent key has the empty text
 abbrev pub has_other_value : History → ReadAnswer → Bool
 has_other_value h a = not (bytes_eq (value_of a.kv) (value_of (key_now h a.key)))
 
@@ -61,7 +61,7 @@ abbrev pub unless_unvouched : Option ReadAnswer → Result (HallStep Verdict) Co
 unless_unvouched None next = next
 unless_unvouched (Some a) next = Err (Unvouched a.key)
 
--- a failed compare is told: its key, what was seen of it, its modification revision now, and what was read again
+-- a failed compare is reported: its key, what was seen of it, its modification revision now, and what was read again
 abbrev pub failed_with : ReadyRun → FailedCompare → List ReadAnswer → Verdict
 failed_with ready failed answers =
     let seen : Seen = seen_in (slice_get (seen_by ready.answers ready.writes) failed.index) in
@@ -92,12 +92,12 @@ abbrev pub CommitReturns : Result (HallStep Verdict) CommitRefusal → HallState
 CommitReturns defined before (Ok verdict) after = defined ≡ Ok record { answer = verdict; next = after }
 CommitReturns defined before (Err cause) after = ((cause ≡ Store OutOfMemory) ⊎ (defined ≡ Err cause)) × (after ≡ before)
 
--- the same, of the store and the entries of a hall, whenever that was made
+-- the same, of the store and the entries of a hall, whatever counter it began with
 abbrev pub CommitsAs : ReadyRun → Result Verdict CommitRefusal → Standing → List Entry → Standing → List Entry → Type 0
 CommitsAs ready result s entries next more = (start : ℕ) →
     CommitReturns (verdict_of (hall_of s entries start) ready) (hall_of s entries start) result (hall_of next more start)
 
--- the answers that a failed commit tells may be prefetched for the next attempt
+-- the answers that a failed commit returns may be prefetched for the next attempt
 abbrev pub CanGoOn : Verdict → Type 0
 CanGoOn (Committed index revision) = Unit {0}
 CanGoOn (Failed key seen now_modified answers) = MayBePrefetched answers

@@ -1,6 +1,6 @@
-//! The calls of a hall's store that are no commit. Each is an entry where it is one.
+//! The calls of a hall's store other than commits, with the entries that they leave.
 //!
-//! Room for the entries is made before the call, so that a call that the store took is never without them.
+//! Room for the entries is made before the call, so that every call that the store took has them.
 ghost use Rattle.std.specs.Prelude.{◌≡◌, ◌+◌, ◌≤◌, ◌<◌, ◌++◌, ◌∷◌, [], if◌then◌else◌, length, vec_len, vec_capacity, false, Some, None, IfSome, IsOk, IfOk, IfErr};
 ghost use Rattle.std.specs.Option.{option_map_or};
 ghost use Rattle.stm_entries.specs.declared.entry.Entry.TheVariants.{Foreign};
@@ -78,7 +78,7 @@ fn prepare_txn(
     Ok(Some(copy))
 }
 
-/// The cause of a call for which room could not be made: the store's, or else want of memory.
+/// The cause of a call for which no room could be made: the store's, or else `OutOfMemory`.
 fn cause_or_out_of_memory(cause: Option<Refusal>) -> Refusal
     ensures { result ≡ or_out_of_memory cause }
 {

@@ -37,7 +37,7 @@ fn find_false_value(keys: &Keys, ready: &Ready) -> Option<Cause>
 
 /// Why a commit is turned down with which nothing is wrong as a whole. Its compares are no more than any store takes.
 ///
-/// Most are turned down for nothing, which is told by one look-up of each key.
+/// Most are turned down for nothing, which one look-up of each key shows.
 fn find_failure(keys: &Keys, ready: &Ready) -> Option<Cause>
     requires { length (txn_of ready.now).compares ≤ most_operations }
     ensures { result ≡ cause_compared keys.now.history ready.now }
@@ -51,7 +51,7 @@ fn find_failure(keys: &Keys, ready: &Ready) -> Option<Cause>
     }
 }
 
-/// Why a store turns down the commit of an attempt as it is now, where this is whether that names an empty key. It takes no memory.
+/// Why a store, as it is now, turns down the commit of an attempt; `has_empty` is whether the commit names an empty key. It takes no memory.
 pub(crate) fn find_cause(store: &Store, has_empty: bool, ready: &Ready) -> Option<Cause>
     requires { has_empty ≡ has_empty_key (txn_of ready.now) }
     ensures { result ≡ cause_of store.now.standing ready.now }

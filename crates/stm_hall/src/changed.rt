@@ -46,7 +46,7 @@ fn is_modified_above(state: Option<&KeyState>, since: u64) -> bool
     }
 }
 
-/// Whether the history changes a key above a revision. What the key is at the opening tells of the revisions that were dropped.
+/// Whether the history changes a key above a revision. For the revisions that were dropped, the key's state at the opening shows it.
 pub(crate) fn is_changed_above(keys: &Keys, key: &str, since: u64) -> bool
     ensures { result ≡ changes_above keys.now.history.opening since key.now keys.now.history.revisions }
 {

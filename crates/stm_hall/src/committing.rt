@@ -59,7 +59,7 @@ fn report_failure(
     }
 }
 
-/// Tells that a compare of an attempt's commit failed, and what the keys that it read are now.
+/// Reports that a compare of an attempt's commit failed, and what the keys that it read are now.
 fn fail(
     alloc: Global,
     store: &Store,
@@ -117,7 +117,7 @@ fn turn_down(
 
 /// Makes the commit of an attempt that nothing but the store's leases, its last revision and memory can refuse.
 ///
-/// The room of its entry is made before its changes, so that a commit that the store took is never without it.
+/// The room of its entry is made before its changes, so that every commit that the store took has it.
 fn make(
     alloc: Global,
     store: &mut Store,

@@ -64,8 +64,8 @@ fn find_changed(keys: &Keys, answers: &ReadSet) -> Option<FailedCompare>
     None
 }
 
-/// The first of these writes whose key is modified above a revision. Its place is counted from behind so many compares: with them they are no more than
-/// any store takes.
+/// The first of these writes whose key is modified above a revision. Its place is counted after `before` other compares; all of them together are
+/// no more than any store takes.
 fn find_modified(
     keys: &Keys,
     first: u64,
@@ -87,7 +87,7 @@ fn find_modified(
     None
 }
 
-/// At SerializableSnapshot: the first of the keys that were read, and behind those of the keys that are written.
+/// At SerializableSnapshot: the first of the keys that were read, and after all of those the first of the keys that are written.
 fn find_either(keys: &Keys, answers: &ReadSet, writes: &WriteBuffer) -> Option<FailedCompare>
     requires { length answers.now + length writes.now ≤ most_operations }
     ensures { result ≡ first_failed (key_now keys.now.history) 0 (compares_of SerializableSnapshot answers.now writes.now) }
@@ -98,8 +98,8 @@ fn find_either(keys: &Keys, answers: &ReadSet, writes: &WriteBuffer) -> Option<F
     }
 }
 
-/// The first compare of an attempt's commit that fails now: that of a key that was read, or, at SerializableSnapshot, behind those that of a key that is
-/// written. They are no more than any store takes.
+/// The first compare of an attempt's commit that fails now: of a key that was read, or, at SerializableSnapshot, after all of those, of a key that is
+/// written. The compares are no more than any store takes.
 pub(crate) fn find_conflict(keys: &Keys, ready: &Ready) -> Option<FailedCompare>
     requires { length (txn_of ready.now).compares ≤ most_operations }
     ensures { result ≡ first_failed (key_now keys.now.history) 0 (txn_of ready.now).compares }

@@ -54,8 +54,8 @@ pub(crate) fn names_empty_key(ready: &Ready) -> bool
     compares_empty_key(ready.level, &ready.answers)
 }
 
-/// Why the transaction of an attempt would be refused as a whole, by a store that takes so many operations, where this is whether it names an empty key:
-/// for its number of operations, or else for that key. No two of its writes are of one key.
+/// Why the transaction of an attempt would be refused as a whole by a store with this limit of operations: for its number of operations, or else
+/// for an empty key, which it names where `has_empty` is true. No two of its writes are of one key.
 pub(crate) fn find_fault(limit: usize, has_empty: bool, ready: &Ready) -> Option<Refusal>
     requires { has_empty ≡ has_empty_key (txn_of ready.now) }
     ensures { result ≡ fault_of limit (txn_of ready.now) }

@@ -107,7 +107,7 @@ impl Hall {
 
     /// Commits an attempt that is ready, by one transaction.
     ///
-    /// `Committed` says that no compare failed and the writes are applied; the attempt is an entry, whose place is told.
+    /// `Committed` says that no compare failed and the writes are applied; the attempt is an entry, whose place is returned.
     /// The store changes as the program changes it that runs alone at this moment, at `ReadCommitted` on the answers that
     /// the attempt read. `Failed` says that a compare failed, and the hall is as it was. Its answers may be prefetched for
     /// the next attempt.
@@ -139,7 +139,7 @@ impl Hall {
 
     /// Makes a transaction of another client, which is an entry where it changed something.
     ///
-    /// It is refused as the store's `txn` refuses it, and then the hall is as it was. Want of memory is told only of a
+    /// It is refused as the store's `txn` refuses it, and then the hall is as it was. `OutOfMemory` is returned only of a
     /// transaction that the store takes.
     pub fn foreign(&mut self, txn: &Txn) -> Result<TxnAnswer, Refusal>
         ensures made { TxnReturns (made self.old txn.now) self.old result self.new }
@@ -151,7 +151,7 @@ impl Hall {
     /// Sets the moment, and ends the leases that are due, each with its keys, as the store's `advance` does. Each is an
     /// entry.
     ///
-    /// `TimeGoesBack` changes nothing. On `RevisionsUsedUp` the leases that expired stay expired, are told and are
+    /// `TimeGoesBack` changes nothing. On `RevisionsUsedUp` the leases that expired stay expired, are returned and are
     /// entries, the rest stays due, and the moment is set. `OutOfMemory` leaves the hall so, or as it was.
     pub fn advance(&mut self, moment: u64) -> Result<Vec<Expired>, AdvanceRefused>
         ensures ok { IfOk result (λ expired. IsAdvanced self.old moment expired.items None self.new) }
@@ -179,7 +179,7 @@ impl Hall {
         is_changed_above(self.log.store.keys(), key, since)
     }
 
-    /// Whether an answer is true of the history: it shows its key as it was at a revision that the counter has reached, and that is no 0, which names
+    /// Whether an answer is true of the history: it shows its key as it was at a revision that the counter has reached, and that is not 0, which names
     /// the current one. It takes no memory.
     pub fn shows(&self, answer: &ReadAnswer) -> bool
         ensures { IsTrue result ↔ IsShown self.now.standing.history answer.now }
@@ -187,7 +187,7 @@ impl Hall {
         is_shown(self.log.store.keys(), answer)
     }
 
-    /// What changed the store since the hall was made, the first first. It takes no memory.
+    /// What changed the store since the hall was made, in order. It takes no memory.
     pub fn entries(&self) -> &[Entry]
         ensures entries { result.now ≡ self.now.entries }
         ensures locked { IsLocked self.now }
@@ -195,7 +195,7 @@ impl Hall {
         self.log.entries.as_slice()
     }
 
-    /// The state of the store's keys, as programs run on it. Want of memory is the only refusal.
+    /// The state of the store's keys, as programs run on it. It fails only where an allocation failed.
     pub fn state(&self) -> Result<State, AllocError>
         ensures { IfOk result (λ state. IsStateOf self.now.standing.history state) }
     {

@@ -1,6 +1,6 @@
 //! The hall: a store that many callers commit to, one call after another, and what they changed of it.
 //!
-//! A hall is what stands behind the one lock of a run on several threads. A caller evaluates its program by itself; it
+//! A hall is what a run on several threads keeps under its one lock. A caller evaluates its program by itself; it
 //! comes to the hall for the answer to a fetch, and with an attempt that is ready to commit. The hall keeps what
 //! changed its store as entries, which replay to the store as it is now.
 #![tactic(auto)]

@@ -52,7 +52,7 @@ impl Model for Prepared {
 impl Prepared {
     /// Why a store turns its commit down before anything is written, as it is now. It takes no memory.
     ///
-    /// The attempt's type tells that it is a run on its answers.
+    /// By the invariant of its type the attempt is a run on its answers.
     pub(crate) fn find_cause(&self, store: &Store) -> Option<Cause>
         ensures cause { result ≡ cause_of store.now.standing self.now }
         ensures run { IsRunOnItsAnswers self.now }
@@ -113,7 +113,7 @@ fn changes_of(alloc: Global, writes: &WriteBuffer) -> Result<Vec<Change>, AllocE
     Ok(changes)
 }
 
-/// Prepares the commit of an attempt. Want of memory is the only refusal.
+/// Prepares the commit of an attempt. It fails only where an allocation failed.
 pub fn prepare(alloc: Global, ready: Ready) -> Result<Prepared, AllocError>
     ensures { IfOk result (λ prepared. prepared ≡ ready) }
 {
@@ -129,12 +129,12 @@ pub fn prepare(alloc: Global, ready: Ready) -> Result<Prepared, AllocError>
     })
 }
 
-/// Prepares the commit of a copy of an attempt. Want of memory is the only refusal.
+/// Prepares the commit of a copy of an attempt. It fails only where an allocation failed.
 pub(crate) fn prepare_copy(alloc: Global, ready: &Ready) -> Result<Prepared, AllocError>
     ensures prepared { IfOk result (λ prepared. prepared ≡ ready.now) }
     ensures run { IsRunOnItsAnswers ready.now }
 {
-    // (the attempt's type tells that it is a run on its answers)
+    // (by the invariant of its type the attempt is a run on its answers)
     let _is_run = ready.answers.as_slice();
     let copy = copy_of(alloc, ready)?;
     prepare(alloc, copy)

@@ -17,7 +17,7 @@ fn are_same(left: &KeyState, right: &KeyState) -> bool
         && left.value == right.value
 }
 
-/// Whether a key is absent twice, or has the same state.
+/// Whether a key is absent in both, or has the same state in both.
 fn is_same_state(left: Option<&KeyState>, right: &Option<KeyState>) -> bool
     ensures { IsTrue result ↔ option_copied left.entry ≡ right.now }
 {
@@ -30,7 +30,7 @@ fn is_same_state(left: Option<&KeyState>, right: &Option<KeyState>) -> bool
     }
 }
 
-/// Whether an answer is true of the history, at a revision that is no 0.
+/// Whether an answer is true of the history, at a revision that is not 0.
 pub(crate) fn is_shown(keys: &Keys, answer: &ReadAnswer) -> bool
     ensures { IsTrue result ↔ IsShown keys.now.history answer.now }
 {

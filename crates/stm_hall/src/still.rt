@@ -42,8 +42,8 @@ fn reads_stand(keys: &Keys, answers: &ReadSet) -> bool
     are_still(keys, answers.as_slice())
 }
 
-/// Whether the commit of an attempt, with which nothing is wrong as a whole, is turned down for no compare and no value. At the levels that compare what was
-/// read, and nothing else, this is told where it is so; at the others it is left open.
+/// True only where the commit of an attempt, with which nothing is wrong as a whole, is turned down for no compare and no value. At the levels that
+/// compare what was read, and nothing else, it is true where each key still is as it was read; at the others it is never true.
 pub(crate) fn is_clear(keys: &Keys, ready: &Ready) -> bool
     ensures { result ≡ true → cause_compared keys.now.history ready.now ≡ None }
 {

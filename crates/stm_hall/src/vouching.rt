@@ -31,14 +31,14 @@ fn value_now<'a>(keys: &'a Keys, key: &str) -> &'a str
     }
 }
 
-/// Whether an answer says another value than its key has now.
+/// Whether an answer has another value than its key has now.
 fn has_other_value(keys: &Keys, answer: &ReadAnswer) -> bool
     ensures { result ≡ has_other_value keys.now.history answer.now }
 {
     value_in(&answer.kv) != value_now(keys, answer.key.as_str())
 }
 
-/// The first of these answers that says another value than its key has now.
+/// The first of these answers that has another value than its key has now.
 fn find_other_value<'a>(keys: &Keys, answers: &'a [ReadAnswer]) -> Option<&'a ReadAnswer>
     ensures { option_copied result ≡ find (has_other_value keys.now.history) answers.now }
 {
@@ -57,7 +57,7 @@ pub(crate) fn is_comparing(level: Level) -> bool
     }
 }
 
-/// The first answer of an attempt, at a level that compares, that says another value than its key has now.
+/// The first answer of an attempt, at a level that compares, that has another value than its key has now.
 pub(crate) fn find_unvouched<'a>(keys: &Keys, ready: &'a Ready) -> Option<&'a ReadAnswer>
     ensures { option_copied result ≡ first_unvouched keys.now.history ready.now.level ready.now.answers }
 {

@@ -1,4 +1,4 @@
--- Where the bytes of a text stand.
+-- Where the bytes of a text are stored.
 use Rattle.std.specs.Prelude.{ℕ, List, string_bytes}
 use Rattle.stm_history.specs.declared.text.Bytes.{Bytes}
 use Rattle.stm_history.specs.declared.text.Bytes.TheVariants.{Short, Long}

@@ -25,7 +25,7 @@ impl Model for Revision {
 }
 
 impl Revision {
-    /// The revision of these changes. It takes no memory.
+    /// The revision of these changes. It allocates nothing.
     pub fn of(changes: Vec<Change>) -> Revision
         requires { IsRevision changes.items }
         ensures { result ≡ changes.items }

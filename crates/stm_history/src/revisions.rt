@@ -43,7 +43,7 @@ impl Model for Revisions {
 
 /// The state that a walk back has found for a key, when it meets one more put.
 ///
-/// The newest put decides value, modification revision and lease; each older one counts, and moves the
+/// The newest put decides value, modification revision and lease; each older one is counted, and moves the
 /// create revision back to its own.
 fn with_older_put(
     found: Option<KeyState>,
@@ -140,7 +140,7 @@ impl Revisions {
         self.revisions.len() as u64 + self.opening
     }
 
-    /// The revisions, the oldest first. Each changes something, and no key twice. It takes no memory.
+    /// The revisions, the oldest first. Each changes something, and no key twice. It allocates nothing.
     pub fn as_slice(&self) -> &[Revision]
         ensures same { reverse result.now ≡ self.now.revisions }
         ensures are_revisions { AreRevisions self.now.revisions }
@@ -167,7 +167,7 @@ impl Revisions {
         key_after_all(self.opening, self.revisions.as_slice(), key)
     }
 
-    /// Whether a key is present now. It takes no memory.
+    /// Whether a key is present now. It allocates nothing.
     pub fn is_present(&self, key: &str) -> bool
         ensures { result ≡ is_some (key_now self.now key.now) }
     {

@@ -4,9 +4,9 @@ ghost use Rattle.std.specs.Prelude.{◌≡◌, List, [], ◌∷◌, ◌++◌, le
 use std::alloc::{AllocError, Global};
 use std::marker::Model;
 
-/// A list of values. Contracts see its elements in order, and never the room that it was given.
+/// A list of values. Contracts see its elements in order, and never its capacity.
 ///
-/// It is made from a `Vec` and gives it back without taking memory.
+/// It is made from a `Vec` and gives it back without an allocation.
 #[derive(Debug)]
 pub struct Sequence<T> {
     items: Vec<T>,
@@ -27,7 +27,7 @@ impl<T> Model for Sequence<T> {
 }
 
 impl<T> Sequence<T> {
-    /// The empty list. It takes no memory.
+    /// The empty list. It allocates nothing.
     pub fn new(alloc: Global) -> Sequence<T>
         ensures { result ≡ [] }
     {
@@ -36,7 +36,7 @@ impl<T> Sequence<T> {
         }
     }
 
-    /// The list of a vector's elements. It takes no memory.
+    /// The list of a vector's elements. It allocates nothing.
     pub fn of(items: Vec<T>) -> Sequence<T>
         ensures { result ≡ items.items }
     {
@@ -68,7 +68,7 @@ impl<T> Sequence<T> {
         Ok(())
     }
 
-    /// The vector of the elements. It takes no memory.
+    /// The vector of the elements. It allocates nothing.
     pub fn into_vec(self) -> Vec<T>
         ensures { result.items ≡ self }
     {

@@ -14,21 +14,21 @@ use std::fmt;
 use std::hash::{Hash, Hasher};
 use std::marker::Model;
 
-/// The most bytes of a text that holds them itself.
+/// The most bytes of a text that stores them inline.
 const SHORT: usize = 24;
 
-/// Where the bytes of a text stand. Most keys and values are short: no copy of them takes memory.
+/// Where the bytes of a text are stored. Most keys and values are short: no copy of them allocates.
 #[derive(Debug, Drop)]
 pub(crate) enum Bytes {
-    /// In the text itself.
+    /// Inline, in the text itself.
     Short(ArrayString<SHORT>),
-    /// In memory of their own.
+    /// In an allocation of their own.
     Long(String),
 }
 
 /// A text: a key, a value or a message.
 ///
-/// Contracts see its bytes, and never where they stand.
+/// Contracts see its bytes, and never where they are stored.
 #[derive(Debug)]
 pub struct Text {
     bytes: Bytes,
@@ -49,7 +49,7 @@ impl Model for Text {
     ghost view = { λ t. bytes_held t.bytes };
 }
 
-/// A text's bytes in the text itself, where it is short.
+/// A text's bytes, stored inline, where it is short.
 fn short_of(text: &str) -> Option<ArrayString<SHORT>>
     ensures { IfSome result (λ short. short.bytes ≡ text.now) }
 {
@@ -60,7 +60,7 @@ fn short_of(text: &str) -> Option<ArrayString<SHORT>>
 }
 
 impl Text {
-    /// The text of a string. It takes no memory.
+    /// The text of a string. It allocates nothing.
     pub fn new(string: String) -> Text
         ensures { result ≡ string_bytes string }
     {
@@ -71,7 +71,7 @@ impl Text {
         Text { bytes }
     }
 
-    /// A copy of a text. A short one takes no memory.
+    /// A copy of a text. A short one allocates nothing.
     pub fn copy_of(alloc: Global, text: &str) -> Result<Text, AllocError>
         ensures { IfOk result (λ t. t ≡ text.now) }
     {

@@ -37,7 +37,7 @@ step_of : (first before : ℕ) (events rest : List WorldEvent) (event : WorldEve
     → within (first + before) (add_event old event) >>= (λ (next : Sorted). add_events first (suc before) rest next) ≡ total
 step_of first before events rest event old total is so_far = ap (λ (es : List WorldEvent). add_events first before es old) (sym is) ∙ so_far
 
--- it was added, so what is accepted goes on behind it
+-- it was added, so what is accepted goes on after it
 pub next_event : (first before : ℕ) (events rest : List WorldEvent) (event : WorldEvent) (old new : Sorted) (total : Outcome Sorted)
     → events ≡ event ∷ rest → add_event old event ≡ Ok new → add_events first before events old ≡ total
     → add_events first (before + 1) rest new ≡ total

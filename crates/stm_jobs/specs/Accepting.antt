@@ -52,7 +52,7 @@ add_event s (WatchRange first end from) = bad Shape
 add_event s (Poll watcher most) = bad Shape
 add_event s (Cancel watcher) = bad Shape
 
--- the events behind so many others, of which the first one stands at this place
+-- the events that follow `before` others, of which the first one stands at this place
 abbrev pub add_events : ℕ → ℕ → List WorldEvent → Sorted → Outcome Sorted
 add_events first before [] s = Ok s
 add_events first before (e ∷ es) s = within (first + before) (add_event s e) >>= λ next. add_events first (suc before) es next

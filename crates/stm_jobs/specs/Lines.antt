@@ -33,11 +33,11 @@ job_refusal_name (Store refusal) = refusal_name refusal.cause
 job_refusal_name (Behind seen now) = codes "Behind"
 job_refusal_name (Unvouched key) = codes "Unvouched"
 
--- the line of a job: its number, how it ended, what tells more of that, and how many attempts of it were made
+-- the line of a job: its number, how it ended, what more is reported of that, and how many attempts of it were made
 abbrev pub job_line : ℕ → List ℕ → Data → ℕ → Data
 job_line job word reported attempts = list (string (codes "job") ∷ whole job ∷ string word ∷ reported ∷ whole attempts ∷ [])
 
--- a commit tells the revision after it, an abort its text, a fault and a refusal their names, and a job that gave up the key of its last conflict
+-- a commit shows the revision after it, an abort its text, a fault and a refusal their names, and a job that gave up the key of its last conflict
 abbrev pub end_of_job : ℕ → JobEnd → ℕ → Data
 end_of_job job (Committed index revision) attempts = job_line job (codes "committed") (whole revision) attempts
 end_of_job job (Aborted text reads) attempts = job_line job (codes "aborted") (string text) attempts
@@ -67,8 +67,8 @@ text_of jobs committed reported entries revision =
     ++ lines_text (value_lines entries)
     ++ line_text (count_line (codes "end") revision)
 
--- the text is that of so many jobs, of which so many committed, of their ends and attempts, where these are shown, and of the state that the history has
--- come to
+-- the text is that of this number of jobs, of the number of them that committed, of their ends and attempts, where these are shown, and of the state
+-- that the history has come to
 abbrev pub AreLinesOf : Bool → List JobEnd → List ℕ → ℕ → ℕ → History → List ℕ → Type 0
 AreLinesOf shown ends attempts jobs committed h text =
     (entries : List StateEntry) × IsStateOf h entries × IsAscending entries

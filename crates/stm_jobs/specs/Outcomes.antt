@@ -1,6 +1,6 @@
 -- What runs of jobs come to, each outcome once, and how often it came.
 --
--- The words are those of docs/FORMATS.md, "The command line"; an outcome is told as that of a whole schedule is, and behind it stands how often it came.
+-- The words are those of docs/FORMATS.md, "The command line"; an outcome is written as that of a whole schedule is, followed by how often it came.
 use Rattle.std.specs.Prelude.{◌≡◌, ◌≤◌, ℕ, List, [], ◌∷◌, ◌++◌, All, map, count_by, sum, length}
 use Rattle.std.specs.Prelude.{Option, None, Some, slice_get, unwrap_or, bytes_eq, codes, decimal}
 use Rattle.std.specs.BTreeMap.{is_at}
@@ -34,7 +34,7 @@ pair_data key value = list (string key ∷ string value ∷ [])
 abbrev pub pairs : List StateEntry → List Data
 pairs entries = map (λ (e : StateEntry). pair_data e.key e.value) entries
 
--- what a program put out, if the entry is one of a commit
+-- what a program emitted, if the entry is one of a commit
 abbrev pub output_of : Entry → List Value
 output_of (Program program level answers output trace revision) = output
 output_of (Foreign txn) = []
@@ -47,7 +47,7 @@ abbrev pub output_in : Option Entry → List Value
 output_in None = []
 output_in (Some entry) = output_of entry
 
--- how a job ended: a commit tells what its program put out, by the entry that it names
+-- how a job ended: a commit shows what its program emitted, by the entry that it names
 abbrev pub end_data : List Entry → JobEnd → Data
 end_data entries (Committed index revision) = list (string (codes "committed") ∷ list (map value_data (output_in (slice_get entries index))) ∷ [])
 end_data entries (Aborted text reads) = list (string (codes "aborted") ∷ string text ∷ [])
@@ -55,7 +55,7 @@ end_data entries (Faulted fault reads) = list (string (codes "faulted") ∷ stri
 end_data entries (Refused refusal) = list (string (codes "ended") ∷ string (job_refusal_name refusal) ∷ [])
 end_data entries (GaveUp key) = list (string (codes "gaveup") ∷ string key ∷ [])
 
--- the front of the line of an outcome: the array's word, the keys that are present, and how each job ended
+-- the beginning of the line of an outcome: the array's word, the keys that are present, and how each job ended
 abbrev pub front_text : List StateEntry → List Entry → List JobEnd → List ℕ
 front_text state entries ends =
     ((codes "[\"outcome\"," ++ compact_text (list (pairs state))) ++ codes ",") ++ compact_text (list (map (end_data entries) ends))
@@ -83,10 +83,10 @@ pub record Counts (texts : List (List ℕ)) (tally : Tally) : Type 0 where
   pub came : All (λ (n : ℕ). 1 ≤ n) (values_of tally)
   pub total : sum (values_of tally) ≡ length texts
 
--- behind the front of its line stands how often an outcome came
+-- the beginning of an outcome's line is followed by how often the outcome came
 abbrev pub times_line : List ℕ × ℕ → List ℕ
 times_line counted = ((counted.0 ++ codes ",") ++ decimal counted.1) ++ codes "]\n"
 
--- a line for each, and behind them how many runs were made
+-- a line for each, and after them how many runs were made
 abbrev pub tally_text : Tally → ℕ → List ℕ
 tally_text tally runs = concat (map times_line tally) ++ line_text (count_line (codes "runs") runs)

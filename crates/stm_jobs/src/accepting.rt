@@ -28,7 +28,7 @@ fn add_call(sorted: &mut JobScenario, call: WorldEvent) -> Result<(), ReadError>
     Ok(())
 }
 
-/// Adds a job. One that may send no commit is of no shape, at the limit.
+/// Adds a job. One that may send no commit is `Shape` at its limit.
 fn add_job(
     alloc: Global,
     sorted: &mut JobScenario,
@@ -49,7 +49,7 @@ fn add_job(
     Ok(())
 }
 
-/// Adds an event: a job, or a call of the store. Another event is of no shape.
+/// Adds an event: a job, or a call of the store. Any other event is `Shape`.
 fn add(alloc: Global, sorted: &mut JobScenario, event: WorldEvent) -> Result<(), ReadError>
     ensures { Returns (λ _. sorted_of sorted.new) result (add_event (sorted_of sorted.old) event) }
 {
@@ -84,8 +84,8 @@ fn first_place(opening: Option<Opening>) -> usize
     }
 }
 
-/// The jobs and the calls of a scenario, or the first event that is neither, in their order: of no shape, at the event, or at the limit of a
-/// job that may send no commit.
+/// The jobs and the calls of a scenario, or the fault of the first event that is neither: `Shape` at the event, or at the limit of a job that may
+/// send no commit.
 pub fn accept(alloc: Global, scenario: Scenario) -> Result<JobScenario, ReadError>
     ensures { Returns sorted_of result (accepted scenario) }
 {

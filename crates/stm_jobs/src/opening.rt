@@ -23,8 +23,8 @@ fn run_calls(world: &mut World, calls: &[WorldEvent]) -> Result<(), AllocError>
     }
 }
 
-/// An empty store that opens with this, once these calls of it were made, in their order. One that is refused changes nothing, but for an
-/// advance that stopped on its way. Want of memory is the only refusal.
+/// A store that opens empty with this, after these calls were made in their order. A call that is refused changes nothing, but for an
+/// advance that stopped on its way. It fails only where an allocation failed.
 pub fn open_store(
     alloc: Global,
     opening: Opening,

@@ -33,7 +33,7 @@ fn push_value(alloc: Global, values: &mut Vec<Json>, value: &Value) -> Result<()
     Ok(())
 }
 
-/// What a program put out.
+/// What a program emitted.
 fn output_json(alloc: Global, output: &[Value]) -> Result<Json, AllocError>
     ensures { IfOk result (λ v. view v ≡ list (map value_data output.now)) }
 {
@@ -44,7 +44,7 @@ fn output_json(alloc: Global, output: &[Value]) -> Result<Json, AllocError>
     Ok(Json::Array(values))
 }
 
-/// What the program of an entry put out, if it is one of a commit.
+/// What the program of an entry emitted, if it is one of a commit.
 fn output_of(entry: &Entry) -> &[Value]
     ensures { result.now ≡ output_of entry.now }
 {
@@ -54,7 +54,7 @@ fn output_of(entry: &Entry) -> &[Value]
     }
 }
 
-/// What the program of the entry at a place put out.
+/// What the program of the entry at a place emitted.
 fn output_at(entries: &[Entry], index: usize) -> &[Value]
     ensures { result.now ≡ output_in (slice_get entries.now index) }
 {
@@ -172,7 +172,7 @@ fn ends_text(alloc: Global, entries: &[Entry], ends: &[JobEnd]) -> Result<String
     Ok(text)
 }
 
-/// The front of the line of an outcome.
+/// The beginning of the line of an outcome.
 fn front_text(
     alloc: Global,
     state: &State,
@@ -191,7 +191,7 @@ fn front_text(
     Ok(text)
 }
 
-/// The front of the line of what a run came to, `["outcome",STATE,ENDS`, behind which stands how often it came. An `AllocError` is a refused growth.
+/// The beginning of the line of what a run came to, `["outcome",STATE,ENDS`; how often that came follows it. It fails where an allocation failed.
 pub fn front_of(alloc: Global, gathered: &Gathered) -> Result<String, AllocError>
     ensures { IfOk result (λ text. IsFrontOf gathered.now.ends.items gathered.now.hall (string_bytes text)) }
 {

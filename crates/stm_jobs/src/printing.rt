@@ -48,7 +48,7 @@ fn push_value(alloc: Global, text: &mut String, key: &str, value: &str) -> Resul
     push_line(alloc, text, &line)
 }
 
-/// The line of a job whose end tells a number.
+/// The line of a job whose end has a number.
 fn number_json(
     alloc: Global,
     job: u64,
@@ -61,7 +61,7 @@ fn number_json(
     json!(in alloc; ["job", job, word, reported, attempts])
 }
 
-/// The line of a job whose end tells a text.
+/// The line of a job whose end has a text.
 fn text_json(
     alloc: Global,
     job: u64,
@@ -74,7 +74,7 @@ fn text_json(
     json!(in alloc; ["job", job, word, reported, attempts])
 }
 
-/// Adds the line of a job whose end tells a number.
+/// Adds the line of a job whose end has a number.
 fn push_number(
     alloc: Global,
     text: &mut String,
@@ -89,7 +89,7 @@ fn push_number(
     push_line(alloc, text, &line)
 }
 
-/// Adds the line of a job whose end tells a text.
+/// Adds the line of a job whose end has a text.
 fn push_text(
     alloc: Global,
     text: &mut String,
@@ -115,7 +115,7 @@ pub(crate) fn refusal_name(refusal: &JobRefusal) -> &'static str
     }
 }
 
-/// Adds the line of the end of a job, to which it came after so many attempts.
+/// Adds the line of the end of a job, to which it came after this many attempts.
 fn push_end(
     alloc: Global,
     text: &mut String,
@@ -188,8 +188,8 @@ fn push_values(alloc: Global, text: &mut String, state: &State) -> Result<(), Al
     Ok(())
 }
 
-/// What is printed of a run of so many jobs: how many there are and how many of them committed, a line for the end of each and its attempts, where these
-/// are to be shown, one for each key that is present with its value, ascending by bytes, and the store's revision.
+/// What is printed of a run of `jobs` jobs: how many there are and how many of them committed, a line for the end of each and its attempts, where
+/// these are to be shown, one for each key that is present with its value, ascending by bytes, and the store's revision.
 ///
 /// Each line is a compact JSON array and a line feed. It fails where an allocation failed.
 pub fn lines(

@@ -21,7 +21,7 @@ fn times_of(tally: &BTreeMap<Text, u64>, text: &Text) -> u64
     }
 }
 
-/// Counts one more of a text. So many were counted before. Where an allocation fails nothing is said of the tally.
+/// Counts one more of a text, after `before` texts. Where an allocation fails nothing is said of the tally.
 pub fn count_one(tally: &mut BTreeMap<Text, u64>, text: Text, before: u32) -> Result<(), AllocError>
     requires { sum (values_of tally.old.entries) ≡ before }
     ensures { OnOk result ((texts : List (List ℕ)) → Counts texts tally.old.entries → Counts (texts ++ text ∷ []) tally.new.entries) }
@@ -31,7 +31,7 @@ pub fn count_one(tally: &mut BTreeMap<Text, u64>, text: Text, before: u32) -> Re
     Ok(())
 }
 
-/// Adds the line of an outcome: its front, and behind that how often it came.
+/// Adds the line of an outcome: its beginning, followed by how often it came.
 fn push_times(text: &mut String, front: &str, times: u64) -> Result<(), AllocError>
     ensures { OnOk result (string_bytes text.new ≡ string_bytes text.old ++ times_line (front.now, times)) }
 {
@@ -53,8 +53,8 @@ fn push_all(text: &mut String, tally: &BTreeMap<Text, u64>) -> Result<(), AllocE
     Ok(())
 }
 
-/// What is printed of the outcomes of so many runs: a line for each, in ascending order, with how often it came, and `["runs",RUNS]`. An `AllocError` is a
-/// refused growth.
+/// What is printed of the outcomes of `runs` runs: a line for each, in ascending order, with how often it came, and `["runs",RUNS]`. It fails where
+/// an allocation failed.
 pub fn tally_text(
     alloc: Global,
     tally: &BTreeMap<Text, u64>,

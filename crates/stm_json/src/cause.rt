@@ -9,17 +9,17 @@ use std::fmt;
 pub enum Cause {
     /// It is not JSON in UTF-8, nests too deep for JSON's reader, or has a number or an escape that this refuses.
     NotJson,
-    /// A value is not of the kind that is wanted, is an array of a wrong length, or has an unknown word.
+    /// A value is not of the expected kind, is an array of a wrong length, or has an unknown word.
     Shape,
-    /// A whole number lies outside its range.
+    /// A whole number is out of range.
     Range,
-    /// A node stands deeper than a node may.
+    /// A node is nested deeper than allowed.
     TooDeep,
-    /// A node is one more than there may be.
+    /// There are more nodes than allowed: this is the first one too many.
     TooManyNodes,
-    /// A text has more bytes than it may have.
+    /// A text has more bytes than allowed.
     TooLong,
-    /// An element is one more than there may be.
+    /// There are more elements than allowed: this is the first one too many.
     TooMany,
 }
 

@@ -20,7 +20,7 @@ pub fn worded_array(value: &Value) -> Option<(&str, &[Value])>
     Some((word, rest))
 }
 
-/// The one element of a list; `None` where it has another number of elements.
+/// The element of a list of exactly one; `None` of any other list.
 pub fn one(elements: &[Value]) -> Option<&Value>
     ensures { option_map (λ v. view v.now) result ≡ one_of (items_view elements.now) }
 {
@@ -31,7 +31,7 @@ pub fn one(elements: &[Value]) -> Option<&Value>
     }
 }
 
-/// The two elements of a list; `None` where it has another number of elements.
+/// The elements of a list of exactly two; `None` of any other list.
 pub fn two(elements: &[Value]) -> Option<(&Value, &Value)>
     ensures { option_map (λ p. (view p.0.now, view p.1.now)) result ≡ two_of (items_view elements.now) }
 {
@@ -40,7 +40,7 @@ pub fn two(elements: &[Value]) -> Option<(&Value, &Value)>
     Some((first, second))
 }
 
-/// The three elements of a list; `None` where it has another number of elements.
+/// The elements of a list of exactly three; `None` of any other list.
 pub fn three(elements: &[Value]) -> Option<(&Value, &Value, &Value)>
     ensures { option_map (λ p. (view p.0.now, view p.1.now, view p.2.now)) result ≡ three_of (items_view elements.now) }
 {
@@ -49,7 +49,7 @@ pub fn three(elements: &[Value]) -> Option<(&Value, &Value, &Value)>
     Some((first, second, third))
 }
 
-/// The four elements of a list; `None` where it has another number of elements.
+/// The elements of a list of exactly four; `None` of any other list.
 pub fn four(elements: &[Value]) -> Option<(&Value, &Value, &Value, &Value)>
     ensures { option_map (λ p. (view p.0.now, view p.1.now, view p.2.now, view p.3.now)) result ≡ four_of (items_view elements.now) }
 {
@@ -58,8 +58,8 @@ pub fn four(elements: &[Value]) -> Option<(&Value, &Value, &Value, &Value)>
     Some((first, second, third, fourth))
 }
 
-/// A whole number of 64 bits with a sign. `Range` is any other whole number of 64 bits, `Shape` whatever
-/// else the value is.
+/// A whole number of 64 bits with a sign. `Range` for any other whole number of 64 bits, `Shape` for
+/// anything else.
 #[tactic(auto, unfolding(crate::specs::Elements::whole_number))]
 pub fn whole(alloc: Global, value: &Value) -> Result<i64, ReadError>
     ensures { Returns (λ z. z) result (whole_number (view value.now)) }
@@ -76,8 +76,8 @@ pub fn whole(alloc: Global, value: &Value) -> Result<i64, ReadError>
     }
 }
 
-/// A whole number from 0 to a limit, which is itself of 64 bits with a sign. `Range` is any other whole
-/// number of 64 bits, `Shape` whatever else the value is.
+/// A whole number from 0 to a limit, which is itself of 64 bits with a sign. `Range` for any other whole
+/// number of 64 bits, `Shape` for anything else.
 #[tactic(auto, unfolding(crate::specs::Elements::number_up_to))]
 pub fn number_within(alloc: Global, limit: u64, value: &Value) -> Result<u64, ReadError>
     ensures exact { Returns (λ n. n) result (number_up_to limit (view value.now)) }
@@ -94,8 +94,8 @@ pub fn number_within(alloc: Global, limit: u64, value: &Value) -> Result<u64, Re
     Ok(number)
 }
 
-/// A whole number from a least to a most, which is itself of 64 bits with a sign. `Range` is any other
-/// whole number of 64 bits, `Shape` whatever else the value is.
+/// A whole number from a least to a most, which is itself of 64 bits with a sign. `Range` for any other
+/// whole number of 64 bits, `Shape` for anything else.
 #[tactic(auto, unfolding(crate::specs::Elements::number_in))]
 pub fn number_between(alloc: Global, least: u64, most: u64, value: &Value) -> Result<u64, ReadError>
     ensures exact { Returns (λ n. n) result (number_in least most (view value.now)) }

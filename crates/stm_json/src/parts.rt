@@ -13,7 +13,7 @@ use serde_json::Value;
 use std::alloc::Global;
 use stm_history::{HIGHEST_NUMBER, Text};
 
-/// A text, of any length. Anything else is `Shape`. `OutOfMemory` comes where a growth was refused.
+/// A text, of any length. Anything else is `Shape`. `OutOfMemory` is answered where an allocation failed.
 #[tactic(auto, unfolding(crate::specs::Parts::text_of))]
 pub fn text(alloc: Global, value: &Value) -> Result<Text, ReadError>
     ensures { Returns (λ t. t) result (text_of (view value.now)) }
@@ -29,7 +29,7 @@ pub fn text(alloc: Global, value: &Value) -> Result<Text, ReadError>
 
 /// A text that is an element of an array, of any length. Anything else is `Shape`.
 ///
-/// A fault's place is that in the array. `OutOfMemory` comes where a growth was refused.
+/// A fault's place is that in the array. `OutOfMemory` is answered where an allocation failed.
 pub fn text_part(alloc: Global, index: usize, value: &Value) -> Result<Text, ReadError>
     ensures { Returns (λ t. t) result (within_list index (text_of (view value.now))) }
 {
@@ -39,7 +39,7 @@ pub fn text_part(alloc: Global, index: usize, value: &Value) -> Result<Text, Rea
 /// A whole number from 0 to 9223372036854775807 that is an element of an array. Another whole number of 64 bits is
 /// `Range`, anything else `Shape`.
 ///
-/// A fault's place is that in the array. `OutOfMemory` comes where a growth was refused.
+/// A fault's place is that in the array. `OutOfMemory` is answered where an allocation failed.
 pub fn number_part(alloc: Global, index: usize, value: &Value) -> Result<u64, ReadError>
     ensures { Returns (λ n. n) result (within_list index (number_up_to HIGHEST_NUMBER (view value.now))) }
 {

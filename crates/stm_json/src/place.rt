@@ -36,7 +36,7 @@ pub fn within<T>(alloc: Global, index: usize, outcome: Result<T, ReadError>) -> 
     }
 }
 
-/// A fault of the value at hand. It takes no memory.
+/// A fault of the value at hand. It allocates nothing.
 pub fn fault(alloc: Global, cause: Cause) -> ReadError
     ensures { result ≡ Bad (record { place = []; cause = cause }) }
 {

@@ -20,7 +20,7 @@ pub struct BadInput {
 /// Why an input could not be read.
 #[derive(Debug, Drop, Error)]
 pub enum ReadError {
-    /// A growth was refused.
+    /// An allocation failed.
     #[error("out of memory")]
     OutOfMemory,
     /// The input is bad: its first fault.

@@ -119,7 +119,7 @@ module _ {T : Type 0} where
       ∙ ap (option_map (λ (x : Node T). x.next)) q.0 in
       ap suc (same_way s list (Some x.0) (Some y.0) xs ys p.1 q.1 (same_Some _ _ links))
 
-  -- a node is not among those behind it
+  -- a node is not among those after it
   off_later : (s : Slab (Node T)) (list : ℕ) (b c : Option ℕ) (entry : ℕ × T) (rest post : List (ℕ × T)) → IsSegment s list b (entry ∷ rest) None
       → IsSegment s list c post None → length post ≤ length rest → IsOff entry.0 post
   unfolding IsSegment

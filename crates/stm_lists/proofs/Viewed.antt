@@ -64,12 +64,12 @@ module _ {T : Type 0} where
         by_head None some = some
         by_head (Some h) some = refl
 
-    -- the record of a node tells its place
+    -- the record of a node gives its place
     pub node-now : IsSound nodes heads → (node : ℕ) (x : Node T) → get nodes node ≡ Some x → (place : Place T) → StandsAt now node place
         → x ≡ record_at nodes heads place
     node-now sound node x found place at = same_Some _ _ (sym found ∙ place-names nodes heads node place sound (place-now node place at))
 
-    -- the head of a list tells its entries
+    -- the head of a list gives its entries
     pub entries-now : (list : ℕ) (h : Head) → get heads list ≡ Some h → entries_at now list ≡ entries_of nodes h
     entries-now list h found = ap (λ o. unwrap_or o []) (list_at-now list ∙ ap (option_map (entries_of nodes)) found)
 

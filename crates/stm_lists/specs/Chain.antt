@@ -16,7 +16,7 @@ module _ {T : Type 0} where
   last_or before [] = before
   last_or before (entry ∷ rest) = last_or (Some entry.0) rest
 
-  -- so many nodes with their values, from this one on
+  -- at most `count` nodes with their values, from this one on
   unfoldable pub walk : Slab (Node T) → ℕ → Option ℕ → List (ℕ × T)
   walk nodes zero link = []
   walk nodes (suc count) None = []

@@ -15,7 +15,7 @@ pub(crate) fn clone_nodes<T: Clone + Drop>(
     ensures room { IfOk result (λ copies. slab_len copies ≤ copies.capacity) }
 {
     let copies = nodes.clone()?;
-    // (a clause of this call tells that there is room for what a slab has)
+    // (a clause of this call says that there is room for what a slab has)
     let _capacity = copies.capacity();
     Ok(copies)
 }

@@ -14,15 +14,15 @@ use std::marker::Model;
 /// Any number of doubly linked lists of values.
 ///
 /// Contracts see each list as its nodes with their values, from front to back; no node stands
-/// twice. Beside the lists they see the number `spare`: so many calls of `push_back` need no memory.
+/// twice. Beside the lists they see the number `spare`: that many calls of `push_back` allocate nothing.
 ///
-/// A list or a node is named by the id that its making gave. A call that takes such an id has the
-/// condition that the list or the node is there, which `has_list` and `has_node` test. Every call
-/// takes constant time, and none but `reserve`, `new_list` and a `push_back` without room takes memory.
+/// A list or a node is named by the id that was returned when it was made. A call that takes such an id requires
+/// that the list or the node is there, which `has_list` and `has_node` test. Every call
+/// takes constant time, and none but `reserve`, `new_list` and a `push_back` without room allocates.
 pub struct Lists<T> {
     nodes: Slab<Node<T>>,
     heads: Slab<Head>,
-    // How many pushes are sure of their room.
+    // How many pushes have their room reserved.
     spare: usize,
 }
 
@@ -68,7 +68,7 @@ impl<T: Clone + Drop> Clone for Lists<T> {
 }
 
 impl<T> Lists<T> {
-    /// No lists. It takes no memory.
+    /// No lists. It allocates nothing.
     pub fn new(alloc: Global) -> Lists<T>
         ensures lists { result.lists ≡ [] }
         ensures spare { result.spare ≡ 0 }
@@ -80,7 +80,7 @@ impl<T> Lists<T> {
         }
     }
 
-    /// Makes sure of room for `additional` pushes. Want of memory changes nothing.
+    /// Makes sure of room for `additional` pushes. An allocation failure changes nothing.
     pub fn reserve(&mut self, additional: usize) -> Result<(), AllocError>
         ensures ok { OnOk result (self.new.spare ≡ max self.old.spare additional) }
         ensures lists { self.new.lists ≡ self.old.lists }
@@ -94,7 +94,7 @@ impl<T> Lists<T> {
         Ok(())
     }
 
-    /// Makes an empty list. Want of memory changes nothing.
+    /// Makes an empty list. An allocation failure changes nothing.
     pub fn new_list(&mut self) -> Result<ListId, AllocError>
         ensures fresh { IfOk result (λ list. list_at self.old list ≡ None) }
         ensures ok { IfOk result (λ list. Updates self.old self.new list (Some [])) }
@@ -109,8 +109,8 @@ impl<T> Lists<T> {
         Ok(ListId::at(index))
     }
 
-    /// Adds a node with this value at the back of the list. Where there is neither room nor memory
-    /// it hands the value back and changes nothing, which cannot be while `spare` is above 0.
+    /// Adds a node with this value at the back of the list. Where there is no room and an allocation
+    /// fails, it hands the value back and changes nothing, which cannot happen while `spare` is above 0.
     pub fn push_back(&mut self, list: ListId, value: T) -> Result<NodeId, T>
         requires { HasList self.old list }
         ensures ok { IfOk result (λ node. Updates self.old self.new list (Some (entries_at self.old list ++ (node, value) ∷ []))) }
@@ -140,7 +140,7 @@ impl<T> Lists<T> {
         push(&mut self.nodes, &mut self.heads, list, value);
     }
 
-    /// Takes a node off its list and gives its value. Its room is spare from then on.
+    /// Takes a node off its list and returns its value. Its room is spare from then on.
     pub fn unlink(&mut self, node: NodeId) -> T
         requires { HasNode self.old node }
         ensures value { (place : Place T) → StandsAt self.old node place → result ≡ place.value }
@@ -173,7 +173,7 @@ impl<T> Lists<T> {
         NodeId::of_link(self.heads[list.index()].first)
     }
 
-    // What is stored of a node.
+    // The record of a node.
     fn stored(&self, node: NodeId) -> &Node<T>
         requires { HasNode self.now node }
         ensures { (place : Place T) → StandsAt self.now node place → result.now ≡ node_at place }
@@ -181,7 +181,7 @@ impl<T> Lists<T> {
         &self.nodes[node.index()]
     }
 
-    /// The node behind this one on its list, `None` at the back.
+    /// The node after this one on its list, `None` at the back.
     pub fn next(&self, node: NodeId) -> Option<NodeId>
         requires { HasNode self.now node }
         ensures { (place : Place T) → StandsAt self.now node place → result ≡ first_node place.after }

@@ -76,7 +76,7 @@ fn set_previous<T>(nodes: &mut Nodes<T>, heads: &mut Heads, list: ListId, at: Li
     }
 }
 
-/// Counts one node less.
+/// Counts one node fewer.
 fn shorten(heads: &mut Heads, list: ListId)
     requires there { ContainsKey heads.old list }
     requires filled { (h : Head) → get heads.old list ≡ Some h → 0 < h.len }
@@ -85,7 +85,7 @@ fn shorten(heads: &mut Heads, list: ListId)
     heads[list.index()].len -= 1;
 }
 
-/// Counts one node more, which is the last.
+/// Counts one more node, which is the last.
 fn lengthen(heads: &mut Heads, list: ListId, last: NodeId)
     requires there { ContainsKey heads.old list }
     requires fits { (h : Head) → get heads.old list ≡ Some h → h.len + 1 < 2 ^ 64 }

@@ -63,7 +63,7 @@ module _ (look : Lookup) (frames : List Frame) where
   condition_begins (And c d) s = truth_then (holds look c s) (unless_false (holds look d))
   condition_begins (Or c d) s = truth_then (holds look c s) (unless_true (holds look d))
 
-  -- with the statements behind it
+  -- with the statements after it
   statement_begins : (p : Statement) (rest : Block) (s : Session) →
       on_nothing onward (and_then (run_statement look p s) (λ _. run_block look rest)) ≡ finish_move look (begin_statement p rest) frames s
   unfolding run_statement begin_statement

@@ -45,7 +45,7 @@ use Rattle.stm_machine.specs.Steps.{state_after, read_step, give_step, step_from
 
 -- ---- what is left
 
--- so many turns, each with its own step, that of its loop and those of its body
+-- for each turn its own step, that of its loop and those of its body
 abbrev loop_steps : ℕ → ℕ → ℕ
 loop_steps body turns = (body + 2) * turns
 

@@ -1,4 +1,4 @@
--- Worked examples of the machine, computed by the definitions: a program that emits the value of a key with an "x" behind it.
+-- Worked examples of the machine, computed by the definitions: a program that emits the value of a key with an "x" after it.
 use Rattle.std.proofs.Common.{◌≡◌, refl, ℕ, zero, suc, List, [], ◌∷◌}
 use Rattle.std.specs.Prelude.{codes, Option, None, Some}
 use Rattle.stm_program.specs.Syntax as tree

@@ -47,7 +47,7 @@ abbrev pub RunsOrStays : Bool → Statement → Session → Session → Type 0
 RunsOrStays true statement s t = RunsAtOnce statement s t
 RunsOrStays false statement s t = t ≡ s
 
--- the first statement of a block ran at once, and those behind it are left
+-- the first statement of a block ran at once, and those after it are left
 pub record Passes (block : Block) (s : Session) (left : Block) (t : Session) : Type 0 where
   pub first : Statement
   pub is_first : first_of block ≡ Some first

@@ -1,5 +1,5 @@
--- What is left of a run: where a machine stands, and the parts that wait, innermost first. Each part means what the meaning of programs does
--- behind that which the part waits for.
+-- What is left of a run: where a machine stands, and the parts that wait, innermost first. Each part means what, by the
+-- meaning of programs, comes after that which the part waits for.
 use Rattle.std.specs.Prelude.{Bool, not, List, [], ◌∷◌}
 use Rattle.stm_steps.specs.declared.value.Value.{Value}
 use Rattle.stm_steps.specs.declared.stop.Stop.TheVariants.{Aborted, Faulted}

@@ -69,15 +69,15 @@ pub record Move : Type 0 where
   pub above : Option Frame
   pub focus : Focus
 
--- the machine stands there, and no part more waits
+-- the machine stands there, and no further part waits
 abbrev pub goes : Focus → Move
 goes focus = record { below = None; above = None; focus = focus }
 
--- one part more waits
+-- one more part waits
 abbrev pub waits : Frame → Focus → Move
 waits frame focus = record { below = None; above = Some frame; focus = focus }
 
--- two parts more wait, the second one inside the first
+-- two more parts wait, the second inside the first
 abbrev pub waits_in : Frame → Frame → Focus → Move
 waits_in below above focus = record { below = Some below; above = Some above; focus = focus }
 
@@ -114,7 +114,7 @@ begin_condition (tree.Not c) = waits (Truth Not) (Test c)
 begin_condition (tree.And c d) = waits (Truth (And d)) (Test c)
 begin_condition (tree.Or c d) = waits (Truth (Or d)) (Test c)
 
--- the statements behind it wait below
+-- the statements after it wait below
 unfoldable pub begin_statement : Statement → Block → Move
 begin_statement (tree.Set v e) rest = waits_in (Next (Rest rest)) (Argument (Set v)) (Evaluate e)
 begin_statement (tree.Put e f lease) rest = waits_in (Next (Rest rest)) (Argument (PutKey f lease)) (Evaluate e)
@@ -189,7 +189,7 @@ end_of (StopAborted t) = Aborted t
 end_of (StopFaulted fault) = Faulted fault
 end_of (Wants key) = Done
 
--- a turn that began: its body waits inside the turns behind it
+-- a turn that began: its body waits inside the turns after it
 abbrev pub turn_moved : ℕ → Block → TurnsLeft → Outcome (Unit {0}) → Moved
 turn_moved v body behind (Gives x s) = moved (waits_in (Next (Loop v body behind)) (Next (Rest body)) nothing) s
 turn_moved v body behind (Stops stop s) = moved (goes (Ended (end_of stop))) s

@@ -2,7 +2,7 @@
 use Rattle.std.specs.Prelude.{ℕ, suc, zero, Option, None, Some}
 use Rattle.stm_program.specs.Syntax.{Statement, Block, End, Then}
 
--- the first statement of a block, and the statements behind it
+-- the first statement of a block, and the statements after it
 abbrev pub first_of : Block → Option Statement
 first_of End = None
 first_of (Then s b) = Some s
@@ -19,7 +19,7 @@ pub record TurnsLeft : Type 0 where
 abbrev pub turns_from : ℕ → ℕ → TurnsLeft
 turns_from next left = record { next = next; left = left }
 
--- the turns behind the next one, where one is left
+-- the turns after the next one, where one is left
 abbrev pub behind_turn : ℕ → ℕ → Option TurnsLeft
 behind_turn next zero = None
 behind_turn next (suc left) = Some (turns_from (suc next) left)

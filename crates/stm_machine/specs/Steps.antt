@@ -15,7 +15,7 @@ use Rattle.stm_machine.specs.declared.frame.Frame.{Frame}
 use Rattle.stm_machine.specs.State.{MachineState, state_of}
 use Rattle.stm_machine.specs.Moves.{Move, Moved, frames_after, begin_expression, begin_condition, take_item}
 
--- the state after a move, where these parts wait behind it
+-- the state after a move, where these parts wait below it
 abbrev pub state_after : Move → List Frame → Session → MachineState
 state_after m frames s = state_of m.focus (frames_after m frames) s
 

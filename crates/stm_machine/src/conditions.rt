@@ -110,7 +110,7 @@ pub(crate) fn take_compared(
     }
 }
 
-/// Behind a condition that gave a truth.
+/// After a condition that gave a truth.
 fn gives(truth: bool) -> Focus
     ensures { result ≡ Focus.Give (Item.Truth truth) }
 {

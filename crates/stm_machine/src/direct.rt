@@ -14,10 +14,10 @@ use std::alloc::{AllocError, Global};
 use stm_program::{Expr, ExprNode, Operator, Stmt, StmtNode, Variable, Write};
 use stm_steps::{Fault, Session, Value, combine, join, number_of, spell};
 
-/// How deep the operators of an expression may stand in one another that is evaluated at once: so little is looked at in vain.
+/// How deep the operators of an expression that is evaluated at once may be nested, so that little work is wasted on one that is not.
 const MAX_DIRECT_DEPTH: u8 = 4;
 
-/// Whether an expression reads no key, and its operators stand no deeper in one another. It is only looked at, and no contract speaks of it: what it lets
+/// Whether an expression reads no key, and its operators are nested no deeper. It is only looked at, and no contract speaks of it: what it lets
 /// through is evaluated at once, and left to the moves where that comes to a fault.
 fn is_direct(expression: &Expr, depth: u8) -> bool {
     match &expression.node {
@@ -185,7 +185,7 @@ fn at_key(key: Value) -> Option<Focus>
     Some(Focus::Get(key))
 }
 
-/// Where a machine at a `get` stands behind the key of that, where the key is evaluated at once.
+/// Where a machine at a `get` stands after its key, where the key is evaluated at once.
 fn lead_to_key(alloc: Global, session: &Session, key: &Expr) -> Result<Option<Focus>, AllocError>
     ensures { IfOk result (λ found. IfSome found (LeadsOn (Get key.now) session.now)) }
 {
@@ -195,8 +195,8 @@ fn lead_to_key(alloc: Global, session: &Session, key: &Expr) -> Result<Option<Fo
     Ok(at_key(key))
 }
 
-/// Where a machine at an expression stands behind what is evaluated at once of it: behind its value, or, at a `get`, behind its key. `None` where that
-/// is nothing.
+/// Where a machine at an expression stands after what is evaluated at once of it: after its value, or, at a `get`, after its key. `None` where
+/// nothing is evaluated at once.
 #[tactic(auto, using(crate::proofs::DirectLemmas::leads_behind))]
 pub(crate) fn lead_on(
     alloc: Global,
@@ -301,7 +301,7 @@ fn delete_at_once(alloc: Global, session: &mut Session, key: &Expr) -> Result<bo
     Ok(true)
 }
 
-/// Puts the value of an expression out.
+/// Emits the value of an expression.
 fn emit_at_once(alloc: Global, session: &mut Session, value: &Expr) -> Result<bool, AllocError>
     ensures ran { IfOk result (λ ran. RunsOrStays ran (Emit value.now) session.old session.new) }
     ensures err { OnErr result (session.new ≡ session.old) }
@@ -313,7 +313,8 @@ fn emit_at_once(alloc: Global, session: &mut Session, value: &Expr) -> Result<bo
     Ok(true)
 }
 
-/// Runs a statement whose expressions are evaluated at once. It tells whether it did; else, and where a growth is refused, the session stays.
+/// Runs a statement whose expressions are evaluated at once. It returns whether it did; if not, or if an allocation fails, the session
+/// stays as it was.
 fn run_at_once(alloc: Global, session: &mut Session, statement: &Stmt) -> Result<bool, AllocError>
     ensures ran { IfOk result (λ ran. RunsOrStays ran statement.now session.old session.new) }
     ensures err { OnErr result (session.new ≡ session.old) }
@@ -327,7 +328,8 @@ fn run_at_once(alloc: Global, session: &mut Session, statement: &Stmt) -> Result
     }
 }
 
-/// Runs the first statement of a block at once, and passes it. It tells whether it did; else, and where a growth is refused, block and session stay.
+/// Runs the first statement of a block at once, and passes it. It returns whether it did; if not, or if an allocation fails, block and
+/// session stay as they were.
 fn pass_at_once(
     alloc: Global,
     session: &mut Session,
@@ -348,7 +350,8 @@ fn pass_at_once(
     Ok(true)
 }
 
-/// Runs the first statement that waits in a part at once. It tells whether it did; else, and where a growth is refused, part and session stay.
+/// Runs the first statement that waits in a part at once. It returns whether it did; if not, or if an allocation fails, part and session
+/// stay as they were.
 pub(crate) fn run_first(
     alloc: Global,
     session: &mut Session,

@@ -39,7 +39,7 @@ fn waits_for_other(
     Ok(Focus::Evaluate(part))
 }
 
-/// Behind an expression that gave a value.
+/// After an expression that gave a value.
 fn gives(value: Value) -> Focus
     ensures { result ≡ Focus.Give (Item.Value value) }
 {

@@ -25,7 +25,7 @@ pub enum Focus {
     Get(Text),
     /// At a `rev` of a key.
     Rev(Text),
-    /// Behind a part that gave this.
+    /// After a part that gave this.
     Give(Item),
     /// At the end of the run.
     Ended(End),

@@ -14,9 +14,9 @@ pub enum OperandFrame {
     ArithmeticLeft(Operator, ExprPart),
     /// The value is the right side; this is what the left one gave.
     ArithmeticRight(Operator, Value),
-    /// The value is the front; this is the back.
+    /// The value is the left text; this is the right one.
     CatLeft(ExprPart),
-    /// The value is the back; this is what the front gave.
+    /// The value is the right text; this is what the left one gave.
     CatRight(Value),
     /// The value is spelled as text.
     TextOf,
@@ -50,7 +50,7 @@ pub enum ArgumentFrame {
     Del,
     /// The value is the count of a loop; these are the loop's variable, its limit and its body.
     For(Variable, u64, Block),
-    /// The value is put out.
+    /// The value is emitted.
     Emit,
     /// The run ends with the value.
     Abort,
@@ -69,7 +69,7 @@ pub enum TruthFrame {
     If(Block, Block),
 }
 
-/// What waits for nothing but its turn.
+/// A part that waits only for its turn.
 #[derive(Drop)]
 pub enum NextFrame {
     /// The statements that are left of a block.

@@ -12,7 +12,8 @@ use std::alloc::{AllocError, Global};
 use std::mem;
 use stm_steps::Session;
 
-/// Jumps over the expression at which a machine stands. It tells whether it did; else, and where a growth is refused, the machine stands where it stood.
+/// Jumps over the expression at which a machine stands. It returns whether it did; if not, or if an allocation fails, the machine stays
+/// where it was.
 fn jump_expression(alloc: Global, focus: &mut Focus, session: &Session) -> Result<bool, AllocError>
     ensures jump { IfOk result (λ made. (frames : List Part) → JumpsOrStays made (state_of focus.old frames session.now) (state_of focus.new frames session.now)) }
     ensures err { OnErr result (focus.new ≡ focus.old) }
@@ -58,8 +59,8 @@ fn jump_statement(
     ran
 }
 
-/// Jumps over what is run at once where a machine stands. It tells whether it did; else, and where a growth is refused, the machine is as it was. There is
-/// room for one part.
+/// Jumps over what is run at once where a machine stands. It returns whether it did; if not, or if an allocation fails, the machine is as it was.
+/// There is room for one part.
 pub(crate) fn jump(
     alloc: Global,
     focus: &mut Focus,

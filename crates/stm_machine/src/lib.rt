@@ -1,4 +1,4 @@
-//! A run of a program that can stand still: a machine with a stack of its own for the parts that wait.
+//! A run of a program that can be suspended: a machine with a stack of its own for the parts that wait.
 //!
 //! Where the run wants a key that its look-up does not know, the machine stands there, and goes on from there once
 //! the look-up knows the key. So a program that reads many keys, one after another, is evaluated once.

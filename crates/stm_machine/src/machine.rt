@@ -19,7 +19,7 @@ use stm_history::Text;
 use stm_program::Program;
 use stm_steps::{Lookup, Run, Session};
 
-/// A run of a program on its way, which can stand still at a key that its look-up does not know.
+/// A run of a program in progress, which can stop at a key that its look-up does not know, and go on later.
 ///
 /// Contracts see where it stands, the parts of the program that wait, innermost first, and what the run has come
 /// to. What finishing the run comes to is `finish` of that.
@@ -56,7 +56,7 @@ impl Model for Machine {
 impl Machine {
     ghost use Rattle.stm_machine.specs.State.{started, key_asked, run_at};
 
-    /// A machine at the start of a program. The one refusal is want of memory.
+    /// A machine at the start of a program. It fails only when out of memory.
     pub fn new(alloc: Global, program: &Program) -> Result<Machine, AllocError>
         ensures { IfOk result (λ m. m ≡ started program.now.statements) }
     {
@@ -74,7 +74,7 @@ impl Machine {
 
     /// Makes one step, and answers whether there was one to make.
     ///
-    /// There is none where the run has ended, and at a key that the look-up does not know. Want of memory leaves the
+    /// There is none where the run has ended, and at a key that the look-up does not know. An allocation failure leaves the
     /// machine as it was.
     fn step<L: Lookup>(&mut self, lookup: &L) -> Result<bool, AllocError>
         ensures ok { IfOk result (λ made. step_of (L.answers lookup.now) self.old ≡ (if made then Some self.new else None)) }
@@ -96,7 +96,8 @@ impl Machine {
         Ok(true)
     }
 
-    /// Jumps over what is run at once, or else makes one step, and answers whether there was one to make. Want of memory leaves the machine as it was.
+    /// Jumps over what is run at once, or else makes one step, and answers whether there was one to make. An allocation failure leaves
+    /// the machine as it was.
     fn go<L: Lookup>(&mut self, lookup: &L) -> Result<bool, AllocError>
         ensures ok { IfOk result (λ made. GoesOrStands (L.answers lookup.now) made self.old self.new) }
         ensures err { OnErr result (self.new ≡ self.old) }
@@ -117,8 +118,8 @@ impl Machine {
     /// Goes on until the run ends or wants a key that the look-up does not know.
     ///
     /// Whatever is looked up later, finishing the run comes to the same as before, where the later look-up knows what
-    /// this one knows: so also where a growth was refused, and the call can then be repeated. The one refusal is want
-    /// of memory.
+    /// this one knows. That holds also where an allocation failed, and the call can then be repeated. It fails only
+    /// when out of memory.
     pub fn run<L: Lookup>(&mut self, lookup: &L) -> Result<(), AllocError>
         ensures finish { FinishAlike (L.answers lookup.now) self.old self.new }
         ensures stands { OnOk result (Stands (L.answers lookup.now) self.new) }
@@ -137,7 +138,7 @@ impl Machine {
         }
     }
 
-    /// The run, where the machine stands at its end. It takes no memory.
+    /// The run, where the machine stands at its end. It allocates nothing.
     pub fn into_run(self) -> Run
         requires { IsSome (run_at self) }
         ensures { run_at self ≡ Some result }

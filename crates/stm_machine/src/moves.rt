@@ -1,11 +1,11 @@
-//! Where a machine stands behind what was computed.
+//! Where a machine stands after what was computed.
 ghost use Rattle.std.specs.Prelude.{◌≡◌};
 ghost use Rattle.stm_machine.specs.Moves.{nothing, at_fault, at_value, at_truth};
 
 use crate::focus::{Focus, Item};
 use stm_steps::{End, Fault, Value};
 
-/// Behind a part that gave nothing.
+/// After a part that gave nothing.
 pub(crate) fn nothing() -> Focus
     ensures { result ≡ nothing }
 {
@@ -19,7 +19,7 @@ pub(crate) fn at_fault(fault: Fault) -> Focus
     Focus::Ended(End::Faulted(fault))
 }
 
-/// Behind a computed value, or at the end that its fault makes.
+/// After a computed value, or at the end that its fault makes.
 pub(crate) fn at_value(computed: Result<Value, Fault>) -> Focus
     ensures { result ≡ at_value computed }
 {
@@ -29,7 +29,7 @@ pub(crate) fn at_value(computed: Result<Value, Fault>) -> Focus
     }
 }
 
-/// Behind a computed truth, or at the end that its fault makes.
+/// After a computed truth, or at the end that its fault makes.
 pub(crate) fn at_truth(computed: Result<bool, Fault>) -> Focus
     ensures { result ≡ at_truth computed }
 {

@@ -146,7 +146,7 @@ impl Remaining {
         }
     }
 
-    /// The statements behind the first.
+    /// The statements after the first.
     pub(crate) fn behind_first(&self) -> Result<Remaining, AllocError>
         ensures { IfOk result (λ r. r ≡ behind_first self.now) }
     {
@@ -195,7 +195,7 @@ impl Model for Turns {
 }
 
 impl Turns {
-    /// So many turns, from turn 0 on.
+    /// `count` turns, from turn 0 on.
     pub(crate) fn of(count: u64) -> Turns
         requires { count ≤ HIGHEST_NUMBER }
         ensures { result ≡ turns_from 0 count }
@@ -215,7 +215,7 @@ impl Turns {
         self.next
     }
 
-    /// The turns behind the next one, where one is left.
+    /// The turns after the next one, where one is left.
     pub(crate) fn behind_next(&self) -> Option<Turns>
         ensures { result ≡ behind_next self.now }
     {

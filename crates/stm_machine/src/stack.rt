@@ -5,7 +5,7 @@ use crate::frame::Frame;
 use std::alloc::{AllocError, Global};
 use std::marker::Model;
 
-/// For how many parts a stack has room at the start, which spares most programs a growth.
+/// For how many parts a stack has room at the start, which spares most programs a reallocation.
 const FIRST_ROOM: usize = 8;
 
 /// The parts of a program that wait. Contracts see the innermost first, and for how many more there is room.
@@ -53,7 +53,7 @@ impl Stack {
         Ok(())
     }
 
-    /// Puts a part inside the others. There is room for it.
+    /// Pushes a part, which is then the innermost. There is room for it.
     pub(crate) fn push(&mut self, frame: Frame)
         requires { 1 ≤ self.old.room }
         ensures frames { self.new.frames ≡ frame ∷ self.old.frames }
@@ -67,7 +67,7 @@ impl Stack {
         self.frames.as_slice().last()
     }
 
-    /// Takes out the innermost part, where there is one.
+    /// Pops the innermost part, where there is one.
     pub(crate) fn take(&mut self) -> Option<Frame>
         ensures taken { result ≡ top_of self.old.frames }
         ensures frames { self.new.frames ≡ below_top self.old.frames }

@@ -18,7 +18,7 @@ use std::sync::Arc;
 use stm_program::{Block, Expr, Stmt, StmtNode, Variable, Write};
 use stm_steps::{End, Fault, Session, Value, deletion, put, turns, wanted_text};
 
-/// A statement waits for a value, inside the statements behind it. There is room for both.
+/// A statement waits for a value, inside the statements after it. There is room for both.
 fn waits_for(
     stack: &mut Stack,
     frame: ArgumentFrame,
@@ -36,7 +36,7 @@ fn waits_for(
     Ok(Focus::Evaluate(part))
 }
 
-/// Makes the move at the start of a statement, with the statements behind it. There is room for two parts to wait.
+/// Makes the move at the start of a statement, with the statements after it. There is room for two parts to wait.
 #[tactic(auto, unfolding(crate::specs::Moves::begin_statement))]
 fn begin_statement(
     stack: &mut Stack,
@@ -101,7 +101,7 @@ fn at_abort(text: &Value) -> Result<Focus, AllocError>
     }
 }
 
-/// Keeps a write, or goes to the end that its fault makes. Want of memory leaves the session as it was.
+/// Records a write, or goes to the end that its fault makes. An allocation failure leaves the session as it was.
 fn keep_write(session: &mut Session, write: Result<Write, Fault>) -> Result<Focus, AllocError>
     ensures ok { IfOk result (λ focus. moved (goes focus) session.new ≡ write_moved write session.old) }
     ensures err { OnErr result (session.new ≡ session.old) }
@@ -156,7 +156,7 @@ fn waits_to_put(
     Ok(Focus::Evaluate(part))
 }
 
-/// Puts a value out. Want of memory leaves the session as it was.
+/// Emits a value. An allocation failure leaves the session as it was.
 fn emit_value(session: &mut Session, value: &Value) -> Result<Focus, AllocError>
     ensures focus { IfOk result (λ focus. focus ≡ nothing) }
     ensures ok { OnOk result (session.new ≡ with_output value.now session.old) }
@@ -166,7 +166,7 @@ fn emit_value(session: &mut Session, value: &Value) -> Result<Focus, AllocError>
     Ok(nothing())
 }
 
-/// Gives a variable a value. Want of memory leaves the session as it was.
+/// Gives a variable a value. An allocation failure leaves the session as it was.
 fn set_variable(
     session: &mut Session,
     variable: Variable,
@@ -180,7 +180,7 @@ fn set_variable(
     Ok(nothing())
 }
 
-/// Makes the move of a statement that gets a value. There is room for one part to wait. Want of memory leaves all as it was.
+/// Makes the move of a statement that gets a value. There is room for one part to wait. An allocation failure leaves all as it was.
 #[tactic(auto, unfolding(crate::specs::Moves::take_argument))]
 pub(crate) fn take_argument(
     stack: &mut Stack,
@@ -207,7 +207,7 @@ pub(crate) fn take_argument(
     }
 }
 
-/// Makes the move of a loop whose turn it is. There is room for two parts to wait. Want of memory leaves all as it was.
+/// Makes the move of a loop whose turn it is. There is room for two parts to wait. An allocation failure leaves all as it was.
 #[tactic(auto, unfolding(crate::specs::Moves::take_turn))]
 fn take_turn(
     stack: &mut Stack,
@@ -235,7 +235,7 @@ fn take_turn(
     Ok(nothing())
 }
 
-/// Makes the move of a block or a loop whose turn it is. There is room for two parts to wait. Want of memory leaves all as it was.
+/// Makes the move of a block or a loop whose turn it is. There is room for two parts to wait. An allocation failure leaves all as it was.
 #[tactic(auto, unfolding(crate::specs::Moves::take_nothing))]
 pub(crate) fn take_nothing(
     stack: &mut Stack,

@@ -16,7 +16,7 @@ use std::alloc::{AllocError, Global};
 use stm_history::Text;
 use stm_steps::{End, Lookup, Session, Value};
 
-/// Makes the move of a part that gets what it waited for. There is room for two parts to wait. Want of memory leaves all as it was.
+/// Makes the move of a part that gets what it waited for. There is room for two parts to wait. An allocation failure leaves all as it was.
 ///
 /// A part that is given something else is passed over.
 fn take_item(
@@ -46,7 +46,7 @@ fn take_item(
 
 /// Gives the innermost part what it waited for; where no part waits the run is done. There is room for two parts to wait.
 ///
-/// Want of memory leaves the parts and the session as they were.
+/// An allocation failure leaves the parts and the session as they were.
 fn give(
     alloc: Global,
     stack: &mut Stack,
@@ -73,7 +73,7 @@ fn give(
     }
 }
 
-/// Behind a read that found something.
+/// Where a machine stands after a read, if that found something.
 fn behind_read(found: Option<Value>) -> Option<Focus>
     ensures { result ≡ option_map (λ x. Focus.Give (Item.Value x)) found }
 {
@@ -83,7 +83,8 @@ fn behind_read(found: Option<Value>) -> Option<Focus>
     }
 }
 
-/// Reads a key at a `get`. `None` where the look-up does not know the key: nothing has changed then. Want of memory leaves the session as it was.
+/// Reads a key at a `get`. `None` where the look-up does not know the key: nothing has changed then. An allocation failure leaves the
+/// session as it was.
 fn get<L: Lookup>(
     alloc: Global,
     lookup: &L,
@@ -116,8 +117,8 @@ fn rev<L: Lookup>(
 
 /// Goes on from where a machine stands, and answers where it stands then. There is room for two parts to wait.
 ///
-/// `None` where its run has ended, and at a key that the look-up does not know: nothing has changed then. Want of memory leaves the parts and the
-/// session as they were.
+/// `None` where its run has ended, and at a key that the look-up does not know: nothing has changed then. An allocation failure leaves
+/// the parts and the session as they were.
 pub(crate) fn go_on<L: Lookup>(
     alloc: Global,
     lookup: &L,

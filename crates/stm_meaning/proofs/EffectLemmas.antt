@@ -13,7 +13,7 @@ or_else-none : (r : Option Write) → or_else r None ≡ r
 or_else-none None = refl
 or_else-none (Some w) = refl
 
--- the last write of a key stands behind the first write, or is it
+-- the last write of a key comes after the first write, or is it
 last_write-cons : (key : List ℕ) (w : Write) (ws : List Write) →
     last_write key (w ∷ ws) ≡ or_else (last_write key ws) (cond (bytes_eq (key_of w) key) (Some w) None)
 last_write-cons key w ws = last_write-append key (w ∷ []) ws ∙ ap (λ o. or_else (last_write key ws) o) (last_write-one key w)

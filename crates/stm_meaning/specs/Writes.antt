@@ -10,6 +10,6 @@ changes is_present (Put key value lease) = true
 changes is_present (Del key) = is_present key
 
 -- The effect of writes on a state: for each key, in the order of first writes, its last write; deletes of absent keys
--- fall out.
+-- are left out.
 unfoldable pub effect : (List ℕ → Bool) → List Write → List Write
 effect is_present writes = filter (changes is_present) (latest_writes writes)

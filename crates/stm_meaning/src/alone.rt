@@ -13,7 +13,7 @@ use stm_steps::{Answered, End, Halt, Lookup, Run, Session, State, Stop};
 /// The run of a program over a look-up, such as a list of recorded answers: its end, or the first key that
 /// it wants and the look-up knows nothing of.
 ///
-/// It is evaluated from its start. The one refusal is want of memory.
+/// It is evaluated from its start. It fails only when out of memory.
 #[tactic(auto, unfolding(stm_steps::specs::Meaning::run_over))]
 pub fn run_answered<L: Lookup>(
     alloc: Global,
@@ -33,7 +33,7 @@ pub fn run_answered<L: Lookup>(
     }
 }
 
-/// What a run that stopped answers. It takes no memory.
+/// What a run that stopped answers. It allocates nothing.
 fn stopped(session: Session, stop: Stop) -> Answered
     ensures { result ≡ answered (Stops stop session) }
 {
@@ -47,7 +47,7 @@ fn stopped(session: Session, stop: Stop) -> Answered
     }
 }
 
-/// What a run that came to this end answers. It takes no memory.
+/// What a run that came to this end answers. It allocates nothing.
 fn ended(session: Session, end: End) -> Answered
     ensures { result ≡ Ended (run_of end session) }
 {
@@ -56,7 +56,7 @@ fn ended(session: Session, end: End) -> Answered
 
 /// The run of a program alone on a state.
 ///
-/// The one refusal is want of memory.
+/// It fails only when out of memory.
 pub fn run_alone(alloc: Global, program: &Program, state: &State) -> Result<Run, AllocError>
     ensures { IfOk result (λ run. run_over (state_answers state.now) program.now.statements ≡ Ended run) }
 {

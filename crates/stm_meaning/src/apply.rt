@@ -18,9 +18,9 @@ fn changes_state(write: &Write, state: &State) -> bool
 }
 
 /// The effect of writes on a state: for each key, in the order of first writes, its last write. Deletions of
-/// absent keys fall out.
+/// absent keys are left out.
 ///
-/// The one refusal is want of memory.
+/// It fails only when out of memory.
 #[tactic(auto, unfolding(crate::specs::Writes::effect))]
 pub fn apply_alone(alloc: Global, writes: &[Write], state: &State) -> Result<Vec<Write>, AllocError>
     ensures { IfOk result (λ effects. effects.items ≡ effect (is_present state.now) writes.now) }

@@ -80,7 +80,7 @@ fn joined<L: Lookup>(
     Ok(join(alloc, &left, &right)??)
 }
 
-/// The value of an expression. Elements are evaluated from left to right, and kinds are looked at when all
+/// The value of an expression. Elements are evaluated from left to right, and kinds are checked when all
 /// elements of a node have values.
 #[cycle(values)]
 #[tactic(auto, unfolding(stm_steps::specs::Meaning::evaluate))]

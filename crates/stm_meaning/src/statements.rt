@@ -59,7 +59,7 @@ fn delete_key<L: Lookup>(
     Ok(session.write(deletion(&key)??)?)
 }
 
-/// Puts a value out.
+/// Emits a value.
 #[tactic(auto, unfolding(stm_steps::specs::Meaning::run_statement))]
 fn emit_value<L: Lookup>(
     alloc: Global,

@@ -4,11 +4,11 @@ use Rattle.std.proofs.KnownBytes.{Appends-trans}
 use Rattle.std.specs.Io.KnownBytes.{Appends}
 use Rattle.stm_devices.specs.Transfers.{WritesFront}
 
--- a front of a text is one of a longer text
+-- a prefix of a text is one of a longer text
 pub longer : (old new : Option (List ℕ)) (text more : List ℕ) → WritesFront old new text → WritesFront old new (text ++ more)
 longer old new text more (front, rest, is, written) = (front, rest ++ more, ap (λ (x : List ℕ). x ++ more) is ∙ append_assoc front rest more, written)
 
--- a front of a text after what was written
+-- a prefix of a text after what was written
 pub behind : (old mid new : Option (List ℕ)) (so_far text : List ℕ) → Appends old mid so_far → WritesFront mid new text → WritesFront old new (so_far ++ text)
 behind old mid new so_far text done (front, rest, is, written) = (
   so_far ++ front,

@@ -10,18 +10,18 @@ use Rattle.stm_explain.specs.Explaining.{ExplainsOrNothing}
 abbrev pub bad_input : List ℕ → BadInput → List ℕ
 bad_input begin bad = begin ++ bad.place ++ codes ": " ++ cause_name bad.cause ++ codes "\n"
 
--- the text was written, or a front of it where the sink then has failed: what it held before and holds, and whether it has
+-- the text was written, or a prefix of it where the sink then has failed: what it held before and holds, and whether it has
 abbrev pub Says : Option (List ℕ) → Option (List ℕ) → Bool → List ℕ → Type 0
 Says before after failed text = WritesFront before after text × (failed ≡ false → Appends before after text)
 
--- an explanation of a fault of some text under some name, or nothing; that they are those of the input is the body's matter
+-- an explanation of a fault of some text under some name, or nothing; that these are the input's own is left to the body
 abbrev pub IsExplained : List ℕ → Type 0
 IsExplained more = (name text : List ℕ) × ExplainsOrNothing name text more
 
--- a message was written and its explanation after it, or a front of the two where the sink then has failed
+-- a message was written and its explanation after it, or a prefix of the two where the sink then has failed
 abbrev pub SaysMore : Option (List ℕ) → Option (List ℕ) → Bool → List ℕ → Type 0
 SaysMore before after failed message = (more : List ℕ) × IsExplained more × Says before after failed (message ++ more)
 
--- a text of this form was written, or a front of it where the sink then has failed
+-- a text of this form was written, or a prefix of it where the sink then has failed
 abbrev pub SaysSome : (List ℕ → Type 0) → Option (List ℕ) → Option (List ℕ) → Bool → Type 0
 SaysSome Form before after failed = (more : List ℕ) × Form more × Says before after failed more

@@ -6,7 +6,7 @@ ghost use Rattle.stm_messages.specs.Saying.{bad_input};
 use stm_devices::{DeviceFault, Sink, write_all};
 use stm_json::BadInput;
 
-/// Writes a text to a sink that has not failed, which takes no memory. Where the sink fails, a front of the text was written.
+/// Writes a text to a sink that has not failed, which takes no memory. Where the sink fails, a prefix of the text was written.
 pub fn write_text<E: Sink>(err: &mut E, text: &str) -> Result<(), DeviceFault>
     requires { E.failed err.old ≡ false }
     ensures { HasWritten (E.held err.old) (E.held err.new) (E.failed err.new) result text.now }
@@ -14,7 +14,7 @@ pub fn write_text<E: Sink>(err: &mut E, text: &str) -> Result<(), DeviceFault>
     write_all(err, text.as_bytes())
 }
 
-/// Writes two texts, one after the other. Where the sink fails, a front of them was written.
+/// Writes two texts, one after the other. Where the sink fails, a prefix of them was written.
 pub fn write_both<E: Sink>(err: &mut E, first: &str, second: &str) -> Result<(), DeviceFault>
     requires { E.failed err.old ≡ false }
     ensures { HasWritten (E.held err.old) (E.held err.new) (E.failed err.new) result (first.now ++ second.now) }
@@ -25,7 +25,7 @@ pub fn write_both<E: Sink>(err: &mut E, first: &str, second: &str) -> Result<(),
 }
 
 /// Writes what is wrong with an input to a sink that has not failed: `begin`, then `PLACE: CAUSE`, and a line feed, piece by piece, which
-/// takes no memory. Where the sink fails, a front of that was written.
+/// takes no memory. Where the sink fails, a prefix of that was written.
 pub fn write_bad<E: Sink>(err: &mut E, begin: &str, bad: &BadInput) -> Result<(), DeviceFault>
     requires { E.failed err.old ≡ false }
     ensures { HasWritten (E.held err.old) (E.held err.new) (E.failed err.new) result (bad_input begin.now bad.now) }

@@ -20,7 +20,7 @@ use Rattle.stm_outcome.specs.declared.refusal.Refusal.{Refusal}
 use Rattle.stm_outcome.specs.declared.refusal.Refusal.TheVariants.{FutureRevision, Compacted, LeaseNotFound}
 use Rattle.stm_outcome.specs.Terms.{Terms, is_below_floor}
 
--- a branch on its way: what each key is by now, and the changes so far
+-- a branch in progress: what each key is by now, and the changes so far
 pub record Progress : Type 0 where
   pub state : List ℕ → Option KeyState
   pub changes : List Change

@@ -2,7 +2,7 @@
 --
 -- etcd's API reference, "Transaction", refuses a branch that puts one key twice, or puts and deletes it, and its server
 -- an empty key and more operations of a list than its limit. Which of these refusals comes first is this store's own choice,
--- and so is that two deletions of one key may stand in one branch.
+-- and so is that two deletions of one key are allowed in one branch.
 use Rattle.std.specs.Prelude.{ℕ, Bool, false, ◌||◌, nat_lt, nat_eq, if◌then◌else◌, List, [], ◌∷◌, length, Option, Some, None}
 use Rattle.std.specs.List.{list_any}
 use Rattle.stm_outcome.specs.declared.txn.Txn.{Txn}

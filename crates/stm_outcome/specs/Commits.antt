@@ -98,6 +98,6 @@ read_out h failed reads =
 abbrev pub reads_now : List (List ℕ) → List Read
 reads_now keys = map (λ key. record { key = key; rev = 0 }) keys
 
--- a compare failed: it is told, with what the keys are now, and nothing changes
+-- a compare failed: it is reported, with what the keys are now, and nothing changes
 abbrev pub turned_down : History → FailedCompare → List (List ℕ) → Done
 turned_down h failed keys = read_out h (Some failed) (reads_now keys)

@@ -2,7 +2,7 @@
 --
 -- etcd's API reference, "Transaction", `Compare`: a target, an order, and the stored side on the left; all compares of a
 -- transaction are joined by "and". As its server does, an absent key has 0 in the four number targets and fails every
--- compare of its value, `!=` included, and texts compare by bytes. That an answer tells the first compare that failed,
+-- compare of its value, `!=` included, and texts compare by bytes. That an answer names the first compare that failed,
 -- with its key's modification revision, is this store's own choice.
 use Rattle.std.specs.Prelude.{ℕ, ◌+◌, Bool, false, if◌then◌else◌, List, [], ◌∷◌, Option, Some, None}
 use Rattle.std.specs.Option.{option_map_or}
@@ -18,14 +18,14 @@ use Rattle.stm_outcome.specs.declared.txn.Order.{Order}
 use Rattle.stm_outcome.specs.declared.txn.Order.TheVariants.{Equal, NotEqual, Greater, Less}
 use Rattle.stm_outcome.specs.declared.answer.FailedCompare.{FailedCompare}
 
--- whether the order asked for is how the two sides stand
+-- whether two sides that compare so are in the order that is asked for
 abbrev pub is_asked : Order → Ordering → Bool
 is_asked Equal sides = is_eq sides
 is_asked NotEqual sides = is_ne sides
 is_asked Greater sides = is_gt sides
 is_asked Less sides = is_lt sides
 
--- how the stored side and the compare's side stand: an absent key has 0 for each number, and nothing for its value
+-- how the stored side compares with the compare's side: an absent key has 0 for each number, and nothing for its value
 abbrev pub sides : Target → Option KeyState → Option Ordering
 sides (Version n) s = Some (nat_cmp (option_map_or (λ k. k.version) s 0) n)
 sides (Create n) s = Some (nat_cmp (option_map_or (λ k. k.create_rev) s 0) n)

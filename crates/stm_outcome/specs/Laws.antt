@@ -27,7 +27,7 @@ WritesApply =
 abbrev pub BranchApplies : Type 0
 BranchApplies = (terms : Terms) (writes : List Change) → HasDistinctKeys writes → branch_outcome terms None (map op_of writes) ≡ applied terms writes
 
--- Where a compare fails and the failure list reads, the compare and the reads are told, and nothing changes.
+-- Where a compare fails and the failure list reads, the answer has the compare and the reads, and nothing changes.
 abbrev pub FailedCompareReads : Type 0
 FailedCompareReads =
     (terms : Terms) (txn : Txn) (keys : List (List ℕ)) (failed : FailedCompare) → txn.failure ≡ map read_now keys → fault_of terms.limit txn ≡ None
@@ -57,8 +57,8 @@ NoneFailed =
     (state : List ℕ → Option KeyState) (compares : List Compare) →
     (first_failed state 0 compares ≡ None) ↔ (list_all (λ (c : Compare). holds c (state c.key)) compares ≡ true)
 
--- The compare that failed stands at the place that is told, below their number, does not hold, and its key's modification
--- revision is told.
+-- The compare that failed stands at the reported place, below their number, does not hold, and its key's modification
+-- revision is the reported one.
 pub record FailsAt (state : List ℕ → Option KeyState) (compares : List Compare) (failed : FailedCompare) : Type 0 where
   pub within : failed.index < length compares
   pub compare : Compare

@@ -9,7 +9,7 @@ key_of_op (Get key rev) = key
 key_of_op (Put key value lease) = key
 key_of_op (Del key) = key
 
--- two operations of one branch that may not stand together: a put, and a put or a deletion of the same key
+-- two operations of one branch that clash: a put, and a put or a deletion of the same key
 abbrev pub clash : Op → Op → Bool
 clash (Get key rev) later = false
 clash (Put key value lease) later = changes_key later

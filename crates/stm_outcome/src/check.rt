@@ -38,7 +38,7 @@ fn any_key_is_empty(txn: &Txn) -> bool
         || names_empty_key(txn.failure.as_slice())
 }
 
-/// Whether two operations of one branch, the first of them earlier, may not stand together.
+/// Whether two operations of one branch, the first of them earlier, clash: both put one key, or one puts it and the other deletes it.
 fn do_clash(op: &Op, later: &Op) -> bool
     ensures { result ≡ clash op.now later.now }
 {

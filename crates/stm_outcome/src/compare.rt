@@ -8,7 +8,7 @@ use crate::txn::{Compare, Order, Target};
 use std::cmp::Ordering;
 use stm_keys::{KeyState, Keys};
 
-/// Whether the order asked for is how the two sides stand.
+/// Whether two sides that compare so are in the order that is asked for.
 fn is_order(order: Order, sides: Ordering) -> bool
     ensures { result ≡ is_asked order sides }
 {
@@ -20,7 +20,7 @@ fn is_order(order: Order, sides: Ordering) -> bool
     }
 }
 
-/// How the stored side and the compare's side stand, `None` for the value of an absent key.
+/// How the stored side compares with the compare's side, `None` for the value of an absent key.
 fn standing(target: &Target, state: Option<&KeyState>) -> Option<Ordering>
     ensures { result ≡ sides target.now (option_copied state.entry) }
 {

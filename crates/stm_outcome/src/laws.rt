@@ -21,7 +21,7 @@ pub fn branch_applies()
 {}
 
 /// Where a compare fails and the failure list reads, the compare's place, its key's modification revision
-/// and the reads are told, and nothing changes.
+/// and the reads are reported, and nothing changes.
 pub fn failed_compare_reads()
     ensures { FailedCompareReads }
 {}

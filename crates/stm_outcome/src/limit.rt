@@ -1,4 +1,4 @@
-//! The limit of a store's operations.
+//! The limit of the operations of a transaction.
 ghost use Rattle.std.specs.Prelude.{◌≡◌, ◌≤◌};
 ghost use Rattle.stm_outcome.specs.Terms.{most_operations};
 
@@ -25,7 +25,7 @@ impl Model for OperationLimit {
 }
 
 impl OperationLimit {
-    /// The limit of so many elements.
+    /// The limit of `count` elements.
     pub fn new(count: usize) -> OperationLimit
         requires some { 1 ≤ count }
         requires few { count ≤ most_operations }

@@ -12,14 +12,14 @@ use std::fmt;
 /// `Display` gives the refusal's name, as it is spelled here.
 #[derive(Debug, Clone, Copy, PartialEq, Eq)]
 pub enum Refusal {
-    /// A growth was refused.
+    /// An allocation failed.
     OutOfMemory,
     /// A key is empty, or the first key of a range is.
     EmptyKey,
     /// A revision is above the store's counter.
     FutureRevision,
     /// A revision is below the store's floor, or at it where it was to be made the floor; or a watcher is lost, since
-    /// events that it was to be told are of such a revision.
+    /// events that it still had to be notified of are of such a revision.
     Compacted,
     /// Something was to change at the highest revision.
     RevisionsUsedUp,

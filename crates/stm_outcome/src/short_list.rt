@@ -6,10 +6,10 @@ use std::alloc::{AllocError, Global};
 use std::default::MadeWith;
 use std::marker::Model;
 
-/// A list of which most have few elements: the first one takes no memory of its own.
+/// A list that mostly has few elements: the first one is stored in it, without an allocation.
 ///
-/// Contracts see its elements in order, and never where they lie. It is made from a `Vec` without taking
-/// memory, and gives one back without taking memory where it has spilled.
+/// Contracts see its elements in order, and never where they are stored. It is made from a `Vec` without an
+/// allocation, and gives one back without an allocation where it has spilled.
 #[derive(Debug)]
 pub struct ShortList<T> {
     items: SmallVec<T, 1>,
@@ -46,7 +46,7 @@ impl<T> ShortList<T> {
 }
 
 impl<T: MadeWith<Global> + Drop> ShortList<T> {
-    /// The empty list. It takes no memory.
+    /// The empty list. It allocates nothing.
     pub fn new(alloc: Global) -> ShortList<T>
         ensures { result ≡ [] }
     {
@@ -55,7 +55,7 @@ impl<T: MadeWith<Global> + Drop> ShortList<T> {
         }
     }
 
-    /// The list of a vector's elements. It takes no memory.
+    /// The list of a vector's elements. It allocates nothing.
     pub fn of(items: Vec<T>) -> ShortList<T>
         ensures { result ≡ items.items }
     {
@@ -64,7 +64,7 @@ impl<T: MadeWith<Global> + Drop> ShortList<T> {
         }
     }
 
-    /// Adds an element at the end. Want of memory leaves the list as it was.
+    /// Adds an element at the end. An allocation failure leaves the list as it was.
     pub fn push(&mut self, item: T) -> Result<(), AllocError>
         ensures ok { OnOk result (self.new ≡ self.old ++ item ∷ []) }
         ensures err { OnErr result (self.new ≡ self.old) }
@@ -73,7 +73,7 @@ impl<T: MadeWith<Global> + Drop> ShortList<T> {
         Ok(())
     }
 
-    /// Makes room for so many more elements. Want of memory is the only refusal.
+    /// Makes room for `count` more elements. It fails only when out of memory.
     pub fn reserve(&mut self, count: usize) -> Result<(), AllocError>
         ensures { self.new ≡ self.old }
     {
@@ -81,7 +81,7 @@ impl<T: MadeWith<Global> + Drop> ShortList<T> {
         Ok(())
     }
 
-    /// The vector of the elements. It takes memory only where the elements lie in the list itself.
+    /// The vector of the elements. It allocates only where the elements are stored in the list itself.
     pub fn into_vec(self) -> Result<Vec<T>, AllocError>
         ensures { IfOk result (λ v. v.items ≡ self) }
     {

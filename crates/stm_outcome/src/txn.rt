@@ -13,7 +13,7 @@ use stm_history::Text;
 /// (etcd's API reference, "Transaction".) A clone of it, or of a part, is the same: its texts and lists are copies.
 #[derive(Debug, Drop)]
 pub struct Txn {
-    /// What has to hold of the keys as they are now, each of it, for the success list to run. At most 128, or as many as the store takes.
+    /// The compares, which all have to hold of the keys as they are now for the success list to run. At most 128, or as many as the store takes.
     pub compares: ShortList<Compare>,
     /// The operations that run where all compares hold. At most 128, or as many as the store takes.
     pub success: ShortList<Op>,
@@ -21,14 +21,14 @@ pub struct Txn {
     pub failure: ShortList<Op>,
 }
 
-/// A test of what a key is now. The stored side stands on the left of the order.
+/// A test of what a key is now. The stored side is on the left of the order.
 #[derive(Debug, Drop)]
 pub struct Compare {
     /// The key that is looked at. It is not empty.
     pub key: Text,
     /// What of the key is looked at, and the compare's side.
     pub target: Target,
-    /// How the key's side is to stand to the compare's side.
+    /// How the key's side has to compare with the compare's side.
     pub order: Order,
 }
 
@@ -43,7 +43,7 @@ pub enum Target {
     Create(u64),
     /// The revision of the key's last put.
     Mod(u64),
-    /// The lease that the key hangs on, 0 for none.
+    /// The lease that the key is attached to, 0 for none.
     Lease(u64),
     /// The value. Texts compare by bytes.
     Value(Text),
@@ -67,7 +67,7 @@ pub enum Order {
 pub enum Op {
     /// Reads the key at a revision. 0 is the current state, with what the branch did before.
     Get { key: Text, rev: u64 },
-    /// Puts the key, and hangs it on the lease (0 for none).
+    /// Puts the key, and attaches it to the lease (0 for none).
     Put { key: Text, value: Text, lease: u64 },
     /// Deletes the key.
     Del { key: Text },

@@ -53,7 +53,7 @@ abbrev pub with_write : Write → List Write → List Write
 with_write w [] = w ∷ []
 with_write w (x ∷ xs) = cond (bytes_eq (key_of w) (key_of x)) (w ∷ xs) (x ∷ with_write w xs)
 
--- the writes of a list of which the front is replaced
+-- the writes of a list of which the first one is replaced
 replaced : (w y : Write) (rest : List Write) → key_of y ≡ key_of w → with_write w (y ∷ rest) ≡ w ∷ rest
 replaced w y rest same = ap (λ k. cond (bytes_eq (key_of w) k) (w ∷ rest) (y ∷ with_write w rest)) same
     ∙ ap (λ b. cond b (w ∷ rest) (y ∷ with_write w rest)) (bytes_eq-self (key_of w))
@@ -68,7 +68,7 @@ added_to_none : (b : Bool) (w : Write) → cond b [] (w ∷ []) ++ [] ≡ cond b
 added_to_none true w = refl
 added_to_none false w = refl
 
--- one write more, where the front of the list is the write x
+-- one more write, where the first one of the list is the write x
 AddedTo : Write → Write → List Write → List Write → List Write → Type 0
 AddedTo w x earlier later rest =
     latest_of earlier x (later ++ w ∷ []) ++ cond (is_written (key_of w) (earlier ++ x ∷ [])) rest (with_write w rest)
@@ -177,7 +177,7 @@ of_key w earlier later false written =
     ∙ ap (λ c. cond c (Some y) None) (bytes_eq-self (key_of w))
     ∙ some_last w (last_write (key_of w) later)
 
--- the last of the latest writes, where the front of the list is the write w
+-- the last of the latest writes, where the first one of the list is the write w
 IsLast : List ℕ → Write → List Write → List Write → Type 0
 IsLast key w earlier later =
     or_else (cond (is_written key (earlier ++ w ∷ [])) None (last_write key later)) (last_write key (latest_of earlier w later))

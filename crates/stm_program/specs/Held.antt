@@ -1,4 +1,4 @@
--- The statements of a program, wherever they stand.
+-- The statements of a program, wherever they are stored.
 use Rattle.stm_program.specs.Syntax.{Block}
 use Rattle.stm_program.specs.BlockView.{block_of}
 use Rattle.stm_program.specs.declared.held.Held.{Held}

@@ -1,4 +1,4 @@
--- The limits of a program: how many nodes it has, how deep they stand in one another, and what its numbers and texts may be.
+-- The limits of a program: how many nodes it has, how deep they are nested, and what its numbers and texts may be.
 use Rattle.std.specs.Prelude.{ℕ, ◌+◌, ◌≤◌, max, Bool, false, ◌||◌, ◌&&◌, not, nat_eq, nat_lt, bytes_eq, List, [], ◌∷◌, length, IsTrue, FitsSigned}
 use Rattle.std.specs.List.{list_any}
 use Rattle.std.specs.Int.{w64}
@@ -104,7 +104,7 @@ pub record BlockFits (levels room : ℕ) (b : Block) : Type 0 where
 abbrev pub is_no_key : List ℕ → Bool
 is_no_key key = nat_eq (length key) 0 || nat_lt MAX_TEXT (length key)
 
--- a key stands in it twice
+-- the list has a key twice
 abbrev pub has_repeat : List (List ℕ) → Bool
 has_repeat [] = false
 has_repeat (key ∷ later) = list_any (bytes_eq key) later || has_repeat later
@@ -115,7 +115,7 @@ list_fits keys = not (nat_lt MAX_PREFETCH (length keys)) && not (list_any is_no_
 abbrev pub ListFits : List (List ℕ) → Type 0
 ListFits keys = IsTrue (list_fits keys)
 
--- where there is no list, nothing of it is to be looked at
+-- where there is no list, nothing of it has to be checked
 abbrev pub fits_with : List (List ℕ) → Type 0 → Type 0
 fits_with [] rest = rest
 fits_with (key ∷ keys) rest = ListFits (key ∷ keys) × rest

@@ -36,7 +36,7 @@ mutual
     End : Block
     Then : Statement → Block → Block
 
--- What a contract sees of a program. The keys of its list enter each attempt before the first statement, in the list's order.
+-- What a contract sees of a program. Each attempt reads the keys of its list before the first statement, in the list's order.
 pub record ProgramTree : Type 0 where
   pub statements : Block
   pub prefetch : List (List ℕ)

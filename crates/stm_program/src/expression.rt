@@ -8,7 +8,7 @@ use std::marker::Model;
 use std::sync::Arc;
 use stm_history::Text;
 
-/// An expression. Its parts are shared, so that a copy of an expression that is no text takes no memory.
+/// An expression. Its parts are shared, so that a copy of an expression that is no text allocates nothing.
 #[cycle(expression)]
 #[derive(Debug, Drop)]
 pub struct Expr {
@@ -20,9 +20,9 @@ pub struct Expr {
 #[cycle(expression)]
 #[derive(Debug, Drop)]
 pub enum ExprNode {
-    /// A text, as it stands.
+    /// A text literal.
     Text(Text),
-    /// A whole number, as it stands.
+    /// A whole-number literal.
     Number(i64),
     /// The value of a variable.
     Variable(Variable),
@@ -30,9 +30,9 @@ pub enum ExprNode {
     Get(Arc<Expr>),
     /// The modification revision of a key, 0 where the key is absent.
     Rev(Arc<Expr>),
-    /// Two numbers, combined.
+    /// An operator on two numbers.
     Arithmetic(Operator, Arc<Expr>, Arc<Expr>),
-    /// Two texts, one after the other.
+    /// Two texts, concatenated.
     Cat(Arc<Expr>, Arc<Expr>),
     /// A number as decimal text.
     TextOf(Arc<Expr>),

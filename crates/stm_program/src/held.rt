@@ -1,4 +1,4 @@
-//! Where the statements of a program stand.
+//! Where the statements of a program are stored.
 ghost use Rattle.std.specs.Prelude.{◌≡◌, IfOk};
 ghost use Rattle.stm_program.specs.BlockView.{block_of};
 ghost use Rattle.stm_program.specs.Held.{statements_held};

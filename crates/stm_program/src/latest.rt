@@ -12,7 +12,7 @@ use stm_history::Sequence;
 /// Each key that is written, with its last write, in the order of first writes.
 type Latest<'a> = IndexMap<&'a str, &'a Write>;
 
-/// The last write of a key, looked for from the end.
+/// The last write of a key, searched for from the end.
 #[tactic(auto, unfolding(crate::specs::Writes::last_write))]
 pub fn last_write<'a>(writes: &'a [Write], key: &str) -> Option<&'a Write>
     ensures { option_copied result ≡ last_of_key key.now writes.now }

@@ -11,9 +11,9 @@ pub enum Level {
     SerializableSnapshot,
     /// The commit compares the keys that were read; all reads are of one revision.
     Serializable,
-    /// The commit compares the keys that were read; each read is of its own moment.
+    /// The commit compares the keys that were read; each read is of the moment at which it was made.
     RepeatableReads,
-    /// The commit compares nothing; each read is of its own moment.
+    /// The commit compares nothing; each read is of the moment at which it was made.
     ReadCommitted,
 }
 

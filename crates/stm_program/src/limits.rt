@@ -10,7 +10,7 @@ use crate::expression::{Expr, ExprNode};
 use crate::statement::{Block, Stmt, StmtNode};
 use stm_history::HIGHEST_NUMBER;
 
-/// How deep the nodes of a program may stand in one another.
+/// How deep the nodes of a program may be nested.
 pub const MAX_DEPTH: usize = 32;
 
 /// How many nodes a program may have.
@@ -31,15 +31,15 @@ pub const MAX_VARIABLE: u64 = 15;
 /// The greatest id of a lease.
 pub const MAX_LEASE: u64 = HIGHEST_NUMBER;
 
-/// Whether statements are within the limits of a program. It takes no memory.
+/// Whether statements are within the limits of a program. It allocates nothing.
 pub fn fits(statements: &[Stmt]) -> bool
     ensures { IsTrue result ↔ Fits (of_statements (block_of statements.now)) }
 {
     statements_left(statements, MAX_DEPTH, MAX_NODES).is_some()
 }
 
-// Each function below answers how many of the `room` nodes are left, where what it is given is within
-// the limits: at most `levels` deep, and no more nodes than `room`. It looks at no more than `room` nodes.
+// Each function below answers how many of the `room` nodes are left, if its argument is within
+// the limits: at most `levels` deep, and at most `room` nodes. It looks at no more than `room` nodes.
 
 fn expression_left(expression: &Expr, levels: usize, room: usize) -> Option<usize>
     ensures { SomeIff result (ExpressionFits levels room expression.now) (room - expression_nodes expression.now) }

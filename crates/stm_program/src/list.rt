@@ -22,7 +22,7 @@ fn has_no_key(keys: &[String]) -> bool
     }
 }
 
-/// Whether a key is one of these. It takes no memory.
+/// Whether a key is one of these. It allocates nothing.
 pub fn is_listed(key: &str, keys: &[String]) -> bool
     ensures { result ≡ list_any (bytes_eq key.now) (map string_bytes keys.now) }
 {
@@ -32,7 +32,7 @@ pub fn is_listed(key: &str, keys: &[String]) -> bool
     }
 }
 
-/// Whether a key stands in a list twice.
+/// Whether a list has a key twice.
 fn repeats(keys: &[String]) -> bool
     ensures { result ≡ has_repeat (map string_bytes keys.now) }
 {

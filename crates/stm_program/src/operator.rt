@@ -5,12 +5,12 @@
 pub enum Operator {
     /// The sum.
     Add,
-    /// The left number less the right one.
+    /// The left number minus the right one.
     Sub,
     /// The product.
     Mul,
-    /// The quotient, cut towards zero.
+    /// The quotient, truncated towards zero.
     Div,
-    /// The rest of the quotient, with the sign of the left number.
+    /// The remainder of the division, with the sign of the left number.
     Rem,
 }

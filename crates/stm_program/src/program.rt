@@ -11,11 +11,11 @@ use crate::statement::{Block, Stmt};
 use std::alloc::{AllocError, Global};
 use std::marker::Model;
 
-/// A program: statements within the limits, and before them the keys of its list, whether the statements read them or not. Those enter
-/// each attempt first, in the list's order.
+/// A program: statements within the limits, and before them the keys of its list, whether the statements read them or not. Each attempt
+/// reads those first, in the list's order.
 ///
-/// It has at most 4096 nodes (a node is a statement, an expression or a condition), which stand at most
-/// 32 deep in one another. A text in it has at most 65536 bytes, a loop's limit is at most 1000, and a
+/// It has at most 4096 nodes (a node is a statement, an expression or a condition), nested at most
+/// 32 deep. A text in it has at most 65536 bytes, a loop's limit is at most 1000, and a
 /// lease's id at most 9223372036854775807. The list has at most 128 keys, each of 1 to 65536 bytes, none twice.
 #[derive(Debug)]
 pub struct Program {
@@ -62,8 +62,8 @@ impl Program {
         }
     }
 
-    /// The program of a list of these keys and of these statements after it. They are within the limits, which `fits` and `list_fits` check. It allocates
-    /// nothing.
+    /// The program of a list of these keys and of these statements after it. They are within the limits, which `fits` and `list_fits`
+    /// check. It allocates nothing.
     pub fn with_list(prefetch: Vec<String>, statements: Vec<Stmt>) -> Program
         requires { Fits (record { statements = block_of statements.items; prefetch = map string_bytes prefetch.items }) }
         ensures { result ≡ record { statements = block_of statements.items; prefetch = map string_bytes prefetch.items } }
@@ -103,7 +103,7 @@ impl Program {
 
     /// Whether it is the same program as another one. `==` answers this.
     ///
-    /// It takes no memory, and looks at the keys of the shorter list, and at no more nodes than the smaller program has, however much is
+    /// It allocates nothing, and looks at the keys of the shorter list, and at no more nodes than the smaller program has, however much is
     /// shared.
     pub fn is_same(&self, other: &Program) -> bool
         ensures { IsTrue result ↔ self.now ≡ other.now }
@@ -114,7 +114,7 @@ impl Program {
         are_same_statements(self.statements(), other.statements())
     }
 
-    /// The keys of its list, in the list's order. It takes no memory.
+    /// The keys of its list, in the list's order. It allocates nothing.
     pub fn prefetch(&self) -> &[String]
         ensures same { map string_bytes result.now ≡ self.now.prefetch }
         ensures fits { Fits self.now }
@@ -122,7 +122,7 @@ impl Program {
         self.prefetch.as_slice()
     }
 
-    /// The statements in order. It takes no memory.
+    /// The statements in order. It allocates nothing.
     pub fn statements(&self) -> &[Stmt]
         ensures same { block_of result.now ≡ self.now.statements }
         ensures fits { Fits self.now }
@@ -131,8 +131,8 @@ impl Program {
     }
 }
 
-/// A copy shares all but the outermost statements with its source, and these too where they are shared: else it costs one step for each of them. It costs
-/// one for each key of the list.
+/// A copy shares all but the outermost statements with its source, and these too where they are shared: else it costs one step for each
+/// of them. It costs one for each key of the list.
 impl Clone for Program {
     ghost is_clone = { λ p copy. copy ≡ p };
 

@@ -1,6 +1,6 @@
 //! Whether two programs are the same.
 //!
-//! Parts are shared, and a walk looks at a shared part as often as it stands in the program. So its work is at
+//! Parts are shared, and a walk looks at a shared part as often as it occurs in the program. So its work is at
 //! most the nodes of the smaller program, of which there are at most `MAX_NODES`.
 ghost use Rattle.std.specs.Prelude.{◌≡◌, ◌↔◌, IsTrue};
 ghost use Rattle.stm_program.specs.BlockView.{block_of};
@@ -151,7 +151,7 @@ fn is_deletion(statement: &Stmt, key: &Expr) -> bool
     }
 }
 
-/// Whether a statement puts a value out.
+/// Whether a statement emits a value.
 fn is_emission(statement: &Stmt, value: &Expr) -> bool
     ensures { IsTrue result ↔ Emit value.now ≡ statement.now }
 {

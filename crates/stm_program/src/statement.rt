@@ -31,7 +31,7 @@ pub enum StmtNode {
     /// The block runs as often as the number says, with the variable set to the turn, from 0. A number
     /// above the limit ends the run.
     For(Variable, Arc<Expr>, u64, Block),
-    /// A value is put out.
+    /// A value is emitted.
     Emit(Arc<Expr>),
     /// The run ends with a text.
     Abort(Arc<Expr>),

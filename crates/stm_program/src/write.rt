@@ -5,7 +5,7 @@ ghost use Rattle.stm_program.specs.Writes.{key_of, value_of};
 use std::alloc::AllocError;
 use stm_history::Text;
 
-/// One write of a program, as it stands in a run's list of writes.
+/// One write of a program, as a run's list of writes has it.
 #[derive(Debug, Drop, PartialEq, Eq)]
 pub enum Write {
     /// The key has the value, on a lease (0 for none).

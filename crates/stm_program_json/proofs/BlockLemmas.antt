@@ -12,7 +12,7 @@ use Rattle.stm_json.specs.Outcome.{◌>>=◌, within}
 use Rattle.stm_json.specs.Returns.{ReturnsFault}
 use Rattle.stm_program_json.specs.Reading.{Read, statements_from}
 
--- a block behind statements
+-- a block after statements
 abbrev pub block_after : List Statement → Block → Block
 block_after [] b = b
 block_after (s ∷ ss) b = Then s (block_after ss b)

@@ -21,7 +21,7 @@ use Rattle.stm_program_json.proofs.WordLemmas.{condition_word-is}
 use Rattle.stm_json.proofs.ElementLemmas.{one_of-is, two_of-is}
 use Rattle.stm_program_json.proofs.ExpressionSound.{expression_sound, words_and}
 
--- a condition that was read within so many levels and nodes
+-- a condition that was read with these levels and nodes left
 pub record ConditionRead (levels room : ℕ) (d : Data) (x : Condition × ℕ) : Type 0 where
   pub spelled : SpellsCondition d x.0
   pub fits : ConditionFits levels room x.0

@@ -24,7 +24,7 @@ use Rattle.stm_program_json.proofs.WordLemmas.{expression_word-is}
 use Rattle.stm_json.proofs.ElementLemmas.{worded-is, one_of-is, two_of-is, number_up_to-is, whole_number-is, is_64_bit-fits}
 use Rattle.stm_program.specs.declared.limits.TheConstants.{MAX_TEXT, MAX_VARIABLE}
 
--- an expression that was read within so many levels and nodes
+-- an expression that was read with these levels and nodes left
 pub record ExpressionRead (levels room : ℕ) (d : Data) (x : Expression × ℕ) : Type 0 where
   pub spelled : SpellsExpression d x.0
   pub fits : ExpressionFits levels room x.0

@@ -26,7 +26,7 @@ use Rattle.stm_program_json.specs.Reading.{key_reported, key_at, keys_from, keys
 
 -- ---- one key
 
--- a key that was read behind these
+-- a key that was read after these
 pub record KeyRead (earlier : List (List ℕ)) (d : Data) (key : List ℕ) : Type 0 where
   pub spelled : d ≡ string key
   pub room : length earlier < MAX_PREFETCH
@@ -82,7 +82,7 @@ key_reads earlier key r =
 
 -- ---- all keys
 
--- keys that were read behind these
+-- keys that were read after these
 pub record KeysRead (earlier : List (List ℕ)) (ds : Items) (keys : List (List ℕ)) : Type 0 where
   pub new : List (List ℕ)
   pub follow : keys ≡ earlier ++ new

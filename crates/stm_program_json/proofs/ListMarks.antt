@@ -59,7 +59,7 @@ array_marked : (p : List ℕ) (room : ℕ) (d : Data) (rest : List Mark)
 array_marked p room (array ks) rest = keys_marked (at p 1) room [] ks rest
 array_marked p room _ rest = wrong_is (at p 1) Shape room rest
 
--- what stands behind the word of a list
+-- what follows the word of a list
 pub list_marked : (p : List ℕ) (room : ℕ) (parts : Items) (rest : List Mark)
     → first_of_marks room (marks_of_list p parts ++ rest) ≡ after_number p room (list_of (one_of parts)) rest
 list_marked p room no_items rest = wrong_is p Shape room rest

@@ -1,5 +1,5 @@
 -- The marks of data beside what is read of them: the first fault of the marks is the reader's, and without a fault the
--- search goes on behind the marks in the room that the reader leaves.
+-- search goes on after the marks with the nodes that the reader leaves.
 use Rattle.std.proofs.Common.{◌≡◌, ℕ, zero, suc, ◌^◌, ◌<◌, ◌≤◌, ℤ, pos, negsuc, List, [], ◌∷◌, ◌++◌, Bool, true, false, cond, Option, Some, None, Ok, Err}
 use Rattle.std.proofs.Common.{refl, sym, ap, ◌∙◌, append_assoc, arith, leb, ltb, leb-true, le-leb, lt-ltb, option_and_then}
 use Rattle.std.proofs.lemmas.List.{append-nil}
@@ -15,7 +15,7 @@ use Rattle.stm_json.specs.Faults.{at}
 use Rattle.stm_program_json.specs.FirstFault.{Mark, Node, wrong, fault_at, first_of_marks, range_marks, number_marks, whole_marks}
 use Rattle.stm_program.specs.declared.limits.TheConstants.{MAX_DEPTH}
 
--- the reader's fault, or the first one behind
+-- the reader's fault, or the first one after it
 abbrev pub after : {A : Type 0} → List ℕ → Read A → List Mark → Option BadInput
 after p (Ok x) rest = first_of_marks x.1 rest
 after p (Err f) rest = Some (record { place = p ++ f.place; cause = f.cause })

@@ -31,7 +31,7 @@ expression_of_two p (Some expression.Var) ms = wrong p Shape
 expression_of_two p (Some (expression.Unary u)) ms = wrong p Shape
 expression_of_two p (Some (expression.Binary b)) ms = ms
 
--- what is marked in a node, behind the node itself
+-- what is marked in a node, after the node itself
 abbrev pub expression_inner : ℕ → List ℕ → Data → List Mark
 expression_inner k p (string s) = if nat_le (length s) MAX_TEXT then [] else wrong p TooLong
 expression_inner k p (number n) = whole_marks p (as_integer n)

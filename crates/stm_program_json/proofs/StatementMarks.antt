@@ -175,7 +175,7 @@ alone_fault all = program_steps 0 all ∙ reported of_statements (statements_fro
 abbrev listing : List (List ℕ) → Block → ProgramTree
 listing keys b = record { statements = b; prefetch = keys }
 
--- behind a list that was read, or the fault of the list
+-- after a list that was read, or the fault of the list
 behind_fault : (ds : Items) (reading : Outcome (List (List ℕ))) (first : Option BadInput)
     → first ≡ after_number (at [] 0) MAX_NODES reading (marks_of_steps 1 [] 1 ds)
     → first ≡ fault_of (within 0 reading >>= λ keys. statements_from (statement_at MAX_DEPTH) 1 MAX_NODES ds >>= λ b. Ok (listing keys b.0))

@@ -24,7 +24,7 @@ use Rattle.stm_program_json.proofs.ExpressionSound.{expression_sound, words_and}
 use Rattle.stm_program_json.proofs.ConditionSound.{condition_sound}
 use Rattle.stm_program.specs.declared.limits.TheConstants.{MAX_DEPTH, MAX_NODES, MAX_TURNS, MAX_VARIABLE, MAX_LEASE}
 
--- a statement that was read within so many levels and nodes
+-- a statement that was read with these levels and nodes left
 pub record StatementRead (levels room : ℕ) (d : Data) (x : Statement × ℕ) : Type 0 where
   pub spelled : SpellsStatement d x.0
   pub fits : StatementFits levels room x.0

@@ -40,7 +40,7 @@ picked f [] xs z = refl
 picked f (b ∷ bs) [] z = refl
 picked f (b ∷ bs) (x ∷ xs) z = tried f b x (pick bs xs z) (pick bs (map f xs) (f z)) (sym (picked f bs xs z))
 
--- ---- the parts behind a word, by the reader's sorts of words
+-- ---- the parts after a word, by the reader's sorts of words
 
 abbrev expression_parts : Option ExprWord → Option (List Sort)
 expression_parts None = None

@@ -17,7 +17,7 @@ use Rattle.stm_json.specs.Parts.{same}
 use Rattle.stm_program_json.specs.Words.{expression_word, condition_word, statement_word}
 use Rattle.stm_program_json.specs.WordTexts.{expression_text, condition_text, statement_text}
 
--- the answer of one test, or of the tests behind it
+-- the answer of one test, or of the tests after it
 chosen_by : {W : Type 0} (text : W → List ℕ) (w t : List ℕ) (b : Bool) (y x : W) (rest : Option W) → (b ≡ true → w ≡ t) → text y ≡ t
     → (rest ≡ Some x → w ≡ text x) → cond b (Some y) rest ≡ Some x → w ≡ text x
 chosen_by text w t true y x rest found named others h =

@@ -80,13 +80,13 @@ pub key_empty : first_fault (array (item (list_of (string (codes "p") ∷ string
 unfolding first_fault digits
 key_empty = refl
 
--- a list behind a statement: [["emit",1],["prefetch",["p"]]]
+-- a list after a statement: [["emit",1],["prefetch",["p"]]]
 pub list_too_late : first_fault (array (item (spelled (codes "emit") (number (unsigned 1) ∷ [])) (item (list_of (string (codes "p") ∷ [])) no_items)))
     ≡ fault_at (codes "/1") Shape
 unfolding first_fault parts_behind digits
 list_too_late = refl
 
--- two elements behind the word: [["prefetch",["p"],["q"]]]
+-- two elements after the word: [["prefetch",["p"],["q"]]]
 pub two_lists : first_fault (array (item (spelled (codes "prefetch")
     (array (item (string (codes "p")) no_items) ∷ array (item (string (codes "q")) no_items) ∷ [])) no_items))
     ≡ fault_at (codes "/0") Shape

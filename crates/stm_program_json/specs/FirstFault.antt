@@ -1,5 +1,5 @@
 -- The first fault of data in a program's place, apart from reading: the marks of all the data in the order of reading, none
--- left out behind a fault, and then the first of them that is a fault.
+-- left out after a fault, and then the first of them that is a fault.
 use Rattle.std.specs.Prelude.{ℕ, zero, suc, ℤ, pos, negsuc, Bool, true, false, bytes_eq, List, [], ◌∷◌, ◌++◌, length, Option, Some, None, nat_le}
 use Rattle.std.specs.Prelude.{if◌then◌else◌, option_and_then, codes, ◌||◌, nat_eq, nat_lt}
 use Rattle.std.specs.List.{list_any}
@@ -13,7 +13,7 @@ use Rattle.stm_program.specs.declared.limits.TheConstants.{MAX_DEPTH, MAX_NODES,
 use Rattle.stm_json.specs.Elements.{is_64_bit}
 use Rattle.stm_json.specs.Faults.{at}
 
--- a node that stands at a place and so deep, or what is wrong at a place
+-- a node at a depth and a place, or what is wrong at a place
 pub data Mark : Type 0 where
   Node : ℕ → List ℕ → Mark
   Wrong : List ℕ → Cause → Mark
@@ -37,7 +37,7 @@ abbrev pub whole_marks : List ℕ → Option ℤ → List Mark
 whole_marks p (Some z) = if is_64_bit z then [] else wrong p Range
 whole_marks p None = wrong p Shape
 
--- ---- the table: which words there are, and the sorts of the parts behind each
+-- ---- the table: which words there are, and the sorts of the parts after each
 
 -- an expression, a condition, a statement, a block, or a whole number from 0 to a limit
 pub data Sort : Type 0 where
@@ -78,7 +78,7 @@ words_of Step = step_words
 words_of Block = []
 words_of (Count limit) = []
 
--- the sorts of the parts behind a word, where something of this sort begins with it
+-- the sorts of the parts after a word, where something of this sort begins with it
 unfoldable pub parts_behind : Sort → List ℕ → Option (List Sort)
 parts_behind sort word = lookup (bytes_eq word) (words_of sort)
 
@@ -100,7 +100,7 @@ abbrev pub marks_if : List ℕ → Option (List Sort) → Items → (List Sort �
 marks_if p None ds parts = wrong p Shape
 marks_if p (Some sorts) ds parts = if are_as_many sorts ds then parts sorts else wrong p Shape
 
--- what is marked in something of a sort that stands so deep, behind the node that it is
+-- what is marked in something of a sort that stands at depth k, after the node that it is
 abbrev mutual
   pub marks_in : Sort → ℕ → List ℕ → Data → List Mark
   marks_in Value k p (string s) = if nat_le (length s) MAX_TEXT then [] else wrong p TooLong
@@ -128,7 +128,7 @@ abbrev pub with_text : List (List ℕ) → Data → List (List ℕ)
 with_text earlier (string s) = earlier ++ s ∷ []
 with_text earlier _ = earlier
 
--- a key behind these
+-- a key after these
 abbrev pub text_marks : List ℕ → List (List ℕ) → List ℕ → List Mark
 text_marks p earlier s =
     if nat_eq (length s) 0 || list_any (bytes_eq s) earlier then wrong p Shape else (if nat_lt MAX_TEXT (length s) then wrong p TooLong else [])
@@ -143,7 +143,7 @@ marks_of_keys p index earlier no_items = []
 marks_of_keys p index earlier (item d ds) =
     (if nat_lt index MAX_PREFETCH then key_marks (at p index) earlier d else wrong (at p index) TooMany) ++ marks_of_keys p (suc index) (with_text earlier d) ds
 
--- what stands behind the word: one array
+-- what follows the word: one array
 abbrev pub marks_of_list : List ℕ → Items → List Mark
 marks_of_list p (item (array ks) no_items) = marks_of_keys (at p 1) 0 [] ks
 marks_of_list p (item d no_items) = wrong (at p 1) Shape
@@ -158,7 +158,7 @@ abbrev pub behind_word : Data → Items
 behind_word (array (item d ds)) = ds
 behind_word _ = no_items
 
--- the elements of a program: its statements, behind its list where it has one
+-- the elements of a program: its statements, after its list where it has one
 abbrev pub marks_of_elements : Items → List Mark
 marks_of_elements no_items = []
 marks_of_elements (item d ds) =
@@ -173,7 +173,7 @@ program_marks _ = wrong [] Shape
 abbrev pub fault_at : List ℕ → Cause → Option BadInput
 fault_at p cause = Some (record { place = p; cause = cause })
 
--- where so many nodes more are allowed: a node that is too deep is a fault, then one for which no room is left
+-- where `room` more nodes are allowed: a node that is too deep is a fault, then one for which no room is left
 abbrev pub first_of_marks : ℕ → List Mark → Option BadInput
 first_of_marks room [] = None
 first_of_marks room (Wrong p cause ∷ ms) = fault_at p cause

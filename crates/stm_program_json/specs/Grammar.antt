@@ -56,11 +56,11 @@ abbrev pub SpellsKeys : Items → List (List ℕ) → Type 0
 SpellsKeys ds [] = ds ≡ no_items
 SpellsKeys ds (key ∷ keys) = (rest : Items) × (ds ≡ item (string key) rest) × SpellsKeys rest keys
 
--- a list is spelled by an array of its keys behind a word
+-- a list is spelled by an array of its keys after a word
 abbrev pub SpellsList : Data → List (List ℕ) → Type 0
 SpellsList d keys = (ks : Items) × (d ≡ spelled (codes "prefetch") (array ks ∷ [])) × SpellsKeys ks keys
 
--- the statements alone, where the program has no list, or behind its list
+-- the statements alone, where the program has no list, or after its list
 abbrev pub SpellsElements : Items → ProgramTree → Type 0
 SpellsElements ds p =
     ((p.prefetch ≡ []) × SpellsStatements ds p.statements)

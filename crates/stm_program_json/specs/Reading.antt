@@ -1,4 +1,4 @@
--- Reading a program: the value that data spell, or the first fault. At each node the depth is looked at first, then the
+-- Reading a program: the value that data spell, or the first fault. At each node the depth is checked first, then the
 -- number of nodes, then the shape, and then the elements in order. A reader is given how many levels and how many nodes
 -- are left, and answers how many nodes are left after it.
 use Rattle.std.specs.Prelude.{ℕ, zero, suc, List, [], ◌∷◌, ◌++◌, length, Bool, true, false, ◌||◌, bytes_eq, Option, Some, None, Ok, is_some, if◌then◌else◌, nat_eq, nat_le, nat_lt, codes}
@@ -173,7 +173,7 @@ statement_at (suc levels) (suc room) d =
 
 -- ---- the list of keys that a program may begin with: it is no node
 
--- a key that comes behind these
+-- a key that comes after these
 abbrev pub key_reported : List (List ℕ) → Option (List ℕ) → Outcome (List ℕ)
 key_reported earlier None = bad Shape
 key_reported earlier (Some s) =
@@ -182,7 +182,7 @@ key_reported earlier (Some s) =
 abbrev pub key_at : List (List ℕ) → Data → Outcome (List ℕ)
 key_at earlier d = if nat_lt (length earlier) MAX_PREFETCH then key_reported earlier (as_str d) else bad TooMany
 
--- these keys, and the others behind them
+-- these keys, and the others after them
 unfoldable pub keys_from : List (List ℕ) → Items → Outcome (List (List ℕ))
 keys_from earlier no_items = Ok earlier
 keys_from earlier (item d ds) = within (length earlier) (key_at earlier d) >>= λ key. keys_from (earlier ++ key ∷ []) ds
@@ -191,12 +191,12 @@ abbrev pub keys_array : Option Items → Outcome (List (List ℕ))
 keys_array None = bad Shape
 keys_array (Some ds) = keys_from [] ds
 
--- nothing but the array of keys stands behind the word
+-- nothing but the array of keys follows the word
 abbrev pub list_of : Option Data → Outcome (List (List ℕ))
 list_of None = bad Shape
 list_of (Some d) = within 1 (keys_array (as_array d))
 
--- what stands behind the word, where an array begins with it
+-- what follows the word, where an array begins with it
 abbrev pub list_parts : Option (List ℕ × Items) → Option Items
 list_parts None = None
 list_parts (Some p) = if same p.0 (codes "prefetch") then Some p.1 else None
@@ -215,7 +215,7 @@ program_list None = bad Shape
 program_list (Some no_items) = Ok (of_statements End)
 program_list (Some (item d ds)) = program_after (list_parts (worded d)) (item d ds) ds
 
--- The index of the first statement of a program among the elements that spell it: it stands behind a list, also behind one of no keys.
+-- The index of the first statement of a program among the elements that spell it: it stands after a list, also after one of no keys.
 abbrev pub first_among : Option Items → ℕ
 first_among None = 0
 first_among (Some no_items) = 0

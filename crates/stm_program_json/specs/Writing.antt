@@ -42,7 +42,7 @@ abbrev mutual
   written_statements End = no_items
   written_statements (Then s b) = item (written_statement s) (written_statements b)
 
--- elements behind others
+-- elements after others
 abbrev pub items_after : List Data → Items → Items
 items_after [] es = es
 items_after (d ∷ ds) es = item d (items_after ds es)
@@ -59,6 +59,6 @@ abbrev pub behind_list : List (List ℕ) → Items → Items
 behind_list [] ds = ds
 behind_list (key ∷ keys) ds = item (spelled (codes "prefetch") (array (written_keys (key ∷ keys)) ∷ [])) ds
 
--- a program is the array of its statements, behind its list
+-- a program is the array of its statements, after its list
 abbrev pub written_program : ProgramTree → Data
 written_program p = array (behind_list p.prefetch (written_statements p.statements))

@@ -23,9 +23,9 @@ use stm_program::{MAX_DEPTH, MAX_NODES, Program};
 ///
 /// A program is an array of statements, whose first element may be `["prefetch",[KEY..]]` with up to 128 keys of 1 to 65536 bytes, none
 /// twice: its list, which is no node. The value is read in order, a value before its elements and
-/// these from the first to the last; at a node the depth is looked at first, then the number of nodes,
+/// these from the first to the last; at a node the depth is checked first, then the number of nodes,
 /// then the shape, and then the elements. `Bad` is the first fault, with its place in the value.
-/// `OutOfMemory` may come in place of any other answer, where a growth was refused.
+/// `OutOfMemory` may come in place of any other answer, where an allocation failed.
 pub fn read_program(alloc: Global, value: &Value) -> Result<Program, ReadError>
     ensures exact { Returns (λ p. p) result (program_of (view value.now)) }
     // What is read is spelled so.
@@ -38,7 +38,7 @@ pub fn read_program(alloc: Global, value: &Value) -> Result<Program, ReadError>
     program(alloc, value)
 }
 
-/// The index of the first statement of a program among the elements of the array that spells it: 1 behind a list, also behind one of no keys,
+/// The index of the first statement of a program among the elements of the array that spells it: 1 after a list, also after one of no keys,
 /// else 0.
 pub fn first_statement(value: &Value) -> usize
     ensures is { result ≡ first_statement (view value.now) }
@@ -56,7 +56,7 @@ pub fn first_statement(value: &Value) -> usize
     }
 }
 
-/// The program of statements behind a list of what stands behind its word.
+/// The program of the list that these parts spell, the elements after its word, and of the statements that follow it.
 fn program_behind(alloc: Global, parts: &[Value], rest: &[Value]) -> Result<Program, ReadError>
     ensures { (all : Items) → Returns (λ p. p) result (program_after (Some (items_view parts.now)) all (items_view rest.now)) }
 {

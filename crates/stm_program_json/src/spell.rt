@@ -14,7 +14,7 @@ use serde_json::Value;
 use std::alloc::{AllocError, Global};
 use stm_program::Program;
 
-/// The one spelling of a program as a JSON value: its list stands first, where it has keys. Reading it gives the program again.
+/// The one spelling of a program as a JSON value: its list comes first, where it has keys. Reading it gives the program again.
 pub fn write_program(alloc: Global, program: &Program) -> Result<Value, AllocError>
     ensures exact { IfOk result (λ v. view v ≡ written_program program.now) }
     ensures spells { IfOk result (λ v. SpellsProgram (view v) program.now) }

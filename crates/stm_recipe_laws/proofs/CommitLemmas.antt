@@ -82,7 +82,7 @@ committed statements (Renew id moment) r of legal = absurd of
 committed statements (Revoke id) r of legal = absurd of
 committed statements (Expire id) r of legal = absurd of
 
--- what the entry of a commit tells is what its run has emitted
+-- what the entry of a commit says was emitted is what its run has emitted
 pub output_reported : (statements : Block) (e : Entry) (r : Replayed) → IsCommitOf statements e → IsLegal e r → (run : Run) →
     run_over (state_now r.history) statements ≡ Ended run → output_of e ≡ run.output
 output_reported statements (Program program level answers output trace revision) r of legal run ran =

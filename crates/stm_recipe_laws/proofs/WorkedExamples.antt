@@ -432,7 +432,7 @@ slot_entries_are_legal =
     let later : AreLegal (Expire 7 ∷ by_g ∷ []) (with_lease h_holds) = (record { is_live = lease_is_live; has_room = refl }, (by_g_is_legal, tt)) in
     (by_h_is_legal, subst (λ (r : Replayed). AreLegal (Expire 7 ∷ by_g ∷ []) r) (sym by_h_leaves) later)
 
--- the law tells that the slot was freed between the two
+-- the law says that the slot was freed between the two
 slot_is_freed : IsFreed (codes "s") (Expire 7 ∷ []) (replay_entry by_h (with_lease []))
 slot_is_freed =
     slots_are_freed_between (codes "s") by_h by_g (Expire 7 ∷ []) (with_lease []) some slot_entries_are_legal

@@ -1,4 +1,4 @@
--- Wrong entries of recipes are none.
+-- Wrong entries of recipes are rejected.
 use Rattle.std.proofs.Common.{◌≡◌, ◌≢◌, ℕ, ◌+◌, ◌<◌, zero, suc, List, [], ◌∷◌, ◌++◌, length, Option, Some, None, Bool, true, false, cond, refl, sym}
 use Rattle.std.proofs.Common.{◌∙◌, ap, arith, codes}
 use Rattle.std.specs.Prelude.{ℤ, pos, ◌+ℤ◌, int_lt, not, bytes_eq, is_some, slice_get}

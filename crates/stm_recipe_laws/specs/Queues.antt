@@ -80,7 +80,7 @@ texts_of [] = []
 texts_of (Text t ∷ values) = t ∷ texts_of values
 texts_of (Number z ∷ values) = texts_of values
 
--- what a committed program has emitted, as its entry tells
+-- what a committed program has emitted, as its entry says
 abbrev pub output_of : Entry → List Value
 output_of (Program program level answers output trace revision) = output
 output_of other = []

@@ -1,4 +1,4 @@
--- What the readers of a state tell of the queues and slots that the laws of entries speak of.
+-- What the readers of a state find of the queues and slots that the laws of entries speak of.
 use Rattle.std.specs.Prelude.{◌≡◌, ◌↔◌, ℕ, ◌^◌, ◌<◌, is_some, List, Some}
 use Rattle.stm_history.specs.History.{History}
 use Rattle.stm_steps.specs.declared.state.StateEntry.{StateEntry}

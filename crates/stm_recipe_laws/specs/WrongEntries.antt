@@ -1,4 +1,4 @@
--- Entries of recipes that are wrong, so that it shows what the laws of accounts, queues and slots rule out.
+-- Wrong entries of recipes, which show what the laws of accounts, queues and slots rule out.
 use Rattle.std.specs.Prelude.{◌≡◌, ◌≢◌, ℕ, ◌<◌, ℤ, pos, ◌+ℤ◌, int_lt, not, Bool, true, false, List, [], ◌∷◌, ◌++◌, length, Option, None, Some, slice_get}
 use Rattle.stm_entries.specs.declared.entry.Entry.{Entry}
 use Rattle.stm_entries.specs.Replayed.{Replayed}

@@ -4,7 +4,7 @@ ghost use Rattle.stm_recipe_laws.specs.WrongEntries.{WrongTransfers};
 
 /// Where accounts, each named once, have a total and are changed only by transfers among them and by deposits to them, at levels that
 /// compare, the total grows by the deposits that committed: no interleaving makes money or loses it. This is the total that
-/// `stm_recipes::total` tells of a state.
+/// `stm_recipes::total` gives for a state.
 ///
 /// Any other write of an account (at ReadCommitted, by another program, or another client's put or delete) can break this: the law asks
 /// that there is none.
@@ -18,7 +18,7 @@ pub fn counted_totals_grow_by_deposits()
     ensures { CountedTotals }
 {}
 
-/// Some entries of accounts that are none: a transfer of more than the paying account has, or from one that has no number; and a
+/// These wrong entries of accounts are rejected: a transfer of more than the paying account has, or from one that has no number; and a
 /// total that has grown by another amount than the deposits.
 pub fn wrong_transfers_are_none()
     ensures { WrongTransfers }

@@ -12,15 +12,15 @@ pub fn queues_keep_their_items()
     ensures { QueuesKeepTheirItems }
 {}
 
-/// What `stm_recipes::queue_items` tells of a state is what the queue holds, where its head and its tail are absent or spelled in digits as
-/// recipes spell them: the items that it holds are told, and those that are told it holds.
+/// What `stm_recipes::queue_items` gives for a state is what the queue holds, where its head and its tail are absent or spelled in digits as
+/// recipes spell them: it gives the items that the queue holds, and no others.
 ///
 /// The reader takes other spellings of a number, too, such as `007` for a head, where a dequeue looks for the item under `007`.
 pub fn items_are_read()
     ensures { ItemsAreRead }
 {}
 
-/// Some entries of queues that are none: a dequeue of a queue that holds nothing; an item that is taken out of turn, so also one that
+/// These wrong entries of queues are rejected: a dequeue of a queue that holds nothing; an item that is taken out of turn, so also one that
 /// was taken before; and more items than the queue held and were added.
 pub fn wrong_dequeues_are_none()
     ensures { WrongDequeues }

@@ -17,12 +17,12 @@ pub fn slots_are_freed_between()
     ensures { SlotsAreFreedBetween }
 {}
 
-/// Who `stm_recipes::held` tells of a state holds the slot, on some lease; and the slot is held exactly where it tells somebody.
+/// Who `stm_recipes::held` names for a state holds the slot, on some lease; and the slot is held exactly where it names somebody.
 pub fn holders_are_read()
     ensures { HoldersAreRead }
 {}
 
-/// Some entries of slots that are none: a reservation of a slot that is held; a second one, where nothing has changed the slot since the
+/// These wrong entries of slots are rejected: a reservation of a slot that is held; a second one, where nothing has changed the slot since the
 /// first; and a release by another than the one who holds it.
 pub fn wrong_reservations_are_none()
     ensures { WrongReservations }

@@ -5,7 +5,7 @@ ghost use Rattle.stm_recipe_laws.specs.Worlds.{RecipesInWorlds};
 /// deposited, and from any point on where they have numbers it grows by the deposits that follow; the items that were taken from a queue,
 /// and then those that it holds, are those that were added, in order; and between two reservations of a slot it is freed.
 ///
-/// Each is said under the conditions of its own law, on the entries of that world.
+/// Each holds under the conditions of its own law, on the entries of that world.
 pub fn recipes_keep_their_laws()
     ensures { RecipesInWorlds }
 {}

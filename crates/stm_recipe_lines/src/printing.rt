@@ -45,7 +45,7 @@ fn write_line<W: Sink>(alloc: Global, recipe: &Recipe<'_>, sink: &mut W) -> Resu
 /// Writes the line of the recipe that words spell to a sink: its program as compact JSON, and a line feed.
 ///
 /// The sink has not failed before. It fails as `Words` where the words spell no recipe, with what is wrong first, and takes no memory for it,
-/// and as `OutOfMemory` where an allocation failed: then nothing was written. It fails as `Write` where the sink has failed: then a front of
+/// and as `OutOfMemory` where an allocation failed: then nothing was written. It fails as `Write` where the sink has failed: then a prefix of
 /// the line was written.
 pub fn print_recipe<W: Sink>(
     alloc: Global,

@@ -32,7 +32,7 @@ blank s = record s { output = []; writes = [] }
 abbrev others : List Value
 others = replicate 14 (NumberValue (pos 0))
 
--- with more behind it a name is not empty
+-- with more after it a name is not empty
 long_before : (queue rest : List ℕ) → 0 < length queue → 0 < length (queue ++ rest)
 long_before queue rest long = omega (arith, length-append queue rest)
 

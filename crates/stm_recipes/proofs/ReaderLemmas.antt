@@ -21,7 +21,7 @@ pub sum_of-more : (s x : ℤ) (rest : Option ℤ) → sum_of (Some (s +ℤ x)) r
 sum_of-more s x None = refl
 sum_of-more s x (Some y) = let e : s +ℤ x +ℤ y ≡ s +ℤ (x +ℤ y) = omega (arith, ints) in ap (λ z. Some z) e
 
--- the number of an account stands before the sum of the accounts behind it
+-- the number of an account stands before the sum of the accounts after it
 total_of-one : (entries : List StateEntry) (account : List ℕ) (accounts : List (List ℕ)) (s x : ℤ) → balance_of (find_entry account entries) ≡ Some x →
     sum_of (Some (s +ℤ x)) (total_of entries accounts) ≡ sum_of (Some s) (total_of entries (account ∷ accounts))
 total_of-one entries account accounts s x is =

@@ -34,11 +34,11 @@ transfer_program from to amount = Then (read_balance from) (Then (refuse_below a
 abbrev pub read_text : ℕ → List ℕ → Statement
 read_text v key = Set v (Get (Text key))
 
--- "0" in the place of the empty text
+-- the empty text is replaced by "0"
 abbrev pub zero_if_empty : ℕ → Statement
 zero_if_empty v = If (Equal (Variable v) (Text [])) (Then (Set v (Text (codes "0"))) End) End
 
--- the number that was read and an amount, as the key's value
+-- the number that was read plus an amount is put as the key's value
 abbrev pub put_sum : List ℕ → ℕ → Statement
 put_sum key amount = Put (Text key) (TextOf (Arithmetic Add (NumOf (Variable 0)) (Number (pos amount)))) 0
 

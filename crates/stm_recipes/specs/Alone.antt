@@ -54,7 +54,7 @@ abbrev pub put_number : List ℕ → List Write → Result ℤ Fault → Deed
 put_number key writes (Ok sum) = done (writes ++ Put key (signed_decimal sum) 0 ∷ [])
 put_number key writes (Err fault) = faulted fault writes
 
--- after these writes an amount is added to a number, or the number is none
+-- after these writes an amount is added to a number, or there is no number
 abbrev pub put_added : List ℕ → ℕ → List Write → Result ℤ Fault → Deed
 put_added key amount writes (Ok number) = put_number key writes (number_or Overflow (number +ℤ pos amount))
 put_added key amount writes (Err fault) = faulted fault writes
@@ -85,7 +85,7 @@ deposited account amount values = put_added account amount [] (written_number (o
 
 -- ---- queues
 
--- the item is put under the number that the tail has, and the tail becomes one more
+-- the item is put under the number that the tail has, and the tail is raised by one
 abbrev pub put_at : List ℕ → List ℕ → List ℕ → Deed
 put_at queue item number =
     if nat_le (length (items_key queue) + length number) longest_text
@@ -98,7 +98,7 @@ enqueued queue item values = put_at queue item (or_zero (values (tail_key queue)
 abbrev pub emitting : List ℕ → Deed → Deed
 emitting item deed = record deed { output = Text item ∷ [] }
 
--- the item under the number that the head has is emitted and deleted, and the head becomes one more
+-- the item under the number that the head has is emitted and deleted, and the head is raised by one
 abbrev pub taken_at : List ℕ → (List ℕ → List ℕ) → List ℕ → Deed
 taken_at queue values number =
     if nat_le (length (items_key queue) + length number) longest_text
@@ -155,7 +155,7 @@ PaysAnother = (from to : List ℕ) (amount : ℕ) (values : List ℕ → List �
     transferred from to amount values
     ≡ done (Put from (signed_decimal (balance -ℤ pos amount)) 0 ∷ Put to (signed_decimal (other +ℤ pos amount)) 0 ∷ [])
 
--- an account that pays itself has its number at last
+-- an account that pays itself ends with the number that it had
 abbrev pub PaysItself : Type 0
 PaysItself = (account : List ℕ) (amount : ℕ) (values : List ℕ → List ℕ) (balance : ℤ) →
     written_number (values account) ≡ Ok balance → int_lt balance (pos amount) ≡ false →

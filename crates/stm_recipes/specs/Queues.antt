@@ -64,7 +64,7 @@ item_before None rest = None
 item_before (Some item) None = None
 item_before (Some item) (Some items) = Some (item ∷ items)
 
--- so many items, from a number on
+-- this many items, from a number on
 abbrev pub items_from : List StateEntry → List ℕ → ℕ → ℕ → Option (List (List ℕ))
 items_from entries queue first zero = Some []
 items_from entries queue first (suc left) = item_before (item_at entries queue first) (items_from entries queue (first + 1) left)

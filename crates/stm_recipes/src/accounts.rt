@@ -12,12 +12,12 @@ use crate::nodes::{
 use std::alloc::{AllocError, Global};
 use stm_program::{Operator, Program, Stmt};
 
-/// The program that moves an amount from one account to another. Both may be one account, whose number then stays.
+/// The program that moves an amount from one account to another. Both may be one account, whose number then stays the same.
 ///
 /// Where the first account has less than the amount, the run aborts with `insufficient`. Where an account is absent or no
-/// number, it ends with the fault `NotANumber`; where the second one would have more than 64 bits hold, with `Overflow`.
+/// number, it ends with the fault `NotANumber`; where the second one's number would not fit in 64 bits, with `Overflow`.
 ///
-/// A name has 1 to 1024 bytes. The one refusal is want of memory.
+/// A name has 1 to 1024 bytes. It fails only when out of memory.
 #[tactic(auto, unfolding(crate::specs::Accounts::transfer_program))]
 pub fn transfer(alloc: Global, from: &str, to: &str, amount: u32) -> Result<Program, AllocError>
     requires from { IsName from.now }
@@ -31,10 +31,10 @@ pub fn transfer(alloc: Global, from: &str, to: &str, amount: u32) -> Result<Prog
 
 /// The program that adds an amount to an account, and makes the account where it is absent. An empty value counts as 0 too.
 ///
-/// Where the account has another value that is no number, the run ends with the fault `NotANumber`; where it would have
-/// more than 64 bits hold, with `Overflow`. Then it writes nothing.
+/// Where the account has another value that is no number, the run ends with the fault `NotANumber`; where its number would
+/// not fit in 64 bits, with `Overflow`. Then it writes nothing.
 ///
-/// A name has 1 to 1024 bytes. The one refusal is want of memory.
+/// A name has 1 to 1024 bytes. It fails only when out of memory.
 #[tactic(auto, unfolding(crate::specs::Accounts::deposit_program))]
 pub fn deposit(alloc: Global, account: &str, amount: u32) -> Result<Program, AllocError>
     requires { IsName account.now }

@@ -10,7 +10,7 @@ use crate::nodes::{
 use std::alloc::{AllocError, Global};
 use stm_program::{Operator, Stmt};
 
-/// What a key holds, into a variable.
+/// Reads the value of a key into a variable.
 pub(crate) fn read_text(alloc: Global, place: u8, key: &str) -> Result<Stmt, AllocError>
     requires { place ≤ MAX_VARIABLE }
     ensures { IfOk result (λ s. s ≡ recipe.read_text place key.now) }
@@ -20,7 +20,7 @@ pub(crate) fn read_text(alloc: Global, place: u8, key: &str) -> Result<Stmt, All
     Ok(set(place, held))
 }
 
-/// "0" in the place of an empty text.
+/// Replaces an empty text by "0".
 pub(crate) fn zero_if_empty(alloc: Global, place: u8) -> Result<Stmt, AllocError>
     requires { place ≤ MAX_VARIABLE }
     ensures { IfOk result (λ s. s ≡ recipe.zero_if_empty place) }
@@ -34,7 +34,7 @@ pub(crate) fn zero_if_empty(alloc: Global, place: u8) -> Result<Stmt, AllocError
     Ok(when(condition, yes, no))
 }
 
-/// The number of the first variable and an amount, as a key's value.
+/// Puts the number of the first variable plus an amount as a key's value.
 pub(crate) fn put_sum(alloc: Global, key: &str, amount: u32) -> Result<Stmt, AllocError>
     ensures { IfOk result (λ s. s ≡ recipe.put_sum key.now amount) }
 {

@@ -2,14 +2,14 @@
 //! body.
 ghost use Rattle.stm_recipes.specs.Alone.{TransferAlone, DepositAlone, ReserveAlone, ReleaseAlone, EnqueueAlone, DequeueAlone, PaysAnother, PaysItself};
 
-/// A transfer puts the first account's number less the amount, and then the second one's number and the amount. Where the first
+/// A transfer puts the first account's number minus the amount, and then the second one's number plus the amount. Where the first
 /// has less than the amount it aborts with `insufficient`, and where an account has no number, or the second one's sum is out of
 /// range, it ends with that fault.
 pub fn transfer_alone()
     ensures { TransferAlone }
 {}
 
-/// A deposit puts the account's number and the amount, an absent account counting as 0.
+/// A deposit puts the account's number plus the amount, an absent account counting as 0.
 pub fn deposit_alone()
     ensures { DepositAlone }
 {}
@@ -24,26 +24,26 @@ pub fn release_alone()
     ensures { ReleaseAlone }
 {}
 
-/// An enqueue puts the item under the queue's name, `/` and the tail, and then the tail and one, an absent tail counting as 0. Where
-/// the tail is no number or can't become one more, or the item's key would be too long, it ends with that fault.
+/// An enqueue puts the item under the queue's name, `/` and the tail, and then the tail plus one, an absent tail counting as 0. Where
+/// the tail is no number or can't be raised by one, or the item's key would be too long, it ends with that fault.
 pub fn enqueue_alone()
     ensures { EnqueueAlone }
 {}
 
-/// A dequeue emits and deletes the item under the queue's name, `/` and the head, and then puts the head and one, an absent head
-/// or tail counting as 0. Where head and tail are the same text it aborts with `empty`; where the head is no number or can't become
-/// one more, or the item's key would be too long, it ends with that fault.
+/// A dequeue emits and deletes the item under the queue's name, `/` and the head, and then puts the head plus one, an absent head
+/// or tail counting as 0. Where head and tail are the same text it aborts with `empty`; where the head is no number or can't be raised
+/// by one, or the item's key would be too long, it ends with that fault.
 pub fn dequeue_alone()
     ensures { DequeueAlone }
 {}
 
-/// A transfer between two accounts that have numbers, the first at least the amount, puts the first one's number less the amount and
-/// the second one's and the amount, where this is in range.
+/// A transfer between two accounts that have numbers, the first at least the amount, puts the first one's number minus the amount
+/// and the second one's plus the amount, where this is in range.
 pub fn pays_another()
     ensures { PaysAnother }
 {}
 
-/// A transfer of an account to itself puts its number less the amount, and then its number again, where it has at least the amount.
+/// A transfer of an account to itself puts its number minus the amount, and then its number again, where it has at least the amount.
 pub fn pays_itself()
     ensures { PaysItself }
 {}

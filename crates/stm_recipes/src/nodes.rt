@@ -1,4 +1,4 @@
-//! The nodes of programs, one function for each that a recipe has. The one refusal is want of memory.
+//! The nodes of programs, one function for each that a recipe has. Each fails only when out of memory.
 ghost use Rattle.std.specs.Prelude.{◌≡◌, ◌≤◌, IfOk, pos};
 ghost use Rattle.stm_program.specs.BlockView.{block_of};
 ghost use Rattle.stm_program.specs.ExpressionView.{expression_of};
@@ -17,7 +17,7 @@ fn expression(alloc: Global, node: ExprNode) -> Result<Arc<Expr>, AllocError>
     Ok(expression)
 }
 
-/// A text, as it stands.
+/// A text literal.
 pub(crate) fn text(alloc: Global, text: &str) -> Result<Arc<Expr>, AllocError>
     ensures { IfOk result (λ e. e.value ≡ tree.Text text.now) }
 {
@@ -55,7 +55,7 @@ pub(crate) fn rev(alloc: Global, key: Arc<Expr>) -> Result<Arc<Expr>, AllocError
     expression(alloc, ExprNode::Rev(key))
 }
 
-/// Two numbers, combined.
+/// An operator on two numbers.
 pub(crate) fn arithmetic(
     alloc: Global,
     operator: Operator,
@@ -67,7 +67,7 @@ pub(crate) fn arithmetic(
     expression(alloc, ExprNode::Arithmetic(operator, left, right))
 }
 
-/// Two texts, one after the other.
+/// Two texts, concatenated.
 pub(crate) fn cat(alloc: Global, left: Arc<Expr>, right: Arc<Expr>) -> Result<Arc<Expr>, AllocError>
     ensures { IfOk result (λ e. e.value ≡ tree.Cat left.value right.value) }
 {
@@ -151,7 +151,7 @@ pub(crate) fn del(key: Arc<Expr>) -> Stmt
     }
 }
 
-/// A value is put out.
+/// A value is emitted.
 pub(crate) fn emit(value: Arc<Expr>) -> Stmt
     ensures { result ≡ tree.Emit value.value }
 {

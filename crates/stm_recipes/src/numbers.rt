@@ -11,7 +11,7 @@ fn starts_with_plus(text: &str) -> bool
     !bytes.is_empty() && bytes[0] == b'+'
 }
 
-/// The number that a text writes: an optional `-`, then digits.
+/// The number that a text spells: an optional `-`, then digits.
 pub(crate) fn number_in(text: &str) -> Option<i64>
     ensures { result ≡ written_or_none (written_number text.now) }
 {

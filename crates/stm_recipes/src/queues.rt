@@ -16,12 +16,12 @@ use std::sync::Arc;
 use stm_program::{Expr, Program, Stmt};
 
 /// The program that adds an item at the end of a queue: under the queue's name, `/` and the tail's number. The tail, under
-/// the queue's name and `/tail`, becomes one more. A tail that is absent or empty counts as 0.
+/// the queue's name and `/tail`, is raised by one. A tail that is absent or empty counts as 0.
 ///
-/// Where the tail is no number, the run ends with the fault `NotANumber`; where it can't become one more, with `Overflow`;
+/// Where the tail is no number, the run ends with the fault `NotANumber`; where it can't be raised by one, with `Overflow`;
 /// where the item's key would have more than 65536 bytes, with `TextTooLong`.
 ///
-/// The queue's name and the item have 1 to 1024 bytes. The one refusal is want of memory.
+/// The queue's name and the item have 1 to 1024 bytes. It fails only when out of memory.
 #[tactic(auto, unfolding(crate::specs::Queues::enqueue_program))]
 pub fn enqueue(alloc: Global, queue: &str, item: &str) -> Result<Program, AllocError>
     requires queue { IsName queue.now }
@@ -35,13 +35,13 @@ pub fn enqueue(alloc: Global, queue: &str, item: &str) -> Result<Program, AllocE
 }
 
 /// The program that takes the first item of a queue: it emits the item and deletes it. The head, under the queue's name and
-/// `/head`, becomes one more. A head or a tail that is absent or empty counts as 0.
+/// `/head`, is raised by one. A head or a tail that is absent or empty counts as 0.
 ///
 /// Where head and tail are the same text, the run aborts with `empty`. Where the head is no number, it ends with the fault
-/// `NotANumber`; where it can't become one more, with `Overflow`; where the item's key would have more than 65536 bytes, with
+/// `NotANumber`; where it can't be raised by one, with `Overflow`; where the item's key would have more than 65536 bytes, with
 /// `TextTooLong`.
 ///
-/// The queue's name has 1 to 1024 bytes. The one refusal is want of memory.
+/// The queue's name has 1 to 1024 bytes. It fails only when out of memory.
 #[tactic(auto, unfolding(crate::specs::Queues::dequeue_program))]
 pub fn dequeue(alloc: Global, queue: &str) -> Result<Program, AllocError>
     requires { IsName queue.now }
@@ -72,7 +72,7 @@ fn push_enqueue(
     Ok(())
 }
 
-/// Head and tail, into the first two variables.
+/// Reads head and tail into the first two variables.
 fn push_ends(alloc: Global, statements: &mut Vec<Stmt>, queue: &str) -> Result<(), AllocError>
     requires { statements.old.items ≡ [] }
     ensures { OnOk result (statements.new.items ≡
@@ -85,7 +85,7 @@ fn push_ends(alloc: Global, statements: &mut Vec<Stmt>, queue: &str) -> Result<(
     Ok(())
 }
 
-/// The statements of a dequeue behind head and tail.
+/// The statements of a dequeue after those of head and tail.
 fn push_dequeue(alloc: Global, statements: &mut Vec<Stmt>, queue: &str) -> Result<(), AllocError>
     ensures { OnOk result (statements.new.items ≡ statements.old.items ++
         (recipe.refuse_empty ∷ recipe.name_item queue.now ∷ recipe.emit_item ∷ recipe.delete_item ∷ counter.put_sum (head_key queue.now) 1 ∷ [])) }
@@ -98,7 +98,7 @@ fn push_dequeue(alloc: Global, statements: &mut Vec<Stmt>, queue: &str) -> Resul
     Ok(())
 }
 
-/// Head or tail, into a variable.
+/// Reads head or tail into a variable.
 fn read_end(alloc: Global, place: u8, queue: &str, end: &str) -> Result<Stmt, AllocError>
     requires { place ≤ MAX_VARIABLE }
     ensures { IfOk result (λ s. s ≡ counter.read_text place (queue.now ++ end.now)) }

@@ -15,7 +15,7 @@ use std::alloc::{AllocError, Global};
 use stm_history::Text;
 use stm_meaning::State;
 
-/// The sum of the numbers that accounts have, an account as often as it is named. None where an account is absent or its
+/// The sum of the numbers that accounts have, an account as often as it is named. `None` where an account is absent or its
 /// value is no number.
 pub fn total(state: &State, accounts: &[&str]) -> Option<i128>
     ensures { result ≡ total_of state.now (map (λ account. account.now) accounts.now) }
@@ -28,7 +28,7 @@ pub fn total(state: &State, accounts: &[&str]) -> Option<i128>
     Some(sum)
 }
 
-/// A sum and one balance more, where there is room for it.
+/// A sum and one more balance, where the result fits.
 fn with_balance(sum: i128, balance: i64) -> i128
     requires above { neg_ℤ (pos (2 ^ 127 - 2 ^ 63)) ≤ℤ sum }
     requires below { sum ≤ℤ pos (2 ^ 127 - 2 ^ 63) }
@@ -52,8 +52,8 @@ fn balance(state: &State, account: &str) -> Option<i64>
 /// The items of a queue, the first one first: those under the numbers from its head up to the one before its tail. A head or
 /// a tail that is absent is 0; one that is empty is no number.
 ///
-/// None where the state has no such queue: head or tail is no number or negative, head is above tail, or an item is absent.
-/// The one refusal is want of memory.
+/// `None` where the state has no such queue: head or tail is no number or negative, head is above tail, or an item is absent.
+/// It fails only when out of memory.
 pub fn queue_items(
     alloc: Global,
     state: &State,
@@ -121,7 +121,7 @@ fn items_between(
     Ok(Some(items))
 }
 
-/// The item of a number. None where it is absent.
+/// The item of a number. `None` where it is absent.
 fn item(
     alloc: Global,
     state: &State,
@@ -147,7 +147,7 @@ fn item_key(alloc: Global, queue: &str, number: u64) -> Result<Text, AllocError>
     Ok(key)
 }
 
-/// Who holds a slot. None where it is free.
+/// Who holds a slot. `None` where it is free.
 pub fn held<'a>(state: &'a State, slot: &str) -> Option<&'a str>
     ensures { option_copied result ≡ holder_in state.now slot.now }
 {

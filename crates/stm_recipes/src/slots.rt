@@ -12,8 +12,8 @@ use stm_program::{Program, Stmt};
 /// The program that gives a free slot to a holder, on a lease (0 for none), so that the slot is free again when the lease
 /// ends. Where the slot is held, the run aborts with `held`.
 ///
-/// The slot's name and the holder have 1 to 1024 bytes, and the lease is at most 9223372036854775807. The one refusal is
-/// want of memory.
+/// The slot's name and the holder have 1 to 1024 bytes, and the lease is at most 9223372036854775807. It fails only when
+/// out of memory.
 #[tactic(auto, unfolding(crate::specs::Slots::reserve_program))]
 pub fn reserve_slot(
     alloc: Global,
@@ -35,7 +35,7 @@ pub fn reserve_slot(
 /// The program that frees a slot of its holder. Where the slot is free or another one holds it, the run aborts with
 /// `not held`.
 ///
-/// The slot's name and the holder have 1 to 1024 bytes. The one refusal is want of memory.
+/// The slot's name and the holder have 1 to 1024 bytes. It fails only when out of memory.
 #[tactic(auto, unfolding(crate::specs::Slots::release_program))]
 pub fn release_slot(alloc: Global, slot: &str, holder: &str) -> Result<Program, AllocError>
     requires slot { IsName slot.now }

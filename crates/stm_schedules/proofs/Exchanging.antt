@@ -64,7 +64,7 @@ IsKnownChange (Some slot) end = IsKnown slot end
 
 -- ---- what a step does over a store, whatever the other runners and the entries are
 
--- it tells one reply, which is no commit, and touches its own place at most
+-- it makes one reply, which is no commit, and touches its own place at most
 pub record Touches (id : ℕ) (s : Standing) (f : World → Stepped) : Type 0 where
   pub reply : Result Reply Denied
   pub slot : Option Slot
@@ -74,7 +74,7 @@ pub record Touches (id : ℕ) (s : Standing) (f : World → Stepped) : Type 0 wh
   pub known : (ends : Ends) → after_reported reply ends ≡ put_end id end ends
   pub fits : IsKnownChange slot end
 
--- it enters something, and its one reply tells a commit
+-- it enters something, and its one reply is a commit
 pub record Enters (id : ℕ) (s : Standing) (f : World → Stepped) : Type 0 where
   pub entry : Entry
   pub reply : Result Reply Denied
@@ -319,7 +319,7 @@ quiet_by id (Some r) s slots entries is quiet = elim (live_does id r s) [
 quiet_step : (id : ℕ) (w : World) → IsQuiet id w → Quiet id w.standing (step_runner id (runner_at id w.runners))
 quiet_step id w quiet = quiet_by id (runner_at id w.runners) w.standing w.runners w.entries refl quiet
 
--- ---- what its reply tells
+-- ---- what its reply says
 
 quiet_not : (b : Bool) → not b ≡ true → b ≡ false
 quiet_not true is = absurd (cc)
@@ -361,14 +361,14 @@ either_end_first i j (Some x) (Some y) ends ne place_i place_j =
     let some_j : 0 < j = place_j in
     set_comm ends (i - 1) (j - 1) (Some x) (Some y) (omega arith)
 
--- a step behind a quiet step of another runner is what it is over the store as it was
+-- a step after a quiet step of another runner is what it is over the store as it was
 behind : (i j : ℕ) (s : Standing) (slots : List Slot) (entries : List Entry) → i ≢ j → (a : Quiet i s (step_runner i (runner_at i slots))) →
     step (Step j) (after_step i (world s slots entries)) ≡ step_runner j (runner_at j slots) (world s (put i a.touch.slot slots) entries)
 behind i j s slots entries ne a =
     ap (λ (x : Stepped). step (Step j) x.next) (a.touch.is slots entries)
     ∙ ap (λ (o : Option Runner). step_runner j o (world s (put i a.touch.slot slots) entries)) (others_stay i j a.touch.slot slots ne a.place)
 
--- what a quiet step does behind another one
+-- what a quiet step does after another one
 quiet_behind : (i j : ℕ) (s : Standing) (slots : List Slot) (entries : List Entry) → i ≢ j →
     (a : Quiet i s (step_runner i (runner_at i slots))) → (b : Quiet j s (step_runner j (runner_at j slots))) →
     step (Step j) (after_step i (world s slots entries))
@@ -405,7 +405,7 @@ quiet_steps_exchange = record {
   stays = stays;
 }
 
--- ---- behind a quiet step of another runner
+-- ---- after a quiet step of another runner
 
 -- another runner is as it was
 pub same_runner : (i j : ℕ) (w : World) → i ≢ j → IsQuiet i w → runner_at j (after_step i w).runners ≡ runner_at j w.runners
@@ -420,7 +420,7 @@ reply_alone j o s slots more entries = elim (runner_does j o s) [
   | inr e ↦ e.reports more entries ∙ sym (e.reports slots entries)
 ]
 
--- its step is told the same reply, a commit too
+-- its step gets the same reply, a commit too
 pub same_reply : (i j : ℕ) (w : World) → i ≢ j → IsQuiet i w → (step (Step j) (after_step i w)).reply ≡ (step (Step j) w).reply
 same_reply i j w ne quiet =
     let a = quiet_step i w quiet in

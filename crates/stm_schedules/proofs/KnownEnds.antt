@@ -114,7 +114,7 @@ known_start : (task : Task) (w : World) (ends : Ends) → AreKnown w.runners end
 unfolding start_runner
 known_start task w ends known = known_start_by (nat_eq task.limit 0) task w ends known
 
--- a call of the store tells of no runner
+-- a call of the store says nothing of runners
 call_reported : {A : Type 0} (report : A → Reply) (o : Result (StoreStep A) StoreRefusal) (ends : Ends) → ((x : A) → after_reply (report x) ends ≡ ends) →
     after_reported (reply_to report o) ends ≡ ends
 call_reported report (Ok done) ends each = each done.answer

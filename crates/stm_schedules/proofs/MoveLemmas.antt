@@ -112,7 +112,7 @@ moves_are_those = record {
 
 -- ---- their order
 
--- each move stands before those behind it
+-- each move stands before those after it
 abbrev pub Ascend : List Move → Type 0
 Ascend [] = Unit {0}
 Ascend (m ∷ ms) = ((o : Move) → IsAmong o ms → IsBefore m o) × Ascend ms

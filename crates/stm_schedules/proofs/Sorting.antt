@@ -72,7 +72,7 @@ own_runner id w quiet = ap (λ b. cond b (Some id) None) quiet
 no_runner : (id : ℕ) (w : World) → is_quiet id w ≡ false → quiet_runner (StepOf id) w ≡ None
 no_runner id w loud = ap (λ b. cond b (Some id) None) loud
 
--- a move that is not looked at behind a quiet step
+-- a move that is not looked at after a quiet step
 record IsPassedOver (last : ℕ) (m : Move) (w : World) : Type 0 where
   id : ℕ
   is : m ≡ StepOf id
@@ -142,7 +142,7 @@ swapped_ends : (i k : ℕ) (p : Place) (ends : Ends) → ArePair i k p →
     ends_moved (StepOf k) (moved (StepOf i) p) (ends_moved (StepOf i) p ends) ≡ ends_moved (StepOf i) (moved (StepOf k) p) (ends_moved (StepOf k) p ends)
 swapped_ends i k p ends pair = same_ends i k p.world ends pair.differ (quiet_is i p.world pair.quiet_i) (quiet_is k p.world pair.quiet_k)
 
--- the other step first, and the move in its place behind it
+-- the other step first, and the move in its place after it
 put_behind : (last : Option ℕ) (i k : ℕ) (os : List Move) (p : Place) → ArePair i k p → k < i → is_looked_at last (Some k) ≡ true →
     Inserted (Some k) (StepOf i) os (moved (StepOf k) p) → Inserted last (StepOf i) (StepOf k ∷ os) p
 put_behind last i k os p pair less is rest = record {
@@ -159,7 +159,7 @@ put_behind last i k os p pair less is rest = record {
       ∙ sym (ends_go_along (StepOf k) os (moved (StepOf i) p) (ends_moved (StepOf i) p ends));
 }
 
--- a pair, by what is known of the second step behind the first one
+-- a pair, by what is known of the second step after the first one
 pair_of : (i k : ℕ) (p : Place) → k < i → Contains (moves p) (StepOf i) → is_quiet i p.world ≡ true →
     Contains (moves (moved (StepOf i) p)) (StepOf k) → is_quiet k (moved (StepOf i) p).world ≡ true → ArePair i k p
 pair_of i k p less can quiet can_k quiet_k =
@@ -173,7 +173,7 @@ pair_of i k p less can quiet can_k quiet_k =
       quiet_k = sym (still i k p.world differ quiet) ∙ quiet_k;
     }
 
--- the move can still be made behind the other step, and is quiet there
+-- the move can still be made after the other step, and is quiet there
 record StillCan (i : ℕ) (p : Place) : Type 0 where
   can : Contains (moves p) (StepOf i)
   quiet : is_quiet i p.world ≡ true
@@ -187,7 +187,7 @@ still_can i k p pair =
       quiet = still k i p.world other pair.quiet_k ∙ pair.quiet_i;
     }
 
--- the moves behind two quiet steps, behind these in the other order
+-- the moves after two quiet steps, after these in the other order
 looked_at_swapped : (i k : ℕ) (os : List Move) (p : Place) (pair : ArePair i k p) → is_quiet k (moved (StepOf i) p).world ≡ true →
     AreLookedAt (quiet_runner (StepOf k) (moved (StepOf i) p).world) os (moved (StepOf k) (moved (StepOf i) p)) →
     AreLookedAt (Some k) os (moved (StepOf i) (moved (StepOf k) p))

@@ -15,22 +15,22 @@ after_step id w = (step (Step id) w).next
 abbrev pub IsQuiet : ℕ → World → Type 0
 IsQuiet id w = (after_step id w).entries ≡ w.entries
 
--- whether a reply tells that a step committed
+-- whether a reply says that a step committed
 abbrev pub is_committed : Result Reply Denied → Bool
 is_committed (Ok (Committed runner revision attempts output trace answers)) = true
 is_committed other = false
 
--- whether a step is quiet, as its reply tells
+-- whether a step is quiet, as its reply says
 abbrev pub is_quiet : ℕ → World → Bool
 is_quiet id w = not (is_committed (step (Step id) w).reply)
 
--- two steps in either order: they come to the same world, and each is told the same reply
+-- two steps in either order: they come to the same world, and each gets the same reply
 pub record Exchange (i j : ℕ) (w : World) : Type 0 where
   pub world : after_step j (after_step i w) ≡ after_step i (after_step j w)
   pub first : (step (Step i) (after_step j w)).reply ≡ (step (Step i) w).reply
   pub second : (step (Step j) (after_step i w)).reply ≡ (step (Step j) w).reply
 
--- Two quiet steps of different runners can be exchanged, and stay quiet; that a step is quiet is told by its reply.
+-- Two quiet steps of different runners can be exchanged, and stay quiet; a step's reply says whether it is quiet.
 pub record QuietStepsExchange : Type 0 where
   pub reported : (id : ℕ) (w : World) → (is_quiet id w ≡ true) ↔ IsQuiet id w
   pub exchange : (i j : ℕ) (w : World) → i ≢ j → IsQuiet i w → IsQuiet j w → Exchange i j w

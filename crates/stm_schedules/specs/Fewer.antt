@@ -16,18 +16,18 @@ abbrev pub quiet_runner : Move → World → Option ℕ
 quiet_runner (StepOf id) w = if is_quiet id w then Some id else None
 quiet_runner Other w = None
 
--- A move is looked at behind another one: not so a quiet step behind a quiet step of a runner of a higher number.
+-- A move is looked at after another one, unless it is a quiet step after a quiet step of a runner of a higher number.
 abbrev pub is_looked_at : Option ℕ → Option ℕ → Bool
 is_looked_at None next = true
 is_looked_at (Some last) None = true
 is_looked_at (Some last) (Some next) = nat_le last next
 
--- each of these moves is looked at behind the one before it, the first one behind a quiet step of this runner, if there is one
+-- each of these moves is looked at after the one before it, the first one after a quiet step of this runner, if there is one
 abbrev pub AreLookedAt : Option ℕ → List Move → Place → Type 0
 AreLookedAt last [] p = Unit {0}
 AreLookedAt last (m ∷ ms) p = (is_looked_at last (quiet_runner m p.world) ≡ true) × AreLookedAt (quiet_runner m p.world) ms (moved m p)
 
--- a schedule that is looked at, which comes to what another one comes to, is as long and stands not behind it
+-- a schedule that is looked at, which comes to what another one comes to, is as long and does not stand after it
 pub record StandsFor (one other : List Move) (p : Place) : Type 0 where
   pub is_schedule : IsSchedule one p
   pub looked_at : AreLookedAt None one p

@@ -37,7 +37,7 @@ keeps program w = is_done (end_alone program w)
 
 -- ---- schedules that keep it
 
--- what stands behind a schedule keeps the rule
+-- the place after a schedule keeps the rule
 abbrev pub KeepsAfter : (World → Bool) → Place → List Move → Type 0
 KeepsAfter keep p schedule = keep (place_after schedule p).world ≡ true
 

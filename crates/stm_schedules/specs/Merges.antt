@@ -12,7 +12,7 @@ use Rattle.stm_schedules.specs.Keeping.{AllKeep, AllKeepUpTo}
 abbrev pub IsStep : WorldEvent → Type 0
 IsStep e = (id : ℕ) × (e ≡ Step id)
 
--- these events are steps of runners among a front of the others' events, which stand in their order
+-- these events are steps of runners among a prefix of the others' events, which stand in their order
 abbrev pub IsMerge : List WorldEvent → List WorldEvent → Type 0
 IsMerge [] others = Unit {0}
 IsMerge (e ∷ es) others = (IsStep e × IsMerge es others) ⊎ ((rest : List WorldEvent) × (others ≡ e ∷ rest) × IsMerge es rest)
@@ -26,7 +26,7 @@ pub record Matched (events : List WorldEvent) (p : Place) : Type 0 where
   pub no_longer : length schedule ≤ length events
   pub same : (place_after schedule p).world ≡ world_after events p.world
 
--- Steps of runners, in any order, among a front of the others' events come to the world of a schedule; so what all schedules keep is kept
+-- Steps of runners, in any order, among a prefix of the others' events come to the world of a schedule; so what all schedules keep is kept
 -- by all such lists of events.
 pub record MergesKeep : Type 0 where
   -- a step of a runner that has ended, or was never started, changes nothing

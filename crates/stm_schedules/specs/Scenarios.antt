@@ -22,16 +22,16 @@ abbrev pub up_to_last_start : List WorldEvent → List WorldEvent
 up_to_last_start [] = []
 up_to_last_start (e ∷ es) = if has_start (e ∷ es) then e ∷ up_to_last_start es else []
 
--- the events behind the last start, all where there is no start
+-- the events after the last start, all where there is no start
 abbrev pub behind_last_start : List WorldEvent → List WorldEvent
 behind_last_start [] = []
 behind_last_start (e ∷ es) = if has_start (e ∷ es) then behind_last_start es else e ∷ es
 
--- the place from which schedules of a scenario go: the events up to the last start are run, and the others bring those behind it
+-- the place from which schedules of a scenario go: the events up to the last start are run, and the others bring those after it
 abbrev pub begun : Setup → List WorldEvent → Place
 begun start events = record { world = world_after (up_to_last_start events) (opened start); others = behind_last_start events }
 
--- the scenario with the events of a schedule in the place of those behind the last start
+-- the scenario with the events of a schedule in the place of those after the last start
 abbrev pub with_schedule : List WorldEvent → List Move → List WorldEvent
 with_schedule events schedule = up_to_last_start events ++ events_along schedule (behind_last_start events)
 
@@ -45,7 +45,7 @@ at_level level event = event
 pub record ScenariosAreSplit : Type 0 where
   -- the two parts are the scenario
   pub both : (events : List WorldEvent) → up_to_last_start events ++ behind_last_start events ≡ events
-  -- no start stands behind the last one
+  -- no start stands after the last one
   pub no_start_behind : (events : List WorldEvent) → has_start (behind_last_start events) ≡ false
   -- a scenario with the events of a schedule leads to where the schedule leads
   pub replayed : (start : Setup) (events : List WorldEvent) (schedule : List Move)

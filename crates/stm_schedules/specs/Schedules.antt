@@ -50,7 +50,7 @@ IsEarlier one other = (length one < length other) ⊎ ((length one ≡ length ot
 
 -- ---- laws
 
--- The world that moves lead to is that of their events, and schedules can stand one behind another.
+-- The world that moves lead to is that of their events, and schedules can stand one after another.
 pub record SchedulesAreRuns : Type 0 where
   pub world : (schedule : List Move) (p : Place) → (place_after schedule p).world ≡ world_after (events_along schedule p.others) p.world
   pub joined : (first second : List Move) (p : Place) → place_after (first ++ second) p ≡ place_after second (place_after first p)

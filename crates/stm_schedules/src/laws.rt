@@ -14,13 +14,13 @@ pub fn moves_are_those()
     ensures { MovesAreThose }
 {}
 
-/// A schedule leads to the world of its events, run one after another; and a schedule from where another one leads can stand behind it.
+/// A schedule leads to the world of its events, run one after another; and a schedule from where another one leads can stand after it.
 pub fn schedules_are_runs()
     ensures { SchedulesAreRuns }
 {}
 
-/// The events up to the last start and those behind it are the scenario, and no start stands behind the last one. A scenario with the
-/// events of a schedule in the place of those behind its last start leads to the world that the schedule leads to. A scenario whose starts
+/// The events up to the last start and those after it are the scenario, and no start stands after the last one. A scenario with the
+/// events of a schedule in the place of those after its last start leads to the world that the schedule leads to. A scenario whose starts
 /// are at another level is split at the same place.
 pub fn scenarios_are_split()
     ensures { ScenariosAreSplit }
@@ -39,7 +39,7 @@ pub fn longest_is_all()
     ensures { LongestIsAll }
 {}
 
-/// Every list of steps of runners of any numbers, merged with a front of the others' events in their order, leads to the world of a schedule
+/// Every list of steps of runners of any numbers, merged with a prefix of the others' events in their order, leads to the world of a schedule
 /// that is no longer. So a rule that all schedules of up to n moves keep is kept after all such lists of up to n events, and a rule that
 /// all schedules keep is kept after all such lists. A step of a runner that has ended, or was never started, changes nothing.
 pub fn merges_keep()
@@ -64,14 +64,14 @@ pub fn ends_are_known()
 {}
 
 /// Two steps of different runners, neither of which enters anything (a fetch, an abort, a fault, a commit that fails or is refused), come to
-/// the same world in either order, each is told the same reply, and neither enters anything behind the other.
+/// the same world in either order, each gets the same reply, and neither enters anything after the other.
 pub fn quiet_steps_exchange()
     ensures { QuietStepsExchange }
 {}
 
 /// Fewer schedules are enough. Of those that differ by exchanges of neighbouring quiet steps of different runners one is looked at: it has
-/// no quiet step right behind a quiet step of a runner of a higher number. For each schedule there is one that is looked at, which comes to
-/// the same world and the same ends of runners, is as long and does not stand behind it.
+/// no quiet step right after a quiet step of a runner of a higher number. For each schedule there is one that is looked at, which comes to
+/// the same world and the same ends of runners, is as long and does not stand after it.
 ///
 /// So the first bad schedule of those that are looked at is the first of all, their lengths are those of all, and so are their outcomes.
 pub fn fewer_are_enough()

@@ -20,7 +20,7 @@ item_weight (t ∷ ss) (suc i) s h e = omega (arith, item_weight ss i s (omega a
 pub one_more : (ss : List Statement) (i : ℕ) (s : Statement) → i < length ss → s ≡ get_or ss i s → drop i ss ≡ s ∷ drop (i + 1) ss
 one_more ss i s h e = drop_more ss i s h ∙ ap (λ (x : Statement). x ∷ drop (i + 1) ss) (sym e)
 
--- a statement that gives leaves the statements behind it
+-- a statement that gives leaves the statements after it
 pub run-step : (look : Lookup) (ss : List Statement) (i : ℕ) (s : Statement) (t u : Session) → i < length ss → s ≡ get_or ss i s →
     run_statement look s t ≡ Gives tt u → run_block look (block_of (drop i ss)) t ≡ run_block look (block_of (drop (i + 1) ss)) u
 unfolding run_block

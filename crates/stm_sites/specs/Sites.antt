@@ -19,7 +19,7 @@ use Rattle.stm_sites.specs.declared.site.Node.TheVariants.{Operation, Loop, OfNu
 abbrev pub here : Node → List Value → Site
 here node values = record { place = []; node = node; values = values }
 
--- where nothing stops the run, so that it is never looked at
+-- where nothing stops the run: this site is never read
 abbrev pub nowhere : Site
 nowhere = here OfText []
 

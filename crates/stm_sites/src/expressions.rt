@@ -257,7 +257,7 @@ fn number_at<L: Lookup>(
     value
 }
 
-/// The value of an expression. Elements are evaluated from left to right, and kinds are looked at when all elements of a node have values.
+/// The value of an expression. Elements are evaluated from left to right, and kinds are checked when all elements of a node have values.
 #[cycle(values)]
 #[tactic(auto, unfolding(stm_steps::specs::Meaning::evaluate, crate::specs::Sites::expression_site))]
 fn value_of<L: Lookup>(

@@ -29,11 +29,11 @@ fn fault_at(at: StopAt) -> Option<FoundFault>
     }
 }
 
-/// The fault by which the run of a program over a look-up ends, and where it comes to it: at the first statement that, behind those before it, stops
-/// the run, and in it at the innermost node. `None` where the run comes to its last statement, aborts, or wants a key of which the
+/// The fault by which the run of a program over a look-up ends, and where it comes to it: at the first statement that, run after those before it,
+/// stops the run, and in it at the innermost node. `None` where the run comes to its last statement, aborts, or wants a key of which the
 /// look-up knows nothing.
 ///
-/// The one refusal is want of memory.
+/// It fails only when out of memory.
 pub fn find_fault<L: Lookup>(
     alloc: Global,
     program: &Program,

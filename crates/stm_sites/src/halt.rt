@@ -20,7 +20,7 @@ pub(crate) struct StopAt {
 /// What stops an evaluation.
 #[derive(Drop)]
 pub(crate) enum Halt {
-    /// A growth was refused.
+    /// An allocation failed.
     OutOfMemory,
     /// The program stops.
     Stopped(StopAt),
@@ -36,7 +36,7 @@ impl From<AllocError> for Halt {
     }
 }
 
-/// A stop of the part at an index of a node, as the node's. Where the place takes memory and that is refused, it is want of memory.
+/// A stop of the part at an index of a node, as the node's. Where an allocation for the place fails, it is `OutOfMemory`.
 fn stopped_within(index: usize, at: StopAt) -> Halt
     ensures { (result ≡ OutOfMemoryHere) ⊎ (result ≡ Stopped (stop_inside index at)) }
 {
@@ -52,8 +52,8 @@ fn stopped_within(index: usize, at: StopAt) -> Halt
     }
 }
 
-/// The result of the part at an index of a node, as the node's: a stop is told as inside the node. Where the place takes memory and that is
-/// refused, it is want of memory.
+/// The result of the part at an index of a node, as the node's: a stop is reported as inside the node. Where an allocation for the place
+/// fails, it is `OutOfMemory`.
 pub(crate) fn within<X>(index: usize, outcome: Result<X, Halt>) -> Result<X, Halt>
     ensures { Wraps index outcome result }
 {

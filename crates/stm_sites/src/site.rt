@@ -11,7 +11,7 @@ use stm_steps::{Sequence, Value};
 pub enum Node {
     /// The result of an operator on two numbers.
     Operation(Operator),
-    /// So many turns of a loop, up to this limit.
+    /// The turns of a loop, at most this many.
     Loop(u64),
     /// Something else of a number.
     OfNumber,
@@ -21,8 +21,8 @@ pub enum Node {
     Comparison,
 }
 
-/// Where a run stops: at the innermost node of its program that comes to the stop. It stands in the statement that is named by the front of its
-/// place.
+/// Where a run stops: at the innermost node of its program that comes to the stop. The first index of its place names the statement that the
+/// node is in.
 #[derive(Debug, Drop)]
 pub struct Site {
     /// The indices that lead to the node in the program's JSON, each in the array that the ones before it lead to.
@@ -33,7 +33,7 @@ pub struct Site {
     pub values: Sequence<Value>,
 }
 
-/// A copy of a value behind these.
+/// These values and a copy of one more after them.
 fn with_value(values: Sequence<Value>, value: &Value) -> Result<Sequence<Value>, AllocError>
     ensures { IfOk result (λ all. all ≡ values ++ value.now ∷ []) }
 {

@@ -97,7 +97,7 @@ fn delete_key<L: Lookup>(
     Ok(session.write(write?)?)
 }
 
-/// Puts a value out.
+/// Emits a value.
 #[tactic(auto, unfolding(stm_steps::specs::Meaning::run_statement, crate::specs::Sites::statement_site))]
 fn emit_value<L: Lookup>(
     alloc: Global,

@@ -18,7 +18,7 @@ none_written places none = record {
   last = λ key. ap (λ place. write_at [] place) (none key) ∙ sym (last_write-none key);
 }
 
--- the same, behind so many of no writes
+-- the same, after the first n of no writes
 pub none_behind_none : (n : ℕ) (ws : List Write) (places : List ℕ → Option ℕ) → ws ≡ [] → ((key : List ℕ) → places key ≡ None) →
     AreLastPlaces (drop n ws) places
 none_behind_none n [] places none absent = subst (λ l. AreLastPlaces l places) (sym (drop_all n [] (omega arith))) (none_written places absent)

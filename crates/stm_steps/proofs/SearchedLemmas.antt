@@ -1,4 +1,4 @@
--- What stands behind the elements of a list that are searched, as one is added.
+-- What comes after the elements of a list that are searched, as one is added.
 use Rattle.std.proofs.Common.{◌≡◌, ℕ, ◌<◌, List, [], ◌∷◌, ◌++◌, length, Bool, true, false, cond, refl, sym, ◌∙◌, ap, arith, length-append, drop, take}
 use Rattle.std.specs.Prelude.{bytes_eq, ◌||◌}
 use Rattle.std.specs.List.{list_any}
@@ -11,7 +11,7 @@ use Rattle.stm_steps.specs.Session.{with_key}
 pub none_behind : {X : Type 0} (n : ℕ) (xs : List X) (x : X) → length xs < n → drop n (xs ++ x ∷ []) ≡ drop n xs
 none_behind n xs x few = drop_all n (xs ++ x ∷ []) (omega (arith, length-append xs (x ∷ []))) ∙ sym (drop_all n xs (omega arith))
 
--- and nothing behind so many of nothing
+-- and nothing comes after the first n of nothing
 pub none_behind_none : {X : Type 0} (n : ℕ) (xs behind : List X) → xs ≡ [] → behind ≡ [] → behind ≡ drop n xs
 none_behind_none n [] behind none empty = empty ∙ sym (drop_all n [] (omega arith))
 none_behind_none n (x ∷ xs) behind none empty = absurd (cc)

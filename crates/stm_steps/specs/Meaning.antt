@@ -16,7 +16,7 @@ use Rattle.stm_steps.specs.Values.{text_in, key_in, arithmetic, concatenated, te
 use Rattle.stm_steps.specs.Session.{Session, fresh, variable_in, with_variable, with_output, with_write}
 use Rattle.stm_steps.specs.Outcome.{Outcome, Gives, Stops, and_then, given, begin_turn}
 
--- what an expression gives; kinds are looked at when all elements of a node have values
+-- what an expression gives; kinds are checked when all elements of a node have values
 unfoldable pub evaluate : Lookup → Expression → Session → Outcome Value
 evaluate look (Text t) s = Gives (TextValue t) s
 evaluate look (Number n) s = Gives (NumberValue n) s

@@ -5,7 +5,7 @@ use Rattle.std.specs.declared.cmp.Ordering.TheVariants.{Less, Equal, Greater}
 use Rattle.stm_steps.specs.declared.state.StateEntry.{StateEntry}
 use Rattle.stm_steps.specs.States.{key_order}
 
--- how the key at place i stands to a key
+-- how the key at place i compares with a key
 abbrev pub order_at : List StateEntry → ℕ → List ℕ → StateEntry → Ordering
 order_at entries i key d = let entry = slice_index_or entries i d in key_order entry.key key
 

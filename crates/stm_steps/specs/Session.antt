@@ -1,4 +1,4 @@
--- What a run has come to on its way, and what each of its steps adds.
+-- The state of a run in progress, and what each of its steps adds.
 use Rattle.std.specs.Prelude.{ℕ, ◌+◌, bytes_eq, if◌then◌else◌, List, [], ◌∷◌, ◌++◌, replicate, slice_set, slice_index_or, pos}
 use Rattle.std.specs.List.{list_any}
 use Rattle.stm_program.specs.declared.write.Write.{Write}

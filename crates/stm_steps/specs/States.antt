@@ -38,7 +38,7 @@ abbrev pub IsAscending : List StateEntry → Type 0
 IsAscending [] = Unit {0}
 IsAscending (e ∷ es) = IsBelowAll e.key es × IsAscending es
 
--- revisions are at most 9223372036854775807, as every number that is told
+-- revisions are at most 9223372036854775807, as every number that a call answers
 abbrev pub AreInRange : List StateEntry → Type 0
 AreInRange [] = Unit {0}
 AreInRange (e ∷ es) = (e.mod_rev ≤ HIGHEST_NUMBER) × AreInRange es

@@ -18,18 +18,18 @@ use Rattle.stm_steps.specs.declared.fault.Fault.{Fault}
 use Rattle.stm_steps.specs.declared.fault.Fault.TheVariants.{Kind, Overflow, ZeroDivisor, NotANumber, LoopTooLong, TextTooLong, EmptyKey}
 use Rattle.stm_program.specs.declared.limits.TheConstants.{MAX_TEXT}
 
--- the number of bytes that a result of `cat` has at most
+-- the most bytes that a result of `cat` may have
 abbrev pub longest_text : ℕ
 longest_text = MAX_TEXT
 
 -- ---- kinds ----
 
--- a text, where a text is wanted
+-- a text, where a text is expected
 unfoldable pub text_in : Value → Result (List ℕ) Fault
 text_in (Text t) = Ok t
 text_in (Number n) = Err Kind
 
--- a number, where a number is wanted
+-- a number, where a number is expected
 unfoldable pub number_in : Value → Result ℤ Fault
 number_in (Text t) = Err Kind
 number_in (Number n) = Ok n
@@ -55,8 +55,8 @@ abbrev pub is_zero : ℤ → Bool
 is_zero (pos n) = nat_eq n 0
 is_zero (negsuc n) = false
 
--- a quotient is cut towards zero, and a rest has the sign of the left number; a zero divisor is looked at first, and a
--- rest whose quotient is out of range is refused with it
+-- a quotient is truncated towards zero, and a remainder has the sign of the left number; a zero divisor is checked first, and
+-- a remainder whose quotient is out of range is refused with it
 unfoldable pub computed : Operator → ℤ → ℤ → Result ℤ Fault
 computed Add a b = number_or Overflow (a +ℤ b)
 computed Sub a b = number_or Overflow (a -ℤ b)
@@ -96,11 +96,11 @@ text_of (Text t) = Err Kind
 abbrev pub is_numeral : List ℕ → Bool
 is_numeral digits = nat_lt 0 (length digits) && all_ascii_digits digits
 
--- the number that digits write, with a sign
+-- the number that digits spell, with a sign
 abbrev pub signed_number : (ℤ → ℤ) → List ℕ → Result ℤ Fault
 signed_number sign digits = if is_numeral digits then number_or NotANumber (sign (pos (digits_value 10 digits))) else Err NotANumber
 
--- the number that a text writes: an optional `-` (45 in ASCII), then digits
+-- the number that a text spells: an optional `-` (45 in ASCII), then digits
 unfoldable pub written_number : List ℕ → Result ℤ Fault
 written_number [] = Err NotANumber
 written_number (c ∷ cs) = if c == 45 then signed_number neg_ℤ cs else signed_number (λ z. z) (c ∷ cs)
@@ -138,7 +138,7 @@ less (Number a) (Number b) = Ok (int_lt a b)
 
 -- ---- statements ----
 
--- a put of a key: the kinds of key and value are looked at first, then whether the key is empty
+-- a put of a key: the kinds of key and value are checked first, then whether the key is empty
 unfoldable pub put_of : Value → Value → ℕ → Result Write Fault
 put_of (Number a) y lease = Err Kind
 put_of (Text t) (Number b) lease = Err Kind

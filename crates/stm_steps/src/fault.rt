@@ -8,11 +8,11 @@ use std::fmt;
 /// The names that `Display` gives are those of the program formats.
 #[derive(Clone, Copy, Debug, PartialEq, Eq)]
 pub enum Fault {
-    /// A text where a number is wanted, or the reverse, or mixed kinds compared.
+    /// A text where a number is expected, or the reverse, or a comparison of both kinds.
     Kind,
     /// A result outside -9223372036854775808 to 9223372036854775807.
     Overflow,
-    /// A division or a rest by 0.
+    /// A division by 0, or its remainder.
     ZeroDivisor,
     /// `num_of` of a text that is no whole number, or one out of range.
     NotANumber,

@@ -12,7 +12,7 @@ use stm_history::Text;
 
 /// Keys, each once, in the order in which they came first. Contracts see the list of them.
 ///
-/// Those behind the first sixteen stand in a table, too: whether a key is among them is found without a long search.
+/// Those after the first sixteen are in a table, too: whether a key is among them is found without a long search.
 #[derive(Debug)]
 pub struct KeySet {
     keys: Vec<Text>,
@@ -47,7 +47,7 @@ fn is_among(keys: &[Text], key: &Text) -> bool
 }
 
 impl KeySet {
-    /// No keys. It takes no memory.
+    /// No keys. It allocates nothing.
     pub fn new(alloc: Global) -> KeySet
         ensures { result ≡ [] }
     {
@@ -80,7 +80,7 @@ impl KeySet {
         }
     }
 
-    /// Adds a new key behind those that are searched, and to the table.
+    /// Adds a new key after those that are searched, and to the table.
     fn push_indexed(&mut self, key: &Text) -> Result<(), AllocError>
         requires place { MOST_SEARCHED ≤ length self.old }
         requires new_key { list_any (bytes_eq key.now) self.old ≡ false }
@@ -107,7 +107,7 @@ impl KeySet {
         Ok(())
     }
 
-    /// Adds a key at the end, unless it is there already. Want of memory leaves the keys as they were.
+    /// Adds a key at the end, unless it is there already. An allocation failure leaves the keys as they were.
     pub fn insert(&mut self, key: &Text) -> Result<(), AllocError>
         ensures ok { OnOk result (self.new ≡ with_key key.now self.old) }
         ensures err { OnErr result (self.new ≡ self.old) }

@@ -1,4 +1,4 @@
-//! The values of programs, what is computed of them, and a run on its way.
+//! The values of programs, what is computed of them, and a run in progress.
 #![tactic(auto)]
 
 mod fault;

@@ -9,7 +9,7 @@ use std::alloc::{AllocError, Global};
 use stm_history::Text;
 use stm_program::Operator;
 
-/// A quotient, cut towards zero. A zero divisor is looked at before the range.
+/// A quotient, truncated towards zero. A zero divisor is checked before the range.
 #[tactic(auto, unfolding(crate::specs::Values::computed), using(crate::proofs::IntegerRange::in_range))]
 fn quotient(left: i64, right: i64) -> Result<i64, Fault>
     ensures { result ≡ computed Operator.Div left right }
@@ -20,7 +20,7 @@ fn quotient(left: i64, right: i64) -> Result<i64, Fault>
     left.checked_div(right).ok_or(Fault::Overflow)
 }
 
-/// The rest of a quotient, with the sign of the left number. It is refused where its quotient is.
+/// The remainder of a division, with the sign of the left number. It is refused where the quotient is.
 #[tactic(auto, unfolding(crate::specs::Values::computed), using(crate::proofs::IntegerRange::in_range))]
 fn rest(left: i64, right: i64) -> Result<i64, Fault>
     ensures { result ≡ computed Operator.Rem left right }
@@ -46,7 +46,7 @@ fn compute(operator: Operator, left: i64, right: i64) -> Result<i64, Fault>
 }
 
 /// What an operator computes of two values. `Kind` is answered where one of them is a text, `ZeroDivisor` for a
-/// division or a rest by 0, and then `Overflow` for a result out of range.
+/// division or a remainder by 0, and then `Overflow` for a result out of range.
 #[tactic(auto, unfolding(crate::specs::Values::arithmetic))]
 pub fn combine(operator: Operator, left: &Value, right: &Value) -> Result<Value, Fault>
     ensures { result ≡ arithmetic operator left.now right.now }
@@ -80,7 +80,7 @@ fn starts_with_plus(text: &str) -> bool
     !bytes.is_empty() && bytes[0] == b'+'
 }
 
-/// The number that a text writes: an optional `-`, then digits. A leading `+` is refused.
+/// The number that a text spells: an optional `-`, then digits. A leading `+` is refused.
 fn read_number(text: &str) -> Result<i64, Fault>
     ensures { result ≡ written_number text.now }
 {
@@ -93,7 +93,7 @@ fn read_number(text: &str) -> Result<i64, Fault>
     }
 }
 
-/// The number that a text value writes. `Kind` is answered for a number, `NotANumber` where the text writes none.
+/// The number that a text value spells. `Kind` is answered for a number, `NotANumber` where the text spells none.
 #[tactic(auto, unfolding(crate::specs::Values::num_of))]
 pub fn number_of(value: &Value) -> Result<Value, Fault>
     ensures { result ≡ num_of value.now }

@@ -1,4 +1,4 @@
-//! How much is searched before a table is kept.
+//! How many elements are searched before a table is kept.
 
-/// How many keys or writes are searched one by one. For so few that is quicker than a table, which takes memory at its first key.
+/// How many keys or writes are searched one by one. For so few elements that is quicker than a table, which allocates at its first key.
 pub(crate) const MOST_SEARCHED: usize = 16;

@@ -1,4 +1,4 @@
-//! A run on its way.
+//! A run in progress.
 ghost use Rattle.std.specs.Prelude.{◌≡◌, ◌≤◌, None, IfOk, OnOk, OnErr};
 ghost use Rattle.stm_history.specs.declared.revisions.TheConstants.{HIGHEST_NUMBER};
 ghost use Rattle.stm_steps.specs.Session.{fresh, variable_in, with_variable, with_output, with_write, with_item, with_read};
@@ -22,11 +22,11 @@ use stm_program::{Variable, Write};
 /// The turns of all loops of one run, at most.
 pub const TURN_LIMIT: u64 = 10_000;
 
-/// What a run has come to: its variables, the turns of its loops, what it emitted, saw and wrote, and the
+/// The state of a run in progress: its variables, the turns of its loops, what it emitted, saw and wrote, and the
 /// keys that it looked up.
 ///
-/// A run is a row of these steps over a new session: those below, and what is computed of values between
-/// them. Where a growth is refused, a step leaves the session as it was, so that it can be taken again.
+/// A run is a sequence of these steps over a new session: those below, and what is computed of values between
+/// them. Where an allocation fails, a step leaves the session as it was, so that it can be repeated.
 #[derive(Debug)]
 pub struct Session {
     variables: Variables,
@@ -105,7 +105,7 @@ impl Session {
         self.variables.set(variable, value);
     }
 
-    /// Puts a value out. Want of memory leaves the session as it was.
+    /// Emits a value. An allocation failure leaves the session as it was.
     pub fn emit(&mut self, value: Value) -> Result<(), AllocError>
         ensures ok { OnOk result (self.new ≡ with_output value self.old) }
         ensures err { OnErr result (self.new ≡ self.old) }
@@ -114,7 +114,7 @@ impl Session {
         Ok(())
     }
 
-    /// Keeps a write. Want of memory leaves the session as it was.
+    /// Records a write. An allocation failure leaves the session as it was.
     pub fn write(&mut self, write: Write) -> Result<(), AllocError>
         ensures ok { OnOk result (self.new ≡ with_write write self.old) }
         ensures err { OnErr result (self.new ≡ self.old) }
@@ -125,7 +125,7 @@ impl Session {
 
     /// Counts a turn, and then gives the variable of its loop the turn's number.
     ///
-    /// `TurnLimit` is answered for turn 10001 of the run, and the session is then as it was. It takes no memory.
+    /// `TurnLimit` is answered for turn 10001 of the run, and the session is then as it was. It allocates nothing.
     #[tactic(auto, unfolding(crate::specs::Outcome::begin_turn))]
     pub fn begin_turn(&mut self, variable: Variable, turn: u64) -> Result<(), Fault>
         requires { turn ≤ HIGHEST_NUMBER }
@@ -139,7 +139,7 @@ impl Session {
         Ok(())
     }
 
-    /// Keeps what a `get` of a written key gave.
+    /// Records what a `get` of a written key gave.
     fn keep_item(&mut self, item: TraceItem) -> Result<(), AllocError>
         ensures ok { OnOk result (self.new ≡ with_item item self.old) }
         ensures err { OnErr result (self.new ≡ self.old) }
@@ -148,7 +148,7 @@ impl Session {
         Ok(())
     }
 
-    /// Keeps a key that was looked up, and what it gave.
+    /// Records a key that was looked up, and what it gave.
     fn keep_read(&mut self, key: &Text, item: TraceItem) -> Result<(), AllocError>
         ensures ok { OnOk result (self.new ≡ with_item item (with_read key.now self.old)) }
         ensures err { OnErr result (self.new ≡ self.old) }
@@ -161,8 +161,8 @@ impl Session {
 
     /// What a `get` of a key gives: the last write of the key, and the look-up where there is none.
     ///
-    /// `None` where the look-up knows nothing of the key. The session is then as it was, and want of memory
-    /// leaves it so too.
+    /// `None` where the look-up knows nothing of the key. The session is then as it was, and so it is where an
+    /// allocation fails.
     #[tactic(auto, unfolding(crate::specs::Steps::get_key))]
     pub fn get<L: Lookup>(
         &mut self,
@@ -189,8 +189,8 @@ impl Session {
 
     /// What a `rev` of a key gives: the look-up's revision, whatever was written.
     ///
-    /// `None` where the look-up knows nothing of the key. The session is then as it was, and want of memory
-    /// leaves it so too.
+    /// `None` where the look-up knows nothing of the key. The session is then as it was, and so it is where an
+    /// allocation fails.
     #[tactic(auto, unfolding(crate::specs::Steps::rev_key))]
     pub fn rev<L: Lookup>(&mut self, lookup: &L, key: &Text) -> Result<Option<Value>, AllocError>
         ensures ok { IfOk result (λ found. rev_key (L.answers lookup.now) key.now self.old ≡ found_or_wanted key.now found self.new) }
@@ -205,7 +205,7 @@ impl Session {
         Ok(Some(Value::Number(mod_rev as i64)))
     }
 
-    /// The run that came to this end. It takes no memory.
+    /// The run that came to this end. It allocates nothing.
     pub fn into_run(self, end: End) -> Run
         ensures { result ≡ run_of end self }
     {
@@ -225,7 +225,7 @@ impl Session {
             reads,
         }
     }
-    /// What each `get` and `rev` gave, in order. It takes no memory.
+    /// What each `get` and `rev` gave, in order. It allocates nothing.
     pub fn into_trace(self) -> Sequence<TraceItem>
         ensures { result ≡ self.trace }
     {

@@ -42,7 +42,7 @@ impl State {
     ghost use Rattle.stm_steps.specs.States.{find_entry, with_entry, IsAscending};
     ghost use Rattle.stm_steps.specs.Places.{IsAt, IsGapFor};
 
-    /// The state without a key. It takes no memory.
+    /// The state without a key. It allocates nothing.
     pub fn new(alloc: Global) -> State
         ensures { result ≡ [] }
     {
@@ -58,7 +58,7 @@ impl State {
         self.entries.len()
     }
 
-    /// The i-th key from 0, ascending by bytes.
+    /// The key with this index, counted from 0, ascending by bytes.
     pub fn at(&self, i: usize) -> &StateEntry
         requires { i < length self.now }
         ensures entry { slice_get self.now i ≡ Some result.now }
@@ -78,8 +78,8 @@ impl State {
         }
     }
 
-    /// Puts a key with a value and a modification revision, in place of what stood under the key. What stands
-    /// under every other key stays. Want of memory leaves the state as it was.
+    /// Puts a key with a value and a modification revision, in place of what the state had under the key. Every
+    /// other key stays as it is. An allocation failure leaves the state as it was.
     pub fn insert(&mut self, key: Text, value: Text, mod_rev: u64) -> Result<(), AllocError>
         requires { mod_rev ≤ HIGHEST_NUMBER }
         ensures ok { OnOk result (self.new ≡ with_entry (record { key = key; value = value; mod_rev = mod_rev }) self.old) }

@@ -19,7 +19,7 @@ pub enum Stop {
 /// What stops an evaluation.
 #[derive(Debug, Drop)]
 pub enum Halt {
-    /// A growth was refused.
+    /// An allocation failed.
     OutOfMemory,
     /// The program stops here.
     Stopped(Stop),

@@ -9,7 +9,7 @@ use std::alloc::{AllocError, Global};
 use stm_history::Text;
 use stm_program::{MAX_TEXT, Write};
 
-/// A text, where a text is wanted. `Kind` is answered for a number.
+/// A text, where a text is expected. `Kind` is answered for a number.
 #[tactic(auto, unfolding(crate::specs::Values::text_in))]
 pub fn wanted_text(value: &Value) -> Result<&Text, Fault>
     ensures { MatchResult result (λ text. text_in value.now ≡ Ok text.now) (λ fault. text_in value.now ≡ Err fault) }
@@ -20,7 +20,7 @@ pub fn wanted_text(value: &Value) -> Result<&Text, Fault>
     }
 }
 
-/// A text that is not empty, where a key is wanted. `Kind` is answered for a number, `EmptyKey` for the empty
+/// A text that is not empty, where a key is expected. `Kind` is answered for a number, `EmptyKey` for the empty
 /// text.
 #[tactic(auto, unfolding(crate::specs::Values::key_in))]
 pub fn wanted_key(value: &Value) -> Result<&Text, Fault>
@@ -89,7 +89,7 @@ pub fn is_below(left: &Value, right: &Value) -> Result<bool, Fault>
     }
 }
 
-/// The put of a key. The kinds of key and value are looked at before the key's length: `Kind` is answered where
+/// The put of a key. The kinds of key and value are checked before the key's length: `Kind` is answered where
 /// one of them is a number, and then `EmptyKey` for an empty key.
 #[tactic(auto, unfolding(crate::specs::Values::put_of))]
 pub fn put(key: &Value, value: &Value, lease: u64) -> Result<Result<Write, Fault>, AllocError>

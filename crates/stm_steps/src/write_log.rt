@@ -14,12 +14,12 @@ use stm_program::{Write, last_write};
 
 /// Writes in order. Contracts see the list of them.
 ///
-/// Beside it stands an index of the writes behind the first sixteen, from each key to the place of its last write, so that a run's work grows
-/// with its steps alone.
+/// An index leads from each key to the place of its last write, among the writes after the first sixteen, so that a run's work grows only
+/// with its steps.
 #[derive(Debug)]
 pub(crate) struct WriteLog {
     writes: Vec<Write>,
-    // of the writes behind those that are searched, counted from there
+    // of the writes after those that are searched, counted from there
     last_places: IndexMap<String, usize>,
 }
 
@@ -56,7 +56,7 @@ fn write_at(writes: &[Write], place: usize) -> &Write
 }
 
 impl WriteLog {
-    /// No writes. It takes no memory.
+    /// No writes. It allocates nothing.
     pub fn new(alloc: Global) -> WriteLog
         ensures { result ≡ [] }
     {
@@ -66,7 +66,7 @@ impl WriteLog {
         }
     }
 
-    /// Adds a write behind those that are searched, and its place to the index.
+    /// Adds a write after those that are searched, and its place to the index.
     fn push_indexed(&mut self, write: Write) -> Result<(), AllocError>
         requires { MOST_SEARCHED ≤ length self.old }
         ensures ok { OnOk result (self.new ≡ self.old ++ write ∷ []) }
@@ -90,7 +90,7 @@ impl WriteLog {
         Ok(())
     }
 
-    /// Adds a write at the end. Want of memory leaves the writes as they were.
+    /// Adds a write at the end. An allocation failure leaves the writes as they were.
     pub fn push(&mut self, write: Write) -> Result<(), AllocError>
         ensures ok { OnOk result (self.new ≡ self.old ++ write ∷ []) }
         ensures err { OnErr result (self.new ≡ self.old) }
@@ -102,7 +102,7 @@ impl WriteLog {
         }
     }
 
-    /// The last write of a key behind those that are searched.
+    /// The last write of a key among those that are not searched.
     fn last_indexed(&self, key: &str) -> Option<&Write>
         requires { MOST_SEARCHED ≤ length self.now }
         ensures { option_copied result ≡ last_of_key key.now (drop MOST_SEARCHED self.now) }
@@ -137,7 +137,7 @@ impl WriteLog {
         }
     }
 
-    /// The writes in order. It takes no memory.
+    /// The writes in order. It allocates nothing.
     pub fn into_sequence(self) -> Sequence<Write>
         ensures { result ≡ self }
     {

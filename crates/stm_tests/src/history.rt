@@ -62,7 +62,7 @@ fn last_changes(history: &Revisions) -> usize {
     }
 }
 
-/// What a history tells of itself: opening, counter, the number of its revisions, the number of changes of the last one, and what
+/// What a history says of itself: opening, counter, the number of its revisions, the number of changes of the last one, and what
 /// "a" is now and whether it is there.
 fn report_history(reported: &mut String, history: &Revisions) -> Result<(), AllocError> {
     write!(
@@ -78,7 +78,7 @@ fn report_history(reported: &mut String, history: &Revisions) -> Result<(), Allo
     write!(reported, " {}", history.is_present("a"))
 }
 
-/// Adds a revision of its own for each change of "a", and tells what the history then is, and what "a" is at these revisions.
+/// Adds a revision of its own for each change of "a", and shows what the history then is, and what "a" is at these revisions.
 fn play(
     alloc: Global,
     reported: &mut String,
@@ -112,7 +112,7 @@ const EXAMPLES: [(&[&str], &[u64], &str); 2] = [
         &[41, 42, 43, 44, 45, 46],
         "41 45 4 1 z/45/45/1/0 true: - x/42/42/1/0 y/42/43/2/0 - z/45/45/1/0 z/45/45/1/0 ",
     ),
-    // A history tells what it is now.
+    // A history shows what it is now.
     (&["x", "y"], &[], "41 43 2 1 y/42/43/2/0 true: "),
 ];
 

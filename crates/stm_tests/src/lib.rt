@@ -1,4 +1,4 @@
-//! Worked examples of programs and their meaning, of what the readers of recipes tell, of reports that are read, and of the
+//! Worked examples of programs and their meaning, of what the readers of recipes return, of reports that are read, and of the
 //! histories and lists below the store, by the public calls of their crates. What programs come to in a world stands in `tests/programs` and
 //! `tests/worlds`.
 //!

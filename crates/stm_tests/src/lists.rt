@@ -18,12 +18,12 @@ enum Step {
     Push(usize, u32),
     /// Moves a node to the back of a list.
     Move(usize, usize),
-    /// Takes a node off its list, and tells its value.
+    /// Takes a node off its list, and shows its value.
     Unlink(usize),
     DropList(usize),
-    /// Tells the number of nodes of a list, and its front.
+    /// The number of nodes of a list, and its front.
     LookAtList(usize),
-    /// Tells the value of a node, its list, the next node and the one before.
+    /// The value of a node, its list, the next node and the one before.
     LookAtNode(usize),
 }
 
@@ -36,7 +36,7 @@ struct Player {
 }
 
 impl Player {
-    /// The list that was made behind so many others, where it is there.
+    /// The list that was made after `place` others, where it is there.
     fn list(&self, place: usize) -> Option<ListId>
         ensures { IfSome result (λ list. HasList self.now.lists list) }
     {
@@ -48,7 +48,7 @@ impl Player {
         }
     }
 
-    /// The node that was made behind so many others, where it is there.
+    /// The node that was made after `place` others, where it is there.
     fn node(&self, place: usize) -> Option<NodeId>
         ensures { IfSome result (λ node. HasNode self.now.lists node) }
     {
@@ -157,7 +157,7 @@ fn look_at_node(reported: &mut String, player: &Player, node: usize) -> Result<(
     report_place(reported, " before ", before)
 }
 
-/// Ends an answer by `; `, where something was told since the text had a length.
+/// Ends an answer by `; `, where something was added since the text had this length.
 fn end_answer(reported: &mut String, length: usize) -> Result<(), AllocError> {
     if reported.len() == length {
         return Ok(());
@@ -165,7 +165,7 @@ fn end_answer(reported: &mut String, length: usize) -> Result<(), AllocError> {
     reported.push_str("; ")
 }
 
-/// Takes one step, and tells what was answered.
+/// Takes one step, and shows what was answered.
 fn take(reported: &mut String, player: &mut Player, step: Step) -> Result<(), AllocError> {
     match step {
         Step::NewList => new_list(player),
@@ -178,7 +178,7 @@ fn take(reported: &mut String, player: &mut Player, step: Step) -> Result<(), Al
     }
 }
 
-/// Takes the steps, with room for three nodes, and tells the answers.
+/// Takes the steps, with room for three nodes, and shows the answers.
 fn take_all(reported: &mut String, player: &mut Player, steps: &[Step]) -> Result<(), AllocError> {
     player.lists.reserve(3)?;
     for step in steps {
@@ -189,7 +189,7 @@ fn take_all(reported: &mut String, player: &mut Player, steps: &[Step]) -> Resul
     Ok(())
 }
 
-/// Takes the steps with no list yet, and tells the answers.
+/// Takes the steps with no list yet, and returns the text of the answers.
 fn play(alloc: Global, steps: &[Step]) -> Result<String, AllocError> {
     let mut reported = String::new(alloc);
     let mut player = Player {

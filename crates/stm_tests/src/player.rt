@@ -1,6 +1,6 @@
-//! The examples, and how they are played: what is looked at is told into one text, which is compared with the expected one.
+//! The examples, and how they are played: what is looked at is written into one text, which is compared with the expected one.
 //!
-//! An example is a row of a table, since each function is proved: few small ones tell all of them, and each owns one large value at most.
+//! An example is a row of a table, since each function is proved: a few small functions show all of them, and each owns at most one large value.
 
 mod made;
 mod readers;
@@ -15,7 +15,7 @@ use std::test::Fail;
 /// What an example looks at, in constants.
 #[derive(Clone, Copy)]
 pub enum Example {
-    /// How a text of these parts, each so many times, is read: that its program is kept, or its first fault.
+    /// How a text of these parts, each repeated this often, is read: that its program is kept, or its first fault.
     Parts(&'static [(&'static str, usize)]),
     /// Whether a program is its copy, by either call, and whether the program of another text differs from it.
     Others(&'static str, &'static str),
@@ -30,11 +30,11 @@ pub enum Example {
     Want(&'static str),
     /// The number of keys of a state, each key, and the modification revisions of "a0" and "a2".
     State(&'static [(&'static str, &'static str, u8)]),
-    /// What the readers of recipes tell of a state.
+    /// What the readers of recipes return for a state.
     Readers(&'static [(&'static str, &'static str, u8)]),
 }
 
-/// Tells what an example looks at.
+/// Shows what an example looks at.
 fn report(alloc: Global, reported: &mut String, example: Example) -> Result<(), Fail> {
     match example {
         Example::Parts(parts) => texts::report_parts(alloc, reported, parts),
@@ -48,7 +48,7 @@ fn report(alloc: Global, reported: &mut String, example: Example) -> Result<(), 
     }
 }
 
-/// Asserts what is told of an example.
+/// Asserts what is shown of an example.
 fn is_reported(
     rt: &impl Abort,
     alloc: Global,
@@ -61,7 +61,7 @@ fn is_reported(
     Ok(())
 }
 
-/// Asserts what is told of each of these examples.
+/// Asserts what is shown of each of these examples.
 pub fn are_reported(rt: &impl Abort, alloc: Global, rows: &[(Example, &str)]) -> Result<(), Fail> {
     for &(example, expected) in rows {
         is_reported(rt, alloc, example, expected)?;

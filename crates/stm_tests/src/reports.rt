@@ -34,7 +34,7 @@ fn word(line: &ReportLine) -> &'static str {
     }
 }
 
-/// Lines of each kind, with what is told of them.
+/// Lines of each kind, and what is shown of them.
 const LINES: [(&str, &str); 29] = [
     (r#"[1,"started",1]"#, "started"),
     (r#"[3,"prefetched",1,2,[["p",2],["q",0]]]"#, "prefetched"),
@@ -222,7 +222,7 @@ fn report_ops(reported: &mut String, ops: &[ReportedOp]) -> Result<(), AllocErro
     Ok(())
 }
 
-/// What the word of a line does not tell: the operations of a transaction, and the name of a refusal.
+/// What the word of a line does not say: the operations of a transaction, and the name of a refusal.
 fn report_more(reported: &mut String, line: &ReportLine) -> Result<(), AllocError> {
     match line {
         ReportLine::Txn { answers, .. } => report_ops(reported, answers.as_slice()),
@@ -231,7 +231,7 @@ fn report_more(reported: &mut String, line: &ReportLine) -> Result<(), AllocErro
     }
 }
 
-/// The word of each line and what more is told of it, `; ` between.
+/// The word of each line and what more is shown of it, `; ` between.
 fn report_lines(reported: &mut String, lines: &[ReportLine]) -> Result<(), AllocError> {
     for line in lines {
         if !reported.is_empty() {
@@ -247,7 +247,7 @@ fn report_fault(reported: &mut String, fault: &BadInput) -> Result<(), AllocErro
     write!(reported, "{}: {}", fault.place, fault.cause)
 }
 
-/// Tells the lines of a report, or the place and the cause of its first fault.
+/// Shows the lines of a report, or the place and the cause of its first fault.
 fn report_report(alloc: Global, reported: &mut String, bytes: &[u8]) -> Result<(), Fail> {
     match read_report(alloc, bytes) {
         Ok(report) => {
@@ -260,7 +260,7 @@ fn report_report(alloc: Global, reported: &mut String, bytes: &[u8]) -> Result<(
     }
 }
 
-/// Asserts what is told of a report.
+/// Asserts what is shown of a report.
 fn is_read(rt: &impl Abort, alloc: Global, bytes: &[u8], expected: &str) -> Result<(), Fail> {
     let mut reported = String::new(alloc);
     report_report(alloc, &mut reported, bytes)?;
@@ -268,7 +268,7 @@ fn is_read(rt: &impl Abort, alloc: Global, bytes: &[u8], expected: &str) -> Resu
     Ok(())
 }
 
-/// Asserts what is told of reports of one line, which ends in a line feed.
+/// Asserts what is shown of reports of one line, which ends in a line feed.
 fn are_lines(rt: &impl Abort, alloc: Global, lines: &[(&str, &str)]) -> Result<(), Fail> {
     for &(line, expected) in lines {
         let text = format!(in alloc; "{line}\n")?;
@@ -285,7 +285,7 @@ fn are_reports(rt: &impl Abort, alloc: Global, texts: &[(&str, &str)]) -> Result
     Ok(())
 }
 
-/// The same of so many line feeds.
+/// The same of `count` line feeds.
 fn are_feeds(rt: &impl Abort, alloc: Global, count: usize, expected: &str) -> Result<(), Fail> {
     let bytes = vec![in alloc; b'\n'; count]?;
     is_read(rt, alloc, bytes.as_slice(), expected)

@@ -12,7 +12,7 @@ pub(crate) trait Written {
     /// The data that it is written as.
     ghost written: { Self → Data };
 
-    /// It as JSON.
+    /// The value as JSON.
     fn to_json(&self, alloc: Global) -> Result<Json, AllocError>
         ensures { IfOk result (λ v. view v ≡ written self.now) };
 }

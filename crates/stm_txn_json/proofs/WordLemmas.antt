@@ -18,7 +18,7 @@ target_text word.Mod = codes "mod"
 target_text word.Lease = codes "lease"
 target_text word.Value = codes "value"
 
--- the answer of one test, or of the tests behind it
+-- the answer of one test, or of the tests after it
 chosen_by : {W : Type 0} (text : W → List ℕ) (w t : List ℕ) (b : Bool) (y x : W) (rest : Outcome W) → (b ≡ true → w ≡ t) → text y ≡ t
     → (rest ≡ Ok x → w ≡ text x) → cond b (Ok y) rest ≡ Ok x → w ≡ text x
 chosen_by text w t true y x rest found named others h =

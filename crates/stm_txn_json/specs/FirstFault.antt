@@ -7,7 +7,7 @@ use Rattle.stm_json.specs.Faults.{Faults, first_of, Sort, AnyText, WordOf, By, T
 abbrev pub order_words : List (List ℕ)
 order_words = codes "=" ∷ codes "!=" ∷ codes ">" ∷ codes "<" ∷ []
 
--- the words of compares, each with the key, the order and the compare's side behind it
+-- the words of compares, each with the key, the order and the compare's side after it
 abbrev pub compare_table : Table
 compare_table =
     (codes "version", AnyText ∷ WordOf order_words ∷ any_number ∷ [])
@@ -28,7 +28,7 @@ operation_table =
 abbrev pub txn_sorts : List Sort
 txn_sorts = By (list_faults compare_table) ∷ By (list_faults operation_table) ∷ By (list_faults operation_table) ∷ []
 
--- the word of a transaction, with what stands behind it
+-- the word of a transaction, with what follows it
 abbrev pub txn_row : List ℕ × List Sort
 txn_row = (codes "txn", txn_sorts)
 

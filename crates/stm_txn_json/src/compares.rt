@@ -38,7 +38,7 @@ fn target(alloc: Global, word: TargetWord, value: &Value) -> Result<Target, Read
     }
 }
 
-/// The compare of a word, from the elements behind it.
+/// The compare of a word, from the elements after it.
 fn compare_parts(alloc: Global, word: TargetWord, elements: &[Value]) -> Result<Compare, ReadError>
     ensures { Returns (λ c. c) result (compare_parts_of word (three_of (items_view elements.now))) }
 {

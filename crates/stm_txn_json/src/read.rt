@@ -15,7 +15,7 @@ use std::alloc::Global;
 use stm_json::{Cause, ReadError, fault, three, within, worded_array};
 use stm_outcome::Txn;
 
-/// A transaction, from the elements behind its word.
+/// A transaction, from the elements after its word.
 fn txn_parts(alloc: Global, elements: &[Value]) -> Result<Txn, ReadError>
     ensures { Returns (λ t. t) result (txn_parts_of (three_of (items_view elements.now))) }
 {
@@ -56,9 +56,9 @@ fn txn(alloc: Global, value: &Value) -> Result<Txn, ReadError>
 ///
 /// The value is read in order, a value before its elements and these from the first to the last. `Bad` is
 /// the first fault, with its place in the value: `Shape` at an array that does not begin with a known word or
-/// has another length than the word's, and where something else than what is wanted stands; `Range` at a
-/// whole number outside its range. `OutOfMemory` may come in place of any other answer, where a growth was
-/// refused.
+/// has another length than the word's, and at a value of another kind than expected; `Range` at a
+/// whole number outside its range. `OutOfMemory` may come in place of any other answer, where an allocation
+/// failed.
 pub fn read_txn(alloc: Global, value: &Value) -> Result<Txn, ReadError>
     ensures exact { Returns (λ t. t) result (txn_of (view value.now)) }
     // What is read is spelled so.

@@ -64,7 +64,7 @@ use Rattle.stm_world.proofs.Sound.{step_is_sound}
 
 -- ---- one event ----
 
--- entries behind those of a world, which follow from what its store was to what it is
+-- entries after those of a world, which follow from what its store was to what it is
 record Appends (w : World) (s : Stepped) : Type 0 where
   more : List Entry
   entries : s.next.entries ≡ w.entries ++ more

@@ -73,7 +73,7 @@ keys_more : (reads : List ReadAnswer) (a : ReadAnswer) → keys_read reads ++ a.
 keys_more [] a = refl
 keys_more (x ∷ reads) a = ap (λ (keys : List (List ℕ)). x.key ∷ keys) (keys_more reads a)
 
--- the keys that a run has read are, behind those of a list, those of the answers
+-- the keys that a run has read are, after those of a list, those of the answers
 abbrev IsFirst : List (List ℕ) → List ReadAnswer → List (List ℕ) → Type 0
 IsFirst keys answers reads = keys_first_read keys reads ≡ keys_read answers
 
@@ -213,7 +213,7 @@ asked_behind program before (x ∷ reads) a asked wants = (
       (subst (λ (l : List ReadAnswer). wanted (run_on program l) ≡ Some a.key) (sym (append_assoc before (x ∷ []) reads)) wants),
 )
 
--- ---- behind the list
+-- ---- after the list
 
 rejoined : (n : ℕ) (reads : List ReadAnswer) → take n reads ++ drop n reads ≡ reads
 rejoined zero reads = refl

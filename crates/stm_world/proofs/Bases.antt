@@ -94,7 +94,7 @@ conflict_based start task h known counter some serializable =
 
 -- ---- how a run goes on ----
 
--- what a runner has read in its attempt is based, begins with its list, and was asked for behind it; and it may send a commit yet
+-- what a runner has read in its attempt is based, begins with its list, and was asked for after it; and it may send another commit
 pub record IsWellRun (start : Setup) (r : Runner) : Type 0 where
   pub based : IsBased start r.task r.known
   pub listed : BeginsWithList r.task.program.prefetch r.known.reads

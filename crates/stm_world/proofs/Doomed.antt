@@ -1,4 +1,4 @@
--- What a log tells of attempts that come to nothing: from the headline, line by line.
+-- What a log says of attempts that come to nothing: from the headline, line by line.
 use Rattle.std.proofs.Common.{cond, map, arith, Bool, false, refl, ◌∷◌, None, Option, ◌≡◌, ℕ, ◌≤◌, List, [], Some, Ok, Err, true, sym, ◌∙◌, ap, subst}
 use Rattle.std.specs.Prelude.{option_map, Result}
 use Rattle.stm_history.specs.declared.key_state.ReadAnswer.{ReadAnswer}
@@ -55,7 +55,7 @@ use Rattle.stm_world.proofs.Headlines.{Follows, opened_follows}
 
 -- ---- commits that failed ----
 
--- what a commit tells as failed is its first compare that fails
+-- what a commit reports as failed is its first compare that fails
 applied_fails_none : (dead used : Bool) (made done : Done) (failed : FailedCompare) → made.answer.failed ≡ None →
     cond dead (Err LeaseNotFound) (cond used (Err RevisionsUsedUp) (Ok made)) ≡ Ok done → done.answer.failed ≡ Some failed → ⊥
 applied_fails_none true used made done failed none is some = absurd (cc)

@@ -1,4 +1,4 @@
--- What an event makes of the store: what was true stays so, what watchers were told goes on, the opening stays, and nothing below the floor
+-- What an event makes of the store: what was true stays so, what watchers were notified of goes on, the opening stays, and nothing below the floor
 -- is pending for a watcher that is not lost.
 use Rattle.std.proofs.Common.{◌≡◌, ◌≤◌, ℕ, List, [], ◌∷◌, map, Option, Some, None, Ok, Err, refl, sym, ◌∙◌, subst, arith}
 use Rattle.std.proofs.Math.Nat.{min-le_right}

@@ -38,7 +38,7 @@ use Rattle.stm_world.proofs.LowRevisions.{replay_stays_low}
 use Rattle.stm_world.proofs.MovingOn.{prefetched_from, KnowsFrom, fetched_from, conflicted_from, conflict_moves_on}
 use Rattle.stm_txn.specs.Standing.{Setup}
 
--- the least revision that the store has after so many failures
+-- the least revision that the store has after the failures of the log
 abbrev least : Setup → List Line → ℕ → ℕ
 least start log id = since start id log + failed_commits id log
 
@@ -111,7 +111,7 @@ failed_by id failed conflicts over (Ok (Cancelled watcher)) on none = on none
 failed_by id failed conflicts over (Ok (Compacted revision)) on none = on none
 failed_by id failed conflicts over (Ok (Lost watcher floor)) on none = on none
 
--- of a run that is not over only conflicts were told as failures
+-- of a run that is not over only conflicts were reported as failures
 none_failed : (id : ℕ) (log : List Line) → is_over id log ≡ false → failed_commits id log ≡ failures id log
 none_failed id [] none = refl
 none_failed id (line ∷ log) none = failed_by id (failed_commits id log) (failures id log) (is_over id log) line.reply (none_failed id log) none

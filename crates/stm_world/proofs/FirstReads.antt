@@ -84,7 +84,7 @@ pub first_none : (keys : List (List ℕ)) → keys_first_read keys [] ≡ keys
 first_none [] = refl
 first_none (key ∷ keys) = append-nil (key ∷ keys)
 
--- a key that is none of them comes behind them
+-- a key that is none of them comes after them
 pub first_adds : (keys reads : List (List ℕ)) (next : List ℕ) → list_any (bytes_eq next) (keys_first_read keys reads) ≡ false
     → keys_first_read keys (with_key next reads) ≡ keys_first_read keys reads ++ next ∷ []
 first_adds [] reads next none = ap (λ b. cond b reads (reads ++ next ∷ [])) none

@@ -1,4 +1,4 @@
--- A world follows a log: it has what the log tells of each runner and of the store, and its entries replay to that.
+-- A world follows a log: its runners and its store are what the log says, and its entries replay to that store.
 use Rattle.std.proofs.Common.{◌≡◌, ℕ, ◌+◌, ◌<◌, ◌≤◌, List, [], ◌∷◌, ◌++◌, length, Some, None, Ok, true, false, cond, refl, sym, ◌∙◌}
 use Rattle.std.proofs.Common.{ap, subst, arith}
 use Rattle.std.proofs.lemmas.List.{append-nil}
@@ -25,7 +25,7 @@ use Rattle.stm_world.proofs.Slots.{count_stays}
 use Rattle.stm_world.proofs.Untouched.{Untouched, IsFresh, same_in_log, fresh_stays}
 use Rattle.stm_txn.specs.Standing.{Setup}
 
--- these places and entries are what the log tells
+-- these places and entries are what the log says
 pub record FollowsAt (start : Setup) (log : List Line) (runners : List Slot) (entries : List Entry) : Type 0 where
   pub right : AreRight start log
   pub count : length runners ≡ started log
@@ -41,7 +41,7 @@ pub record FollowsAt (start : Setup) (log : List Line) (runners : List Slot) (en
 abbrev pub with_line : WorldEvent → Result Reply Denied → List Line → List Line
 with_line event reply log = record { event = event; reply = reply } ∷ log
 
--- a world with the store that the log tells of
+-- a world with the store that the log leads to
 abbrev pub world_at : Setup → List Line → List Slot → List Entry → World
 world_at start log runners entries = record { standing = store start log; runners = runners; entries = entries }
 

@@ -163,7 +163,7 @@ call_entered : {A : Type 0} (report : A → Reply) (o : Result (StoreStep A) Sto
 call_entered report (Ok done) entry = refl
 call_entered report (Err cause) entry = refl
 
--- an advance tells what expired, also where it was refused
+-- an advance reports what expired, also where it was refused
 expiries_reported : (moment : ℕ) (expired : List Expired) (cause : Option StoreRefusal) → expired_reported (advance_reply moment expired cause) ≡ expired
 expiries_reported moment expired None = refl
 expiries_reported moment expired (Some cause) = refl

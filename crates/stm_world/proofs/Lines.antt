@@ -1,4 +1,4 @@
--- Line by line over a log that a world follows, and by what a line tells.
+-- Line by line over a log that a world follows, and by what a line reports.
 use Rattle.std.proofs.Common.{◌≡◌, ℕ, ◌+◌, List, [], ◌∷◌, Option, Some, None, Ok, Err, refl, sym, subst}
 use Rattle.std.specs.Prelude.{Result}
 use Rattle.stm_outcome.specs.declared.advance.Expired.{Expired}
@@ -84,7 +84,7 @@ runner_judged : (start : Setup) (log : List Line) (id : ℕ) (P : Result Reply D
 runner_judged start log id P None runs nothing stepped reply right = subst P (sym right) (nothing (denied NoRunner) (nothing_by_refusal _))
 runner_judged start log id P (Some task) runs nothing stepped reply right = stepped task reply runs right
 
--- What holds of a reply that tells nothing of runners, of a start that was taken, and of the step of a runner that runs, holds of each
+-- What holds of a reply that says nothing of runners, of a start that was taken, and of the step of a runner that runs, holds of each
 -- right reply.
 pub by_event : (start : Setup) (log : List Line) (P : Judged) → ((event : WorldEvent) (reply : Result Reply Denied) → ReturnsNothing reply → P event reply) →
     ((task : Task) → P (Start task.program task.level task.limit) (Ok (Started (started log + 1)))) →

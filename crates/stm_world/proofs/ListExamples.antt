@@ -37,7 +37,7 @@ is_put revision = Ok (TxnDone (record { succeeded = true; revision = revision; a
 abbrev read : List ℕ → ℕ → KeyRead
 read key mod_rev = record { key = key; mod_rev = mod_rev }
 
--- behind a list of p and q
+-- after a list of p and q
 abbrev behind_both : Statement → ProgramTree
 behind_both statement = record { statements = Then statement EndBlock; prefetch = codes "p" ∷ codes "q" ∷ [] }
 
@@ -56,7 +56,7 @@ until_second_put =
 abbrev p_seen : List TraceItem
 p_seen = seen.Get (codes "p") (codes "1") ∷ []
 
--- q is compared, though it is not looked up. The attempt behind the conflict has its list from what the failed commit read again.
+-- q is compared, though it is not looked up. The attempt after the conflict has its list from what the failed commit read again.
 listed_key_is_compared : replies_to (raced Serializable ++ Step 1 ∷ []) (opened (at_revision 1))
     ≡ until_second_put ++ Ok (Conflict 1 (codes "q") 0 3) ∷ Ok (Committed 1 3 2 (TextValue (codes "1") ∷ []) p_seen []) ∷ []
 unfolding start_runner fetch commit step_live settle run_over run_block evaluate key_in get_key last_write latest_writes fresh
@@ -75,7 +75,7 @@ abbrev both_answers : List ReadAnswer
 both_answers =
     record { key = codes "p"; kv = Some (first_put 2); of_rev = 2; revision = 2 } ∷ record { key = codes "q"; kv = None; of_rev = 2; revision = 2 } ∷ []
 
--- at read committed both are among the answers that are told
+-- at read committed both are among the answers that are reported
 list_is_reported : replies_to (raced ReadCommitted) (opened (at_revision 1))
     ≡ until_second_put ++ Ok (Committed 1 3 1 (TextValue (codes "1") ∷ []) p_seen both_answers) ∷ []
 unfolding start_runner fetch commit step_live settle run_over run_block evaluate key_in get_key last_write latest_writes fresh

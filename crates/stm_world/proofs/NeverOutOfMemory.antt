@@ -1,4 +1,4 @@
--- Nothing that is defined is refused for want of memory.
+-- Nothing that is defined is refused as out of memory.
 use Rattle.std.proofs.Common.{◌≡◌, ◌≢◌, inl, inr, ℕ, Bool, true, false, cond, List, map, length, Option, Some, None, Result, Ok, Err, sym, ap}
 use Rattle.std.specs.Prelude.{nat_eq, nat_le, nat_lt, not}
 use Rattle.std.specs.List.{list_any}
@@ -154,7 +154,7 @@ abbrev cause_of : Result Reply Denied → WorldRefusal
 cause_of (Ok reply) = NoRunner
 cause_of (Err refusal) = refusal.cause
 
--- a refusal for want of memory
+-- a refusal as out of memory
 abbrev wanting : List Expired → Result Reply Denied
 wanting expired = Err (record { cause = Store OutOfMemory; expired = expired })
 

@@ -1,4 +1,4 @@
--- Each watcher is told all: line by line, what was told and what is pending make up the whole.
+-- Each watcher is notified of all: line by line, what it was notified of and what is pending make up the whole.
 use Rattle.std.proofs.Common.{◌≡◌, ◌≢◌, ◌⊎◌, inl, inr, ℕ, ◌+◌, ◌-◌, ◌<◌, ◌≤◌, zero, suc, List, [], ◌∷◌, ◌++◌, length, Option, Some, None, Ok, Err}
 use Rattle.std.proofs.Common.{Bool, true, false, cond, refl, sym, ◌∙◌, ap, subst, arith, append-nil, slice_index_or, slice_set}
 use Rattle.std.proofs.lemmas.List.{length-set, length-append, length-map, get_or-set_same, get_or-set_other}
@@ -101,20 +101,20 @@ advance_stays s moment false = expiries_stay (finmap.len s.live) (at_moment s mo
 abbrev with_line : WorldEvent → Result Reply Denied → List Line → List Line
 with_line event reply log = record { event = event; reply = reply } ∷ log
 
--- a line that tells a watcher nothing, does not make it, and does not give it up
+-- a line that notifies a watcher of nothing, does not make it, and does not give it up
 record IsQuiet (s : Standing) (id : ℕ) (event : WorldEvent) (reply : Result Reply Denied) : Type 0 where
   reported : reported_by id event reply ≡ []
   made : made_by id s event reply ≡ None
   kept : gives_up id event reply ≡ false
 
--- a watcher that stands so began by the log, and was told all
+-- a watcher that stands so began by the log, and was notified of all
 record IsBegun (start : Setup) (log : List Line) (id : ℕ) (w : Watching) : Type 0 where
   begun : Watching
   is_begun : watching start id log ≡ Some begun
   reports : HasReported (store start log).history (events_to id log) begun w
   because : IsLostFor (store start log).history (store start log).floor begun w
 
--- what the log tells of a number, by what stands there
+-- what the log says of a number, by what stands there
 abbrev IsReported : Setup → List Line → ℕ → Option Watching → Type 0
 IsReported start log id None = watching start id log ≡ None
 IsReported start log id (Some w) = IsBegun start log id w
@@ -476,7 +476,7 @@ lost_by : (P : Type 0) (was by_it : Bool) → (was || by_it) ≡ true → (was �
 lost_by P true by_it lost earlier here = earlier refl
 lost_by P false by_it lost earlier here = here lost
 
--- a watcher may be lost by it, but what it was told and what is pending stay
+-- a watcher may be lost by it, but what it was notified of and what is pending stay
 compacted_reported : (start : Setup) (log : List Line) (id : ℕ) (h : History) (floor : ℕ) (o : Option Watching) → (store start log).history ≡ h →
     (store start log).floor ≡ floor → IsReported start log id o → IsReported start log id (option_map (compacted_one h floor) o)
 compacted_reported start log id h floor None history floor_is is = is

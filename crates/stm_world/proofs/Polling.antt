@@ -17,7 +17,7 @@ use Rattle.stm_watch.specs.Watching.{Watching}
 use Rattle.stm_watch.specs.Places.{is_lost}
 use Rattle.stm_watch.specs.Pending.{watching_from, matching, pending_of_revision, pending_above, pending, number_of_first, first_pending, pending_events, last_number, batch_of, after_poll}
 
--- what is told of a revision with these events, where it is above what was seen
+-- what is reported of a revision with these events, where it is above what was seen
 abbrev part : ℕ → ℕ → List Event → List PendingRevision
 part seen n events = cond (nat_lt seen n) (pending_of_revision n events) []
 
@@ -31,9 +31,9 @@ same_first x y xs ys is = cc
 same_rest : (x y : PendingRevision) (xs ys : List PendingRevision) → x ∷ xs ≡ y ∷ ys → xs ≡ ys
 same_rest x y xs ys is = cc
 
--- ---- the first revision that is told, and the others
+-- ---- the first revision that is reported, and the others
 
--- only one revision is told
+-- only one revision is reported
 record IsAlone (seen n : ℕ) (t : PendingRevision) (ts : List PendingRevision) : Type 0 where
   above : seen < n
   number : t.number ≡ n
@@ -51,7 +51,7 @@ alone_by seen n (e ∷ es) true t ts less is =
       alone = sym (same_rest first t [] ts is);
     }
 
--- the first revision that is told is above what was seen, and there
+-- the first revision that is reported is above what was seen, and at most the last one
 record IsWithin (seen last : ℕ) (t : PendingRevision) : Type 0 where
   above : seen < t.number
   below : t.number ≤ last
@@ -103,7 +103,7 @@ rest_by seen last n events (x ∷ rest) later t ts next goes none is =
     ∙ ap (λ (l : List PendingRevision). l ++ part seen n events) found.1
     ∙ ap (λ b. later ++ cond b (pending_of_revision n events) []) (lt-ltb seen n (omega arith) ∙ sym (lt-ltb t.number n (omega arith)))
 
--- the others are what is told above the first
+-- the others are what is reported above the first
 rest_above : (opening : Opening) (seen : ℕ) (watched : Watched) (revisions : List (List Change)) (t : PendingRevision) (ts : List PendingRevision) →
     pending_above opening seen watched revisions ≡ t ∷ ts → ts ≡ pending_above opening t.number watched revisions
 rest_above opening seen watched [] t ts is = absurd (cc)
@@ -116,7 +116,7 @@ rest_above opening seen watched (changes ∷ older) t ts is =
 
 -- ---- a poll
 
--- so many revisions, and what is told above the last of them, are all
+-- the first `most` revisions, and what is reported above the last of them, are all
 record AreSplit (most : ℕ) (opening : Opening) (seen : ℕ) (watched : Watched) (revisions : List (List Change)) (all : List PendingRevision) : Type 0 where
   whole : take most all ++ pending_above opening (last_number seen (take most all)) watched revisions ≡ all
   since : seen ≤ last_number seen (take most all)
@@ -144,7 +144,7 @@ split zero opening seen watched revisions = record { whole = refl; since = omega
 split (suc most) opening seen watched revisions =
     split_by most opening seen watched revisions (pending_above opening seen watched revisions) refl (λ next. split most opening next watched revisions)
 
--- a poll that tells up to a revision gives so many revisions, and leaves the others pending
+-- a poll up to a revision gives the first `most` revisions, and leaves the others pending
 record IsPolled (most : ℕ) (h : History) (w : Watching) (upto : ℕ) : Type 0 where
   whole : take most (pending h w) ++ pending_above h.opening upto w.watched h.revisions ≡ pending h w
   since : w.seen ≤ upto
@@ -163,9 +163,9 @@ polled_by most h w false all =
     let s : AreSplit most h.opening w.seen w.watched h.revisions (pending h w) = split most h.opening w.seen w.watched h.revisions in
     record { whole = s.whole; since = s.since; reached = s.reached }
 
--- ---- what a watcher was told and what is pending for it
+-- ---- what a watcher was notified of and what is pending for it
 
--- What was told a watcher that began so and stands so, with what is pending for it, is all of what it was to be told since.
+-- What a watcher that began so and stands so was notified of, with what is pending for it, is all that it had to be notified of since.
 pub record HasReported (h : History) (reported : List Event) (begun w : Watching) : Type 0 where
   pub same : w.watched ≡ begun.watched
   pub since : begun.seen ≤ w.seen
@@ -178,7 +178,7 @@ begun_reports h w = record { same = refl; since = omega arith; reached = omega a
 events_joined : (ts us : List PendingRevision) → pending_events (ts ++ us) ≡ pending_events ts ++ pending_events us
 events_joined ts us = flat_map-append (λ (t : PendingRevision). t.events) ts us
 
--- a poll tells what it gives
+-- a poll reports what it gives
 pub polled_reports : (most : ℕ) (h : History) (reported : List Event) (begun w : Watching) → HasReported h reported begun w →
     HasReported h (reported ++ (batch_of most h w).events) begun (after_poll most h w)
 polled_reports most h reported begun w t =
@@ -223,7 +223,7 @@ grown_reports h changes reported begun w t =
           ∙ ap (λ (es : List Event). es ++ pending_events (more begun)) t.all ∙ sym (events_joined (pending h begun) (more begun));
     }
 
--- what was told of one history goes on in another
+-- what was reported of one history goes on in another
 abbrev pub Carries : History → History → Type 0
 Carries before after = (reported : List Event) (begun w : Watching) → HasReported before reported begun w → HasReported after reported begun w
 
@@ -279,7 +279,7 @@ all_by floor seen last n events (t ∷ ts) next within goes is =
     let from : floor ≤ t.number = is in
     both_from floor (t ∷ ts) (part seen n events) (goes is) (part_from floor n events (nat_lt seen n) (omega arith))
 
--- they are told in their order, so where the first is not below the floor none is
+-- they are reported in their order, so where the first is not below the floor none is
 all_from : (floor : ℕ) (opening : Opening) (seen : ℕ) (watched : Watched) (revisions : List (List Change)) →
     IsFrom floor (pending_above opening seen watched revisions) → AreFrom floor (pending_above opening seen watched revisions)
 all_from floor opening seen watched [] is = tt

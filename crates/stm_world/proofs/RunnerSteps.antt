@@ -1,4 +1,4 @@
--- The steps of a runner, as the log tells of it.
+-- The steps of a runner, as the log has them.
 use Rattle.std.proofs.Common.{◌≡◌, ℕ, ◌+◌, ◌<◌, ◌≤◌, List, [], ◌∷◌, length, map, Option, Some, None, Ok, Err, Bool, true, false, cond, inl, inr, refl, sym}
 use Rattle.std.proofs.Common.{◌∙◌, ap, subst, arith}
 use Rattle.std.proofs.lemmas.List.{append-nil}
@@ -55,7 +55,7 @@ use Rattle.stm_world.proofs.Following.{FollowsAt, FollowsStep, with_line, world_
 use Rattle.stm_world.proofs.CommitCases.{Fails, fails}
 use Rattle.stm_world.proofs.CommitEntries.{Takes, Taken, taken, commit_follows_entry}
 
--- a runner of a world that follows its log, which the log tells to run this task
+-- a runner of a world that follows its log, which by the log runs this task
 pub record Runs (start : Setup) (log : List Line) (runners : List Slot) (entries : List Entry) (id : ℕ) (task : Task) : Type 0 where
   pub follows : FollowsAt start log runners entries
   pub running : running id log ≡ Some task

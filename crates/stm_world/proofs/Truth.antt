@@ -25,7 +25,7 @@ use Rattle.stm_watch.specs.Places.{is_lost}
 use Rattle.stm_watch.specs.Pending.{first_pending}
 use Rattle.stm_world.proofs.Polling.{Carries, carries_changes, lost_stays}
 
--- what was true of one history is true of another, what watchers were told of it goes on, what is below a floor stays so, and it opens as
+-- what was true of one history is true of another, what watchers were notified of goes on, what is below a floor stays so, and it opens as
 -- it did
 pub record Keeps (before after : History) : Type 0 where
   pub truth : (answers : List ReadAnswer) → AreTrue before answers → AreTrue after answers

@@ -1,4 +1,4 @@
--- A line that is not about a runner leaves what the log tells of it.
+-- A line that is not about a runner leaves what the log says of it.
 use Rattle.std.proofs.Common.{◌≡◌, ℕ, ◌+◌, List, [], ◌∷◌, Option, Some, None, Ok, Err, false, cond, refl, ◌∙◌, ap}
 use Rattle.std.specs.Prelude.{option_map, Result, ◌||◌}
 use Rattle.stm_history.specs.History.{History}
@@ -52,7 +52,7 @@ same_in_log start id line log u =
 
 -- ---- numbers that were not given ----
 
--- the log tells nothing of a number
+-- the log says nothing of a number
 pub record IsFresh (start : Setup) (log : List Line) (id : ℕ) : Type 0 where
   pub not_begun : begun id log ≡ None
   pub not_over : is_over id log ≡ false
@@ -84,7 +84,7 @@ pub by_advance : (id moment : ℕ) (expired : List Expired) (cause : Option Stor
 by_advance id moment expired None = record { not_started = refl; not_ended = refl; no_conflict = refl; known = λ task h k. refl }
 by_advance id moment expired (Some cause) = record { not_started = refl; not_ended = refl; no_conflict = refl; known = λ task h k. refl }
 
--- the runner of whose step, or start, a reply tells
+-- the runner whose step, or start, a reply reports
 abbrev pub runner_named : Reply → Option ℕ
 runner_named (Started runner) = Some runner
 runner_named (Prefetched runner revision reads) = Some runner

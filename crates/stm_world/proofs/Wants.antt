@@ -1,4 +1,4 @@
--- The store's definitions never refuse a call for want of memory.
+-- The store's definitions never refuse a call as out of memory.
 use Rattle.std.proofs.Common.{◌≡◌, ◌≢◌, ◌≤◌, inl, inr, ℕ, zero, suc, Bool, true, false, cond, List, [], ◌∷◌, ◌++◌, length, length-append, Option, Some}
 use Rattle.std.proofs.Common.{None, Result, Ok, Err, refl, sym, subst, arith}
 use Rattle.std.specs.Prelude.{nat_lt, nat_eq, ◌||◌}

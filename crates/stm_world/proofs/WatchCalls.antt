@@ -24,7 +24,7 @@ use Rattle.stm_world.proofs.KeptFor.{kept_set, kept_by_watch, kept_by_poll, kept
 use Rattle.stm_world.proofs.Truth.{keeps_same}
 use Rattle.stm_world.proofs.Entered.{EntriesFollow, floor_stays, nothing_follows}
 
--- ---- what a poll tells
+-- ---- what a poll reports
 
 by_lost : (P : Result Reply Denied → Type 0) (s : Standing) (id : ℕ) (lost : Bool) (step : WatchStep Batch) → P (Ok (batch_reply id step.answer)) →
     P (Ok (Lost id s.floor)) → P (poll_reply id s.floor (poll_step s (cond lost (Err LostToPoll) (Ok step))))

@@ -334,7 +334,7 @@ earlier_abort_is_real = record {
   };
 }
 
--- ---- failures and ends that are none
+-- ---- failures and ends that are rejected
 
 abbrev wrong : WrongFailures
 wrong = wrong_failures (failures_move_on (record { run_now = commit_is_the_run_now; conflicts = failed_compares_conflict }))
@@ -346,7 +346,7 @@ unread_key =
     wrong.never_read (at_revision 1) (two_reads Serializable 2 2) (record { program = quotient; level = Serializable; limit = 2 })
     (record { runner = 1; key = codes "z"; seen = 0; now_modified = 3 }) refl (λ same. cc) refl
 
--- the fault of a torn read, told at serializable
+-- the fault of a torn read, reported at serializable
 torn_read : IsRealStop (at_revision 1) (two_reads Serializable 2 3) (record { runner = 1; end = FaultedEnd ZeroDivisor }) → ⊥
 unfolding settle run_over run_block evaluate key_in num_of written_number arithmetic computed get_key last_write fresh
 torn_read =
@@ -356,7 +356,7 @@ torn_read =
     (record { key = codes "y"; kv = Some (record { value = codes "2"; create_rev = 2; mod_rev = 3; version = 2; lease = 0 }); of_rev = 3; revision = 3 })
     refl refl refl refl (λ same. let torn : 2 ≡ 3 = same in omega (arith, torn))
 
--- the commit after the conflict, told as a second one
+-- the commit after the conflict, reported as a second one
 second_conflict : (events : List WorldEvent) →
     IsLogOf events (replies_to events (opened (at_revision 1))) (line (Step 1) (Ok (Conflict 1 (codes "x") 2 3)) ∷ failed_once) → ⊥
 second_conflict events =

@@ -1,4 +1,4 @@
--- Wrong logs are none.
+-- Wrong logs are rejected.
 use Rattle.std.proofs.Common.{◌≡◌, ◌≢◌, inl, inr, ℕ, ◌+◌, ◌-◌, ◌≤◌, zero, suc, List, [], ◌∷◌, length, take, Option, Some, None, Ok, Err, Bool, true, false, cond}
 use Rattle.std.proofs.Common.{refl, sym, ◌∙◌, ap, subst, arith}
 use Rattle.std.specs.Prelude.{nat_eq, nat_lt, slice_set, Result}
@@ -63,7 +63,7 @@ step_of_none start log id reply none right =
 equal_numbers : (a b : ℕ) → nat_eq a b ≡ true → a ≡ b
 equal_numbers a b h = (unsigned_Decides a b).0 h
 
--- only a start is told a number
+-- only a start answers a number
 call_gives_none : {A : Type 0} (report : A → Reply) (o : Result (StoreStep A) StoreRefusal) → ((x : A) → runner_started (Ok (report x)) ≡ None) →
     runner_started (reply_to report o) ≡ None
 call_gives_none report (Ok done) none = none done.answer

@@ -1,4 +1,4 @@
--- Wrong failures, ends and runs are none.
+-- Wrong failures, ends and runs are rejected.
 use Rattle.std.proofs.Common.{◌≡◌, ◌≢◌, ◌⊎◌, inl, inr, ℕ, ◌+◌, ◌<◌, ◌≤◌, zero, suc, List, [], ◌∷◌, ◌++◌, length, map, Option, Some, None, Ok, Err}
 use Rattle.std.proofs.Common.{Bool, true, false, cond, refl, sym, ◌∙◌, ap, subst, arith}
 use Rattle.std.specs.Prelude.{nat_eq, nat_lt, nat_le, bytes_eq, is_some, ◌&&◌, ◌||◌, slice_get, Result}

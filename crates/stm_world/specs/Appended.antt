@@ -8,7 +8,7 @@ use Rattle.stm_events.specs.declared.event.WorldEvent.{WorldEvent}
 use Rattle.stm_world.specs.World.{World, world_after}
 use Rattle.stm_world.specs.Sound.{IsSound}
 
--- Entries stand behind those that were there; they are legal, each at its point, from the store as it was, and replay to the store as it is.
+-- Entries stand after those that were there; they are legal, each at its point, from the store as it was, and replay to the store as it is.
 pub record HasAppended (old new : World) : Type 0 where
   pub more : List Entry
   pub entries : new.entries ≡ old.entries ++ more

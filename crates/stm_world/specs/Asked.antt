@@ -1,4 +1,4 @@
--- The answers that an attempt has read are those of its program's list, and behind them those that the program asked for, in that order.
+-- The answers that an attempt has read are those of its program's list, and after them those that the program asked for, in that order.
 --
 -- The Go package `concurrency`, "STM": a read of a key that was not read before is one fetch.
 use Rattle.std.specs.Prelude.{◌≡◌, ℕ, false, List, [], ◌∷◌, ◌++◌, length, map, take, drop, Some}
@@ -11,12 +11,12 @@ use Rattle.stm_attempt.specs.Entering.{is_due}
 use Rattle.stm_attempt.specs.Laws.{BeginsWithList}
 use Rattle.stm_events.specs.FirstReads.{keys_first_read}
 
--- each of the answers behind these was added when the program's run wanted its key
+-- each of the answers after these was added when the program's run wanted its key
 abbrev pub AskedBehind : ProgramTree → List ReadAnswer → List ReadAnswer → Type 0
 AskedBehind program before [] = Unit {0}
 AskedBehind program before (a ∷ reads) = (wanted (run_on program before) ≡ Some a.key) × AskedBehind program (before ++ a ∷ []) reads
 
--- each answer behind those of the list was added when the program's run wanted its key
+-- each answer after those of the list was added when the program's run wanted its key
 abbrev pub AreAsked : ProgramTree → List ReadAnswer → Type 0
 AreAsked program reads =
     let count : ℕ = length program.prefetch in AskedBehind program (take count reads) (drop count reads)

@@ -1,4 +1,4 @@
--- What a log tells of attempts that come to nothing.
+-- What a log says of attempts that come to nothing.
 --
 -- The documentation of the Go package `clientv3/concurrency`, "STM" and "Isolation": a commit fails only where a key that was
 -- read, or at serializable snapshot one that is written, has changed since; and what an attempt at a serializable level reads is
@@ -39,7 +39,7 @@ EachLine P (line ∷ older) = P older line × EachLine P older
 
 -- ---- commits that failed ----
 
--- a commit that failed, as a conflict or a give-up tells it: whose it was, the key told, what was seen of it, and its modification
+-- a commit that failed, as a conflict or a give-up reports it: whose it was, its key, what was seen of it, and its modification
 -- revision now
 pub record FailedCommit : Type 0 where
   pub runner : ℕ
@@ -52,7 +52,7 @@ failed_commit (Ok (Conflict runner key seen now)) = Some record { runner = runne
 failed_commit (Ok (GaveUp runner attempts key seen now)) = Some record { runner = runner; key = key; seen = seen; now_modified = now }
 failed_commit other = None
 
--- The first compare of its commit that fails is about this key: what is told as seen is what was seen of the key, the history changes the key
+-- The first compare of its commit that fails is about this key: what is reported as seen is what was seen of the key, the history changes the key
 -- above the revision that it was seen at, and the other number is the key's modification revision now.
 pub record NamesAConflict (h : History) (level : Level) (reads : List ReadAnswer) (writes : List Write) (failed : FailedCommit) : Type 0 where
   pub compare : FailedCompare
@@ -79,14 +79,14 @@ abbrev pub IfFailedIsReal : Setup → List Line → Option FailedCommit → Type
 IfFailedIsReal start log None = Unit {0}
 IfFailedIsReal start log (Some failed) = IsRealFailure start log failed
 
--- Over every list of events, each conflict and each give-up that is told is a real one.
+-- Over every list of events, each conflict and each give-up that is reported is a real one.
 abbrev pub FailuresAreConflicts : Type 0
 FailuresAreConflicts =
     OfEachLog (λ (start : Setup) (log : List Line). EachLine (λ older line. IfFailedIsReal start older (failed_commit line.reply)) log)
 
 -- ---- aborts and faults ----
 
--- an end without a commit, as an abort or a fault tells it
+-- an end without a commit, as an abort or a fault reports it
 pub record Stopped : Type 0 where
   pub runner : ℕ
   pub end : End
@@ -96,8 +96,8 @@ stopped (Ok (Aborted runner text)) = Some record { runner = runner; end = Aborte
 stopped (Ok (Faulted runner fault)) = Some record { runner = runner; end = FaultedEnd fault }
 stopped other = None
 
--- The attempt has come to this end on what it has read, its list first. That is of one state, the current one where nothing was read, and the program run
--- alone on this state comes to the same end.
+-- The attempt has come to this end on what it has read, its list first. That is of one state, the current one where nothing was read, and
+-- the program run alone on this state comes to the same end.
 pub record IsEndOnOneState (h : History) (task : Task) (reads : List ReadAnswer) (end : End) : Type 0 where
   pub has_list : is_due task.program.prefetch reads ≡ false
   pub state : AreOfOneState h task reads
@@ -118,7 +118,7 @@ abbrev pub IfStoppedIsReal : Setup → List Line → Option Stopped → Type 0
 IfStoppedIsReal start log None = Unit {0}
 IfStoppedIsReal start log (Some stopped) = IsRealStop start log stopped
 
--- Over every list of events, each abort and each fault that is told at a serializable level is the end of the program run alone on
+-- Over every list of events, each abort and each fault that is reported at a serializable level is the end of the program run alone on
 -- the state at one revision of the store, of which all that the attempt has read is true: also where the store has moved on since.
 abbrev pub StopsAreOfOneState : Type 0
 StopsAreOfOneState =
@@ -135,13 +135,13 @@ abbrev pub is_of_runner : ℕ → Option FailedCommit → Bool
 is_of_runner id None = false
 is_of_runner id (Some failed) = nat_eq failed.runner id
 
--- how many commits of the runner were told to have failed, the one that its run gave up over among them
+-- how many commits of the runner were reported to have failed, the one that its run gave up over among them
 abbrev pub failed_commits : ℕ → List Line → ℕ
 failed_commits id [] = 0
 failed_commits id (line ∷ older) =
     if is_of_runner id (failed_commit line.reply) then failed_commits id older + 1 else failed_commits id older
 
--- Over every list of events, a run whose commits failed so many times has seen the store's revision grow by at least as many since its start.
+-- Over every list of events, the store's revision has grown since a run's start by at least the number of the run's commits that failed.
 -- A store does not open above the highest revision.
 abbrev pub FailuresMoveOn : Type 0
 FailuresMoveOn =

@@ -22,11 +22,11 @@ use Rattle.stm_world.specs.Right.{AreRight}
 use Rattle.stm_world.specs.World.{World, Runner, runner_at, opened, world_after, replies_to}
 use Rattle.stm_txn.specs.Standing.{Setup}
 
--- a runner with this task, as a log tells of it
+-- a runner with this task, as a log has it
 abbrev pub runner_for : Setup → List Line → ℕ → Task → Runner
 runner_for start log id task = record { task = task; failures = failures id log; known = reported start id task log }
 
--- the runner with this number that runs, as a log tells of it
+-- the runner with this number that runs, as a log has it
 abbrev pub runner_in_log : Setup → List Line → ℕ → Option Runner
 runner_in_log start log id = option_map (runner_for start log id) (running id log)
 
@@ -47,7 +47,7 @@ abbrev pub Headline : Type 0
 Headline = (start : Setup) (events : List WorldEvent) → Holds start events (replies_to events (opened start)) (world_after events (opened start))
 
 -- The same of a world that has run before: where it holds of what the world was asked and has replied so far, it holds with these events
--- and their replies behind.
+-- and their replies after that.
 abbrev pub HeadlineGoesOn : Type 0
 HeadlineGoesOn =
     (start : Setup) (before events : List WorldEvent) (earlier : List (Result Reply Denied)) (w : World) → Holds start before earlier w

@@ -1,4 +1,4 @@
--- A log of events and replies, the newest first, and what it tells of each runner, of the store and of the entries.
+-- A log of events and replies, the newest first, and what follows from it of each runner, of the store and of the entries.
 --
 -- Nothing here knows how a world makes its replies.
 use Rattle.std.specs.Prelude.{◌≡◌, ℕ, ◌+◌, nat_eq, Bool, true, false, ◌||◌, if◌then◌else◌, List, [], ◌∷◌, ◌++◌, map, reverse, Option, Some, None}
@@ -63,7 +63,7 @@ runner_ended (Ok (Faulted runner fault)) = Some runner
 runner_ended (Ok (Ended runner cause)) = Some runner
 runner_ended other = None
 
--- the runner that a reply tells of a conflict
+-- the runner whose conflict a reply reports
 abbrev pub runner_in_conflict : Result Reply Denied → Option ℕ
 runner_in_conflict (Ok (Conflict runner key seen now)) = Some runner
 runner_in_conflict other = None
@@ -91,14 +91,14 @@ is_over id (line ∷ older) = is_id id (runner_ended line.reply) || is_over id o
 abbrev pub running : ℕ → List Line → Option Task
 running id log = if is_over id log then None else begun id log
 
--- how many conflicts the runner was told
+-- how many conflicts were reported of the runner
 abbrev pub failures : ℕ → List Line → ℕ
 failures id [] = 0
 failures id (line ∷ older) = if is_id id (runner_in_conflict line.reply) then failures id older + 1 else failures id older
 
 -- ---- the store ----
 
--- a program that has committed: it is run again alone at this moment, at ReadCommitted on the answers that were told
+-- a program that has committed: it is run again alone at this moment, at ReadCommitted on the answers that were reported
 abbrev pub with_commit : Standing → List ReadAnswer → Option Task → Standing
 with_commit s answers None = s
 with_commit s answers (Some task) =
@@ -131,7 +131,7 @@ store start (line ∷ older) = store_after (λ id. begun id older) line.event li
 
 -- ---- entries ----
 
--- the entry of a program that has committed, as it is told
+-- the entry of a program that has committed, as it is reported
 abbrev pub commit_entry : ℕ → List Value → List TraceItem → List ReadAnswer → Option Task → List Entry
 commit_entry revision output trace answers None = []
 commit_entry revision output trace answers (Some task) = Program task.program task.level answers output trace revision ∷ []
@@ -180,7 +180,7 @@ entries_reported start (line ∷ older) = entries_reported start older ++ line_e
 
 -- ---- what a runner knows ----
 
--- a prefetched line adds the keys of the list as they are; a fetched line the key as it was at the revision that is told; a conflict begins a new
+-- a prefetched line adds the keys of the list as they are; a fetched line the key as it was at the reported revision; a conflict begins a new
 -- attempt
 abbrev pub known_after : ℕ → Task → History → Result Reply Denied → Known → Known
 known_after id task h (Ok (Prefetched runner revision reads)) known = if nat_eq runner id then after_list task h known else known
@@ -189,7 +189,7 @@ known_after id task h (Ok (Fetched runner key mod_rev of_rev revision)) known =
 known_after id task h (Ok (Conflict runner key seen now)) known = if nat_eq runner id then after_conflict task h known else known
 known_after id task h other known = known
 
--- what a runner with this task was told in its attempt
+-- what was reported to a runner with this task in its attempt
 abbrev pub reported : Setup → ℕ → Task → List Line → Known
 reported start id task [] = nothing_known
 reported start id task (line ∷ older) = known_after id task (store start older).history line.reply (reported start id task older)

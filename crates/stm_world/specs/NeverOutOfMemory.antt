@@ -1,4 +1,4 @@
--- Nothing that is defined here is ever refused for want of memory: only code runs out of it, and its contracts say what is left then.
+-- Nothing that is defined here is ever refused as out of memory: only code runs out of it, and its contracts say what is left then.
 use Rattle.std.specs.Prelude.{◌≢◌, ℕ, List, Some, Ok, Err}
 use Rattle.stm_history.specs.declared.key_state.ReadAnswer.{ReadAnswer}
 use Rattle.stm_program.specs.declared.level.Level.{Level}
@@ -31,7 +31,7 @@ pub record NeverOutOfMemory : Type 0 where
   pub compact : (s : Standing) (revision : ℕ) → raised s revision ≢ Err OutOfMemory
   -- no commit of a run
   pub commit : (terms : Terms) (level : Level) (reads : List ReadAnswer) (run : Run) → committed terms level reads run ≢ Err OutOfMemory
-  -- so no right reply refuses an event for want of memory, or ends a run by it
+  -- so no right reply refuses an event as out of memory, or ends a run by it
   pub refusal : (start : Setup) (log : List Line) (event : WorldEvent) (expired : List Expired)
       → IsRight start log event (Err (record { cause = Store OutOfMemory; expired = expired })) → ⊥
   pub end : (start : Setup) (log : List Line) (id runner : ℕ) → IsRight start log (Step id) (Ok (Ended runner OutOfMemory)) → ⊥

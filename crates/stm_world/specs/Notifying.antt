@@ -1,8 +1,8 @@
--- What a watcher is told over a whole log: every event that it watches, once and in order.
+-- What a watcher is notified of over a whole log: every event that it watches, once and in order.
 --
--- etcd's API guarantees, "Watch APIs": what a watch is told is ordered, unique, reliable and atomic. Events come by their revisions,
--- none twice, none between is dropped, and those of a revision come together; and its API reference, "Watch": one for which events
--- were compacted is told so and cancelled.
+-- etcd's API guarantees, "Watch APIs": the events of a watch are ordered, unique, reliable and atomic. They come by their revisions,
+-- none twice, none between is dropped, and those of a revision come together; and its API reference, "Watch": a watch whose events
+-- were compacted is cancelled, with an answer that says so.
 use Rattle.std.specs.Prelude.{◌≡◌, ◌⊎◌, ℕ, nat_eq, Bool, true, false, ◌||◌, if◌then◌else◌, List, [], ◌∷◌, ◌++◌, Option, Some, None, Result, Ok}
 use Rattle.stm_history.specs.History.{History}
 use Rattle.stm_keys.specs.declared.event.Event.{Event}
@@ -45,7 +45,7 @@ begun_watching start id [] = None
 begun_watching start id (line ∷ older) =
     or_earlier (made_by id (store start older) line.event line.reply) (begun_watching start id older)
 
--- the watcher that a reply tells to be given up: it was cancelled, or a poll found it lost
+-- the watcher that a reply gives up: it was cancelled, or a poll found it lost
 abbrev pub watcher_given_up : Result Reply Denied → Option ℕ
 watcher_given_up (Ok (Cancelled watcher)) = Some watcher
 watcher_given_up (Ok (Lost watcher floor)) = Some watcher
@@ -65,17 +65,17 @@ is_given_up id (line ∷ older) = gives_up id line.event line.reply || is_given_
 abbrev pub watching : Setup → ℕ → List Line → Option Watching
 watching start id log = if is_given_up id log then None else begun_watching start id log
 
--- the events that a reply tells
+-- the events in a reply
 abbrev pub events_in : Result Reply Denied → List Event
 events_in (Ok (Batch watcher upto events)) = events
 events_in other = []
 
--- the events that a line tells a watcher: those of the batch of its poll
+-- the events of which a line notifies a watcher: those of the batch of its poll
 abbrev pub reported_by : ℕ → WorldEvent → Result Reply Denied → List Event
 reported_by id (Poll watcher most) reply = if nat_eq watcher id then events_in reply else []
 reported_by id other reply = []
 
--- the events that a watcher was told by all its batches, in their order
+-- the events of which all its batches notified a watcher, in their order
 abbrev pub events_to : ℕ → List Line → List Event
 events_to id [] = []
 events_to id (line ∷ older) = events_to id older ++ reported_by id line.event line.reply
@@ -84,7 +84,7 @@ events_to id (line ∷ older) = events_to id older ++ reported_by id line.event 
 abbrev pub IsLostFor : History → ℕ → Watching → Watching → Type 0
 IsLostFor h floor begun w = w.lost ≡ true → (begun.lost ≡ true) ⊎ (is_lost floor (first_pending h w) ≡ true)
 
--- A watcher that began so stands in the store; and what it was told, followed by what is pending for it, is what would be pending
+-- A watcher that began so stands in the store; and what it was notified of, followed by what is pending for it, is what would be pending
 -- for it had it never been polled: each event that it watches from its start on, once, in order. Nothing that is pending for it is
 -- compacted, unless it is lost; and it is lost for no other cause.
 pub record IsNotifiedOfAll (start : Setup) (log : List Line) (id : ℕ) (begun : Watching) : Type 0 where
@@ -95,11 +95,11 @@ pub record IsNotifiedOfAll (start : Setup) (log : List Line) (id : ℕ) (begun :
   pub kept : IsKeptFor (store start log).history (store start log).floor (Some w)
   pub because : IsLostFor (store start log).history (store start log).floor begun w
 
--- a watcher is there exactly where it began and was not given up, and it is told all
+-- a watcher is there exactly where it began and was not given up, and it is notified of all
 abbrev pub IsNotifiedSo : Setup → List Line → ℕ → Option Watching → Type 0
 IsNotifiedSo start log id None = watcher_at id (store start log).watchers ≡ None
 IsNotifiedSo start log id (Some begun) = IsNotifiedOfAll start log id begun
 
--- Every watcher is told all.
+-- Every watcher is notified of all.
 abbrev pub WatchersAreNotified : Type 0
 WatchersAreNotified = OfEachLog (λ (start : Setup) (log : List Line). (id : ℕ) → IsNotifiedSo start log id (watching start id log))

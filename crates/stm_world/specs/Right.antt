@@ -45,7 +45,7 @@ use Rattle.stm_world.specs.Asked.{keys_read}
 use Rattle.stm_world.specs.Log.{Line, running, started, failures, store, reported}
 
 -- Where a runner stands: its number, its task, what it has read in its attempt (with the prefetched answers that it took), the
--- conflicts that it was told, and the store.
+-- conflicts that were reported to it, and the store.
 pub record Situation : Type 0 where
   pub id : ℕ
   pub task : Task
@@ -53,7 +53,7 @@ pub record Situation : Type 0 where
   pub failures : ℕ
   pub store : Standing
 
--- The list is not read yet. All keys of it are fetched as they are now, in its order, which the store takes. What is told is true.
+-- The list is not read yet. All keys of it are fetched as they are now, in its order, which the store takes. What is reported is true.
 pub record IsPrefetch (at : Situation) (revision : ℕ) (reads : List KeyRead) : Type 0 where
   pub due : is_due at.task.program.prefetch at.reads ≡ true
   pub few : length at.task.program.prefetch ≤ at.store.limit
@@ -70,7 +70,7 @@ abbrev pub HasList : Situation → Type 0
 HasList at = is_due at.task.program.prefetch at.reads ≡ false
 
 -- The program wants a key, which is fetched at the revision of its level: the base at the serializable levels, where something
--- was read, else the current one. The base is not compacted. What is told is true.
+-- was read, else the current one. The base is not compacted. What is reported is true.
 pub record IsFetch (at : Situation) (key : List ℕ) (mod_rev of_rev revision : ℕ) : Type 0 where
   pub has_list : HasList at
   pub trace : List TraceItem
@@ -104,7 +104,7 @@ pub record Commits (at : Situation) (outcome : Result Done StoreRefusal) : Type 
   pub comes_to : committed (terms_of at.store) at.task.level at.reads run ≡ outcome
 
 -- A commit that succeeds: at a comparing level output and trace are those of the program run alone on the state of this
--- moment, at ReadCommitted those of its run on what it read, which is told. What it read are the keys of its list, and then the others that
+-- moment, at ReadCommitted those of its run on what it read, which is reported. What it read are the keys of its list, and then the others that
 -- the run reads, in the order of its first reads.
 pub record IsCommitted (at : Situation) (revision : ℕ) (output : List Value) (trace : List TraceItem) (answers : List ReadAnswer) : Type 0 where
   pub done : Done
@@ -134,7 +134,7 @@ pub record IsConflicted (at : Situation) (key : List ℕ) (seen now_modified : �
 abbrev pub IsRefused : Situation → StoreRefusal → Type 0
 IsRefused at cause = Commits at (Err cause) ⊎ ((cause ≡ CompactedRefusal) × IsBehind at) ⊎ ((cause ≡ TooManyOpsRefusal) × IsOverfull at)
 
--- A reply to the step of a runner that runs. It tells of this runner; no run sends more commits than it may, and it gives up exactly at the
+-- A reply to the step of a runner that runs. It names this runner; no run sends more commits than it may, and it gives up exactly at the
 -- last of them.
 abbrev pub ReplyIsRight : Situation → Reply → Type 0
 ReplyIsRight at (Prefetched runner revision reads) = (runner ≡ at.id) × IsPrefetch at revision reads

@@ -1,7 +1,7 @@
 -- A sound world: what stays so from step to step, with no log of what went before.
 --
 -- The Go package `concurrency`, "STM": what a program reads is what the store had. etcd's API reference, "Watch": a watch that is not
--- cancelled is told everything. That the entries replay to the store is our own.
+-- cancelled is notified of everything. That the entries replay to the store is our own.
 use Rattle.std.specs.Prelude.{◌≡◌, ◌≤◌, ℕ, List, ◌++◌, Option, Some}
 use Rattle.stm_history.specs.History.{History, now}
 use Rattle.stm_outcome.specs.declared.advance.Expired.{Expired}
@@ -25,7 +25,7 @@ KnowsTruth h known = AreTrue h known.reads × AreTrue h known.prefetched
 
 -- The entries replay from the opening of the store to the store, each legal at its point, and each runner that has not ended
 -- knows the truth. The floor is a revision that the store has reached, if it was ever compacted, and nothing below it is pending for a
--- watcher that is not lost. The store takes no more operations than any store.
+-- watcher that is not lost. The store's limit of operations is at most the highest one.
 pub record IsSound (w : World) : Type 0 where
   pub replays : replay w.entries (opening w.standing.history.opening.number) ≡ without_moment w.standing
   pub legal : AreLegal w.entries (opening w.standing.history.opening.number)

@@ -5,7 +5,7 @@
 -- which is one call of the store.
 --
 -- The history of a world is whole: a compaction drops nothing of it, but what is below the store's floor can't be read any more, and
--- watchers that were still to be told of it are lost.
+-- watchers that still had to be notified of it are lost.
 use Rattle.std.specs.Prelude.{ℕ, ◌+◌, ◌-◌, nat_eq, nat_lt, if◌then◌else◌, List, [], ◌∷◌, ◌++◌, map, length, Option, None, Some}
 use Rattle.std.specs.Prelude.{slice_get, slice_set, Result, Ok, Err}
 use Rattle.stm_history.specs.declared.key_state.ReadAnswer.{ReadAnswer}

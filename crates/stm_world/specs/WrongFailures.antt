@@ -1,5 +1,4 @@
--- Failures, ends and runs that are wrong, so that it shows what the laws of attempts that come to nothing, and of entries that are
--- appended, rule out.
+-- Wrong failures, ends and runs, which show what the laws of attempts that come to nothing, and of entries that are appended, rule out.
 use Rattle.std.specs.Prelude.{◌≡◌, ◌≢◌, ℕ, ◌+◌, ◌<◌, ◌≤◌, true, false, List, length, None, Some, slice_get}
 use Rattle.stm_history.specs.declared.revisions.TheConstants.{HIGHEST_REVISION}
 use Rattle.stm_history.specs.declared.key_state.ReadAnswer.{ReadAnswer}
@@ -30,7 +29,7 @@ use Rattle.stm_txn.specs.Standing.{Setup}
 abbrev pub reads_of : Setup → List Line → ℕ → Task → List ReadAnswer
 reads_of start log id task = (reported start id task log).reads
 
--- failures and ends after a log that are none
+-- failures and ends after a log that are rejected
 pub record WrongFailures : Type 0 where
   -- a failed commit of a runner that was not started, or has ended
   pub failure_of_none : (start : Setup) (log : List Line) (failed : FailedCommit) → running failed.runner log ≡ None → IsRealFailure start log failed → ⊥

@@ -1,4 +1,4 @@
--- Logs that are wrong, so that it shows what being right rules out.
+-- Wrong logs, which show what being right rules out.
 use Rattle.std.specs.Prelude.{◌≡◌, ◌≢◌, ℕ, ◌≤◌, true, false, List, [], ◌∷◌, length, Option, Some, None, Result, Ok, Err}
 use Rattle.stm_history.specs.declared.key_state.ReadAnswer.{ReadAnswer}
 use Rattle.stm_program.specs.Syntax.{ProgramTree}
@@ -31,7 +31,7 @@ use Rattle.stm_world.specs.World.{World}
 use Rattle.stm_world.specs.Headline.{Holds}
 use Rattle.stm_txn.specs.Standing.{Setup}
 
--- the runner of whose step a reply tells
+-- the runner whose step a reply reports
 abbrev pub runner_reported : Reply → Option ℕ
 runner_reported (Prefetched runner revision reads) = Some runner
 runner_reported (Fetched runner key mod_rev of_rev revision) = Some runner
@@ -60,10 +60,10 @@ pub record WrongLogs : Type 0 where
       → AreRight start log → begun id log ≡ Some task → IsRight start log (Start program level limit) (Ok (Started id)) → ⊥
   -- a runner that was not started, or has ended, has no step
   pub step_of_none : (start : Setup) (log : List Line) (id : ℕ) (reply : Reply) → running id log ≡ None → IsRight start log (Step id) (Ok reply) → ⊥
-  -- a step of a runner is told of no other runner
+  -- the reply to a runner's step names no other runner
   pub another_runner : (start : Setup) (log : List Line) (id runner : ℕ) (reply : Reply) → runner_reported reply ≡ Some runner → runner ≢ id
       → IsRight start log (Step id) (Ok reply) → ⊥
-  -- a program that is done on what it was told has not aborted
+  -- a program that is done on what was reported to it has not aborted
   pub another_abort : (start : Setup) (log : List Line) (id : ℕ) (task : Task) (run : Run) (text : List ℕ) → running id log ≡ Some task
       → run_on task.program (reported start id task log).reads ≡ Ended run → run.end ≡ Done
       → IsRight start log (Step id) (Ok (Aborted id text)) → ⊥
@@ -73,14 +73,14 @@ pub record WrongLogs : Type 0 where
   -- a watcher that was not made, or was cancelled, has no batch
   pub poll_of_none : (start : Setup) (log : List Line) (id most : ℕ) (reply : Reply) → watcher_at id (store start log).watchers ≡ None
       → IsRight start log (Poll id most) (Ok reply) → ⊥
-  -- a poll of a watcher is told of no other watcher
+  -- the reply to a poll of a watcher names no other watcher
   pub another_watcher : (start : Setup) (log : List Line) (id most watcher upto : ℕ) (events : List Event) → watcher ≢ id
       → IsRight start log (Poll id most) (Ok (Batch watcher upto events)) → ⊥
-  -- where no events are pending, none is told
+  -- where no events are pending, none is reported
   pub event_not_pending : (start : Setup) (log : List Line) (id most upto : ℕ) (w : Watching) (event : Event) (events : List Event)
       → watcher_at id (store start log).watchers ≡ Some w → pending (store start log).history w ≡ []
       → IsRight start log (Poll id most) (Ok (Batch id upto (event ∷ events))) → ⊥
-  -- a watcher that is lost is told so: it does not pass over what was compacted
+  -- a watcher that is lost is reported as lost: it does not pass over what was compacted
   pub batch_of_lost : (start : Setup) (log : List Line) (id most watcher upto : ℕ) (w : Watching) (events : List Event)
       → watcher_at id (store start log).watchers ≡ Some w → w.lost ≡ true → IsRight start log (Poll id most) (Ok (Batch watcher upto events)) → ⊥
   -- and no other is
@@ -99,7 +99,7 @@ pub record WrongLogs : Type 0 where
   -- a list that is read is not fetched again
   pub list_again : (start : Setup) (log : List Line) (id : ℕ) (task : Task) (revision : ℕ) (reads : List KeyRead) → running id log ≡ Some task
       → is_due task.program.prefetch (reported start id task log).reads ≡ false → IsRight start log (Step id) (Ok (Prefetched id revision reads)) → ⊥
-  -- nor is a part of it told as the list
+  -- nor is a part of it reported as the list
   pub part_of_list : (start : Setup) (log : List Line) (id : ℕ) (task : Task) (revision : ℕ) (reads : List KeyRead) → running id log ≡ Some task
       → length reads ≢ length task.program.prefetch → IsRight start log (Step id) (Ok (Prefetched id revision reads)) → ⊥
   -- before its list is read, a program has no other read
@@ -116,7 +116,7 @@ pub record WrongLogs : Type 0 where
   pub commit_before_list : (start : Setup) (log : List Line) (id : ℕ) (task : Task) (revision attempts : ℕ) (output : List Value) (trace : List TraceItem)
       (answers : List ReadAnswer) → running id log ≡ Some task → is_due task.program.prefetch (reported start id task log).reads ≡ true
       → IsRight start log (Step id) (Ok (Committed id revision attempts output trace answers)) → ⊥
-  -- nor is it told a conflict, whether it goes on or not
+  -- nor is a conflict reported to it, whether it goes on or not
   pub conflict_before_list : (start : Setup) (log : List Line) (id : ℕ) (task : Task) (key : List ℕ) (seen now_modified : ℕ) → running id log ≡ Some task
       → is_due task.program.prefetch (reported start id task log).reads ≡ true → IsRight start log (Step id) (Ok (Conflict id key seen now_modified)) → ⊥
   pub give_up_before_list : (start : Setup) (log : List Line) (id : ℕ) (task : Task) (attempts : ℕ) (key : List ℕ) (seen now_modified : ℕ)

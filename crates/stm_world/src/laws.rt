@@ -24,7 +24,7 @@ pub fn headline()
 {}
 
 /// The headline of a world that has run before: where it holds of what the world was asked and has replied so far, it
-/// holds with these events and their replies behind. Of a world that opens it holds, with no events and no replies (`headline`).
+/// holds with these events and their replies after that. Of a world that opens it holds, with no events and no replies (`headline`).
 pub fn headline_goes_on()
     ensures { HeadlineGoesOn }
 {}
@@ -35,7 +35,7 @@ pub fn right_replies_are_one()
     ensures { OneRightReply }
 {}
 
-/// Later events are run from the world that earlier ones lead to: their replies stand behind the earlier ones, and so do
+/// Later events are run from the world that earlier ones lead to: their replies stand after the earlier ones, and so do
 /// their lines in a log. So what holds of every list of events holds at each point within one.
 pub fn runs_go_on()
     ensures { RunsGoOn }
@@ -48,21 +48,21 @@ pub fn answers_are_of_one_state()
     ensures { OneState }
 {}
 
-/// Over every list of events, each conflict and each give-up that is told is that of a runner whose program is done, and names a key with a
-/// real conflict: the first compare of its commit that fails is about this key. What is told as seen is what was seen of the key, the
+/// Over every list of events, each conflict and each give-up that is reported is that of a runner whose program is done, and names a key with a
+/// real conflict: the first compare of its commit that fails is about this key. What is reported as seen is what was seen of the key, the
 /// history changes it above the revision that it was seen at, and the other number is its modification revision now. A key that was
 /// written is compared at serializable snapshot alone.
 pub fn failures_are_conflicts()
     ensures { FailuresAreConflicts }
 {}
 
-/// Over every list of events, a run whose commits failed so many times has seen the store's revision grow by at least as
-/// many since its start.
+/// Over every list of events, the store's revision has grown since a run's start by at least the number of the run's commits that
+/// failed.
 pub fn failures_move_on()
     ensures { FailuresMoveOn }
 {}
 
-/// Over every list of events, each abort and each fault that is told at a serializable level is the end of the program run alone on
+/// Over every list of events, each abort and each fault that is reported at a serializable level is the end of the program run alone on
 /// the state at one revision of the store, of which all that the attempt has read is true: also where the store has moved on since.
 /// Where nothing was read, that is the current state.
 pub fn stops_are_of_one_state()
@@ -74,12 +74,12 @@ pub fn keys_are_read_once()
     ensures { ReadOnce }
 {}
 
-/// Some logs that are none: an event has no reply, or a reply no event, as of a world that answers nothing or stops at
+/// These wrong logs are rejected: an event has no reply, or a reply no event, as of a world that answers nothing or stops at
 /// some event; a step of a runner that runs is refused, or a start that may send a commit; a
 /// number is given twice; a runner's step is answered with another runner's reply; a program that is done is
-/// told to have aborted; a poll of a watcher that is there is refused, or one of a watcher that is not there
-/// is answered; a poll tells another watcher's batch, or an event where none is pending; a watcher that is lost is told a batch, or one
-/// that is not is told to be lost; a step fetches at a base that is compacted, or the store refuses one that is not; a list is fetched again or
+/// reported to have aborted; a poll of a watcher that is there is refused, or one of a watcher that is not there
+/// is answered; a poll reports another watcher's batch, or an event where none is pending; a lost watcher gets a batch, or one
+/// that is not lost is reported as lost; a step fetches at a base that is compacted, or the store refuses one that is not; a list is fetched again or
 /// in part, or is refused though the store takes it, or a program reads, commits, fails or ends before its list is read; a compaction at or below the
 /// floor is taken.
 pub fn wrong_logs_are_none()
@@ -87,17 +87,17 @@ pub fn wrong_logs_are_none()
 {}
 
 /// No call of a store and no commit is refused as `OutOfMemory` by its definition, so that no right reply refuses an event
-/// for want of memory, or ends a run by it. Only code runs out of memory, and its contracts say what is left then.
+/// as out of memory, or ends a run by it. Only code runs out of memory, and its contracts say what is left then.
 pub fn out_of_memory_is_never_right()
     ensures { NeverOutOfMemory }
 {}
 
-/// Some failures and ends that are none: a failed commit of a runner that does not run, of a program that is not done, at ReadCommitted,
+/// These wrong failures and ends are rejected: a failed commit of a runner that does not run, of a program that is not done, at ReadCommitted,
 /// over a key that was never read (at serializable snapshot, neither read nor written), or over one that is as it was seen; more of them
 /// than revisions since the run's start; an abort or a fault of a runner that does not run, or, at a serializable level, on a torn read.
 ///
-/// Nor is a failed commit over a key that is present, whose modification revision now is not above what was seen of it, nor an end at a
-/// serializable level to which the program alone on the state at its one revision does not come.
+/// Rejected, too, are a failed commit over a key that is present, whose modification revision now is not above what was seen of it, and an
+/// end at a serializable level to which the program alone on the state at its one revision does not come.
 pub fn wrong_failures_are_none()
     ensures { WrongFailures }
 {}
@@ -124,7 +124,7 @@ pub fn wrong_runs_are_none()
     ensures { WrongRuns }
 {}
 
-/// Where a program's run ends on answers to its list, and behind them answers each of which was added when the run wanted its key, the keys
+/// Where a program's run ends on answers to its list, and after them answers each of which was added when the run wanted its key, the keys
 /// of the answers are those of the list and then the others that the run reads, in the order of its first reads.
 ///
 /// The answers that a commit was made on are such, and the headline says so of each.
@@ -132,11 +132,11 @@ pub fn answers_are_the_reads()
     ensures { AnswersAreTheReads }
 {}
 
-/// Over every list of events, a watcher is there exactly where it was begun and neither cancelled nor told to be lost,
-/// and by the batches of its polls it was told the events that it watches from its start on, each once and in order:
-/// those that it was told, followed by those that are pending for it, are all of them, and none of those pending is
-/// compacted, unless the watcher is lost. So none is dropped, told twice, or told before an earlier one, but those that
-/// a lost watcher was still to be told, which its next poll tells of. A watcher is lost only where the first event that
+/// Over every list of events, a watcher is there exactly where it was begun and neither cancelled nor reported as lost,
+/// and by the batches of its polls it was notified of the events that it watches from its start on, each once and in order:
+/// those that it was notified of, followed by those that are pending for it, are all of them, and none of those pending is
+/// compacted, unless the watcher is lost. So none is dropped, reported twice, or reported before an earlier one, but those that
+/// a lost watcher still had to get, of which its next poll says that they are lost. A watcher is lost only where the first event that
 /// is pending for it is compacted, or where it began below the floor.
 pub fn watchers_are_notified()
     ensures { WatchersAreNotified }

@@ -8,7 +8,7 @@ use std::sync::Wait;
 use std::thread::Threads;
 use stm_threading::{Std, threads_to};
 
-/// 49 bytes: 50 reads of at most one byte, the last of which tells the end, or 8 of at most seven.
+/// 49 bytes: 50 reads of at most one byte, the last of which finds the end, or 8 of at most seven.
 const JOBS: &str = "[[\"start\",\"ReadCommitted\",1,[[\"put\",\"a\",\"1\",0]]]]";
 
 /// 55 bytes: 55 writes of one, or 8 of at most seven.
@@ -39,14 +39,14 @@ enum Failing {
 /// The status of the command, what is written, and what is said.
 type Ending = (u8, &'static [u8], &'static [u8]);
 
-/// So many bytes from the front of a text.
+/// The first `count` bytes of a text, or all.
 fn front(text: &str, count: usize) -> &[u8] {
     let bytes = text.as_bytes();
     let end = count.min(bytes.len());
     &bytes[..end]
 }
 
-/// How a command ends whose device fails once it has moved so many bytes.
+/// How a command ends whose device fails once it has moved this many bytes.
 fn broken(failing: Failing, moved: usize) -> Ending {
     match failing {
         Failing::Input => (3, b"".as_slice(), DEVICE_FAULT),
@@ -96,7 +96,7 @@ fn ends<T: Abort + Threads + Wait + Sync>(
     assert!(rt; err.device.bytes.as_slice() == said);
 }
 
-/// A device that needs so many calls, of which each fails in turn, and at last none.
+/// A device that needs `calls` calls, of which each fails in turn, and at last none.
 fn each_fails<T: Abort + Threads + Wait + Sync>(
     rt: &T,
     alloc: Global,

@@ -146,7 +146,7 @@ fn report_jobs<W: Threads + Wait + Sync>(
     }
 }
 
-/// Adds the six jobs, and tells what they came to.
+/// Adds the six jobs, and shows what they came to.
 fn report_six<W: Threads + Wait + Sync>(
     rt: &W,
     alloc: Global,
@@ -166,7 +166,7 @@ fn reported_of_six<W: Threads + Wait + Sync>(rt: &W, alloc: Global) -> Result<St
     Ok(reported)
 }
 
-// The entry that was there stays the first; each commit stands behind it.
+// The entry that was there stays the first; each commit stands after it.
 #[test]
 fn ends_stand_at_the_places_of_their_jobs(rt: HostRuntime) -> Result<(), Fail> {
     let reported = reported_of_six(&rt, rt.alloc())?;

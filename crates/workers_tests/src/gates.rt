@@ -37,7 +37,7 @@ enum Place {
     SecondFetch,
 }
 
-/// Holds the jobs, by what they tell each other.
+/// Holds the jobs, by the signs that they give each other.
 #[derive(Drop)]
 struct Holding {
     place: Place,
@@ -89,7 +89,7 @@ impl Holding {
         }
     }
 
-    /// Holds job 0 before a fetch, before which it has made so many.
+    /// Holds job 0 before a fetch, after this many fetches.
     fn hold_fetch(&self, made: u64) {
         if matches!(self.place, Place::Fetch)
             || (made == 1 && matches!(self.place, Place::SecondFetch))
@@ -132,7 +132,7 @@ impl Gate for Holding {
     }
 }
 
-/// Adds two jobs, of which each may send so many commits.
+/// Adds two jobs, each of which may send at most `limit` commits.
 fn add_two(alloc: Global, jobs: &mut Vec<Job>, texts: (&str, &str), limit: u32) -> Result<(), Fail>
     requires { 1 ≤ limit }
 {
@@ -165,7 +165,7 @@ fn has_put_p(hall: &Hall) -> Result<bool, AllocError> {
     }
 }
 
-/// The same, as it is told.
+/// The same, in words.
 fn p_now(hall: &Hall) -> Result<&'static str, AllocError> {
     if has_put_p(hall)? {
         Ok("is 1")
@@ -174,7 +174,7 @@ fn p_now(hall: &Hall) -> Result<&'static str, AllocError> {
     }
 }
 
-/// What is told of a run, in a line: whether the jobs were at work at once, how many committed, the store's revision, whether `p` is
+/// What is shown of a run, in a line: whether the jobs were at work at once, how many committed, the store's revision, whether `p` is
 /// "1", and of job 0 how many keys it fetched, how many attempts of it were made, and how it ended.
 fn report_run(
     reported: &mut String,
@@ -219,7 +219,7 @@ fn report_jobs<W: Threads + Wait + Sync>(
     }
 }
 
-/// Adds two jobs, of which each may send so many commits, and tells what they come to.
+/// Adds two jobs, each of which may send at most `limit` commits, and shows what they come to.
 fn report_two<W: Threads + Wait + Sync>(
     rt: &W,
     alloc: Global,
@@ -263,7 +263,7 @@ fn reported_of_two<W: Threads + Wait + Sync>(
     Ok(reported)
 }
 
-/// Asserts what two jobs come to on an empty hall, of which each may send so many commits.
+/// Asserts what two jobs come to on an empty hall, each of which may send at most `limit` commits.
 fn is_reported<W: Threads + Wait + Sync + Abort>(
     rt: &W,
     alloc: Global,

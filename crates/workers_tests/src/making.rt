@@ -21,7 +21,7 @@ fn program(alloc: Global, text: &str) -> Result<Program, Fail> {
     program
 }
 
-/// A job that may send so many commits.
+/// A job that may send at most `limit` commits.
 fn job(alloc: Global, level: Level, text: &str, limit: u32) -> Result<Job, Fail>
     requires { 1 ≤ limit }
 {
@@ -33,7 +33,7 @@ fn job(alloc: Global, level: Level, text: &str, limit: u32) -> Result<Job, Fail>
     })
 }
 
-/// Adds a job that may send so many commits.
+/// Adds a job that may send at most `limit` commits.
 pub(crate) fn add_job(
     alloc: Global,
     jobs: &mut Vec<Job>,

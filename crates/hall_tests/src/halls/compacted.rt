@@ -4,7 +4,7 @@
 use crate::halls::player::{Opening, Step, is_reported};
 use std::test::Fail;
 
-/// Steps on such a hall, and what is told of them.
+/// Steps on such a hall, and what they show.
 const EXAMPLES: [(&[Step], &str); 6] = [
     // What was put at the revision that was dropped is still there.
     (

@@ -1,4 +1,4 @@
-//! Steps on a hall, with ample memory, and what is told of them.
+//! Steps on a hall, with ample memory, and what they show.
 //!
 //! An example is a list of steps and one text: a test that holds a hall in hand over many calls is slow to prove.
 
@@ -31,16 +31,16 @@ pub(crate) enum Step {
     /// A foreign transaction that makes these changes, in their order.
     Foreign(&'static [Change]),
     Advance(u64),
-    /// Tells what a caller that has seen a revision reads of a key.
+    /// What a caller that has seen a revision reads of a key.
     Fetch(&'static str, u64),
-    /// Tells what it fetches of a key at a revision, and which it has seen.
+    /// What it fetches of a key at a revision, where it has seen the last one.
     FetchAt(&'static str, u64, u64),
-    /// Tells the verdict on an attempt that emits "a" and was told this value and modification revision of it, at most 2, that on the
+    /// The verdict on an attempt that emits "a" and was given this value and modification revision for it, at most 2, the verdict on the
     /// same one once more, prepared, and how many entries there are then.
     Emit(&'static str, u64),
-    /// Tells whether a key was changed above a revision.
+    /// Whether a key was changed above a revision.
     IsChangedAbove(&'static str, u64),
-    /// Tells the number of keys of the state.
+    /// The number of keys of the state.
     State,
     Entries,
 }
@@ -132,7 +132,7 @@ fn commit_twice(
     write!(reported, "; {} entries", hall.entries().len())
 }
 
-/// The same, of an attempt that was told this value and modification revision; none where the revision is above 2.
+/// The same, of an attempt that was given this value and modification revision; none where the revision is above 2.
 fn emit(
     alloc: Global,
     reported: &mut String,
@@ -157,7 +157,7 @@ fn report_keys(reported: &mut String, hall: &Hall) -> Result<(), AllocError> {
     write!(reported, "{count} keys")
 }
 
-/// Takes one step, and tells what was answered.
+/// Takes one step, and shows what was answered.
 fn take(
     alloc: Global,
     reported: &mut String,
@@ -181,7 +181,7 @@ fn take(
     }
 }
 
-/// Takes the steps, and tells the answers, `; ` after each.
+/// Takes the steps, and shows the answers, `; ` after each.
 fn take_all(
     alloc: Global,
     reported: &mut String,
@@ -238,7 +238,7 @@ fn hall_over(alloc: Global, opening: Opening) -> Result<Hall, Fail> {
     }
 }
 
-/// What the steps tell, in a hall of their own.
+/// What the steps show, in a hall of their own.
 fn play(
     alloc: Global,
     program: &Program,
@@ -260,7 +260,7 @@ fn played(alloc: Global, opening: Opening, steps: &[Step]) -> Result<String, Fai
     reported
 }
 
-/// Asserts what the steps tell, in a hall over a store in which this stands.
+/// Asserts what the steps show, in a hall over a store in which this stands.
 pub(crate) fn is_reported(
     rt: &impl Abort,
     alloc: Global,

@@ -1,4 +1,4 @@
-//! What is told of the keys of a store.
+//! What is shown of the keys of a store.
 use crate::making::put_of;
 use std::alloc::{AllocError, Global};
 use stm_history::KeyState;
@@ -79,7 +79,7 @@ fn put_number(alloc: Global, store: &mut Store, number: u64) -> Result<(), Refus
     put(alloc, store, value.as_str())
 }
 
-/// Puts "a" with the texts of 1 to so many, each in a revision of its own, and tells the last one.
+/// Puts "a" with the texts of 1 to `count`, each in a revision of its own, and shows the last revision.
 pub(crate) fn put_numbers(
     alloc: Global,
     reported: &mut String,

@@ -1,4 +1,4 @@
-//! Steps on a store, with ample memory, and what is told of them.
+//! Steps on a store, with ample memory, and what they show.
 //!
 //! An example is a list of steps and one text: a test that holds a store in hand over many calls is slow to prove.
 
@@ -13,22 +13,22 @@ use stm_txn::{Refusal, Store};
 /// A step of an example, in constants.
 #[derive(Clone, Copy)]
 pub(crate) enum Step {
-    /// A transaction that makes these changes, in their order. Its revision is told.
+    /// A transaction that makes these changes, in their order. Its revision is shown.
     Change(&'static [Change]),
-    /// Puts "a" with the texts of 1 to so many, each in a revision of its own, and tells the last one.
+    /// Puts "a" with the texts of 1 to this number, each in a revision of its own, and shows the last revision.
     PutNumbers(u64),
-    /// Tells what "a" is where the read of one of so many revisions shows something else than the number that was put there: nothing
+    /// What "a" is at each revision of that many puts where the read shows something else than the number that was put there: nothing
     /// where each is right.
     Unlike(u64),
-    /// Tells what "a" was at a revision.
+    /// What "a" was at a revision.
     Read(u64),
-    /// Tells what "a" was at a revision that has come, below the floor too.
+    /// What "a" was at a revision that has come, below the floor too.
     LookBack(u64),
     /// Compacts the store at a revision.
     Compact(u64),
     /// Makes a revision the floor, and drops nothing.
     RaiseFloor(u64),
-    /// Tells the counter, the opening, the floor, the number of live leases and the moment.
+    /// The counter, the opening, the floor, the number of live leases and the moment.
     Standing,
     Grant(u64, u64),
     Revoke(u64),
@@ -38,11 +38,11 @@ pub(crate) enum Step {
     /// Watches the keys from the first on that are below the second.
     WatchRange(&'static str, &'static str, u64),
     Cancel(u64),
-    /// A poll of at most so many revisions: up to which revision it tells.
+    /// A poll of at most the second number of revisions: up to which revision it reports.
     Poll(u64, u64),
-    /// Tells the number of a watcher that is ready.
+    /// The number of a watcher that is ready.
     Next,
-    /// Tells whether one of these two is ready, where several are.
+    /// Whether one of these two is ready, where several are.
     NextIsOneOf(u64, u64),
 }
 
@@ -123,7 +123,7 @@ fn report_standing(reported: &mut String, store: &Store) -> Result<(), AllocErro
     )
 }
 
-/// Takes one step, and tells what was answered.
+/// Takes one step, and shows what was answered.
 fn take(
     alloc: Global,
     reported: &mut String,
@@ -153,7 +153,7 @@ fn take(
     }
 }
 
-/// Ends an answer by `; `, where something was told since the text had a length.
+/// Ends an answer by `; `, where something was added since the text had this length.
 fn end_answer(reported: &mut String, length: usize) -> Result<(), AllocError> {
     if reported.len() == length {
         return Ok(());
@@ -161,7 +161,7 @@ fn end_answer(reported: &mut String, length: usize) -> Result<(), AllocError> {
     reported.push_str("; ")
 }
 
-/// Takes the steps, and tells the answers.
+/// Takes the steps, and shows the answers.
 fn take_all(
     alloc: Global,
     reported: &mut String,
@@ -176,7 +176,7 @@ fn take_all(
     Ok(())
 }
 
-/// Takes the steps on a new store, and tells the answers.
+/// Takes the steps on a new store, and returns the text of the answers.
 fn play(alloc: Global, steps: &[Step]) -> Result<String, AllocError> {
     let mut reported = String::new(alloc);
     let mut store = Store::new(alloc)?;
@@ -186,7 +186,7 @@ fn play(alloc: Global, steps: &[Step]) -> Result<String, AllocError> {
     Ok(reported)
 }
 
-/// Asserts what is told of each of these lists of steps, each on a new store.
+/// Asserts what is shown of each of these lists of steps, each on a new store.
 pub(crate) fn are_reported(
     rt: &impl Abort,
     alloc: Global,

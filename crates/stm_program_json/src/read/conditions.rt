@@ -36,7 +36,7 @@ pub(crate) fn condition(
     condition_array(alloc, value, levels - 1, room - 1)
 }
 
-/// A condition that is an element of an array, behind an `Arc`. A fault's place is that in the array.
+/// A condition that is an element of an array, in an `Arc`. A fault's place is that in the array.
 #[cycle(read_conditions)]
 pub(crate) fn condition_part(
     alloc: Global,

@@ -38,7 +38,7 @@ pub(crate) fn expression(
     expression_body(alloc, value, levels - 1, room - 1)
 }
 
-/// An expression that is an element of an array, behind an `Arc`. A fault's place is that in the array.
+/// An expression that is an element of an array, in an `Arc`. A fault's place is that in the array.
 #[cycle(read_expressions)]
 pub(crate) fn expression_part(
     alloc: Global,

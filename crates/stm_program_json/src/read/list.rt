@@ -12,7 +12,7 @@ use std::alloc::Global;
 use stm_json::{Cause, ReadError, fault, one, within, worded_array};
 use stm_program::{MAX_PREFETCH, MAX_TEXT, is_listed};
 
-/// What stands behind the word of a list, where an array begins with it.
+/// What follows the word of a list, where an array begins with it.
 pub(crate) fn list_parts(value: &Value) -> Option<&[Value]>
     ensures { option_map (λ vs. items_view vs.now) result ≡ list_parts (worded (view value.now)) }
 {
@@ -24,7 +24,7 @@ pub(crate) fn list_parts(value: &Value) -> Option<&[Value]>
     }
 }
 
-/// The key that a value spells, behind these keys.
+/// The key that a value spells, after these keys.
 fn key(alloc: Global, earlier: &[String], value: &Value) -> Result<String, ReadError>
     ensures { Returns string_bytes result (key_reported (map string_bytes earlier.now) (as_str (view value.now))) }
 {
@@ -59,7 +59,7 @@ fn key_part(alloc: Global, earlier: &[String], value: &Value) -> Result<String, 
     within(alloc, earlier.len(), next_key(alloc, earlier, value))
 }
 
-/// These keys, and the others behind them.
+/// These keys, and the others after them.
 #[tactic(auto, unfolding(crate::specs::Reading::keys_from))]
 fn with_keys(
     alloc: Global,
@@ -89,7 +89,7 @@ fn keys(alloc: Global, value: &Value) -> Result<Vec<String>, ReadError>
     }
 }
 
-/// The keys behind the word of a list: nothing but their array stands there.
+/// The keys of a list: nothing but their array follows its word.
 fn list_keys(alloc: Global, parts: &[Value]) -> Result<Vec<String>, ReadError>
     ensures { Returns (λ keys. map string_bytes keys.items) result (list_of (one_of (items_view parts.now))) }
 {

@@ -53,7 +53,7 @@ fn statement_part(
     Ok(read)
 }
 
-/// The statements of an array, which stand at the same level.
+/// The statements of an array, which are all at the same level.
 #[cycle(read_statements)]
 #[tactic(auto, unfolding(crate::specs::Reading::block_by))]
 pub(crate) fn statements(

@@ -1,4 +1,4 @@
-//! Writing the list of a program, and the statements behind it.
+//! Writing the list of a program, and the statements after it.
 ghost use Rattle.std.specs.Prelude.{◌≡◌, [], ◌∷◌, IfOk, codes, map, string_bytes};
 ghost use Rattle.serde_json.specs.Data.{array};
 ghost use Rattle.serde_json.specs.View.{view, items_view};
@@ -12,7 +12,7 @@ use serde_json::Value;
 use std::alloc::{AllocError, Global};
 use stm_program::Stmt;
 
-/// These values, and keys behind them.
+/// These values, and keys after them.
 fn with_keys(alloc: Global, values: Vec<Value>, keys: &[String]) -> Result<Vec<Value>, AllocError>
     ensures { IfOk result (λ vs. items_view vs.items ≡ items_after (map view values.items) (written_keys (map string_bytes keys.now))) }
 {
@@ -27,7 +27,7 @@ fn with_keys(alloc: Global, values: Vec<Value>, keys: &[String]) -> Result<Vec<V
     }
 }
 
-/// What a list is written as: the array of its keys behind its word.
+/// What a list is written as: the array of its keys after its word.
 fn list_value(alloc: Global, keys: &[String]) -> Result<Value, AllocError>
     ensures { IfOk result (λ v. view v ≡ spelled (codes "prefetch") (array (written_keys (map string_bytes keys.now)) ∷ [])) }
 {
@@ -35,7 +35,7 @@ fn list_value(alloc: Global, keys: &[String]) -> Result<Value, AllocError>
     one_part(alloc, "prefetch", Value::Array(keys))
 }
 
-/// The array of statements behind a list of these keys, or alone, where there are none.
+/// The array of statements after a list of these keys, or alone, where there are none.
 pub(crate) fn program_value(
     alloc: Global,
     keys: &[String],

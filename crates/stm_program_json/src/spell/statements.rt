@@ -96,7 +96,7 @@ pub(crate) fn statements_value(alloc: Global, statements: &[Stmt]) -> Result<Val
     statements_behind(alloc, Vec::new(alloc), statements)
 }
 
-/// The array of these values, and of statements behind them.
+/// The array of these values, and of statements after them.
 #[cycle(write_statements)]
 pub(crate) fn statements_behind(
     alloc: Global,

@@ -1,4 +1,4 @@
-//! What the readers of recipes tell of states.
+//! What the readers of recipes return for states.
 use crate::player::made::state_of;
 use std::alloc::{AllocError, Global};
 use std::test::Fail;

@@ -1,4 +1,4 @@
-//! What is told of programs that run alone, and of states.
+//! What is shown of programs that run alone, and of states.
 use crate::player::made::{program_of, state_of};
 use std::alloc::{AllocError, Global};
 use std::test::Fail;

@@ -6,7 +6,7 @@ use std::test::Fail;
 use stm_program::{Program, Stmt, fits};
 use stm_program_json::{ReadError, read_program, write_program};
 
-/// Adds a part to a text so many times.
+/// Adds a part to a text, `times` times.
 fn add_part(text: &mut String, part: &str, times: usize) -> Result<(), AllocError> {
     for _ in 0..times {
         text.push_str(part)?;
@@ -14,7 +14,7 @@ fn add_part(text: &mut String, part: &str, times: usize) -> Result<(), AllocErro
     Ok(())
 }
 
-/// The text of these parts, each so many times.
+/// The text of these parts, each repeated this often.
 fn joined(alloc: Global, parts: &[(&str, usize)]) -> Result<String, AllocError> {
     let mut text = String::new(alloc);
     for &(part, times) in parts {
@@ -23,7 +23,7 @@ fn joined(alloc: Global, parts: &[(&str, usize)]) -> Result<String, AllocError> 
     Ok(text)
 }
 
-/// Tells how the text of these parts is read.
+/// Shows how the text of these parts is read.
 pub fn report_parts(
     alloc: Global,
     reported: &mut String,
@@ -35,7 +35,7 @@ pub fn report_parts(
     done
 }
 
-/// Tells how a text is read: that its program is kept, or its first fault.
+/// Shows how a text is read: that its program is kept, or its first fault.
 fn report_text(alloc: Global, reported: &mut String, text: &str) -> Result<(), Fail> {
     let value = Value::from_str(alloc, text)?;
     let found = read_program(alloc, &value);
@@ -57,7 +57,7 @@ fn report_found(
     }
 }
 
-/// Tells whether a program is kept: it is written as this text. Elsewhere it is told how it is written.
+/// Shows that a program is kept, where it is written as this text, and else how it is written.
 fn report_kept(
     alloc: Global,
     reported: &mut String,
@@ -80,7 +80,7 @@ fn spelled(alloc: Global, program: &Program) -> Result<String, AllocError> {
     text
 }
 
-/// Tells whether a program is its copy, by either call, and whether the program of another text differs from it.
+/// Shows whether a program is its copy, by either call, and whether the program of another text differs from it.
 pub fn report_others(
     alloc: Global,
     reported: &mut String,
@@ -113,7 +113,7 @@ fn report_copy(reported: &mut String, program: &Program) -> Result<(), AllocErro
     done
 }
 
-/// Tells whether the program of these statements is kept, of which there are none.
+/// Shows whether the program of these statements is kept, of which there are none.
 fn report_none(alloc: Global, reported: &mut String, statements: Vec<Stmt>) -> Result<(), Fail> {
     if !fits(&statements) {
         drop(statements);

@@ -1,4 +1,4 @@
-//! What is told of writes.
+//! What is shown of writes.
 use std::alloc::{AllocError, Global};
 use std::test::Fail;
 use stm_program::{Text, Write, last_write};
@@ -19,7 +19,7 @@ fn add_put(
     Ok(())
 }
 
-/// Tells the value of a write, whether it equals its copy, and whether it differs from a deletion of "k".
+/// Shows the value of a write, whether it equals its copy, and whether it differs from a deletion of "k".
 fn report_write(alloc: Global, reported: &mut String, write: &Write) -> Result<(), AllocError> {
     let key = Text::copy_of(alloc, "k")?;
     let deletion = Write::Del { key };
@@ -33,7 +33,7 @@ fn report_write(alloc: Global, reported: &mut String, write: &Write) -> Result<(
     )
 }
 
-/// Tells the last write of a key.
+/// Shows the last write of a key.
 fn report_last(
     alloc: Global,
     reported: &mut String,
@@ -46,7 +46,7 @@ fn report_last(
     }
 }
 
-/// Puts "k", "l" and "k" again, and tells the last writes of "k" and "m".
+/// Puts "k", "l" and "k" again, and shows the last writes of "k" and "m".
 fn report_puts(
     alloc: Global,
     reported: &mut String,

@@ -2,7 +2,7 @@ use Rattle.std.proofs.Common.{◌≡◌, ◌∙◌, sym, ℕ, ◌+◌, ◌-◌, 
 use Rattle.stm_calls.proofs.SeenLemmas.{seen_count, first_seen}
 use Rattle.stm_calls.proofs.sending.revision_seen.Goals as goal
 
--- a compare behind those of the keys read is of a written key
+-- a compare after those of the keys read is of a written key
 pub returns-else-place-len-clause-seen : goal.returns-else-place-len-clause-seen
 returns-else-place-len-clause-seen c =
     let rest : ℕ = c.args.place - length c.args.reads.now in

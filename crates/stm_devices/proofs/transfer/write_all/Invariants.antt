@@ -2,7 +2,7 @@ use Rattle.std.proofs.Common.{◌≡◌, ◌++◌, List, ℕ, false, length}
 use Rattle.std.specs.Io.KnownBytes.{Appends}
 use Rattle.stm_devices.proofs.transfer.write_all.Given as goal
 
--- a front of the bytes was written, and the rest is left
+-- a prefix of the bytes was written, and the rest is left
 abbrev pub invariant-loop-rest : goal.invariant-loop-rest
 invariant-loop-rest g l = record {
   works : g.W.Sink.failed l.sink ≡ false;

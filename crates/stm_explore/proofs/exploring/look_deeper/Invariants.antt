@@ -3,7 +3,7 @@ use Rattle.stm_schedules.specs.Places.{Place}
 use Rattle.stm_schedules.specs.Keeping.{keeps, first_bad, goes_on}
 use Rattle.stm_explore.proofs.exploring.look_deeper.Given as goal
 
--- every schedule of up to so many moves keeps the rule, and some schedule has more; each length took an event
+-- every schedule of up to `kept` moves keeps the rule, and some schedule has more; each length took an event
 abbrev pub invariant-loop-kept : goal.invariant-loop-kept
 invariant-loop-kept g l =
     let p : Place = record { world = l.world; others = l.others } in

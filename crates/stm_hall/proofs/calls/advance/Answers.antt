@@ -44,7 +44,7 @@ returns-then-is_err-clause-refused c = λ start.
     subst (λ (r : AdvanceRefused). HasStopped before c.args.moment r.expired r.cause after) (sym c.stop-then-is_err.ensures)
     (reports_no_room before after c.args.moment forward (same_hall s s c.args.entries.now.items c.reserve.new.self.items start refl c.reserve.ensures.items))
 
--- the entries behind those of before
+-- the entries that follow those of before
 pub returns-in-Ok-clause-ok : goal.returns-in-Ok-clause-ok
 returns-in-Ok-clause-ok c = λ start.
     let es : List Entry = c.args.entries.now.items in

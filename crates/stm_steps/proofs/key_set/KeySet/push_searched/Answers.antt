@@ -6,7 +6,7 @@ use Rattle.stm_steps.specs.Session.{with_key}
 use Rattle.stm_steps.proofs.SearchedLemmas.{none_behind, with_new_key}
 use Rattle.stm_steps.proofs.key_set.KeySet.push_searched.Goals as goal
 
--- no key stands behind those that are searched, before and after
+-- no key comes after those that are searched, before and after
 pub invariant_of-self-2 : goal.invariant_of-self-2
 invariant_of-self-2 c =
     let keys : List (List ℕ) = c.self.inside.keys.items in

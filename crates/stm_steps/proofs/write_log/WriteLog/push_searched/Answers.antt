@@ -6,7 +6,7 @@ use Rattle.stm_steps.specs.LastPlaces.{AreLastPlaces}
 use Rattle.stm_steps.proofs.SearchedLemmas.{none_behind}
 use Rattle.stm_steps.proofs.write_log.WriteLog.push_searched.Goals as goal
 
--- no write stands behind those that are searched, before and after
+-- no write comes after those that are searched, before and after
 pub invariant_of-self-2 : goal.invariant_of-self-2
 invariant_of-self-2 c =
     let ws : List Write = c.self.inside.writes.items in

@@ -8,7 +8,6 @@ use Rattle.stm_history.specs.declared.change.Change.{Change}
 use Rattle.stm_history.specs.History.{History, now, key_now}
 use Rattle.stm_leases.specs.Live.{grant_refusal, is_live_in}
 use Rattle.stm_leases.specs.LeaseLog.{Term}
-use Rattle.stm_leases.specs.DueFirst.{first_due}
 use Rattle.stm_leases.specs.declared.errors.GrantError.{GrantError}
 use Rattle.stm_outcome.specs.declared.advance.Expired.{Expired}
 use Rattle.stm_outcome.specs.declared.answer.FailedCompare.{FailedCompare}
@@ -24,7 +23,7 @@ use Rattle.stm_txn.specs.Grants.{grant_refusal_of}
 use Rattle.stm_txn.specs.LeaseKeys.{deletions_of}
 use Rattle.stm_outcome.specs.Outcome.{Done, outcome, chosen, unless, finished, is_used_up, with_changes, answer_of}
 use Rattle.stm_txn.specs.Standing.{Standing, Step, Advance, IsRefusalOf, IsCutShort, step_of, transacted, granted, kept_alive, ended, revoked}
-use Rattle.stm_txn.specs.Standing.{with_lease, without_lease, with_revision, after, expired_in, expire_up_to, expire_all, at_moment, advanced}
+use Rattle.stm_txn.specs.Standing.{with_lease, without_lease, with_revision, expire_up_to, expire_all, at_moment, advanced}
 use Rattle.stm_outcome.specs.Terms.{Terms}
 use Rattle.stm_outcome.specs.Terms.{most_operations}
 use Rattle.stm_txn.specs.Standing.{terms_of, compaction_refusal, with_floor, floor_step, raised}
@@ -35,14 +34,14 @@ use Rattle.stm_entries.specs.declared.entry.Entry.{Entry}
 use Rattle.stm_entries.specs.Replayed.{without_moment}
 use Rattle.stm_entries.specs.declared.entry.Entry.TheVariants.{Foreign, Grant as GrantEntry, Renew, Revoke as RevokeEntry}
 use Rattle.stm_entries.specs.Entered.{if_taken, if_changed, expiries}
-use Rattle.stm_reports.specs.Reported.{cause_reported, txn_line}
-use Rattle.stm_world.specs.declared.event.WorldEvent.TheVariants.{Advance as AdvanceEvent, Compact as CompactEvent}
-use Rattle.stm_world.specs.declared.reply.Reply.{Reply}
-use Rattle.stm_world.specs.Reported.{reply_to, store_after_call, advance_reply}
-use Rattle.stm_world.proofs.Entered.{EntriesFollow}
-use Rattle.stm_world.proofs.Calls.{txn_follows, grant_follows, keep_follows, revoke_follows, advance_follows}
+use Rattle.stm_reports.specs.Lines.{cause_reported, txn_line}
+use Rattle.stm_events.specs.declared.event.WorldEvent.TheVariants.{Advance as AdvanceEvent, Compact as CompactEvent}
+use Rattle.stm_events.specs.declared.reply.Reply.{Reply}
+use Rattle.stm_events.specs.Replies.{reply_to, store_after_call, advance_reply}
+use Rattle.stm_events.proofs.Entered.{Enters}
+use Rattle.stm_events.proofs.Calls.{txn_enters, grant_enters, keep_enters, revoke_enters, expiry_cases, advance_enters}
 use Rattle.stm_check.specs.Point.{led_by, moment_after, with_replayed, txn_entries, advance_entries, raised_by}
-use Rattle.stm_lines.specs.Lines.{reply_reported, line_reported}
+use Rattle.stm_reports.specs.Lines.{reply_reported, line_reported}
 
 -- ---- lines
 
@@ -105,7 +104,7 @@ pub led_where : (b : Bool) (y l : ReportLine) (entries : ReportLine → List Ent
 led_where b y l entries s next moment test led t = led ∙ ap (λ (x : ReportLine). led_by (entries x) s moment) (test.0 t)
 
 -- a store that entries lead to
-pub led : (s next : Standing) (entries : List Entry) → EntriesFollow s next entries → KeepsRest s next → next ≡ led_by entries s s.moment
+pub led : (s next : Standing) (entries : List Entry) → Enters s next entries → KeepsRest s next → next ≡ led_by entries s s.moment
 led s next entries follow rest =
     λ k. record {
       history = (sym follow.replays k).history;
@@ -118,10 +117,10 @@ led s next entries follow rest =
 
 -- the store behind a call that was taken, whose one entry is this
 pub taken_led : {A : Type 0} (s : Standing) (r : Result (Step A) Refusal) (answer : A) (next : Standing) (entry : Entry) →
-    EntriesFollow s (store_after_call s r) (if_taken r entry) → StepKeepsRest s r → r ≡ Ok record { answer = answer; next = next } →
+    Enters s (store_after_call s r) (if_taken r entry) → StepKeepsRest s r → r ≡ Ok record { answer = answer; next = next } →
     next ≡ led_by (entry ∷ []) s s.moment
 taken_led s r answer next entry follow rest is =
-    led s next (entry ∷ []) (subst (λ (x : Result (Step _) Refusal). EntriesFollow s (store_after_call s x) (if_taken x entry)) is follow)
+    led s next (entry ∷ []) (subst (λ (x : Result (Step _) Refusal). Enters s (store_after_call s x) (if_taken x entry)) is follow)
     (subst (λ (x : Result (Step _) Refusal). StepKeepsRest s x) is rest)
 
 -- no entry leads nowhere else
@@ -144,7 +143,7 @@ granted_rest s id ttl (Some cause) = tt
 pub grant_led : (s next : Standing) (id ttl : ℕ) → granted s id ttl ≡ Ok record { answer = tt; next = next } →
     next ≡ led_by (GrantEntry id ttl s.moment ∷ []) s s.moment
 grant_led s next id ttl is =
-    taken_led s (granted s id ttl) tt next (GrantEntry id ttl s.moment) (grant_follows s id ttl) (granted_rest s id ttl (grant_refusal s.live id ttl)) is
+    taken_led s (granted s id ttl) tt next (GrantEntry id ttl s.moment) (grant_enters s id ttl) (granted_rest s id ttl (grant_refusal s.live id ttl)) is
 
 -- ---- a renewal
 
@@ -161,7 +160,7 @@ kept_rest s id (Some term) = record { moment = refl; watchers = refl; floor = re
 
 pub keep_led : (s next : Standing) (id : ℕ) → kept_alive s id ≡ Ok record { answer = tt; next = next } →
     next ≡ led_by (Renew id s.moment ∷ []) s s.moment
-keep_led s next id is = taken_led s (kept_alive s id) tt next (Renew id s.moment) (keep_follows s id) (kept_rest s id (finmap.get s.live id)) is
+keep_led s next id is = taken_led s (kept_alive s id) tt next (Renew id s.moment) (keep_enters s id) (kept_rest s id (finmap.get s.live id)) is
 
 -- ---- a revocation
 
@@ -174,7 +173,7 @@ revoked_rest s id true false = record { moment = refl; watchers = refl; floor = 
 pub revoke_led : (s next : Standing) (id revision : ℕ) → revoked s id ≡ Ok record { answer = revision; next = next } →
     next ≡ led_by (RevokeEntry id ∷ []) s s.moment
 revoke_led s next id revision is =
-    taken_led s (revoked s id) revision next (RevokeEntry id) (revoke_follows s id)
+    taken_led s (revoked s id) revision next (RevokeEntry id) (revoke_enters s id)
     (revoked_rest s id (is_live_in s.live id) (is_used_up s.history (deletions_of s.history id))) is
 
 -- ---- a transaction
@@ -225,10 +224,10 @@ pub txn_led : (n : ℕ) (s next : Standing) (txn : Txn) (answer : TxnAnswer) →
     transacted s txn ≡ Ok record { answer = answer; next = next } → next ≡ led_by (txn_entries (now s.history) txn (txn_line n answer)) s s.moment
 txn_led n s next txn answer few is =
     let came : IsTransacted s answer next = subst (λ (x : Result (Step TxnAnswer) Refusal). StepIsTransacted s x) is (is_transacted s txn) in
-    let follow : EntriesFollow s next (if_changed s next txn) =
-    subst (λ (x : Result (Step TxnAnswer) Refusal). EntriesFollow s (store_after_call s x) (if_changed s (store_after_call s x) txn)) is (txn_follows s txn few) in
+    let follow : Enters s next (if_changed s next txn) =
+    subst (λ (x : Result (Step TxnAnswer) Refusal). Enters s (store_after_call s x) (if_changed s (store_after_call s x) txn)) is (txn_enters s txn few) in
     led s next (cond (nat_lt (now s.history) answer.revision) (Foreign txn ∷ []) [])
-    (subst (λ (revision : ℕ). EntriesFollow s next (cond (nat_lt (now s.history) revision) (Foreign txn ∷ []) [])) (sym came.counter) follow) came.rest
+    (subst (λ (revision : ℕ). Enters s next (cond (nat_lt (now s.history) revision) (Foreign txn ∷ []) [])) (sym came.counter) follow) came.rest
 
 -- ---- an advance
 
@@ -251,34 +250,12 @@ keeps_then : (s next last : Standing) → KeepsRest s next → KeepsRest next la
 keeps_then s next last first second =
     record { moment = second.moment ∙ first.moment; watchers = second.watchers ∙ first.watchers; floor = second.floor ∙ first.floor }
 
-abbrev expired_by : ℕ → Standing → ℕ → Result Standing Refusal → Advance
-expired_by many s id o =
-    elim o [
-      | Err cause ↦ record { expired = []; leaves = s; cause = Some cause }
-      | Ok next ↦ after (expired_in id next ∷ []) (expire_up_to many next)
-    ]
-
-abbrev due_by : ℕ → Standing → Option ℕ → Advance
-due_by many s o =
-    elim o [
-      | None ↦ record { expired = []; leaves = s; cause = None }
-      | Some id ↦ expired_by many s id (ended s id)
-    ]
-
-expired_rest : (many : ℕ) (s : Standing) (id : ℕ) (o : Result Standing Refusal) → ended s id ≡ o →
-    ((next : Standing) → KeepsRest next (expire_up_to many next).leaves) → KeepsRest s (expired_by many s id o).leaves
-expired_rest many s id (Err cause) is goes = keeps_itself s
-expired_rest many s id (Ok next) is goes =
-    keeps_then s next (expire_up_to many next).leaves (ended_rest s id (is_used_up s.history (deletions_of s.history id)) next is) (goes next)
-
-due_rest : (many : ℕ) (s : Standing) (o : Option ℕ) → ((next : Standing) → KeepsRest next (expire_up_to many next).leaves) →
-    KeepsRest s (due_by many s o).leaves
-due_rest many s None goes = keeps_itself s
-due_rest many s (Some id) goes = expired_rest many s id (ended s id) refl goes
+one_rest : (s next last : Standing) (id : ℕ) (more : List Entry) → is_live_in s.live id ≡ true → ended s id ≡ Ok next → KeepsRest next last →
+    KeepsRest s last
+one_rest s next last id more live is rest = keeps_then s next last (ended_rest s id (is_used_up s.history (deletions_of s.history id)) next is) rest
 
 expiries_rest : (many : ℕ) (s : Standing) → KeepsRest s (expire_up_to many s).leaves
-expiries_rest zero s = keeps_itself s
-expiries_rest (suc many) s = due_rest many s (first_due s.live s.moment) (λ next. expiries_rest many next)
+expiries_rest many s = expiry_cases (λ t next more. KeepsRest t next) (record { none = keeps_itself; one = one_rest }) many s
 
 advanced_by : (s : Standing) (moment : ℕ) (back : Bool) →
     IsAdvanced s (cond back (record { expired = []; leaves = s; cause = Some TimeGoesBack }) (expire_all (at_moment s moment))).leaves
@@ -293,8 +270,8 @@ pub advance_led : (s next : Standing) (moment : ℕ) (expired : List Expired) (c
     advanced s moment ≡ record { expired = expired; leaves = next; cause = cause } →
     next ≡ led_by (expiries expired) s (moment_after s (AdvanceEvent moment))
 advance_led s next moment expired cause is =
-    let follow : EntriesFollow s next (expiries expired) =
-    subst (λ (a : Advance). EntriesFollow s a.leaves (expiries a.expired)) is (advance_follows s moment) in
+    let follow : Enters s next (expiries expired) =
+    subst (λ (a : Advance). Enters s a.leaves (expiries a.expired)) is (advance_enters s moment) in
     let came : IsAdvanced s next (moment_after s (AdvanceEvent moment)) =
     subst (λ (a : Advance). IsAdvanced s a.leaves (moment_after s (AdvanceEvent moment))) is (advanced_by s moment (nat_lt moment s.moment)) in
     λ k. record {

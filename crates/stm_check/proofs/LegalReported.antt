@@ -10,6 +10,7 @@ use Rattle.stm_outcome.specs.declared.refusal.Refusal.{Refusal}
 use Rattle.stm_outcome.specs.declared.txn.Txn.{Txn}
 use Rattle.stm_outcome.specs.Terms.{most_operations}
 use Rattle.stm_txn.specs.Standing.{Standing, Setup, Step, transacted, granted, kept_alive, revoked, advanced}
+use Rattle.stm_txn.specs.Standing.{compaction_refusal, with_floor, floor_step}
 use Rattle.stm_entries.specs.declared.entry.Entry.{Entry}
 use Rattle.stm_entries.specs.declared.entry.Entry.TheVariants.{Foreign, Grant as GrantEntry, Renew, Revoke as RevokeEntry}
 use Rattle.stm_entries.specs.Replayed.{without_moment}
@@ -18,13 +19,12 @@ use Rattle.stm_entries.proofs.Replaying.{all_legal}
 use Rattle.stm_entries.specs.Entered.{if_taken, if_changed, expiries}
 use Rattle.stm_reports.specs.declared.line.ReportLine.{ReportLine}
 use Rattle.stm_reports.specs.declared.line.ReportLine.TheVariants as line
-use Rattle.stm_world.specs.declared.event.WorldEvent.{WorldEvent}
-use Rattle.stm_world.specs.declared.event.WorldEvent.TheVariants as event
-use Rattle.stm_world.specs.declared.reply.Reply.TheVariants as reply
-use Rattle.stm_world.specs.Reported.{reply_to, store_after_call, advance_reply}
-use Rattle.stm_lines.specs.Lines.{line_reported}
-use Rattle.stm_world.proofs.Calls.{txn_follows, grant_follows, keep_follows, revoke_follows, advance_follows}
-use Rattle.stm_world.proofs.WatchCalls.{compact_follows}
+use Rattle.stm_events.specs.declared.event.WorldEvent.{WorldEvent}
+use Rattle.stm_events.specs.declared.event.WorldEvent.TheVariants as event
+use Rattle.stm_events.specs.declared.reply.Reply.TheVariants as reply
+use Rattle.stm_events.specs.Replies.{reply_to, store_after_call, advance_reply}
+use Rattle.stm_reports.specs.Lines.{line_reported}
+use Rattle.stm_events.proofs.Calls.{never_higher, txn_enters, grant_enters, keep_enters, revoke_enters, advance_enters}
 use Rattle.stm_texts.specs.Opens.{setup_of}
 use Rattle.stm_check.specs.declared.runner.Runner.{Runner}
 use Rattle.stm_check.specs.Runners.{running}
@@ -61,9 +61,6 @@ revoke_reported : (n id : ℕ) (r : Result (Step ℕ) Refusal) → revoke_entrie
 revoke_reported n id (Ok done) = refl
 revoke_reported n id (Err cause) = refl
 
-never_higher : (s : Standing) (txn : Txn) → if_changed s s txn ≡ []
-never_higher s txn = ap (λ (b : Bool). cond b (Foreign txn ∷ []) []) (le-ltb (now s.history) (now s.history) (omega arith))
-
 txn_reported : (n : ℕ) (s : Standing) (txn : Txn) (r : Result (Step TxnAnswer) Refusal) → StepIsTransacted s r →
     txn_entries (now s.history) txn (line_reported n (reply_to reply.Txn r)) ≡ if_changed s (store_after_call s r) txn
 txn_reported n s txn (Ok step) came = ap (λ (revision : ℕ). cond (nat_lt (now s.history) revision) (Foreign txn ∷ []) []) came.counter
@@ -81,27 +78,31 @@ line_legal n s runners (event.Start program level limit) l few right = tt
 line_legal n s runners (event.Step id) l few right = commit_legal s (running id runners) l right
 line_legal n s runners (event.Txn txn) l few right =
     subst (λ (x : ReportLine). AreLegal (txn_entries (now s.history) txn x) (without_moment s)) right
-    (subst (λ (es : List Entry). AreLegal es (without_moment s)) (sym (txn_reported n s txn (transacted s txn) (is_transacted s txn))) (txn_follows s txn few).legal)
+    (subst (λ (es : List Entry). AreLegal es (without_moment s)) (sym (txn_reported n s txn (transacted s txn) (is_transacted s txn))) (txn_enters s txn few).legal)
 line_legal n s runners (event.Grant id ttl) l few right =
     subst (λ (x : ReportLine). AreLegal (grant_entries id ttl s.moment x) (without_moment s)) right
-    (subst (λ (es : List Entry). AreLegal es (without_moment s)) (sym (grant_reported n id ttl s.moment (granted s id ttl))) (grant_follows s id ttl).legal)
+    (subst (λ (es : List Entry). AreLegal es (without_moment s)) (sym (grant_reported n id ttl s.moment (granted s id ttl))) (grant_enters s id ttl).legal)
 line_legal n s runners (event.Keep id) l few right =
     subst (λ (x : ReportLine). AreLegal (keep_entries id s.moment x) (without_moment s)) right
-    (subst (λ (es : List Entry). AreLegal es (without_moment s)) (sym (keep_reported n id s.moment (kept_alive s id))) (keep_follows s id).legal)
+    (subst (λ (es : List Entry). AreLegal es (without_moment s)) (sym (keep_reported n id s.moment (kept_alive s id))) (keep_enters s id).legal)
 line_legal n s runners (event.Revoke id) l few right =
     subst (λ (x : ReportLine). AreLegal (revoke_entries id x) (without_moment s)) right
-    (subst (λ (es : List Entry). AreLegal es (without_moment s)) (sym (revoke_reported n id (revoked s id))) (revoke_follows s id).legal)
+    (subst (λ (es : List Entry). AreLegal es (without_moment s)) (sym (revoke_reported n id (revoked s id))) (revoke_enters s id).legal)
 line_legal n s runners (event.Advance moment) l few right =
     subst (λ (x : ReportLine). AreLegal (advance_entries x) (without_moment s)) right
     (subst (λ (es : List Entry). AreLegal es (without_moment s))
-    (sym (advance_reported n moment (advanced s moment).expired (advanced s moment).cause)) (advance_follows s moment).legal)
+    (sym (advance_reported n moment (advanced s moment).expired (advanced s moment).cause)) (advance_enters s moment).legal)
 line_legal n s runners _ l few right = tt
 
 -- ---- all lines
 
+limit_stays : (s : Standing) (revision : ℕ) (o : Option Refusal) → (store_after_call s (floor_step o (with_floor s revision))).limit ≡ s.limit
+limit_stays s revision None = refl
+limit_stays s revision (Some cause) = refl
+
 -- the limit of the store stays
 raised_limit : (e : WorldEvent) (l : ReportLine) (s : Standing) → (raised_by e l s).limit ≡ s.limit
-raised_limit (event.Compact revision) (line.Compacted n reported) s = (compact_follows s revision).limit
+raised_limit (event.Compact revision) (line.Compacted n reported) s = limit_stays s revision (compaction_refusal s revision)
 raised_limit (event.Compact revision) _ s = refl
 raised_limit _ l s = refl
 

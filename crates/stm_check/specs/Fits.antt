@@ -1,9 +1,9 @@
 -- Whether a line can stand in the place of an event: it is the line of this event, of a kind that the event can have, and of a
 -- runner that runs or of the event's watcher.
 use Rattle.std.specs.Prelude.{ℕ, nat_eq, Bool, true, false, ◌&&◌, not, is_some, List, Option, Some, None}
-use Rattle.stm_world.specs.declared.event.WorldEvent.{WorldEvent}
-use Rattle.stm_world.specs.declared.event.WorldEvent.TheVariants.{Start, Step, Txn, Grant, Keep, Revoke, Advance}
-use Rattle.stm_world.specs.declared.event.WorldEvent.TheVariants.{Compact, WatchKey, WatchRange, Poll, Cancel}
+use Rattle.stm_events.specs.declared.event.WorldEvent.{WorldEvent}
+use Rattle.stm_events.specs.declared.event.WorldEvent.TheVariants.{Start, Step, Txn, Grant, Keep, Revoke, Advance}
+use Rattle.stm_events.specs.declared.event.WorldEvent.TheVariants.{Compact, WatchKey, WatchRange, Poll, Cancel}
 use Rattle.stm_reports.specs.declared.line.ReportLine.{ReportLine}
 use Rattle.stm_reports.specs.declared.line.ReportLine.TheVariants as line
 use Rattle.stm_check.specs.declared.runner.Runner.{Runner}

@@ -14,9 +14,9 @@ use Rattle.stm_entries.specs.declared.entry.Entry.TheVariants.{Program, Foreign,
 use Rattle.stm_entries.specs.Entered.{expiries}
 use Rattle.stm_entries.specs.Replayed.{Replayed, without_moment}
 use Rattle.stm_entries.specs.Replay.{replay}
-use Rattle.stm_world.specs.declared.event.WorldEvent.{WorldEvent}
-use Rattle.stm_world.specs.declared.event.WorldEvent.TheVariants.{Step, Txn, Grant, Keep, Revoke, Advance, Compact}
-use Rattle.stm_world.specs.Reported.{store_after_call}
+use Rattle.stm_events.specs.declared.event.WorldEvent.{WorldEvent}
+use Rattle.stm_events.specs.declared.event.WorldEvent.TheVariants.{Step, Txn, Grant, Keep, Revoke, Advance, Compact}
+use Rattle.stm_events.specs.Replies.{store_after_call}
 use Rattle.stm_reports.specs.declared.line.ReportLine.{ReportLine}
 use Rattle.stm_reports.specs.declared.line.ReportLine.TheVariants as line
 use Rattle.stm_reports.specs.declared.line.ReportedAnswer.{ReportedAnswer}

@@ -11,12 +11,12 @@ use Rattle.stm_program.specs.Levels.{is_comparing}
 use Rattle.stm_txn.specs.Standing.{Standing, transacted, granted, kept_alive, revoked, advanced, raised}
 use Rattle.stm_entries.specs.Replayed.{without_moment}
 use Rattle.stm_entries.specs.Legal.{IsCommit}
-use Rattle.stm_world.specs.declared.event.WorldEvent.{WorldEvent}
-use Rattle.stm_world.specs.declared.event.WorldEvent.TheVariants.{Start, Step, Txn, Grant, Keep, Revoke, Advance, Compact}
-use Rattle.stm_world.specs.declared.reply.Reply.TheVariants.{Txn as TxnDone, Granted, Kept, Revoked, Compacted}
-use Rattle.stm_world.specs.Reported.{reply_to, advance_reply}
-use Rattle.stm_world.specs.Asked.{keys_first_read}
-use Rattle.stm_lines.specs.Lines.{line_reported}
+use Rattle.stm_events.specs.declared.event.WorldEvent.{WorldEvent}
+use Rattle.stm_events.specs.declared.event.WorldEvent.TheVariants.{Start, Step, Txn, Grant, Keep, Revoke, Advance, Compact}
+use Rattle.stm_events.specs.declared.reply.Reply.TheVariants.{Txn as TxnDone, Granted, Kept, Revoked, Compacted}
+use Rattle.stm_events.specs.Replies.{reply_to, advance_reply}
+use Rattle.stm_events.specs.FirstReads.{keys_first_read}
+use Rattle.stm_reports.specs.Lines.{line_reported}
 use Rattle.stm_reports.specs.declared.causes.RefusalName.TheVariants.{BadLimit, NoRunner}
 use Rattle.stm_reports.specs.declared.line.ReportLine.{ReportLine}
 use Rattle.stm_reports.specs.declared.line.ReportLine.TheVariants.{Committed, Refused}

@@ -1,7 +1,7 @@
 -- Which line of a report is the first wrong one, and why. Lines are counted from 1; events' lines stand first.
 use Rattle.std.specs.Prelude.{◌≡◌, ◌⊎◌, ℕ, suc, true, false, List, [], ◌∷◌, ◌++◌}
 use Rattle.stm_entries.specs.declared.entry.Entry.{Entry}
-use Rattle.stm_world.specs.declared.event.WorldEvent.{WorldEvent}
+use Rattle.stm_events.specs.declared.event.WorldEvent.{WorldEvent}
 use Rattle.stm_texts.specs.declared.scenario.Scenario.{Scenario}
 use Rattle.stm_texts.specs.Opens.{setup_of}
 use Rattle.stm_reports.specs.declared.line.ReportLine.{ReportLine}

@@ -12,9 +12,9 @@ use crate::count::add_count;
 use crate::finals::{final_lines, first_off};
 use crate::walk::Walk;
 use std::alloc::{AllocError, Global};
+use stm_events::WorldEvent;
 use stm_reports::{Report, ReportLine};
 use stm_texts::{Scenario, opens_with};
-use stm_world::WorldEvent;
 
 /// What a check comes to.
 #[derive(Clone, Copy, Debug, PartialEq, Eq)]

@@ -9,7 +9,7 @@ ghost use Rattle.stm_program.specs.Levels.{is_comparing};
 ghost use Rattle.stm_entries.specs.Alone.{applied_run};
 ghost use Rattle.stm_entries.specs.Replayed.{without_moment};
 ghost use Rattle.stm_entries.specs.declared.entry.Entry.TheVariants.{Program as ProgramEntry};
-ghost use Rattle.stm_world.specs.Asked.{is_other, keys_first_read};
+ghost use Rattle.stm_events.specs.FirstReads.{is_other, keys_first_read};
 ghost use Rattle.stm_check.specs.Point.{reads_in, led_by};
 ghost use Rattle.stm_check.specs.Replays.{keys_reported, IsRightCommit};
 ghost use Rattle.stm_check.specs.Runs.{run_in, IsRunOn, IsFound, revision_reached, with_writes};
@@ -21,7 +21,7 @@ use stm_compile::{ReadSet, WriteBuffer};
 use stm_history::{Sequence, Text};
 use stm_keys::Keys;
 use stm_meaning::{Answered, End, Run, TraceItem, Value, run_answered};
-use stm_program::{Level, Program, Write, is_listed};
+use stm_program::{Program, Write, is_listed};
 use stm_reports::{ReportedAnswer, are_same_traces, are_same_values};
 use stm_txn::{Change, Refusal, Store};
 
@@ -33,18 +33,6 @@ pub(crate) struct CommitLine<'a> {
     pub(crate) output: &'a [Value],
     pub(crate) trace: &'a [TraceItem],
     pub(crate) answers: &'a [ReportedAnswer],
-}
-
-/// Whether commits of a level compare what was read.
-fn compares(level: Level) -> bool
-    ensures { result ≡ is_comparing level }
-{
-    match level {
-        Level::SerializableSnapshot => true,
-        Level::Serializable => true,
-        Level::RepeatableReads => true,
-        Level::ReadCommitted => false,
-    }
 }
 
 /// Whether a commit is the next of its run, and one that the run may send.
@@ -218,7 +206,7 @@ fn run_reported(
     requires { StatesFit keys.now.history }
     ensures { IfOk result (IsFound runner.now.level keys.now.history runner.now.program answers.now) }
 {
-    if compares(runner.level) {
+    if runner.level.is_comparing() {
         run_now(alloc, keys, runner, answers)
     } else {
         run_on_reported(alloc, keys, runner, answers)

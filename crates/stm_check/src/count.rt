@@ -7,9 +7,9 @@ ghost use Rattle.stm_check.specs.Runners.{running};
 
 use crate::runner::{Runner, is_running};
 use std::alloc::AllocError;
+use stm_events::WorldEvent;
 use stm_reports::ReportLine;
 use stm_txn::Store;
-use stm_world::WorldEvent;
 
 /// How many entries the line of a transaction tells, made at this revision.
 fn count_txn(before: u64, line: &ReportLine) -> u64

@@ -27,8 +27,10 @@ pub enum CheckFault {
     Device,
 }
 
-/// The bytes of a source, up to so many as `stm_devices::MOST_READ`.
-fn bytes_of<S: Source>(alloc: Global, source: &mut S) -> Result<Vec<u8>, CheckFault>
+/// The bytes of a source, at most `stm_devices::MOST_READ` of them.
+///
+/// The source has not failed before. It fails as `OutOfMemory` where an allocation failed, and as `Device` exactly where the source has failed.
+pub fn bytes_of<S: Source>(alloc: Global, source: &mut S) -> Result<Vec<u8>, CheckFault>
     requires { S.failed source.old ≡ false }
     ensures bytes { HasRead (λ bytes. bytes.items) (S.left source.old) (S.failed source.new) result }
     ensures bounded { S.reads source.new ≤ S.reads source.old + MOST_READ }

@@ -11,9 +11,9 @@ ghost use Rattle.stm_check.specs.Point.{advance_entries, entries_reported};
 use std::alloc::AllocError;
 use std::collections::BTreeMap;
 use stm_entries::{LiveLease, begin_lease, end_lease, renew_lease};
+use stm_events::WorldEvent;
 use stm_reports::ReportLine;
 use stm_txn::Expired;
-use stm_world::WorldEvent;
 
 /// Leases expire.
 fn expire(leases: &mut BTreeMap<u64, LiveLease>, expired: &[Expired])

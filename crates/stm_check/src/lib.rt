@@ -20,7 +20,7 @@ mod walk;
 
 pub use cause::WrongCause;
 pub use checking::{Checked, check};
-pub use judging::{CheckFault, check_sources};
+pub use judging::{CheckFault, bytes_of, check_sources};
 pub use runner::Runner;
 pub use stm_reports::{Report, ReportLine};
 pub use stm_texts::Scenario;

@@ -3,9 +3,9 @@ ghost use Rattle.std.specs.Prelude.{◌≡◌, ◌++◌, ◌∷◌, [], is_some,
 ghost use Rattle.stm_check.specs.Runners.{next_runner, started_in, running, with_conflict, ended, with_runner, begun, after_step, runners_after};
 
 use std::alloc::AllocError;
+use stm_events::WorldEvent;
 use stm_program::{Level, Program};
 use stm_reports::ReportLine;
-use stm_world::WorldEvent;
 
 /// A run of a runner: its program and level, how many commits it may send, how many conflicts its lines told, and whether
 /// one of them ended it.

@@ -19,10 +19,10 @@ use crate::runner::{Runner, find_running, note};
 use std::alloc::{AllocError, Global};
 use std::collections::BTreeMap;
 use stm_entries::{LiveLease, no_leases};
+use stm_events::WorldEvent;
 use stm_reports::{RefusalName, ReportLine};
 use stm_texts::Opening;
 use stm_txn::Store;
-use stm_world::WorldEvent;
 
 /// The store that the lines so far told, the number of entries, the runners, and the live leases with their terms.
 #[derive(Drop)]

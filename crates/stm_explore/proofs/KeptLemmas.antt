@@ -7,7 +7,7 @@ use Rattle.stm_program.specs.Syntax.{ProgramTree}
 use Rattle.stm_meaning.specs.Meaning.{run_over}
 use Rattle.stm_txn.specs.Standing.{Standing}
 use Rattle.stm_compile.specs.Answers.{state_now}
-use Rattle.stm_world.specs.declared.event.WorldEvent.TheVariants.{Step}
+use Rattle.stm_events.specs.declared.event.WorldEvent.TheVariants.{Step}
 use Rattle.stm_world.specs.World.{World, Stepped, runner_at, step}
 use Rattle.stm_schedules.specs.declared.moves.Move.{Move}
 use Rattle.stm_schedules.specs.declared.moves.Move.TheVariants.{Step as StepOf, Other}

@@ -1,7 +1,7 @@
 //! Moves from a place: which can be made, and where each leads to.
 ghost use Rattle.std.specs.Prelude.{◌≡◌, true, not, if◌then◌else◌, Some, None, IfOk, OnOk};
 ghost use Rattle.std.specs.List.{list_any};
-ghost use Rattle.stm_world.specs.declared.event.WorldEvent.TheVariants.{Step};
+ghost use Rattle.stm_events.specs.declared.event.WorldEvent.TheVariants.{Step};
 ghost use Rattle.stm_world.specs.World.{step, world_after};
 ghost use Rattle.stm_retry.specs.Returns.{ran_out};
 ghost use Rattle.stm_schedules.specs.declared.moves.Move.TheVariants.{Step as StepOf, Other};

@@ -1,6 +1,6 @@
 //! Moves, with what they say of the ends of runners.
 ghost use Rattle.std.specs.Prelude.{◌≡◌, IfOk, OnOk};
-ghost use Rattle.stm_world.specs.declared.event.WorldEvent.TheVariants.{Step};
+ghost use Rattle.stm_events.specs.declared.event.WorldEvent.TheVariants.{Step};
 ghost use Rattle.stm_world.specs.World.{step, world_after, replies_to};
 ghost use Rattle.stm_schedules.specs.declared.moves.Move.TheVariants.{Step as StepOf, Other};
 ghost use Rattle.stm_schedules.specs.Fewer.{quiet_runner};

@@ -8,7 +8,7 @@ use Rattle.stm_texts.specs.Writing.{written_event}
 use Rattle.stm_schedules.specs.declared.moves.Move.{Move}
 use Rattle.stm_schedules.specs.Places.{event_of, left_after}
 use Rattle.stm_schedules.specs.Schedules.{events_along}
-use Rattle.stm_world.specs.declared.event.WorldEvent.{WorldEvent}
+use Rattle.stm_events.specs.declared.event.WorldEvent.{WorldEvent}
 
 -- ---- the events of moves
 

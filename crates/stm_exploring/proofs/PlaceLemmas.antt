@@ -1,7 +1,7 @@
 -- The place from which the schedules of a scenario go, as the code has it at hand.
 use Rattle.std.proofs.Common.{◌≡◌, List, [], ap, ◌∙◌}
 use Rattle.stm_txn.specs.Standing.{Setup}
-use Rattle.stm_world.specs.declared.event.WorldEvent.{WorldEvent}
+use Rattle.stm_events.specs.declared.event.WorldEvent.{WorldEvent}
 use Rattle.stm_world.specs.World.{World, opened, world_after, replies_to}
 use Rattle.stm_schedules.specs.Outcomes.{after_replies}
 use Rattle.stm_schedules.specs.Places.{Place}

@@ -19,8 +19,8 @@ use Rattle.stm_texts.specs.declared.scenario.Scenario.{Scenario}
 use Rattle.stm_texts.proofs.GrammarSound.{scenario_sound}
 use Rattle.stm_texts.specs.declared.scenario.Opening.{Opening}
 use Rattle.stm_json.specs.Parts.{SpellsEach}
-use Rattle.stm_world.specs.declared.event.WorldEvent.{WorldEvent}
-use Rattle.stm_world.specs.declared.event.WorldEvent.TheVariants as event
+use Rattle.stm_events.specs.declared.event.WorldEvent.{WorldEvent}
+use Rattle.stm_events.specs.declared.event.WorldEvent.TheVariants as event
 use Rattle.stm_exploring.specs.Asking.{first_step, events_at, scenario_at, without_step, asked}
 use Rattle.stm_exploring.specs.Laws.{AreNumbered, SchedulesSpell}
 

@@ -1,7 +1,7 @@
 -- Lines behind one another.
 use Rattle.std.proofs.Common.{◌≡◌, ◌∙◌, ℕ, suc, ◌+◌, ◌<◌, List, [], ◌∷◌, ◌++◌, length, drop, get_or, map, refl, sym, ap, subst, append_assoc, append-nil, arith}
 use Rattle.std.proofs.lemmas.List.{drop_more}
-use Rattle.stm_world.specs.declared.event.WorldEvent.{WorldEvent}
+use Rattle.stm_events.specs.declared.event.WorldEvent.{WorldEvent}
 use Rattle.stm_world.specs.World.{World, step, opened, replies_to}
 use Rattle.stm_faulted_runs.specs.Lines.{Origin, FaultReport, IsLineOf, ExplainsEach, Adds, reported_by, faults_reported, faults_from}
 use Rattle.stm_faulted_runs.specs.declared.jobs.FaultedJob.{FaultedJob}

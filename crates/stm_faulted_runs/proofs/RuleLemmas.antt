@@ -3,7 +3,7 @@ use Rattle.std.proofs.Common.{◌≡◌, ◌∙◌, List, ap, subst}
 use Rattle.stm_history.specs.History.{History}
 use Rattle.stm_steps.specs.declared.state.StateEntry.{StateEntry}
 use Rattle.stm_journal.specs.StateOf.{IsStateOf}
-use Rattle.stm_world.specs.declared.event.WorldEvent.{WorldEvent}
+use Rattle.stm_events.specs.declared.event.WorldEvent.{WorldEvent}
 use Rattle.stm_world.specs.World.{World, opened, world_after}
 use Rattle.stm_texts.specs.declared.scenario.Scenario.{Scenario}
 use Rattle.stm_faulted_runs.specs.Rules.{left_by}

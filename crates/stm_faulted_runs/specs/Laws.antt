@@ -1,7 +1,7 @@
 -- What runs are: runners are the runs that events begin, in their order.
 use Rattle.std.specs.Prelude.{◌≡◌, ℕ, ◌+◌, List, map, reverse, Some, slice_get}
 use Rattle.stm_txn.specs.Standing.{Setup}
-use Rattle.stm_world.specs.declared.event.WorldEvent.{WorldEvent}
+use Rattle.stm_events.specs.declared.event.WorldEvent.{WorldEvent}
 use Rattle.stm_world.specs.Task.{Task}
 use Rattle.stm_world.specs.Log.{Line, begun}
 use Rattle.stm_world.specs.Right.{AreRight}

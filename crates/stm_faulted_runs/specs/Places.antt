@@ -8,8 +8,8 @@ use Rattle.stm_program.specs.Syntax.{ProgramTree}
 use Rattle.stm_program_json.specs.Reading.{first_statement}
 use Rattle.stm_steps.specs.declared.fault.Fault.{Fault}
 use Rattle.stm_steps.specs.Answer.{Lookup}
-use Rattle.stm_world.specs.declared.event.WorldEvent.{WorldEvent}
-use Rattle.stm_world.specs.declared.event.WorldEvent.TheVariants.{Start}
+use Rattle.stm_events.specs.declared.event.WorldEvent.{WorldEvent}
+use Rattle.stm_events.specs.declared.event.WorldEvent.TheVariants.{Start}
 use Rattle.stm_sites.specs.declared.finding.FoundFault.{FoundFault}
 use Rattle.stm_sites.specs.Found.{fault_of}
 

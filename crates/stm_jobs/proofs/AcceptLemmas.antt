@@ -5,7 +5,7 @@ use Rattle.stm_json.specs.declared.read_error.ReadError.{ReadError}
 use Rattle.stm_json.specs.declared.read_error.ReadError.TheVariants.{OutOfMemory, Bad}
 use Rattle.stm_json.specs.Outcome.{Outcome, ◌>>=◌, inside, within}
 use Rattle.stm_json.specs.Returns.{Returns, ReturnsFault, Wraps}
-use Rattle.stm_world.specs.declared.event.WorldEvent.{WorldEvent}
+use Rattle.stm_events.specs.declared.event.WorldEvent.{WorldEvent}
 use Rattle.stm_jobs.specs.Accepting.{Sorted, add_event, add_events}
 
 -- ---- an outcome within an array

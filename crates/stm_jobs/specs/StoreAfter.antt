@@ -4,7 +4,7 @@
 -- our own.
 use Rattle.std.specs.Prelude.{List}
 use Rattle.stm_txn.specs.Standing.{Standing, Setup, kept}
-use Rattle.stm_world.specs.declared.event.WorldEvent.{WorldEvent}
+use Rattle.stm_events.specs.declared.event.WorldEvent.{WorldEvent}
 use Rattle.stm_world.specs.World.{opened, world_after}
 
 -- The store that opens so and has taken these calls: what it has kept of its history, which is all of it where it was never

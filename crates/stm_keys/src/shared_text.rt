@@ -30,8 +30,8 @@ impl Model for SharedText {
 }
 
 impl SharedText {
-    /// A text that can be shared.
-    pub(crate) fn new(alloc: Global, text: Text) -> Result<SharedText, AllocError>
+    /// A text that can be shared. It fails where an allocation failed.
+    pub fn new(alloc: Global, text: Text) -> Result<SharedText, AllocError>
         ensures { IfOk result (λ s. s ≡ text) }
     {
         let text = Arc::new(alloc, text)?;

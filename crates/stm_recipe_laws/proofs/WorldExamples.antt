@@ -26,9 +26,9 @@ use Rattle.stm_entries.specs.Replay.{replay, replay_entry}
 use Rattle.stm_recipes.specs.Accounts.{transfer_program, deposit_program}
 use Rattle.stm_recipes.specs.Queues.{enqueue_program, dequeue_program}
 use Rattle.stm_recipes.specs.Slots.{reserve_program, release_program}
-use Rattle.stm_world.specs.declared.event.WorldEvent.{WorldEvent}
-use Rattle.stm_world.specs.declared.event.WorldEvent.TheVariants.{Start, Step, Txn as TxnEvent}
-use Rattle.stm_world.specs.declared.reply.Reply.TheVariants.{Started, Fetched, Committed, Conflict, Aborted, Txn as TxnDone}
+use Rattle.stm_events.specs.declared.event.WorldEvent.{WorldEvent}
+use Rattle.stm_events.specs.declared.event.WorldEvent.TheVariants.{Start, Step, Txn as TxnEvent}
+use Rattle.stm_events.specs.declared.reply.Reply.TheVariants.{Started, Fetched, Committed, Conflict, Aborted, Txn as TxnDone}
 use Rattle.stm_world.specs.World.{opened, start_runner, fetch, commit, step_live, replies_to}
 use Rattle.stm_recipe_laws.specs.Accounts.{total_now, counted_total, AreOfAccounts, Transfers, Deposits}
 use Rattle.stm_recipe_laws.specs.Queues.{AreOfQueue, Enqueues, Dequeues, Kept}

@@ -11,7 +11,7 @@ use Rattle.stm_entries.specs.Replay.{replay, replay_entry}
 use Rattle.stm_entries.specs.Replayed.{Replayed, opening, without_moment}
 use Rattle.stm_entries.proofs.Replaying.{replay_goes_on, all_legal, front_legal, rest_legal}
 use Rattle.stm_recipes.specs.Accounts.{sum_of}
-use Rattle.stm_world.specs.declared.event.WorldEvent.{WorldEvent}
+use Rattle.stm_events.specs.declared.event.WorldEvent.{WorldEvent}
 use Rattle.stm_world.specs.World.{opened, world_after}
 use Rattle.stm_world.proofs.Headlines.{headline}
 use Rattle.stm_recipe_laws.specs.Accounts.{total_now, counted_total, AreAccounts, AreOfAccounts, deposits_of}

@@ -4,7 +4,7 @@ use Rattle.stm_history.specs.History.{History}
 use Rattle.stm_entries.specs.declared.entry.Entry.{Entry}
 use Rattle.stm_entries.specs.Replayed.{opening}
 use Rattle.stm_entries.specs.Replay.{replay, replay_entry}
-use Rattle.stm_world.specs.declared.event.WorldEvent.{WorldEvent}
+use Rattle.stm_events.specs.declared.event.WorldEvent.{WorldEvent}
 use Rattle.stm_world.specs.World.{opened, world_after}
 use Rattle.stm_recipe_laws.specs.Accounts.{total_now, counted_total, AreAccounts, AreOfAccounts, deposits_of}
 use Rattle.stm_recipe_laws.specs.Queues.{AreOfQueue, all_added, all_taken, Kept}

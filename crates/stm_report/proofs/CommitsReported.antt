@@ -21,8 +21,9 @@ use Rattle.stm_entries.specs.Replayed.{Replayed, without_moment}
 use Rattle.stm_entries.specs.Alone.{seen_at, left_by, left_by_run}
 use Rattle.stm_entries.specs.declared.entry.Entry.TheVariants.{Program}
 use Rattle.stm_entries.specs.Legal.{IsCommit}
-use Rattle.stm_lines.specs.Lines.{answer_reported}
-use Rattle.stm_world.specs.Asked.{keys_first_read, keys_read}
+use Rattle.stm_reports.specs.Lines.{answer_reported}
+use Rattle.stm_events.specs.FirstReads.{keys_first_read}
+use Rattle.stm_world.specs.Asked.{keys_read}
 use Rattle.stm_world.specs.Right.{Situation, IsCommitted}
 use Rattle.stm_check.specs.Point.{reads_in, led_by}
 use Rattle.stm_check.specs.Replays.{AreTrulyReported, keys_reported, IsRightCommit}

@@ -5,7 +5,7 @@ use Rattle.std.proofs.lemmas.List.{drop_all}
 use Rattle.serde_json.specs.Data.{Data}
 use Rattle.stm_history.specs.declared.key_state.KeyState.{KeyState}
 use Rattle.stm_history.specs.History.{History, key_now}
-use Rattle.stm_lines.specs.Lines.{key_line}
+use Rattle.stm_reports.specs.Lines.{key_line}
 use Rattle.stm_reports.specs.declared.line.ReportLine.{ReportLine}
 use Rattle.stm_reports.specs.LineData.{line_data}
 use Rattle.stm_check.specs.StoreLines.{key_lines_of, key_lines}

@@ -19,14 +19,14 @@ use Rattle.stm_entries.proofs.Replaying.{rest_legal}
 use Rattle.stm_reports.specs.declared.causes.RefusalName.TheVariants.{NoRunner as NoRunnerReported}
 use Rattle.stm_reports.specs.declared.line.ReportLine.{ReportLine}
 use Rattle.stm_reports.specs.declared.line.ReportLine.TheVariants.{Refused}
-use Rattle.stm_world.specs.declared.event.WorldEvent.{WorldEvent}
-use Rattle.stm_world.specs.declared.event.WorldEvent.TheVariants.{Start, Step, Txn, Grant, Keep, Revoke, Advance, WatchKey, WatchRange, Poll, Cancel, Compact}
-use Rattle.stm_world.specs.declared.reply.Reply.{Reply}
-use Rattle.stm_world.specs.declared.reply.Reply.TheVariants.{Started, Prefetched, Fetched, Committed, Conflict, GaveUp, Aborted, Faulted, Ended}
-use Rattle.stm_world.specs.declared.reply.Reply.TheVariants.{Txn as TxnDone, Granted, Kept, Revoked, Watching, Cancelled, Compacted}
-use Rattle.stm_world.specs.declared.refusal.Denied.{Denied}
-use Rattle.stm_world.specs.declared.refusal.Refusal.TheVariants.{BadLimit, NoRunner}
-use Rattle.stm_world.specs.Reported.{denied, reply_to, advance_reply, poll_reply}
+use Rattle.stm_events.specs.declared.event.WorldEvent.{WorldEvent}
+use Rattle.stm_events.specs.declared.event.WorldEvent.TheVariants.{Start, Step, Txn, Grant, Keep, Revoke, Advance, WatchKey, WatchRange, Poll, Cancel, Compact}
+use Rattle.stm_events.specs.declared.reply.Reply.{Reply}
+use Rattle.stm_events.specs.declared.reply.Reply.TheVariants.{Started, Prefetched, Fetched, Committed, Conflict, GaveUp, Aborted, Faulted, Ended}
+use Rattle.stm_events.specs.declared.reply.Reply.TheVariants.{Txn as TxnDone, Granted, Kept, Revoked, Watching, Cancelled, Compacted}
+use Rattle.stm_events.specs.declared.refusal.Denied.{Denied}
+use Rattle.stm_events.specs.declared.refusal.Refusal.TheVariants.{BadLimit, NoRunner}
+use Rattle.stm_events.specs.Replies.{denied, reply_to, advance_reply, poll_reply}
 use Rattle.stm_world.specs.Task.{Task}
 use Rattle.stm_world.specs.Log.{Line, begun, is_over, running, started, failures, store, with_commit, commit_entry, line_entries, entries_reported}
 use Rattle.stm_world.specs.Right.{IsRight, StepIsRight, RunnerIsRight, StartIsRight, Situation, situation}
@@ -36,7 +36,7 @@ use Rattle.stm_world.proofs.Headlines.{Follows, step_follows, opened_follows}
 use Rattle.stm_world.proofs.RunnerSteps.{CommitLaws}
 use Rattle.stm_world.proofs.Slots.{same_number, other_number}
 use Rattle.stm_world.proofs.Untouched.{IsFresh}
-use Rattle.stm_lines.specs.Lines.{line_reported, answer_reported}
+use Rattle.stm_reports.specs.Lines.{line_reported, answer_reported}
 use Rattle.stm_check.specs.declared.runner.Runner.{Runner}
 use Rattle.stm_check.specs.Fits.{number_of, is_number, can_have, fits}
 use Rattle.stm_check.specs.Point.{Point, committed_entry, commit_entries, entries_reported as reported_entries, led_by, standing_after, after}

@@ -1,8 +1,8 @@
 -- Laws of the formats.
 use Rattle.std.specs.Prelude.{◌≡◌, ℕ, List, [], ◌∷◌, ◌+◌, ◌||◌, length, Bool, false, if◌then◌else◌, nat_eq, Result}
-use Rattle.stm_world.specs.declared.event.WorldEvent.{WorldEvent}
-use Rattle.stm_world.specs.declared.reply.Reply.{Reply}
-use Rattle.stm_world.specs.declared.refusal.Denied.{Denied}
+use Rattle.stm_events.specs.declared.event.WorldEvent.{WorldEvent}
+use Rattle.stm_events.specs.declared.reply.Reply.{Reply}
+use Rattle.stm_events.specs.declared.refusal.Denied.{Denied}
 use Rattle.stm_world.specs.World.{World, replies_to}
 use Rattle.stm_report.specs.FormatEscaped.{escaped}
 use Rattle.stm_report.specs.FormatRows.{rows_of, AreNumbered}

@@ -3,9 +3,9 @@ use Rattle.std.specs.Prelude.{ℕ, ◌-◌, suc, List, [], ◌∷◌, ◌++◌, 
 use Rattle.stm_history.specs.declared.key_state.KeyState.{KeyState}
 use Rattle.stm_history.specs.History.{History, now, key_now}
 use Rattle.stm_txn.specs.PresentKeys.{keys_present}
-use Rattle.stm_world.specs.declared.reply.Reply.{Reply}
-use Rattle.stm_world.specs.declared.reply.Reply.TheVariants.{Started, Committed, GaveUp, Aborted, Faulted, Ended}
-use Rattle.stm_world.specs.declared.refusal.Denied.{Denied}
+use Rattle.stm_events.specs.declared.reply.Reply.{Reply}
+use Rattle.stm_events.specs.declared.reply.Reply.TheVariants.{Started, Committed, GaveUp, Aborted, Faulted, Ended}
+use Rattle.stm_events.specs.declared.refusal.Denied.{Denied}
 use Rattle.stm_world.specs.World.{World}
 use Rattle.stm_report.specs.FormatShown.{shown}
 use Rattle.stm_report.specs.FormatPieces.{joined}

@@ -1,10 +1,10 @@
 -- The rows of a report: one for each event.
 use Rattle.std.specs.Prelude.{◌≡◌, ℕ, suc, List, [], ◌∷◌, Result, Ok, Err}
-use Rattle.stm_world.specs.declared.event.WorldEvent.{WorldEvent}
-use Rattle.stm_world.specs.declared.event.WorldEvent.TheVariants as event
-use Rattle.stm_world.specs.declared.reply.Reply.{Reply}
-use Rattle.stm_world.specs.declared.reply.Reply.TheVariants as reply
-use Rattle.stm_world.specs.declared.refusal.Denied.{Denied}
+use Rattle.stm_events.specs.declared.event.WorldEvent.{WorldEvent}
+use Rattle.stm_events.specs.declared.event.WorldEvent.TheVariants as event
+use Rattle.stm_events.specs.declared.reply.Reply.{Reply}
+use Rattle.stm_events.specs.declared.reply.Reply.TheVariants as reply
+use Rattle.stm_events.specs.declared.refusal.Denied.{Denied}
 use Rattle.stm_report.specs.declared.format_row.Lane.{Lane}
 use Rattle.stm_report.specs.declared.format_row.Lane.TheVariants.{Store, Runner}
 use Rattle.stm_report.specs.declared.format_row.Mark.{Mark}

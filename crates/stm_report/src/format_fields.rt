@@ -3,13 +3,13 @@ ghost use Rattle.std.specs.Prelude.{◌≡◌, false, map, IfOk};
 ghost use Rattle.serde_json.specs.Data.{no_members};
 ghost use Rattle.serde_json.specs.View.{view, items_view, members_view};
 ghost use Rattle.serde_json.specs.Written.{has_float};
-ghost use Rattle.stm_lines.specs.Lines.{IsOfRunner};
+ghost use Rattle.stm_reports.specs.Lines.{IsOfRunner};
 ghost use Rattle.stm_report.specs.FormatFields.{members_named, object_of, reply_fields, event_fields, event_object, key_object, lease_object, end_object};
 
 use serde_json::{Map, Value as Json};
 use std::alloc::{AllocError, Global};
 use stm_history::KeyState;
-use stm_lines::{end_json, event_json, key_json, lease_json};
+use stm_reports::{end_json, event_json, key_json, lease_json};
 use stm_retry::{Denied, Reply};
 
 /// The members that have these values under these names.

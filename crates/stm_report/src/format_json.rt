@@ -1,32 +1,20 @@
 //! A report as objects.
-ghost use Rattle.std.specs.Prelude.{◌≡◌, ◌++◌, false, map, IfOk, OnOk, string_bytes};
+ghost use Rattle.std.specs.Prelude.{◌≡◌, ◌++◌, map, IfOk, OnOk, string_bytes};
 ghost use Rattle.std.specs.FinMap as finmap;
-ghost use Rattle.serde_json.specs.View.{view};
-ghost use Rattle.serde_json.specs.Written.{has_float};
 ghost use Rattle.stm_history.specs.History.{key_now};
 ghost use Rattle.stm_leases.specs.Live.{Live};
 ghost use Rattle.stm_entries.specs.LiveLeases.{HasLeases};
-ghost use Rattle.stm_reports.specs.Text.{line_text, lines_text};
+ghost use Rattle.stm_reports.specs.Text.{lines_text};
 ghost use Rattle.stm_report.specs.FormatFields.{event_objects, objects_of_key, key_objects, objects_of_leases, json_text};
 
 use crate::format_fields::{end_object, event_object, key_object, lease_object};
 use crate::leases::live_leases;
-use serde_json::Value as Json;
 use std::alloc::{AllocError, Global};
 use std::collections::BTreeMap;
 use stm_journal::present_keys;
 use stm_entries::LiveLease;
+use stm_reports::push_line;
 use stm_retry::{Denied, Reply, Store, World};
-
-/// Adds an object as a line.
-fn push_object(alloc: Global, text: &mut String, object: &Json) -> Result<(), AllocError>
-    requires { has_float (view object.now) ≡ false }
-    ensures { OnOk result (string_bytes text.new ≡ string_bytes text.old ++ line_text (view object.now)) }
-{
-    let compact = object.to_string(alloc)?;
-    text.push_str(compact.as_str())?;
-    text.push('\n')
-}
 
 /// Adds an object for each event, numbered from 1.
 fn push_events(
@@ -38,7 +26,7 @@ fn push_events(
 {
     for (before, reply) in replies.iter().enumerate() {
         let object = event_object(alloc, before as u64 + 1, reply)?;
-        push_object(alloc, text, &object)?;
+        push_line(alloc, text, &object)?;
     }
     Ok(())
 }
@@ -52,7 +40,7 @@ fn push_key(alloc: Global, text: &mut String, store: &Store, key: &str) -> Resul
         None => Ok(()),
         Some(state) => {
             let object = key_object(alloc, key, state)?;
-            push_object(alloc, text, &object)
+            push_line(alloc, text, &object)
         }
     }
 }
@@ -84,7 +72,7 @@ fn push_leases(
 {
     for (id, lease) in leases {
         let object = lease_object(alloc, *id, lease.ttl, lease.renewed)?;
-        push_object(alloc, text, &object)?;
+        push_line(alloc, text, &object)?;
     }
     Ok(())
 }
@@ -105,6 +93,6 @@ pub(crate) fn json_text(
     push_leases(alloc, &mut text, &leases)?;
     let revision = world.store().keys().revision();
     let end = end_object(alloc, revision, world.history().len() as u64)?;
-    push_object(alloc, &mut text, &end)?;
+    push_line(alloc, &mut text, &end)?;
     Ok(text)
 }

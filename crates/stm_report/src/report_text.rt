@@ -12,8 +12,7 @@ use std::alloc::{AllocError, Global};
 use std::collections::BTreeMap;
 use stm_journal::present_keys;
 use stm_entries::LiveLease;
-use stm_lines::{end_json, event_json, key_json, lease_json};
-use stm_reports::push_line;
+use stm_reports::{end_json, event_json, key_json, lease_json, push_line};
 use stm_retry::{Denied, Reply, Store, World};
 
 /// Adds a line for each event, numbered from 1.

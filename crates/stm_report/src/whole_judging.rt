@@ -1,7 +1,6 @@
 //! From the bytes of a scenario and of a report to what the comparison comes to.
 ghost use Rattle.std.specs.Prelude.{◌≡◌, ◌≤◌, ◌+◌, length, IsTrue, true, false};
 ghost use Rattle.stm_devices.specs.declared.transfer.TheConstants.{MOST_READ};
-ghost use Rattle.stm_check.specs.Judging.{HasRead};
 ghost use Rattle.stm_json.specs.declared.limits.TheConstants.{MOST_BYTES};
 ghost use Rattle.stm_report.specs.WholeComparing.{is_yes};
 ghost use Rattle.stm_report.specs.WholeJudging.{HasForm, JudgesText, MakesReport, Judges};
@@ -9,8 +8,8 @@ ghost use Rattle.stm_report.specs.WholeJudging.{HasForm, JudgesText, MakesReport
 use crate::run_script::{ScriptFault, script};
 use crate::whole_comparing::{WholeChecked, compared};
 use std::alloc::Global;
-use stm_check::CheckFault;
-use stm_devices::{ReadFault, Source, Std, read_all};
+use stm_check::{CheckFault, bytes_of};
+use stm_devices::{Source, Std};
 use stm_json::{MOST_BYTES, ReadError};
 use stm_reports::read_report;
 
@@ -70,19 +69,6 @@ fn expected_of<S: Source>(alloc: Global, scenario: &mut S) -> Result<Vec<u8>, Ch
     }
 }
 
-/// The bytes of a source, up to so many as `stm_devices::MOST_READ`.
-fn given_of<R: Source>(alloc: Global, report: &mut R) -> Result<Vec<u8>, CheckFault>
-    requires { R.failed report.old ≡ false }
-    ensures bytes { HasRead (λ bytes. bytes.items) (R.left report.old) (R.failed report.new) result }
-    ensures bounded { R.reads report.new ≤ R.reads report.old + MOST_READ }
-{
-    match read_all(alloc, report) {
-        Ok(bytes) => Ok(bytes),
-        Err(ReadFault::OutOfMemory) => Err(CheckFault::OutOfMemory),
-        Err(ReadFault::Device) => Err(CheckFault::Device),
-    }
-}
-
 /// Reads a scenario from its source to the end, then a text from its own, and compares the text with the report that `script`
 /// writes of the scenario, line by line.
 ///
@@ -110,7 +96,7 @@ pub fn check_whole<S: Source, R: Source>(
         Ok(expected) => expected,
         Err(fault) => return Err(fault),
     };
-    let given = match given_of(alloc, report) {
+    let given = match bytes_of(alloc, report) {
         Ok(given) => given,
         Err(fault) => return Err(fault),
     };

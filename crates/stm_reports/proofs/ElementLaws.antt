@@ -19,11 +19,11 @@ use Rattle.stm_json.proofs.FaultLemmas.{fault_of, wrong_is, made}
 use Rattle.stm_json.proofs.ListLemmas.{list_sound, each_reads}
 use Rattle.stm_json.proofs.PartLemmas.{list_is}
 use Rattle.stm_reports.specs.declared.line.ReportedAnswer.{ReportedAnswer}
-use Rattle.stm_reports.specs.declared.line.ReportedEvent.{ReportedEvent}
-use Rattle.stm_reports.specs.declared.line.ReportedEvent.TheVariants as event
+use Rattle.stm_keys.specs.declared.event.Event.{Event}
+use Rattle.stm_keys.specs.declared.event.Event.TheVariants as event
 use Rattle.stm_reports.specs.declared.line.ReportedOp.{ReportedOp}
 use Rattle.stm_reports.specs.declared.line.ReportedOp.TheVariants as op
-use Rattle.stm_reports.specs.declared.line.ReportedRead.{ReportedRead}
+use Rattle.stm_events.specs.declared.reply.KeyRead.{KeyRead}
 use Rattle.stm_reports.specs.Elements.{six_of}
 use Rattle.stm_reports.specs.FirstFault.{or_null, plain_faults, list_of as list_faults, state_sorts, trace_table, answer_sorts, op_table}
 use Rattle.stm_reports.specs.FirstFault.{read_sorts, expired_sorts, watched_table}
@@ -257,31 +257,31 @@ op_reads d (op.Del count) s fits =
 abbrev read_row_parts : Row (List ℕ × (ℕ × Unit {0}))
 read_row_parts = text_part & whole_part & nothing
 
-abbrev read_made : List ℕ × (ℕ × Unit {0}) → ReportedRead
+abbrev read_made : List ℕ × (ℕ × Unit {0}) → KeyRead
 read_made x = read_with x.0 (second x)
 
-abbrev read_from : Items → Outcome ReportedRead
+abbrev read_from : Items → Outcome KeyRead
 read_from ds = read_parts (two_of ds)
 
 read_is : (ds : Items) → read_from ds ≡ read_row read_row_parts 0 read_made ds
-read_is = two_counted (read_row_parts.read ReportedRead 0 read_made) AnyText any_number read_parts refl (λ a b. refl)
+read_is = two_counted (read_row_parts.read KeyRead 0 read_made) AnyText any_number read_parts refl (λ a b. refl)
 
 pub read_reported : (p : List ℕ) (d : Data) → first_of (plain_faults read_sorts p d) ≡ fault_of p (read_of d)
 unfolding read_of
 read_reported p (array ds) = plain_reported read_row_parts read_made read_from read_is p ds
-read_reported p _ = wrong_is {A = ReportedRead} p Shape (bad Shape) refl
+read_reported p _ = wrong_is {A = KeyRead} p Shape (bad Shape) refl
 
-read_array-means : (d : Data) (o : Option Items) (x : ReportedRead) → as_array d ≡ o → read_array o ≡ Ok x → Spells d (read_data x)
+read_array-means : (d : Data) (o : Option Items) (x : KeyRead) → as_array d ≡ o → read_array o ≡ Ok x → Spells d (read_data x)
 read_array-means d None x e h = cc
 read_array-means d (Some ds) x e h =
     subst (λ (y : Data). Spells y (read_data x)) (sym (list_is d ds e))
     (plain_means read_row_parts read_made read_from read_is read_data (λ y. refl) ds x h)
 
-pub read_means : (d : Data) (x : ReportedRead) → read_of d ≡ Ok x → Spells d (read_data x)
+pub read_means : (d : Data) (x : KeyRead) → read_of d ≡ Ok x → Spells d (read_data x)
 unfolding read_of
 read_means d x h = read_array-means d (as_array d) x refl h
 
-pub read_reads : (d : Data) (x : ReportedRead) → Spells d (read_data x) → read_of d ≡ Ok x
+pub read_reads : (d : Data) (x : KeyRead) → Spells d (read_data x) → read_of d ≡ Ok x
 unfolding read_of
 read_reads d x (ds, is, m) = rw is (row_reads read_row_parts 0 read_made read_from read_is ds (x.key, (x.mod_rev, tt)) m (tt, (tt, tt)))
 
@@ -323,23 +323,23 @@ expired_reads d x (ds, is, m) = rw is (row_reads expired_row 0 expired_made expi
 abbrev delete_row : Row (List ℕ × (ℕ × Unit {0}))
 delete_row = text_part & whole_part & nothing
 
-abbrev delete_made : List ℕ × (ℕ × Unit {0}) → ReportedEvent
+abbrev delete_made : List ℕ × (ℕ × Unit {0}) → Event
 delete_made x = event.Delete x.0 (second x)
 
-abbrev delete_from : Items → Outcome ReportedEvent
+abbrev delete_from : Items → Outcome Event
 delete_from ds = event_delete_of (two_of ds)
 
 delete_is : (ds : Items) → delete_from ds ≡ read_row delete_row 1 delete_made ds
-delete_is = two_counted (delete_row.read ReportedEvent 1 delete_made) AnyText any_number event_delete_of refl (λ a b. refl)
+delete_is = two_counted (delete_row.read Event 1 delete_made) AnyText any_number event_delete_of refl (λ a b. refl)
 
 event_put_reported : (p : List ℕ) (ds : Items) → first_of (sorted_faults p (Some keyed_sorts) ds) ≡ fault_of p (event_put_of (six_of ds))
 event_put_reported p ds = made p (keyed_of (six_of ds)) (λ q. event.Put q.0 q.1) (sorted_faults p (Some keyed_sorts) ds) (keyed_reported p ds)
 
-event_put_means : (ds : Items) (e : ReportedEvent) → event_put_of (six_of ds) ≡ Ok e → Spells (worded_array (codes "PUT") ds) (event_data e)
+event_put_means : (ds : Items) (e : Event) → event_put_of (six_of ds) ≡ Ok e → Spells (worded_array (codes "PUT") ds) (event_data e)
 event_put_means ds e h =
     let q = bind_ok (keyed_of (six_of ds)) _ e h in
     let is : event.Put (q.0).0 (q.0).1 ≡ e = cc q.2 in
-    subst (λ (y : ReportedEvent). Spells (worded_array (codes "PUT") ds) (event_data y)) is
+    subst (λ (y : Event). Spells (worded_array (codes "PUT") ds) (event_data y)) is
     (worded_spells ds (codes "PUT") (keyed_items q.0) (keyed_means ds q.0 q.1))
 
 event_put_reads : (ds : Items) (key : List ℕ) (s : KeyState) → SpellsItems ds (items_of (keyed_items (key, s)))
@@ -353,14 +353,14 @@ event_tested : (p : List ℕ) (ds : Items) (puts deletes : Bool)
     ≡ fault_of p (cond puts (event_put_of (six_of ds)) (cond deletes (event_delete_of (two_of ds)) (bad Shape)))
 event_tested p ds true deletes = event_put_reported p ds
 event_tested p ds false true = behind_reported delete_row delete_made delete_from delete_is p ds
-event_tested p ds false false = wrong_is {A = ReportedEvent} p Shape (bad Shape) refl
+event_tested p ds false false = wrong_is {A = Event} p Shape (bad Shape) refl
 
 pub event_reported : (p : List ℕ) (d : Data) → first_of (worded_faults watched_table p d) ≡ fault_of p (event_of d)
 unfolding event_of
 event_reported p (array (item (string w) ds)) = event_tested p ds (same w (codes "PUT")) (same w (codes "DELETE"))
-event_reported p _ = wrong_is {A = ReportedEvent} p Shape (bad Shape) refl
+event_reported p _ = wrong_is {A = Event} p Shape (bad Shape) refl
 
-event_word : (d : Data) (p : List ℕ × Items) (e : ReportedEvent) (puts deletes : Bool) → worded d ≡ Some p → same p.0 (codes "PUT") ≡ puts
+event_word : (d : Data) (p : List ℕ × Items) (e : Event) (puts deletes : Bool) → worded d ≡ Some p → same p.0 (codes "PUT") ≡ puts
     → same p.0 (codes "DELETE") ≡ deletes
     → cond puts (event_put_of (six_of p.1)) (cond deletes (event_delete_of (two_of p.1)) (bad Shape)) ≡ Ok e → Spells d (event_data e)
 event_word d p e true deletes is u l h =
@@ -370,15 +370,15 @@ event_word d p e false true is u l h =
     of_word d p (codes "DELETE") (event_data e) is ((bytes_eq-Decides p.0 (codes "DELETE")).0 l) m.0
 event_word d p e false false is u l h = cc
 
-event_array : (d : Data) (o : Option (List ℕ × Items)) (e : ReportedEvent) → worded d ≡ o → event_worded o ≡ Ok e → Spells d (event_data e)
+event_array : (d : Data) (o : Option (List ℕ × Items)) (e : Event) → worded d ≡ o → event_worded o ≡ Ok e → Spells d (event_data e)
 event_array d None e is h = cc
 event_array d (Some p) e is h = event_word d p e (same p.0 (codes "PUT")) (same p.0 (codes "DELETE")) is refl refl h
 
-pub event_means : (d : Data) (e : ReportedEvent) → event_of d ≡ Ok e → Spells d (event_data e)
+pub event_means : (d : Data) (e : Event) → event_of d ≡ Ok e → Spells d (event_data e)
 unfolding event_of
 event_means d e h = event_array d (worded d) e refl h
 
-pub event_reads : (d : Data) (e : ReportedEvent) → Spells d (event_data e) → event_of d ≡ Ok e
+pub event_reads : (d : Data) (e : Event) → Spells d (event_data e) → event_of d ≡ Ok e
 unfolding event_of
 event_reads d (event.Put key state) s =
     let w = worded_shape d (codes "PUT") (keyed_items (key, state)) s in

@@ -18,9 +18,9 @@ use Rattle.stm_reports.specs.declared.line.ReportLine.{ReportLine}
 use Rattle.stm_reports.specs.declared.line.ReportLine.TheVariants.{Started, Prefetched, Fetched, Committed, Conflict, GaveUp, Aborted, Faulted, Ended, Txn, Granted}
 use Rattle.stm_reports.specs.declared.line.ReportLine.TheVariants.{Kept, Revoked, Advanced, Compacted, Watching, Cancelled, Batch, Lost, Refused}
 use Rattle.stm_reports.specs.declared.line.ReportedAnswer.{ReportedAnswer}
-use Rattle.stm_reports.specs.declared.line.ReportedEvent.{ReportedEvent}
+use Rattle.stm_keys.specs.declared.event.Event.{Event}
 use Rattle.stm_reports.specs.declared.line.ReportedOp.{ReportedOp}
-use Rattle.stm_reports.specs.declared.line.ReportedRead.{ReportedRead}
+use Rattle.stm_events.specs.declared.reply.KeyRead.{KeyRead}
 use Rattle.stm_reports.specs.declared.words.EventWord.{EventWord}
 use Rattle.stm_reports.specs.declared.words.EventWord.TheVariants as event
 use Rattle.stm_reports.specs.FirstFault.{flag_faults, value_faults, plain_faults, list_of as list_faults, fault_names, refusal_names, trace_table}
@@ -63,13 +63,13 @@ traces_part = list_part (worded_faults trace_table) trace_of trace_data trace_re
 abbrev answers_part : Part (List ReportedAnswer)
 answers_part = list_part (plain_faults answer_sorts) answer_of answer_data answer_reported answer_means answer_reads
 
-abbrev reads_part : Part (List ReportedRead)
+abbrev reads_part : Part (List KeyRead)
 reads_part = list_part (plain_faults read_sorts) read_of read_data read_reported read_means read_reads
 
 abbrev expireds_part : Part (List Expired)
 expireds_part = list_part (plain_faults expired_sorts) expired_of expired_data expired_reported expired_means expired_reads
 
-abbrev events_part : Part (List ReportedEvent)
+abbrev events_part : Part (List Event)
 events_part = list_part (worded_faults watched_table) event_of event_data event_reported event_means event_reads
 
 abbrev ops_part : Part (List ReportedOp)

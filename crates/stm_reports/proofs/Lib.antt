@@ -1,3 +1,4 @@
+pub mod Lists
 pub mod SameLemmas
 pub mod Shallow
 pub mod WordLaws

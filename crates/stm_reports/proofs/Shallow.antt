@@ -16,11 +16,11 @@ use Rattle.stm_reports.specs.declared.line.ReportLine.{ReportLine}
 use Rattle.stm_reports.specs.declared.line.ReportLine.TheVariants.{Started, Prefetched, Fetched, Committed, Conflict, GaveUp, Aborted, Faulted, Ended, Txn, Granted}
 use Rattle.stm_reports.specs.declared.line.ReportLine.TheVariants.{Kept, Revoked, Advanced, Compacted, Watching, Cancelled, Batch, Lost, Refused, Key, Lease, End}
 use Rattle.stm_reports.specs.declared.line.ReportedAnswer.{ReportedAnswer}
-use Rattle.stm_reports.specs.declared.line.ReportedEvent.{ReportedEvent}
-use Rattle.stm_reports.specs.declared.line.ReportedEvent.TheVariants as event
+use Rattle.stm_keys.specs.declared.event.Event.{Event}
+use Rattle.stm_keys.specs.declared.event.Event.TheVariants as event
 use Rattle.stm_reports.specs.declared.line.ReportedOp.{ReportedOp}
 use Rattle.stm_reports.specs.declared.line.ReportedOp.TheVariants as op
-use Rattle.stm_reports.specs.declared.line.ReportedRead.{ReportedRead}
+use Rattle.stm_events.specs.declared.reply.KeyRead.{KeyRead}
 use Rattle.stm_reports.specs.LineData.{value_data, trace_data, text_or_null, answer_data, state_or_null, op_data, read_data, expired_data, event_data, line_data}
 
 -- data with no float and no object, nested at most so deep
@@ -98,13 +98,13 @@ op_shallow (op.Get revision kv) = (tt, (refl, (state_shallow kv, tt)))
 op_shallow op.Put = (tt, tt)
 op_shallow (op.Del count) = (tt, (refl, tt))
 
-read_shallow : (r : ReportedRead) → IsShallow (read_data r) 3
+read_shallow : (r : KeyRead) → IsShallow (read_data r) 3
 read_shallow r = (tt, (refl, tt))
 
 expired_shallow : (e : Expired) → IsShallow (expired_data e) 3
 expired_shallow e = (refl, (refl, tt))
 
-event_shallow : (e : ReportedEvent) → IsShallow (event_data e) 3
+event_shallow : (e : Event) → IsShallow (event_data e) 3
 event_shallow (event.Put key state) = (tt, (tt, (tt, (refl, (refl, (refl, (refl, tt)))))))
 event_shallow (event.Delete key revision) = (tt, (tt, (refl, tt)))
 

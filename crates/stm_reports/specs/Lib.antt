@@ -2,7 +2,7 @@ pub mod Names
 pub mod Words
 pub mod LineData
 pub mod Text
-pub mod Reported
+pub mod Lines
 pub mod Elements
 pub mod Parts
 pub mod Bytes

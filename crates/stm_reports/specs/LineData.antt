@@ -17,11 +17,11 @@ use Rattle.stm_reports.specs.declared.line.ReportLine.{ReportLine}
 use Rattle.stm_reports.specs.declared.line.ReportLine.TheVariants.{Started, Prefetched, Fetched, Committed, Conflict, GaveUp, Aborted, Faulted, Ended, Txn, Granted}
 use Rattle.stm_reports.specs.declared.line.ReportLine.TheVariants.{Kept, Revoked, Advanced, Compacted, Watching, Cancelled, Batch, Lost, Refused, Key, Lease, End}
 use Rattle.stm_reports.specs.declared.line.ReportedAnswer.{ReportedAnswer}
-use Rattle.stm_reports.specs.declared.line.ReportedEvent.{ReportedEvent}
-use Rattle.stm_reports.specs.declared.line.ReportedEvent.TheVariants as event
+use Rattle.stm_keys.specs.declared.event.Event.{Event}
+use Rattle.stm_keys.specs.declared.event.Event.TheVariants as event
 use Rattle.stm_reports.specs.declared.line.ReportedOp.{ReportedOp}
 use Rattle.stm_reports.specs.declared.line.ReportedOp.TheVariants as op
-use Rattle.stm_reports.specs.declared.line.ReportedRead.{ReportedRead}
+use Rattle.stm_events.specs.declared.reply.KeyRead.{KeyRead}
 use Rattle.stm_reports.specs.Names.{refusal_text}
 
 abbrev pub list : List Data → Data
@@ -64,7 +64,7 @@ op_data op.Put = list (word (codes "put") ∷ [])
 op_data (op.Del count) = list (word (codes "del") ∷ whole count ∷ [])
 
 -- a key of a list
-abbrev pub read_data : ReportedRead → Data
+abbrev pub read_data : KeyRead → Data
 read_data r = list (string r.key ∷ whole r.mod_rev ∷ [])
 
 abbrev pub expired_data : Expired → Data
@@ -75,7 +75,7 @@ abbrev pub keyed_data : List ℕ → List ℕ → KeyState → Data
 keyed_data w key s =
     list (word w ∷ string key ∷ string s.value ∷ whole s.create_rev ∷ whole s.mod_rev ∷ whole s.version ∷ whole s.lease ∷ [])
 
-abbrev pub event_data : ReportedEvent → Data
+abbrev pub event_data : Event → Data
 event_data (event.Put key state) = keyed_data (codes "PUT") key state
 event_data (event.Delete key revision) = list (word (codes "DELETE") ∷ string key ∷ whole revision ∷ [])
 

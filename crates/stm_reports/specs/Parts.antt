@@ -16,11 +16,11 @@ use Rattle.stm_outcome.specs.declared.advance.Expired.{Expired}
 use Rattle.stm_json.specs.Parts.{on_text, text_of, same}
 use Rattle.stm_reports.specs.declared.causes.RefusalName.{RefusalName}
 use Rattle.stm_reports.specs.declared.line.ReportedAnswer.{ReportedAnswer}
-use Rattle.stm_reports.specs.declared.line.ReportedEvent.{ReportedEvent}
-use Rattle.stm_reports.specs.declared.line.ReportedEvent.TheVariants as event
+use Rattle.stm_keys.specs.declared.event.Event.{Event}
+use Rattle.stm_keys.specs.declared.event.Event.TheVariants as event
 use Rattle.stm_reports.specs.declared.line.ReportedOp.{ReportedOp}
 use Rattle.stm_reports.specs.declared.line.ReportedOp.TheVariants as op
-use Rattle.stm_reports.specs.declared.line.ReportedRead.{ReportedRead}
+use Rattle.stm_events.specs.declared.reply.KeyRead.{KeyRead}
 use Rattle.stm_reports.specs.Elements.{five_of, six_of}
 use Rattle.stm_reports.specs.Words.{named, fault_words, refusal_words}
 
@@ -145,18 +145,18 @@ op_worded (Some p) =
 unfoldable pub op_of : Data → Outcome ReportedOp
 op_of d = op_worded (worded d)
 
-abbrev pub read_with : List ℕ → ℕ → ReportedRead
+abbrev pub read_with : List ℕ → ℕ → KeyRead
 read_with key mod_rev = record { key = key; mod_rev = mod_rev }
 
-abbrev pub read_parts : Option (Data × Data) → Outcome ReportedRead
+abbrev pub read_parts : Option (Data × Data) → Outcome KeyRead
 read_parts None = bad Shape
 read_parts (Some p) = within 0 (text_of p.0) >>= λ key. within 1 (number_of p.1) >>= λ mod_rev. Ok (read_with key mod_rev)
 
-abbrev pub read_array : Option Items → Outcome ReportedRead
+abbrev pub read_array : Option Items → Outcome KeyRead
 read_array None = bad Shape
 read_array (Some ds) = read_parts (two_of ds)
 
-unfoldable pub read_of : Data → Outcome ReportedRead
+unfoldable pub read_of : Data → Outcome KeyRead
 read_of d = read_array (as_array d)
 
 abbrev pub expired_with : ℕ → ℕ → Expired
@@ -173,19 +173,19 @@ expired_array (Some ds) = expired_parts (two_of ds)
 unfoldable pub expired_of : Data → Outcome Expired
 expired_of d = expired_array (as_array d)
 
-abbrev pub event_put_of : Option (Data × Data × Data × Data × Data × Data) → Outcome ReportedEvent
+abbrev pub event_put_of : Option (Data × Data × Data × Data × Data × Data) → Outcome Event
 event_put_of o = keyed_of o >>= λ p. Ok (event.Put p.0 p.1)
 
-abbrev pub event_delete_of : Option (Data × Data) → Outcome ReportedEvent
+abbrev pub event_delete_of : Option (Data × Data) → Outcome Event
 event_delete_of None = bad Shape
 event_delete_of (Some p) = within 1 (text_of p.0) >>= λ key. within 2 (number_of p.1) >>= λ revision. Ok (event.Delete key revision)
 
-abbrev pub event_worded : Option (List ℕ × Items) → Outcome ReportedEvent
+abbrev pub event_worded : Option (List ℕ × Items) → Outcome Event
 event_worded None = bad Shape
 event_worded (Some p) =
     if same p.0 (codes "PUT") then event_put_of (six_of p.1)
     else (if same p.0 (codes "DELETE") then event_delete_of (two_of p.1)
     else bad Shape)
 
-unfoldable pub event_of : Data → Outcome ReportedEvent
+unfoldable pub event_of : Data → Outcome Event
 event_of d = event_worded (worded d)

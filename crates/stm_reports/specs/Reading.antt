@@ -14,9 +14,9 @@ use Rattle.stm_reports.specs.declared.line.ReportLine.{ReportLine}
 use Rattle.stm_reports.specs.declared.line.ReportLine.TheVariants.{Started, Prefetched, Fetched, Committed, Conflict, GaveUp, Aborted, Faulted, Ended, Txn, Granted}
 use Rattle.stm_reports.specs.declared.line.ReportLine.TheVariants.{Kept, Revoked, Advanced, Compacted, Watching, Cancelled, Batch, Lost, Refused, Key, Lease, End}
 use Rattle.stm_reports.specs.declared.line.ReportedAnswer.{ReportedAnswer}
-use Rattle.stm_reports.specs.declared.line.ReportedEvent.{ReportedEvent}
+use Rattle.stm_keys.specs.declared.event.Event.{Event}
 use Rattle.stm_reports.specs.declared.line.ReportedOp.{ReportedOp}
-use Rattle.stm_reports.specs.declared.line.ReportedRead.{ReportedRead}
+use Rattle.stm_events.specs.declared.reply.KeyRead.{KeyRead}
 use Rattle.stm_reports.specs.declared.report.Report.{Report}
 use Rattle.stm_json.specs.declared.limits.TheConstants.{MOST_BYTES}
 use Rattle.stm_reports.specs.declared.words.EventWord.{EventWord}
@@ -43,13 +43,13 @@ answers_of d = list_of answer_of (as_array d)
 abbrev pub ops_of : Data → Outcome (List ReportedOp)
 ops_of d = list_of op_of (as_array d)
 
-abbrev pub key_reads_of : Data → Outcome (List ReportedRead)
+abbrev pub key_reads_of : Data → Outcome (List KeyRead)
 key_reads_of d = list_of read_of (as_array d)
 
 abbrev pub expireds_of : Data → Outcome (List Expired)
 expireds_of d = list_of expired_of (as_array d)
 
-abbrev pub events_of : Data → Outcome (List ReportedEvent)
+abbrev pub events_of : Data → Outcome (List Event)
 events_of d = list_of event_of (as_array d)
 
 -- ---- lines of events: the number, and the elements behind the word

@@ -1,7 +1,7 @@
 //! The lines of calls.
 ghost use Rattle.std.specs.Prelude.{◌≡◌, ◌↔◌, IsTrue};
 ghost use Rattle.stm_reports.specs.declared.line.ReportLine.TheVariants as reports;
-ghost use Rattle.stm_reports.specs.Reported.{cause_reported, txn_line};
+ghost use Rattle.stm_reports.specs.Lines.{cause_reported, txn_line};
 
 use crate::causes::RefusalName;
 use crate::line::ReportLine;

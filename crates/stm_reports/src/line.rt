@@ -1,8 +1,7 @@
 //! The lines of a report.
 use crate::causes::RefusalName;
+use stm_events::{Event, Expired, Fault, KeyRead, TraceItem, Value};
 use stm_history::{KeyState, Sequence, Text};
-use stm_meaning::{Fault, TraceItem, Value};
-use stm_outcome::Expired;
 
 /// An answer that a commit at ReadCommitted was made on, as its line tells it.
 #[derive(Debug, Drop)]
@@ -17,15 +16,6 @@ pub struct ReportedAnswer {
     pub of_rev: u64,
 }
 
-/// A key of a program's list that was read, as the line of the list tells it.
-#[derive(Debug, Drop)]
-pub struct ReportedRead {
-    /// The key that was read.
-    pub key: Text,
-    /// Its modification revision, 0 where it was absent.
-    pub mod_rev: u64,
-}
-
 /// The answer to one operation of a transaction, as the transaction's line tells it.
 #[derive(Debug, Drop)]
 pub enum ReportedOp {
@@ -35,15 +25,6 @@ pub enum ReportedOp {
     Put,
     /// How many keys a delete deleted: 0 or 1.
     Del { count: u64 },
-}
-
-/// An event of a watcher, as a batch tells it.
-#[derive(Debug, Drop)]
-pub enum ReportedEvent {
-    /// A put, with what the store then had under the key.
-    Put { key: Text, state: KeyState },
-    /// A deletion at a revision.
-    Delete { key: Text, revision: u64 },
 }
 
 /// One line of a report. `number` is that of the event, from 1; revisions are those of the store's counter; moments
@@ -60,7 +41,7 @@ pub enum ReportLine {
         number: u64,
         runner: u64,
         revision: u64,
-        reads: Sequence<ReportedRead>,
+        reads: Sequence<KeyRead>,
     },
     /// A step fetched a key: its modification revision, the revision shown, and the one carried.
     Fetched {
@@ -165,7 +146,7 @@ pub enum ReportLine {
         number: u64,
         id: u64,
         up_to: u64,
-        events: Sequence<ReportedEvent>,
+        events: Sequence<Event>,
     },
     /// A watcher was found lost, and is cancelled: the store's floor, the lowest revision whose events are kept.
     Lost {

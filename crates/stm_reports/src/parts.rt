@@ -14,17 +14,17 @@ ghost use Rattle.stm_reports.specs.Parts.{read_parts, read_of, expired_parts, ex
 
 use crate::causes::RefusalName;
 use crate::elements::{five, six};
-use crate::line::{ReportedAnswer, ReportedEvent, ReportedOp, ReportedRead};
+use crate::line::{ReportedAnswer, ReportedOp};
 use crate::words::{fault_named, refusal_name};
 use serde_json::Value as Json;
 use std::alloc::Global;
+use stm_events::{Event, Expired, Fault, KeyRead, TraceItem, Value};
 use stm_history::{KeyState, Sequence, Text};
 use stm_json::{
     Cause, ReadError, fault, four, number_part, number_within, one, text, text_part, two, whole,
     within, worded_array,
 };
-use stm_meaning::{Fault, TraceItem, Value};
-use stm_outcome::Expired;
+use stm_keys::SharedText;
 
 #[tactic(auto, unfolding(crate::specs::Parts::flag_of))]
 fn flag(alloc: Global, value: &Json) -> Result<bool, ReadError>
@@ -363,7 +363,7 @@ impl Element for ReportedOp {
 }
 
 /// A key of a list that was read, from the two elements that spell it.
-fn key_read(alloc: Global, elements: &[Json]) -> Result<ReportedRead, ReadError>
+fn key_read(alloc: Global, elements: &[Json]) -> Result<KeyRead, ReadError>
     ensures { Returns (λ r. r) result (read_parts (two_of (items_view elements.now))) }
 {
     let Some((key, mod_rev)) = two(elements) else {
@@ -371,14 +371,14 @@ fn key_read(alloc: Global, elements: &[Json]) -> Result<ReportedRead, ReadError>
     };
     let key = text_part(alloc, 0, key)?;
     let mod_rev = number_part(alloc, 1, mod_rev)?;
-    Ok(ReportedRead { key, mod_rev })
+    Ok(KeyRead { key, mod_rev })
 }
 
-impl Element for ReportedRead {
+impl Element for KeyRead {
     ghost reading = { read_of };
 
     #[tactic(auto, unfolding(crate::specs::Parts::read_of))]
-    fn read(alloc: Global, value: &Json) -> Result<ReportedRead, ReadError> {
+    fn read(alloc: Global, value: &Json) -> Result<KeyRead, ReadError> {
         match value.as_array() {
             Some(elements) => key_read(alloc, elements.as_slice()),
             None => Err(fault(alloc, Cause::Shape)),
@@ -411,15 +411,16 @@ impl Element for Expired {
 }
 
 /// A put, from the elements behind its word.
-fn event_put(alloc: Global, elements: &[Json]) -> Result<ReportedEvent, ReadError>
+fn event_put(alloc: Global, elements: &[Json]) -> Result<Event, ReadError>
     ensures { Returns (λ e. e) result (event_put_of (six_of (items_view elements.now))) }
 {
     let (key, state) = keyed(alloc, elements)?;
-    Ok(ReportedEvent::Put { key, state })
+    let key = SharedText::new(alloc, key)?;
+    Ok(Event::Put { key, state })
 }
 
 /// A deletion, from the elements behind its word.
-fn event_delete(alloc: Global, elements: &[Json]) -> Result<ReportedEvent, ReadError>
+fn event_delete(alloc: Global, elements: &[Json]) -> Result<Event, ReadError>
     ensures { Returns (λ e. e) result (event_delete_of (two_of (items_view elements.now))) }
 {
     let Some((key, revision)) = two(elements) else {
@@ -427,14 +428,15 @@ fn event_delete(alloc: Global, elements: &[Json]) -> Result<ReportedEvent, ReadE
     };
     let key = text_part(alloc, 1, key)?;
     let revision = number_part(alloc, 2, revision)?;
-    Ok(ReportedEvent::Delete { key, revision })
+    let key = SharedText::new(alloc, key)?;
+    Ok(Event::Delete { key, revision })
 }
 
-impl Element for ReportedEvent {
+impl Element for Event {
     ghost reading = { event_of };
 
     #[tactic(auto, unfolding(crate::specs::Parts::event_of))]
-    fn read(alloc: Global, value: &Json) -> Result<ReportedEvent, ReadError> {
+    fn read(alloc: Global, value: &Json) -> Result<Event, ReadError> {
         let Some((word, elements)) = worded_array(value) else {
             return Err(fault(alloc, Cause::Shape));
         };

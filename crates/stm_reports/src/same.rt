@@ -1,6 +1,6 @@
 //! Whether what stands in lines is the same.
 ghost use Rattle.std.specs.Prelude.{◌≡◌, ◌↔◌, IsTrue, map};
-ghost use Rattle.stm_reports.specs.Reported.{op_reported};
+ghost use Rattle.stm_reports.specs.Lines.{op_reported};
 
 use crate::line::ReportedOp;
 use stm_history::KeyState;

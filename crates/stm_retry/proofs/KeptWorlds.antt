@@ -54,15 +54,15 @@ use Rattle.stm_compaction.proofs.Committing.{committed_kept, committed_grows, fe
 use Rattle.stm_compaction.proofs.Expiring.{advanced_kept, cut_short_too}
 use Rattle.stm_compaction.proofs.Watching.{watched_kept, polled_kept, cancelled_kept}
 use Rattle.stm_compaction.proofs.Compacting.{compacted_kept}
-use Rattle.stm_world.specs.declared.event.WorldEvent.{WorldEvent}
-use Rattle.stm_world.specs.declared.event.WorldEvent.TheVariants.{Start, Step, Txn, Grant, Keep, Revoke, Advance, WatchKey, WatchRange, Poll, Cancel, Compact}
-use Rattle.stm_world.specs.declared.reply.Reply.{Reply}
-use Rattle.stm_world.specs.declared.reply.Reply.TheVariants.{Started, Committed, Conflict, GaveUp}
-use Rattle.stm_world.specs.declared.reply.Reply.TheVariants.{Txn as TxnDone, Granted, Kept, Revoked, Watching, Cancelled, Compacted}
-use Rattle.stm_world.specs.declared.refusal.Refusal.{Refusal}
-use Rattle.stm_world.specs.declared.refusal.Refusal.TheVariants.{Store, BadLimit, NoRunner}
-use Rattle.stm_world.specs.declared.refusal.Denied.{Denied}
-use Rattle.stm_world.specs.Reported.{denied, reply_to, store_after_call, advance_reply, poll_reply, store_after_poll}
+use Rattle.stm_events.specs.declared.event.WorldEvent.{WorldEvent}
+use Rattle.stm_events.specs.declared.event.WorldEvent.TheVariants.{Start, Step, Txn, Grant, Keep, Revoke, Advance, WatchKey, WatchRange, Poll, Cancel, Compact}
+use Rattle.stm_events.specs.declared.reply.Reply.{Reply}
+use Rattle.stm_events.specs.declared.reply.Reply.TheVariants.{Started, Committed, Conflict, GaveUp}
+use Rattle.stm_events.specs.declared.reply.Reply.TheVariants.{Txn as TxnDone, Granted, Kept, Revoked, Watching, Cancelled, Compacted}
+use Rattle.stm_events.specs.declared.refusal.Refusal.{Refusal}
+use Rattle.stm_events.specs.declared.refusal.Refusal.TheVariants.{Store, BadLimit, NoRunner}
+use Rattle.stm_events.specs.declared.refusal.Denied.{Denied}
+use Rattle.stm_events.specs.Replies.{denied, reply_to, store_after_call, advance_reply, poll_reply, store_after_poll}
 use Rattle.stm_world.specs.Task.{Task, with_served, after_conflict}
 use Rattle.stm_world.specs.World.{World, Stepped, Runner, Over, Live, runner_at, with_slot, begin, replied, refused, start_runner, entry_of}
 use Rattle.stm_world.specs.World.{decided, commit_reported, commit, finish, fetch_at, fetch_list, step_on, step_live, step_runner, called}
@@ -71,7 +71,7 @@ use Rattle.stm_world.specs.Sound.{IsSound, after_expiries}
 use Rattle.stm_world.specs.Appended.{HasAppended}
 use Rattle.stm_world.proofs.Wants.{NoOutOfMemory, NeverWants, advanced_never}
 use Rattle.stm_world.proofs.NeverOutOfMemory.{raised_never}
-use Rattle.stm_world.proofs.Calls.{txn_goes_on, at_moment_follows}
+use Rattle.stm_events.proofs.Calls.{txn_goes_on, at_moment_follows}
 use Rattle.stm_world.proofs.Appending.{events_append}
 use Rattle.stm_world.proofs.Sound.{opened_is_sound, step_is_sound, base_is_reached}
 use Rattle.stm_retry.specs.Returns.{IsStep, IsUnchanged, IsCutShort, OutOfMemoryReturns, RefusalReturns, Returns, is_out_of_memory_of_store, is_want}

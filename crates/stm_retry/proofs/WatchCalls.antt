@@ -10,13 +10,13 @@ use Rattle.stm_outcome.specs.declared.refusal.Refusal.{Refusal as StoreRefusal}
 use Rattle.stm_outcome.specs.declared.refusal.Refusal.TheVariants.{OutOfMemory, NoWatcher, Compacted}
 use Rattle.stm_txn.specs.Standing.{Standing, Step as StoreStep, IsRefusalOf, with_watchers, poll_step, polled, poll_refused}
 use Rattle.stm_entries.specs.declared.entry.Entry.{Entry}
-use Rattle.stm_world.specs.declared.event.WorldEvent.{WorldEvent}
-use Rattle.stm_world.specs.declared.event.WorldEvent.TheVariants.{Poll}
-use Rattle.stm_world.specs.declared.reply.Reply.{Reply}
-use Rattle.stm_world.specs.declared.reply.Reply.TheVariants.{Lost}
-use Rattle.stm_world.specs.declared.refusal.Refusal.TheVariants.{Store}
-use Rattle.stm_world.specs.declared.refusal.Denied.{Denied}
-use Rattle.stm_world.specs.Reported.{denied, reply_to, batch_reply, poll_reply, store_after_call, store_after_poll}
+use Rattle.stm_events.specs.declared.event.WorldEvent.{WorldEvent}
+use Rattle.stm_events.specs.declared.event.WorldEvent.TheVariants.{Poll}
+use Rattle.stm_events.specs.declared.reply.Reply.{Reply}
+use Rattle.stm_events.specs.declared.reply.Reply.TheVariants.{Lost}
+use Rattle.stm_events.specs.declared.refusal.Refusal.TheVariants.{Store}
+use Rattle.stm_events.specs.declared.refusal.Denied.{Denied}
+use Rattle.stm_events.specs.Replies.{denied, reply_to, batch_reply, poll_reply, store_after_call, store_after_poll}
 use Rattle.stm_world.specs.World.{Slot, Stepped, step, quietly_called}
 use Rattle.stm_retry.specs.Returns.{OutOfMemoryReturns, Returns}
 use Rattle.stm_retry.specs.WorldOf.{world_of}

@@ -18,10 +18,10 @@ use Rattle.stm_txn.specs.Standing.{Standing, Advance as StoreAdvance, after, exp
 use Rattle.stm_txn.proofs.Ending.{one_ended, next_ended, done}
 use Rattle.stm_entries.specs.declared.entry.Entry.TheVariants.{Expire}
 use Rattle.stm_entries.specs.Entered.{expiries}
-use Rattle.stm_world.specs.declared.event.WorldEvent.{WorldEvent}
-use Rattle.stm_world.specs.declared.event.WorldEvent.TheVariants.{Advance}
-use Rattle.stm_world.specs.declared.reply.Reply.TheVariants.{Advanced}
-use Rattle.stm_world.specs.Reported.{advance_reply}
+use Rattle.stm_events.specs.declared.event.WorldEvent.{WorldEvent}
+use Rattle.stm_events.specs.declared.event.WorldEvent.TheVariants.{Advance}
+use Rattle.stm_events.specs.declared.reply.Reply.TheVariants.{Advanced}
+use Rattle.stm_events.specs.Replies.{advance_reply}
 use Rattle.stm_world.specs.World.{World, world_after, replies_to}
 use Rattle.stm_world.specs.Sound.{after_expiries}
 use Rattle.stm_retry.proofs.CallLemmas.{world_with}

@@ -1,9 +1,9 @@
 -- What a call that makes an event of the store's, one that is no runner's, returns and leaves.
 use Rattle.std.specs.Prelude.{List, Result}
 use Rattle.stm_journal.specs.JournalState.{JournalState}
-use Rattle.stm_world.specs.declared.event.WorldEvent.{WorldEvent}
-use Rattle.stm_world.specs.declared.reply.Reply.{Reply}
-use Rattle.stm_world.specs.declared.refusal.Denied.{Denied}
+use Rattle.stm_events.specs.declared.event.WorldEvent.{WorldEvent}
+use Rattle.stm_events.specs.declared.reply.Reply.{Reply}
+use Rattle.stm_events.specs.declared.refusal.Denied.{Denied}
 use Rattle.stm_world.specs.World.{Slot}
 use Rattle.stm_retry.specs.Returns.{Returns}
 use Rattle.stm_retry.specs.WorldOf.{world_of}

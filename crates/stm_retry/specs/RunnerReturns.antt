@@ -12,10 +12,10 @@ use Rattle.stm_attempt.specs.Settled.{run_on}
 use Rattle.stm_attempt.specs.Entering.{is_due}
 use Rattle.stm_attempt.specs.ReadyRun.{ReadyRun, ready_run}
 use Rattle.stm_journal.specs.JournalState.{JournalState}
-use Rattle.stm_world.specs.declared.reply.Reply.{Reply}
-use Rattle.stm_world.specs.declared.reply.KeyRead.{KeyRead}
-use Rattle.stm_world.specs.declared.reply.Reply.TheVariants.{Prefetched, Fetched, Conflict, GaveUp, Aborted, Faulted, Ended}
-use Rattle.stm_world.specs.declared.refusal.Denied.{Denied}
+use Rattle.stm_events.specs.declared.reply.Reply.{Reply}
+use Rattle.stm_events.specs.declared.reply.KeyRead.{KeyRead}
+use Rattle.stm_events.specs.declared.reply.Reply.TheVariants.{Prefetched, Fetched, Conflict, GaveUp, Aborted, Faulted, Ended}
+use Rattle.stm_events.specs.declared.refusal.Denied.{Denied}
 use Rattle.stm_world.specs.World.{World, Stepped, Runner, Slot, Over, Live, with_slot}
 use Rattle.stm_retry.specs.declared.step_outcome.StepOutcome.{StepOutcome}
 use Rattle.stm_retry.specs.declared.step_outcome.StepOutcome.TheVariants.{GoesOn, Ends}

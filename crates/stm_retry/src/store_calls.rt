@@ -1,8 +1,8 @@
 //! The events that change a store and are no runner's. Each is one call of the journal, which enters it where it is an entry.
 ghost use Rattle.std.specs.Prelude.{◌≡◌};
-ghost use Rattle.stm_world.specs.declared.event.WorldEvent.TheVariants.{Txn as TxnEvent, Grant as GrantEvent, Keep as KeepEvent, Revoke as RevokeEvent, Advance as AdvanceEvent};
-ghost use Rattle.stm_world.specs.declared.refusal.Refusal.TheVariants.{Store as OfStore};
-ghost use Rattle.stm_world.specs.Reported.{denied as denied_for};
+ghost use Rattle.stm_events.specs.declared.event.WorldEvent.TheVariants.{Txn as TxnEvent, Grant as GrantEvent, Keep as KeepEvent, Revoke as RevokeEvent, Advance as AdvanceEvent};
+ghost use Rattle.stm_events.specs.declared.refusal.Refusal.TheVariants.{Store as OfStore};
+ghost use Rattle.stm_events.specs.Replies.{denied as denied_for};
 ghost use Rattle.stm_retry.specs.CallReturns.{CallReturns};
 
 use crate::parts::denied;

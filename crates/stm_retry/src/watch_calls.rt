@@ -2,11 +2,11 @@
 ghost use Rattle.std.specs.Prelude.{◌≡◌, ◌≢◌, Ok};
 ghost use Rattle.stm_outcome.specs.declared.refusal.Refusal.TheVariants.{Compacted as CompactedRefusal};
 ghost use Rattle.stm_txn.specs.Standing.{compacted};
-ghost use Rattle.stm_world.specs.declared.reply.Reply.TheVariants.{Compacted as CompactedReply, Lost as LostReply};
-ghost use Rattle.stm_world.specs.declared.refusal.Refusal.TheVariants.{Store as OfStore};
-ghost use Rattle.stm_world.specs.Reported.{denied as denied_for, reply_to, store_after_call};
-ghost use Rattle.stm_world.specs.declared.event.WorldEvent.TheVariants.{WatchKey as WatchKeyEvent, WatchRange as WatchRangeEvent};
-ghost use Rattle.stm_world.specs.declared.event.WorldEvent.TheVariants.{Poll as PollEvent, Cancel as CancelEvent};
+ghost use Rattle.stm_events.specs.declared.reply.Reply.TheVariants.{Compacted as CompactedReply, Lost as LostReply};
+ghost use Rattle.stm_events.specs.declared.refusal.Refusal.TheVariants.{Store as OfStore};
+ghost use Rattle.stm_events.specs.Replies.{denied as denied_for, reply_to, store_after_call};
+ghost use Rattle.stm_events.specs.declared.event.WorldEvent.TheVariants.{WatchKey as WatchKeyEvent, WatchRange as WatchRangeEvent};
+ghost use Rattle.stm_events.specs.declared.event.WorldEvent.TheVariants.{Poll as PollEvent, Cancel as CancelEvent};
 ghost use Rattle.stm_retry.specs.CallReturns.{CallReturns};
 ghost use Rattle.stm_journal.specs.JournalState.{with_store};
 

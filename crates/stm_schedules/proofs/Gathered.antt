@@ -1,8 +1,8 @@
 -- What whole schedules come to.
 use Rattle.std.proofs.Common.{◌≡◌, ◌≢◌, ℕ, zero, suc, ◌≤◌, true, false, nat_eq, List, [], ◌∷◌, ◌++◌, length, Result}
 use Rattle.std.proofs.Common.{inl, inr, refl, sym, ◌∙◌, ap, subst, arith}
-use Rattle.stm_world.specs.declared.reply.Reply.{Reply}
-use Rattle.stm_world.specs.declared.refusal.Denied.{Denied}
+use Rattle.stm_events.specs.declared.reply.Reply.{Reply}
+use Rattle.stm_events.specs.declared.refusal.Denied.{Denied}
 use Rattle.stm_world.specs.World.{replies_to}
 use Rattle.stm_world.proofs.Joined.{runs_go_on}
 use Rattle.stm_world.proofs.Slots.{equal_numbers, differ}

@@ -8,14 +8,14 @@ use Rattle.stm_txn.specs.Standing.{Step as StoreStep}
 use Rattle.stm_txn.specs.Standing.{transacted, granted, kept_alive, revoked, advanced, watched, cancelled, raised}
 use Rattle.stm_txn.specs.Standing.{Setup}
 use Rattle.stm_watch.specs.declared.watched.Watched.TheVariants.{Key, Range}
-use Rattle.stm_world.specs.declared.event.WorldEvent.{WorldEvent}
-use Rattle.stm_world.specs.declared.event.WorldEvent.TheVariants.{Start, Step, Txn, Grant, Keep, Revoke, Advance}
-use Rattle.stm_world.specs.declared.event.WorldEvent.TheVariants.{WatchKey, WatchRange, Poll, Cancel, Compact}
-use Rattle.stm_world.specs.declared.reply.Reply.{Reply}
-use Rattle.stm_world.specs.declared.reply.Reply.TheVariants.{Started, Txn as TxnDone, Granted, Kept, Revoked, Watching, Cancelled, Compacted}
-use Rattle.stm_world.specs.declared.refusal.Denied.{Denied}
-use Rattle.stm_world.specs.declared.refusal.Refusal.TheVariants.{BadLimit}
-use Rattle.stm_world.specs.Reported.{reply_to, advance_reply}
+use Rattle.stm_events.specs.declared.event.WorldEvent.{WorldEvent}
+use Rattle.stm_events.specs.declared.event.WorldEvent.TheVariants.{Start, Step, Txn, Grant, Keep, Revoke, Advance}
+use Rattle.stm_events.specs.declared.event.WorldEvent.TheVariants.{WatchKey, WatchRange, Poll, Cancel, Compact}
+use Rattle.stm_events.specs.declared.reply.Reply.{Reply}
+use Rattle.stm_events.specs.declared.reply.Reply.TheVariants.{Started, Txn as TxnDone, Granted, Kept, Revoked, Watching, Cancelled, Compacted}
+use Rattle.stm_events.specs.declared.refusal.Denied.{Denied}
+use Rattle.stm_events.specs.declared.refusal.Refusal.TheVariants.{BadLimit}
+use Rattle.stm_events.specs.Replies.{reply_to, advance_reply}
 use Rattle.stm_world.specs.World.{World, Runner, Slot, Over, Live, Stepped, live_in, runner_at, with_slot, refused, begin, start_runner, step_runner, step, world_after, replies_to, opened}
 use Rattle.stm_world.specs.Task.{Task}
 use Rattle.stm_world.proofs.Slots.{other_number}

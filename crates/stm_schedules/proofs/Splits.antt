@@ -1,8 +1,8 @@
 -- A scenario in two parts: up to the last start, and after it.
 use Rattle.std.proofs.Common.{◌≡◌, Bool, true, false, cond, ◌||◌, List, [], ◌∷◌, ◌++◌, map, refl, sym, ◌∙◌, ap}
 use Rattle.stm_program.specs.declared.level.Level.{Level}
-use Rattle.stm_world.specs.declared.event.WorldEvent.{WorldEvent}
-use Rattle.stm_world.specs.declared.event.WorldEvent.TheVariants.{Start}
+use Rattle.stm_events.specs.declared.event.WorldEvent.{WorldEvent}
+use Rattle.stm_events.specs.declared.event.WorldEvent.TheVariants.{Start}
 use Rattle.stm_world.specs.World.{opened, world_after}
 use Rattle.stm_world.proofs.Joined.{runs_go_on}
 use Rattle.stm_schedules.specs.declared.moves.Move.{Move}

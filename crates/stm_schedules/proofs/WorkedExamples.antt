@@ -12,8 +12,8 @@ use Rattle.stm_meaning.specs.Meaning.{evaluate, holds, run_block, run_over}
 use Rattle.stm_attempt.specs.Settled.{settle}
 use Rattle.stm_outcome.specs.declared.txn.Op.TheVariants.{Put}
 use Rattle.stm_txn.specs.Standing.{at_revision}
-use Rattle.stm_world.specs.declared.event.WorldEvent.{WorldEvent}
-use Rattle.stm_world.specs.declared.event.WorldEvent.TheVariants.{Start, Step, Txn, Grant}
+use Rattle.stm_events.specs.declared.event.WorldEvent.{WorldEvent}
+use Rattle.stm_events.specs.declared.event.WorldEvent.TheVariants.{Start, Step, Txn, Grant}
 use Rattle.stm_world.specs.World.{start_runner, fetch, commit, step_live}
 use Rattle.stm_schedules.specs.declared.moves.Move.TheVariants.{Step as StepOf}
 use Rattle.stm_schedules.specs.declared.outcome.Outcome.{Outcome}

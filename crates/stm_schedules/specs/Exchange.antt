@@ -2,10 +2,10 @@
 --
 -- The documentation of the Go package `clientv3/concurrency`, "STM": an attempt changes nothing but by its commit.
 use Rattle.std.specs.Prelude.{◌≡◌, ◌≢◌, ◌↔◌, ℕ, Bool, true, false, not, Result, Ok}
-use Rattle.stm_world.specs.declared.event.WorldEvent.TheVariants.{Step}
-use Rattle.stm_world.specs.declared.reply.Reply.{Reply}
-use Rattle.stm_world.specs.declared.reply.Reply.TheVariants.{Committed}
-use Rattle.stm_world.specs.declared.refusal.Denied.{Denied}
+use Rattle.stm_events.specs.declared.event.WorldEvent.TheVariants.{Step}
+use Rattle.stm_events.specs.declared.reply.Reply.{Reply}
+use Rattle.stm_events.specs.declared.reply.Reply.TheVariants.{Committed}
+use Rattle.stm_events.specs.declared.refusal.Denied.{Denied}
 use Rattle.stm_world.specs.World.{World, step}
 
 abbrev pub after_step : ℕ → World → World

@@ -7,10 +7,10 @@ use Rattle.std.specs.List.{filter_map, flat_map}
 use Rattle.stm_history.specs.History.{History, key_now, value_of}
 use Rattle.stm_txn.specs.PresentKeys.{keys_present}
 use Rattle.stm_txn.specs.Standing.{Setup}
-use Rattle.stm_world.specs.declared.event.WorldEvent.{WorldEvent}
-use Rattle.stm_world.specs.declared.reply.Reply.{Reply}
-use Rattle.stm_world.specs.declared.reply.Reply.TheVariants as reply
-use Rattle.stm_world.specs.declared.refusal.Denied.{Denied}
+use Rattle.stm_events.specs.declared.event.WorldEvent.{WorldEvent}
+use Rattle.stm_events.specs.declared.reply.Reply.{Reply}
+use Rattle.stm_events.specs.declared.reply.Reply.TheVariants as reply
+use Rattle.stm_events.specs.declared.refusal.Denied.{Denied}
 use Rattle.stm_world.specs.World.{World, Slot, Over, Live, opened, replies_to}
 use Rattle.stm_schedules.specs.declared.moves.Move.{Move}
 use Rattle.stm_schedules.specs.declared.outcome.KeyValue.{KeyValue}

@@ -3,8 +3,8 @@
 -- The documentation of the Go package `clientv3/concurrency`, "STM": transactions of several clients run side by side, and each of
 -- them meets the store only where it fetches a key or commits. So a move is one step of one runner, or one event of the other clients.
 use Rattle.std.specs.Prelude.{◌≡◌, ◌↔◌, ℕ, zero, suc, List, [], ◌∷◌, ◌++◌, length, Option, None, Some, Contains}
-use Rattle.stm_world.specs.declared.event.WorldEvent.{WorldEvent}
-use Rattle.stm_world.specs.declared.event.WorldEvent.TheVariants.{Step}
+use Rattle.stm_events.specs.declared.event.WorldEvent.{WorldEvent}
+use Rattle.stm_events.specs.declared.event.WorldEvent.TheVariants.{Step}
 use Rattle.stm_world.specs.World.{World, Runner, Slot, runner_at, world_after}
 use Rattle.stm_schedules.specs.declared.moves.Move.{Move}
 use Rattle.stm_schedules.specs.declared.moves.Move.TheVariants.{Step as StepOf, Other}

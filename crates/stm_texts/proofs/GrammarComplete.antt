@@ -12,8 +12,8 @@ use Rattle.stm_json.specs.Parts.{spelled, SpellsEach, text_of}
 use Rattle.stm_txn_json.specs.Reading.{txn_of}
 use Rattle.stm_txn_json.proofs.GrammarComplete.{txn_reads}
 use Rattle.stm_json.proofs.PartLemmas.{text_reads, number_reads, up_to_reads}
-use Rattle.stm_world.specs.declared.event.WorldEvent.{WorldEvent}
-use Rattle.stm_world.specs.declared.event.WorldEvent.TheVariants.{Start, Step, Txn, Grant, Keep, Revoke, Advance, Compact, WatchKey, WatchRange, Poll, Cancel}
+use Rattle.stm_events.specs.declared.event.WorldEvent.{WorldEvent}
+use Rattle.stm_events.specs.declared.event.WorldEvent.TheVariants.{Start, Step, Txn, Grant, Keep, Revoke, Advance, Compact, WatchKey, WatchRange, Poll, Cancel}
 use Rattle.stm_outcome.specs.Terms.{most_operations}
 use Rattle.stm_texts.specs.declared.scenario.Opening.{Opening}
 use Rattle.stm_texts.specs.declared.scenario.Scenario.{Scenario}

@@ -16,8 +16,8 @@ use Rattle.stm_outcome.specs.declared.txn.Op.TheVariants as operation
 use Rattle.stm_outcome.specs.declared.txn.Target.{Target}
 use Rattle.stm_outcome.specs.declared.txn.Target.TheVariants as target
 use Rattle.stm_outcome.specs.declared.txn.Txn.{Txn}
-use Rattle.stm_world.specs.declared.event.WorldEvent.{WorldEvent}
-use Rattle.stm_world.specs.declared.event.WorldEvent.TheVariants as event
+use Rattle.stm_events.specs.declared.event.WorldEvent.{WorldEvent}
+use Rattle.stm_events.specs.declared.event.WorldEvent.TheVariants as event
 use Rattle.stm_texts.specs.Writing.{written_side, written_compare, written_operation, written_txn, written_event, opening_elements, written_scenario}
 
 -- ---- transactions

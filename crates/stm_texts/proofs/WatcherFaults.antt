@@ -8,8 +8,8 @@ use Rattle.stm_json.specs.Elements.{one_of, two_of, three_of, number_up_to}
 use Rattle.stm_json.specs.Faults.{Sort, AnyText, first_of, at, faults_by, sorted_faults, any_number}
 use Rattle.stm_json.specs.Parts.{text_of, same}
 use Rattle.stm_json.proofs.FaultLemmas.{fault_of, wrong_is, part_then, text_faulted, number_reported}
-use Rattle.stm_world.specs.declared.event.WorldEvent.{WorldEvent}
-use Rattle.stm_world.specs.declared.event.WorldEvent.TheVariants.{WatchKey, WatchRange, Poll, Cancel}
+use Rattle.stm_events.specs.declared.event.WorldEvent.{WorldEvent}
+use Rattle.stm_events.specs.declared.event.WorldEvent.TheVariants.{WatchKey, WatchRange, Poll, Cancel}
 use Rattle.stm_texts.specs.Reading.{watch_key_of, watch_range_of, poll_of, cancel_of, watcher_event}
 
 abbrev watch_key_sorts : List Sort

@@ -10,8 +10,8 @@ use Rattle.stm_json.proofs.OutcomeLemmas.{bind_ok, within_ok}
 use Rattle.stm_json.proofs.ElementLemmas.{one_of-is, two_of-is, three_of-is}
 use Rattle.stm_json.specs.Parts.{spelled, text_of, same}
 use Rattle.stm_json.proofs.PartLemmas.{text_of-is, up_to_is, word_and}
-use Rattle.stm_world.specs.declared.event.WorldEvent.{WorldEvent}
-use Rattle.stm_world.specs.declared.event.WorldEvent.TheVariants.{WatchKey, WatchRange, Poll, Cancel}
+use Rattle.stm_events.specs.declared.event.WorldEvent.{WorldEvent}
+use Rattle.stm_events.specs.declared.event.WorldEvent.TheVariants.{WatchKey, WatchRange, Poll, Cancel}
 use Rattle.stm_texts.specs.Grammar.{SpellsEvent}
 use Rattle.stm_texts.specs.Reading.{watch_key_of, watch_range_of, poll_of, cancel_of, watcher_event}
 

@@ -10,7 +10,7 @@ use Rattle.stm_texts.specs.Opens.{IsOpening}
 use Rattle.stm_json.specs.Parts.{SpellsEach, spelled}
 use Rattle.stm_outcome.specs.Terms.{most_operations}
 use Rattle.stm_texts.specs.declared.scenario.Opening.{Opening}
-use Rattle.stm_world.specs.declared.event.WorldEvent.{WorldEvent}
+use Rattle.stm_events.specs.declared.event.WorldEvent.{WorldEvent}
 use Rattle.stm_texts.specs.Laws.{AreSpelled, WrittenScenariosSpell}
 use Rattle.stm_texts.specs.Writing.{written_event, written_opening, opening_elements}
 use Rattle.stm_texts.proofs.WrittenSpells.{event_spells}

@@ -14,9 +14,9 @@ use Rattle.stm_outcome.specs.declared.txn.Target.TheVariants.{Version, Create, M
 use Rattle.stm_outcome.specs.declared.txn.Txn.{Txn}
 use Rattle.stm_json.specs.Parts.{spelled, SpellsNumberIn, SpellsEach}
 use Rattle.stm_txn_json.specs.Grammar.{SpellsTarget, SpellsCompare, SpellsOperation, SpellsTxn}
-use Rattle.stm_world.specs.declared.event.WorldEvent.{WorldEvent}
-use Rattle.stm_world.specs.declared.event.WorldEvent.TheVariants.{Start, Step, Txn as TxnEvent, Grant, Keep, Revoke, Advance, WatchKey, WatchRange, Poll}
-use Rattle.stm_world.specs.declared.event.WorldEvent.TheVariants.{Cancel, Compact}
+use Rattle.stm_events.specs.declared.event.WorldEvent.{WorldEvent}
+use Rattle.stm_events.specs.declared.event.WorldEvent.TheVariants.{Start, Step, Txn as TxnEvent, Grant, Keep, Revoke, Advance, WatchKey, WatchRange, Poll}
+use Rattle.stm_events.specs.declared.event.WorldEvent.TheVariants.{Cancel, Compact}
 use Rattle.stm_texts.specs.Writing.{target_text, written_side, written_compare, written_operation, written_txn, written_event}
 
 number_spells : (least most n : ℕ) (d : Data) → SpellsNumberIn least most d n → SpellsNumberIn least most (written_number n) n

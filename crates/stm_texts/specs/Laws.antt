@@ -6,7 +6,7 @@ use Rattle.stm_texts.specs.Grammar.{SpellsEvent, SpellsData}
 use Rattle.stm_texts.specs.Opens.{IsOpening}
 use Rattle.stm_texts.specs.declared.events.TheConstants.{MOST_EVENTS}
 use Rattle.stm_texts.specs.declared.scenario.Scenario.{Scenario}
-use Rattle.stm_world.specs.declared.event.WorldEvent.{WorldEvent}
+use Rattle.stm_events.specs.declared.event.WorldEvent.{WorldEvent}
 use Rattle.stm_texts.specs.Writing.{written_scenario}
 
 -- some data spell each of these events

@@ -15,9 +15,9 @@ use Rattle.stm_outcome.specs.declared.txn.Target.TheVariants.{Version, Create, M
 use Rattle.stm_outcome.specs.declared.txn.Txn.{Txn}
 use Rattle.stm_json.specs.Parts.{spelled}
 use Rattle.stm_txn_json.specs.Grammar.{order_text}
-use Rattle.stm_world.specs.declared.event.WorldEvent.{WorldEvent}
-use Rattle.stm_world.specs.declared.event.WorldEvent.TheVariants.{Start, Step, Txn as TxnEvent, Grant, Keep, Revoke, Advance, WatchKey, WatchRange, Poll}
-use Rattle.stm_world.specs.declared.event.WorldEvent.TheVariants.{Cancel, Compact}
+use Rattle.stm_events.specs.declared.event.WorldEvent.{WorldEvent}
+use Rattle.stm_events.specs.declared.event.WorldEvent.TheVariants.{Start, Step, Txn as TxnEvent, Grant, Keep, Revoke, Advance, WatchKey, WatchRange, Poll}
+use Rattle.stm_events.specs.declared.event.WorldEvent.TheVariants.{Cancel, Compact}
 
 -- a list, each element written in this way
 abbrev pub written_list : {A : Type 0} → (A → Data) → List A → Data

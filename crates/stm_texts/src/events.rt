@@ -10,12 +10,12 @@ ghost use Rattle.stm_json.specs.Returns.{Returns};
 use crate::watchers::watcher_event;
 use serde_json::Value;
 use std::alloc::Global;
+use stm_events::WorldEvent;
 use stm_history::HIGHEST_NUMBER;
 use stm_json::{Cause, ReadError, fault, number_within, one, three, two, within, worded_array};
 use stm_program::Level;
 use stm_program_json::read_program;
 use stm_txn_json::read_txn;
-use stm_world::WorldEvent;
 
 /// The highest number of events in a scenario.
 pub const MOST_EVENTS: usize = 100000;

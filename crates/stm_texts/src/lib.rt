@@ -16,7 +16,7 @@ pub use events::MOST_EVENTS;
 pub use laws::written_scenarios_spell;
 pub use reading::read_scenario;
 pub use scenario::{Opening, Scenario, opens_with};
+pub use stm_events::WorldEvent;
 pub use stm_history::{Sequence, Text};
 pub use stm_json::{BadInput, Cause, MOST_BYTES, ReadError};
-pub use stm_world::WorldEvent;
 pub use written_events::{event_json, opening_json};

@@ -2,9 +2,9 @@
 ghost use Rattle.std.specs.Prelude.{◌≡◌, Some};
 ghost use Rattle.stm_texts.specs.Opens.{IsOpening, as_setup, setup_of};
 
+use stm_events::WorldEvent;
 use stm_history::Sequence;
 use stm_outcome::MOST_OPERATIONS;
-use stm_world::WorldEvent;
 
 /// What the empty store of a scenario opens with.
 #[derive(Clone, Copy, Debug, Drop, PartialEq, Eq)]

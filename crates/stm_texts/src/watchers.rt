@@ -6,8 +6,8 @@ ghost use Rattle.stm_texts.specs.Reading.{watch_key_of, watch_range_of, poll_of,
 
 use serde_json::Value;
 use std::alloc::Global;
+use stm_events::WorldEvent;
 use stm_json::{Cause, ReadError, fault, number_part, one, text_part, three, two};
-use stm_world::WorldEvent;
 
 fn watch_key(alloc: Global, elements: &[Value]) -> Result<WorldEvent, ReadError>
     ensures { Returns (λ e. e) result (watch_key_of (two_of (items_view elements.now))) }

@@ -5,17 +5,17 @@ ghost use Rattle.serde_json.specs.Written.{has_float};
 ghost use Rattle.stm_program_json.specs.Writing.{written_number};
 ghost use Rattle.stm_texts.specs.Grammar.{level_text, SpellsEvent};
 ghost use Rattle.stm_json.specs.Parts.{spelled};
-ghost use Rattle.stm_world.specs.declared.event.WorldEvent.TheVariants.{Start, Grant, WatchKey, WatchRange, Poll};
+ghost use Rattle.stm_events.specs.declared.event.WorldEvent.TheVariants.{Start, Grant, WatchKey, WatchRange, Poll};
 ghost use Rattle.stm_texts.specs.Writing.{written_event, written_opening};
 
 use crate::scenario::Opening;
 use crate::written_txns::txn_json;
 use serde_json::{Value as Json, json};
 use std::alloc::{AllocError, Global};
+use stm_events::WorldEvent;
 use stm_outcome::MOST_OPERATIONS;
 use stm_program::{Level, Program};
 use stm_program_json::write_program;
-use stm_world::WorldEvent;
 
 /// The word of a level.
 fn level_word(level: Level) -> &'static str

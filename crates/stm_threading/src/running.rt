@@ -4,7 +4,7 @@ ghost use Rattle.stm_devices.specs.declared.transfer.TheConstants.{MOST_READ};
 ghost use Rattle.stm_texts.specs.Reading.{scenario_in};
 ghost use Rattle.stm_texts.specs.Opens.{IsOpening, as_setup};
 ghost use Rattle.stm_txn.specs.Standing.{Setup};
-ghost use Rattle.stm_world.specs.declared.event.WorldEvent.{WorldEvent};
+ghost use Rattle.stm_events.specs.declared.event.WorldEvent.{WorldEvent};
 ghost use Rattle.stm_threading.specs.declared.running.JobsFault.TheVariants.{OutOfMemory};
 ghost use Rattle.stm_workers.specs.declared.run.TheConstants.{MOST_WORKERS};
 ghost use Rattle.std.specs.Map.{values_of};

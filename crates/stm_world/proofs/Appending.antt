@@ -30,20 +30,20 @@ use Rattle.stm_entries.specs.Replayed.{Replayed, without_moment}
 use Rattle.stm_entries.specs.Replay.{replay}
 use Rattle.stm_entries.specs.Legal.{AreLegal}
 use Rattle.stm_entries.proofs.Replaying.{replay_goes_on, all_legal}
-use Rattle.stm_world.specs.declared.event.WorldEvent.{WorldEvent}
-use Rattle.stm_world.specs.declared.event.WorldEvent.TheVariants.{Start, Step, Txn, Grant, Keep, Revoke, Advance}
-use Rattle.stm_world.specs.declared.event.WorldEvent.TheVariants.{WatchKey, WatchRange, Poll, Cancel, Compact}
-use Rattle.stm_world.specs.declared.reply.Reply.{Reply}
-use Rattle.stm_world.specs.declared.reply.Reply.TheVariants.{Started, Prefetched, Fetched, Conflict, GaveUp, Aborted, Faulted, Ended}
-use Rattle.stm_world.specs.declared.refusal.Refusal.TheVariants.{BadLimit}
-use Rattle.stm_world.specs.Reported.{store_after_call, store_after_poll}
+use Rattle.stm_events.specs.declared.event.WorldEvent.{WorldEvent}
+use Rattle.stm_events.specs.declared.event.WorldEvent.TheVariants.{Start, Step, Txn, Grant, Keep, Revoke, Advance}
+use Rattle.stm_events.specs.declared.event.WorldEvent.TheVariants.{WatchKey, WatchRange, Poll, Cancel, Compact}
+use Rattle.stm_events.specs.declared.reply.Reply.{Reply}
+use Rattle.stm_events.specs.declared.reply.Reply.TheVariants.{Started, Prefetched, Fetched, Conflict, GaveUp, Aborted, Faulted, Ended}
+use Rattle.stm_events.specs.declared.refusal.Refusal.TheVariants.{BadLimit}
+use Rattle.stm_events.specs.Replies.{store_after_call, store_after_poll}
 use Rattle.stm_world.specs.Task.{Task, answer_at, modified_now, after_list, after_fetch, after_conflict}
 use Rattle.stm_world.specs.World.{World, Runner, Slot, Over, Live, runner_at, with_slot, refused, replied, begin, start_runner, fetch, fetch_list, entry_of}
 use Rattle.stm_world.specs.World.{decided, commit_reported, commit, finish, step_on, step_live, step_runner}
 use Rattle.stm_world.specs.World.{step}
 use Rattle.stm_world.specs.Sound.{IsSound}
 use Rattle.stm_world.proofs.Entered.{EntriesFollow, nothing_follows}
-use Rattle.stm_world.proofs.Calls.{txn_follows, grant_follows, keep_follows, revoke_follows, advance_follows}
+use Rattle.stm_events.proofs.Calls.{txn_follows, grant_follows, keep_follows, revoke_follows, advance_follows}
 use Rattle.stm_world.proofs.WatchCalls.{watch_follows, poll_follows, cancel_follows, compact_follows}
 use Rattle.stm_world.proofs.CommitEntries.{Takes, taken, commit_follows_entry}
 use Rattle.std.proofs.Common.{append_assoc}
@@ -52,11 +52,11 @@ use Rattle.stm_compile.specs.Answers.{AreTrue}
 use Rattle.stm_compile.proofs.AgreeLemmas.{commit_is_the_run_now}
 use Rattle.stm_entries.proofs.Replaying.{replay_goes_on, all_legal}
 use Rattle.stm_entries.specs.Entered.{if_taken, if_changed, expiries}
-use Rattle.stm_world.specs.declared.reply.Reply.{Reply}
-use Rattle.stm_world.specs.declared.refusal.Denied.{Denied}
-use Rattle.stm_world.specs.Reported.{denied, reply_to, advance_reply, poll_reply}
-use Rattle.stm_world.specs.declared.refusal.Refusal.TheVariants.{NoRunner}
-use Rattle.stm_world.specs.declared.reply.Reply.TheVariants.{Txn as TxnDone, Granted, Kept, Revoked, Watching, Cancelled, Compacted}
+use Rattle.stm_events.specs.declared.reply.Reply.{Reply}
+use Rattle.stm_events.specs.declared.refusal.Denied.{Denied}
+use Rattle.stm_events.specs.Replies.{denied, reply_to, advance_reply, poll_reply}
+use Rattle.stm_events.specs.declared.refusal.Refusal.TheVariants.{NoRunner}
+use Rattle.stm_events.specs.declared.reply.Reply.TheVariants.{Txn as TxnDone, Granted, Kept, Revoked, Watching, Cancelled, Compacted}
 use Rattle.stm_world.specs.World.{Stepped, world_after}
 use Rattle.stm_world.specs.Appended.{HasAppended, EventsAppend}
 use Rattle.stm_world.proofs.SoundSteps.{world_with}

@@ -32,7 +32,8 @@ use Rattle.stm_attempt.proofs.SettleLemmas.{wanted_is_new, settled_keeps}
 use Rattle.stm_attempt.proofs.EnteringLemmas.{once-have_distinct, taken_keys, where_it_comes, begins_more, list_begins, reads_begin_with_the_list}
 use Rattle.stm_attempt.proofs.Unread.{found_key, same_bytes}
 use Rattle.stm_world.specs.Task.{Task, answer_at, after_list, after_fetch, after_conflict}
-use Rattle.stm_world.specs.Asked.{AskedBehind, AreAsked, keys_read, keys_first_read, AnswersAreTheReads}
+use Rattle.stm_events.specs.FirstReads.{keys_first_read}
+use Rattle.stm_world.specs.Asked.{AskedBehind, AreAsked, keys_read, AnswersAreTheReads}
 use Rattle.stm_world.proofs.ReadOrder.{reads_of, OneKeyMore, wanted_is_read}
 use Rattle.stm_world.proofs.FirstReads.{first_none, first_adds, first_stays}
 

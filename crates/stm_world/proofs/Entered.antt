@@ -5,6 +5,7 @@ use Rattle.stm_entries.specs.declared.entry.Entry.{Entry}
 use Rattle.stm_entries.specs.Replayed.{without_moment}
 use Rattle.stm_entries.specs.Replay.{replay}
 use Rattle.stm_entries.specs.Legal.{AreLegal}
+use Rattle.stm_events.proofs.Entered.{Enters, nothing_enters}
 use Rattle.stm_world.proofs.Truth.{Keeps, keeps_same}
 
 -- What was true stays true; and so does it that nothing which is pending for a watcher that is not lost is below the floor, which goes down
@@ -27,5 +28,18 @@ pub record EntriesFollow (before after : Standing) (more : List Entry) : Type 0 
 pub floor_stays : (s : Standing) → s.floor ≤ s.floor
 floor_stays s = omega arith
 
+pub nothing_goes_on : (s : Standing) → GoesOn s s
+nothing_goes_on s = record { keeps = keeps_same s.history; kept = λ k. k; floor = floor_stays s; limit = refl }
+
+pub followed : (before after : Standing) (more : List Entry) → Enters before after more → GoesOn before after → EntriesFollow before after more
+followed before after more enters goes = record {
+  replays = enters.replays;
+  legal = enters.legal;
+  keeps = goes.keeps;
+  kept = goes.kept;
+  floor = goes.floor;
+  limit = goes.limit;
+}
+
 pub nothing_follows : (s : Standing) → EntriesFollow s s []
-nothing_follows s = record { replays = refl; legal = tt; keeps = keeps_same s.history; kept = λ k. k; floor = floor_stays s; limit = refl }
+nothing_follows s = followed s s [] (nothing_enters s) (nothing_goes_on s)

@@ -21,18 +21,18 @@ use Rattle.stm_txn.specs.Standing.{Setup}
 use Rattle.stm_compile.specs.Now.{as_change}
 use Rattle.stm_entries.specs.Replayed.{Replayed, without_moment, replay_terms}
 use Rattle.stm_entries.specs.Alone.{seen_at, applied_run, history_left, left_by, left_by_run}
-use Rattle.stm_world.specs.declared.event.WorldEvent.{WorldEvent}
-use Rattle.stm_world.specs.declared.event.WorldEvent.TheVariants.{Start, Step, Txn, Grant, Keep, Revoke, Advance}
-use Rattle.stm_world.specs.declared.event.WorldEvent.TheVariants.{WatchKey, WatchRange, Poll, Cancel, Compact}
-use Rattle.stm_world.specs.declared.reply.Reply.{Reply}
-use Rattle.stm_world.specs.declared.reply.Reply.TheVariants.{Committed}
-use Rattle.stm_world.specs.declared.refusal.Denied.{Denied}
+use Rattle.stm_events.specs.declared.event.WorldEvent.{WorldEvent}
+use Rattle.stm_events.specs.declared.event.WorldEvent.TheVariants.{Start, Step, Txn, Grant, Keep, Revoke, Advance}
+use Rattle.stm_events.specs.declared.event.WorldEvent.TheVariants.{WatchKey, WatchRange, Poll, Cancel, Compact}
+use Rattle.stm_events.specs.declared.reply.Reply.{Reply}
+use Rattle.stm_events.specs.declared.reply.Reply.TheVariants.{Committed}
+use Rattle.stm_events.specs.declared.refusal.Denied.{Denied}
 use Rattle.stm_world.specs.Task.{Task}
 use Rattle.stm_world.specs.Log.{Line, begun, with_commit, store_after_step, store_after, store}
 use Rattle.stm_world.proofs.Truth.{Keeps, keeps_same}
 use Rattle.stm_world.proofs.CommitEntries.{grown_by, kept_by_writes}
 use Rattle.stm_world.proofs.Entered.{floor_stays}
-use Rattle.stm_world.proofs.Calls.{txn_goes_on, grant_follows, keep_follows, revoke_follows, advance_follows}
+use Rattle.stm_events.proofs.Calls.{txn_goes_on, grant_follows, keep_follows, revoke_follows, advance_follows}
 use Rattle.stm_world.proofs.WatchCalls.{watch_follows, poll_follows, cancel_follows, compact_follows}
 
 left_keeps : (r : Replayed) (run : Run) (o : Result Done StoreRefusal) → applied_run r run ≡ o → Keeps r.history (history_left r.history o)

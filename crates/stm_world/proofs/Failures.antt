@@ -12,13 +12,13 @@ use Rattle.stm_entries.specs.Replayed.{Replayed, opening, without_moment}
 use Rattle.stm_entries.specs.Replay.{replay}
 use Rattle.stm_entries.proofs.Adding.{replay_only_adds}
 use Rattle.stm_entries.proofs.Replaying.{replay_goes_on}
-use Rattle.stm_world.specs.declared.event.WorldEvent.{WorldEvent}
-use Rattle.stm_world.specs.declared.event.WorldEvent.TheVariants.{Start, Step}
-use Rattle.stm_world.specs.declared.reply.Reply.{Reply}
-use Rattle.stm_world.specs.declared.reply.Reply.TheVariants.{Started, Prefetched, Fetched, Committed, Conflict, GaveUp, Aborted, Faulted, Ended}
-use Rattle.stm_world.specs.declared.reply.Reply.TheVariants.{Txn as TxnDone, Granted, Kept, Revoked, Advanced, Watching, Batch, Cancelled, Compacted, Lost}
-use Rattle.stm_world.specs.declared.refusal.Denied.{Denied}
-use Rattle.stm_world.specs.declared.reply.KeyRead.{KeyRead}
+use Rattle.stm_events.specs.declared.event.WorldEvent.{WorldEvent}
+use Rattle.stm_events.specs.declared.event.WorldEvent.TheVariants.{Start, Step}
+use Rattle.stm_events.specs.declared.reply.Reply.{Reply}
+use Rattle.stm_events.specs.declared.reply.Reply.TheVariants.{Started, Prefetched, Fetched, Committed, Conflict, GaveUp, Aborted, Faulted, Ended}
+use Rattle.stm_events.specs.declared.reply.Reply.TheVariants.{Txn as TxnDone, Granted, Kept, Revoked, Advanced, Watching, Batch, Cancelled, Compacted, Lost}
+use Rattle.stm_events.specs.declared.refusal.Denied.{Denied}
+use Rattle.stm_events.specs.declared.reply.KeyRead.{KeyRead}
 use Rattle.stm_world.specs.Task.{Task, answer_at, after_list, after_fetch, after_conflict}
 use Rattle.stm_world.specs.Log.{Line, is_id, is_over, begun, running, started, failures, store, reported, runner_started, runner_ended, runner_in_conflict}
 use Rattle.stm_world.specs.Log.{task_in, entries_reported, line_entries}

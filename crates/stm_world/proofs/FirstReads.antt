@@ -4,7 +4,7 @@ use Rattle.std.specs.Prelude.{bytes_eq, ◌||◌}
 use Rattle.std.specs.List.{list_any}
 use Rattle.std.proofs.lemmas.Slice.Eq.{bytes_eq-Decides}
 use Rattle.stm_steps.specs.Session.{with_key}
-use Rattle.stm_world.specs.Asked.{is_other, keys_first_read}
+use Rattle.stm_events.specs.FirstReads.{is_other, keys_first_read}
 
 neither : (b c : Bool) → (b || c) ≡ false → (b ≡ false) × (c ≡ false)
 neither true c h = absurd (cc)

@@ -8,10 +8,10 @@ use Rattle.stm_entries.specs.Replayed.{opening, without_moment}
 use Rattle.stm_entries.specs.Replay.{replay}
 use Rattle.stm_entries.specs.Legal.{AreLegal}
 use Rattle.stm_entries.proofs.Replaying.{replay_goes_on, all_legal}
-use Rattle.stm_world.specs.declared.event.WorldEvent.{WorldEvent}
-use Rattle.stm_world.specs.declared.event.WorldEvent.TheVariants.{Step}
-use Rattle.stm_world.specs.declared.reply.Reply.{Reply}
-use Rattle.stm_world.specs.declared.refusal.Denied.{Denied}
+use Rattle.stm_events.specs.declared.event.WorldEvent.{WorldEvent}
+use Rattle.stm_events.specs.declared.event.WorldEvent.TheVariants.{Step}
+use Rattle.stm_events.specs.declared.reply.Reply.{Reply}
+use Rattle.stm_events.specs.declared.refusal.Denied.{Denied}
 use Rattle.stm_world.specs.Log.{Line, started, is_start, runner_started, store, line_entries, entries_reported}
 use Rattle.stm_world.specs.Right.{IsRight, AreRight}
 use Rattle.stm_world.specs.World.{World, Stepped, Runner, Slot, live_in, runner_at, with_slot}

@@ -17,14 +17,14 @@ use Rattle.stm_entries.specs.declared.entry.Entry.{Entry}
 use Rattle.stm_entries.specs.declared.entry.Entry.TheVariants.{Grant as GrantEntry, Renew, Revoke as RevokeEntry}
 use Rattle.stm_entries.specs.Replayed.{without_moment}
 use Rattle.stm_entries.specs.Entered.{if_changed, if_taken, expiries}
-use Rattle.stm_world.specs.declared.event.WorldEvent.{WorldEvent}
-use Rattle.stm_world.specs.declared.event.WorldEvent.TheVariants.{Start, Step, Txn, Grant, Keep, Revoke, Advance}
-use Rattle.stm_world.specs.declared.event.WorldEvent.TheVariants.{WatchKey, WatchRange, Poll, Cancel, Compact}
-use Rattle.stm_world.specs.declared.reply.Reply.{Reply}
-use Rattle.stm_world.specs.declared.reply.Reply.TheVariants.{Started, Txn as TxnDone, Granted, Kept, Revoked, Watching, Cancelled, Compacted, Lost}
-use Rattle.stm_world.specs.declared.refusal.Refusal.TheVariants.{BadLimit, NoRunner}
-use Rattle.stm_world.specs.declared.refusal.Denied.{Denied}
-use Rattle.stm_world.specs.Reported.{denied, reply_to, store_after_call, advance_reply, batch_reply, poll_reply}
+use Rattle.stm_events.specs.declared.event.WorldEvent.{WorldEvent}
+use Rattle.stm_events.specs.declared.event.WorldEvent.TheVariants.{Start, Step, Txn, Grant, Keep, Revoke, Advance}
+use Rattle.stm_events.specs.declared.event.WorldEvent.TheVariants.{WatchKey, WatchRange, Poll, Cancel, Compact}
+use Rattle.stm_events.specs.declared.reply.Reply.{Reply}
+use Rattle.stm_events.specs.declared.reply.Reply.TheVariants.{Started, Txn as TxnDone, Granted, Kept, Revoked, Watching, Cancelled, Compacted, Lost}
+use Rattle.stm_events.specs.declared.refusal.Refusal.TheVariants.{BadLimit, NoRunner}
+use Rattle.stm_events.specs.declared.refusal.Denied.{Denied}
+use Rattle.stm_events.specs.Replies.{denied, reply_to, store_after_call, advance_reply, batch_reply, poll_reply}
 use Rattle.stm_world.specs.Task.{Task}
 use Rattle.stm_world.specs.Log.{Line, begun, running, started, store, runner_started, if_reported, expired_reported, entries_reported, reported}
 use Rattle.stm_world.specs.Right.{RunnerIsRight}
@@ -44,7 +44,7 @@ use Rattle.stm_world.proofs.Following.{FollowsAt, FollowsStep, with_line, world_
 use Rattle.stm_world.proofs.RunnerSteps.{CommitLaws, live_follows}
 use Rattle.stm_world.proofs.Entered.{nothing_follows}
 use Rattle.stm_world.proofs.EventKeeps.{store_limit}
-use Rattle.stm_world.proofs.Calls.{txn_follows, grant_follows, keep_follows, revoke_follows, advance_follows}
+use Rattle.stm_events.proofs.Calls.{txn_follows, grant_follows, keep_follows, revoke_follows, advance_follows}
 use Rattle.stm_world.proofs.WatchCalls.{poll_reported, watch_follows, poll_follows, cancel_follows, compact_follows}
 
 -- ---- starts ----

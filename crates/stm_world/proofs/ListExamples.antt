@@ -19,12 +19,12 @@ use Rattle.stm_outcome.specs.declared.txn.Op.TheVariants.{Put}
 use Rattle.stm_outcome.specs.declared.answer.OpAnswer.TheVariants.{Put as PutAnswer}
 use Rattle.stm_outcome.specs.declared.refusal.Refusal.TheVariants.{TooManyOps}
 use Rattle.stm_txn.specs.Standing.{at_revision}
-use Rattle.stm_world.specs.declared.event.WorldEvent.{WorldEvent}
-use Rattle.stm_world.specs.declared.event.WorldEvent.TheVariants.{Start, Step, Txn}
-use Rattle.stm_world.specs.declared.reply.KeyRead.{KeyRead}
-use Rattle.stm_world.specs.declared.reply.Reply.{Reply}
-use Rattle.stm_world.specs.declared.reply.Reply.TheVariants.{Started, Prefetched, Fetched, Committed, Conflict, Ended, Txn as TxnDone}
-use Rattle.stm_world.specs.declared.refusal.Denied.{Denied}
+use Rattle.stm_events.specs.declared.event.WorldEvent.{WorldEvent}
+use Rattle.stm_events.specs.declared.event.WorldEvent.TheVariants.{Start, Step, Txn}
+use Rattle.stm_events.specs.declared.reply.KeyRead.{KeyRead}
+use Rattle.stm_events.specs.declared.reply.Reply.{Reply}
+use Rattle.stm_events.specs.declared.reply.Reply.TheVariants.{Started, Prefetched, Fetched, Committed, Conflict, Ended, Txn as TxnDone}
+use Rattle.stm_events.specs.declared.refusal.Denied.{Denied}
 use Rattle.stm_world.specs.World.{opened, start_runner, fetch, commit, step_live, replies_to}
 
 -- another client puts "1"

@@ -33,21 +33,21 @@ use Rattle.stm_txn.specs.Standing.{Setup}
 use Rattle.stm_outcome.specs.Terms.{Terms}
 use Rattle.stm_compile.specs.Now.{as_change}
 use Rattle.stm_compile.specs.Committed.{sends_too_many, conflict_now, judged, committed}
-use Rattle.stm_world.specs.declared.event.WorldEvent.{WorldEvent}
-use Rattle.stm_world.specs.declared.event.WorldEvent.TheVariants.{Start, Step, Txn, Grant, Keep, Revoke, Advance}
-use Rattle.stm_world.specs.declared.event.WorldEvent.TheVariants.{WatchKey, WatchRange, Poll, Cancel, Compact}
-use Rattle.stm_world.specs.declared.reply.Reply.{Reply}
-use Rattle.stm_world.specs.declared.reply.Reply.TheVariants.{Ended, Txn as TxnDone, Granted, Kept, Revoked, Watching as WatchingReply, Cancelled, Compacted}
-use Rattle.stm_world.specs.declared.refusal.Denied.{Denied}
-use Rattle.stm_world.specs.declared.refusal.Refusal.{Refusal as WorldRefusal}
-use Rattle.stm_world.specs.declared.refusal.Refusal.TheVariants.{Store, BadLimit, NoRunner}
-use Rattle.stm_world.specs.Reported.{reply_to, advance_reply}
+use Rattle.stm_events.specs.declared.event.WorldEvent.{WorldEvent}
+use Rattle.stm_events.specs.declared.event.WorldEvent.TheVariants.{Start, Step, Txn, Grant, Keep, Revoke, Advance}
+use Rattle.stm_events.specs.declared.event.WorldEvent.TheVariants.{WatchKey, WatchRange, Poll, Cancel, Compact}
+use Rattle.stm_events.specs.declared.reply.Reply.{Reply}
+use Rattle.stm_events.specs.declared.reply.Reply.TheVariants.{Ended, Txn as TxnDone, Granted, Kept, Revoked, Watching as WatchingReply, Cancelled, Compacted}
+use Rattle.stm_events.specs.declared.refusal.Denied.{Denied}
+use Rattle.stm_events.specs.declared.refusal.Refusal.{Refusal as WorldRefusal}
+use Rattle.stm_events.specs.declared.refusal.Refusal.TheVariants.{Store, BadLimit, NoRunner}
+use Rattle.stm_events.specs.Replies.{reply_to, advance_reply}
 use Rattle.stm_world.specs.Task.{Task}
 use Rattle.stm_world.specs.Log.{Line, running, store}
 use Rattle.stm_world.specs.Right.{Situation, Commits, IsRefused, RunnerIsRight, IsRight, situation}
 use Rattle.stm_world.specs.NeverOutOfMemory.{NeverOutOfMemory}
 use Rattle.stm_world.proofs.Wants.{NoOutOfMemory, NeverWants, transacted_never, advanced_never}
-use Rattle.stm_world.proofs.Calls.{granted_by, kept_by, revoked_by}
+use Rattle.stm_events.proofs.Calls.{granted_by, kept_by, revoked_by}
 use Rattle.stm_world.proofs.WatchCalls.{poll_reported}
 
 -- ---- watchers ----

@@ -30,13 +30,13 @@ use Rattle.stm_txn.specs.Standing.{Standing, Step as StoreStep, step_of, ended, 
 use Rattle.stm_txn.specs.Standing.{watch_step, poll_step, cancel_step, with_floor, floor_step, IsKeptFor}
 use Rattle.stm_txn.specs.Standing.{Setup}
 use Rattle.stm_txn.proofs.Ending.{ended_is}
-use Rattle.stm_world.specs.declared.event.WorldEvent.{WorldEvent}
-use Rattle.stm_world.specs.declared.event.WorldEvent.TheVariants.{Start, Step, Txn, Grant, Keep, Revoke, Advance}
-use Rattle.stm_world.specs.declared.event.WorldEvent.TheVariants.{WatchKey, WatchRange, Poll, Cancel, Compact}
-use Rattle.stm_world.specs.declared.reply.Reply.{Reply}
-use Rattle.stm_world.specs.declared.reply.Reply.TheVariants.{Committed, Watching as WatchingReply, Cancelled}
-use Rattle.stm_world.specs.declared.refusal.Denied.{Denied}
-use Rattle.stm_world.specs.Reported.{reply_to, batch_reply, poll_reply, store_after_call, store_after_poll}
+use Rattle.stm_events.specs.declared.event.WorldEvent.{WorldEvent}
+use Rattle.stm_events.specs.declared.event.WorldEvent.TheVariants.{Start, Step, Txn, Grant, Keep, Revoke, Advance}
+use Rattle.stm_events.specs.declared.event.WorldEvent.TheVariants.{WatchKey, WatchRange, Poll, Cancel, Compact}
+use Rattle.stm_events.specs.declared.reply.Reply.{Reply}
+use Rattle.stm_events.specs.declared.reply.Reply.TheVariants.{Committed, Watching as WatchingReply, Cancelled}
+use Rattle.stm_events.specs.declared.refusal.Denied.{Denied}
+use Rattle.stm_events.specs.Replies.{reply_to, batch_reply, poll_reply, store_after_call, store_after_poll}
 use Rattle.stm_world.specs.Task.{Task}
 use Rattle.stm_world.specs.Log.{Line, is_id, begun, with_commit, store_after_step, store}
 use Rattle.stm_world.specs.Right.{IsRight, AreRight}
@@ -48,7 +48,7 @@ use Rattle.stm_world.proofs.Truth.{Keeps}
 use Rattle.stm_world.proofs.EventKeeps.{event_keeps, event_floor, store_kept}
 use Rattle.stm_world.proofs.KeptFor.{kept_at}
 use Rattle.stm_world.proofs.Slots.{equal_numbers, same_number, other_number, differ}
-use Rattle.stm_world.proofs.Calls.{granted_by, kept_by, revoked_by, advance_ended, advance_due, advance_back}
+use Rattle.stm_events.proofs.Calls.{granted_by, kept_by, revoked_by, advance_ended, advance_due, advance_back}
 
 -- ---- the watchers stay at an event that is about no watcher
 

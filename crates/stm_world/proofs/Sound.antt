@@ -9,13 +9,13 @@ use Rattle.stm_txn.specs.Standing.{Standing, Advance, at_moment, expire_up_to}
 use Rattle.stm_txn.specs.Standing.{Setup}
 use Rattle.stm_compile.proofs.AgreeLemmas.{commit_is_the_run_now}
 use Rattle.stm_attempt.specs.Fetches.{at_of}
-use Rattle.stm_world.specs.declared.event.WorldEvent.{WorldEvent}
+use Rattle.stm_events.specs.declared.event.WorldEvent.{WorldEvent}
 use Rattle.stm_world.specs.World.{World, Runner, runner_at, opened, step, world_after}
 use Rattle.stm_entries.specs.Entered.{expiries}
 use Rattle.stm_world.specs.Sound.{IsSound, after_expiries, WorldsAreSound}
 use Rattle.stm_world.proofs.Truth as truths
 use Rattle.stm_world.proofs.Entered.{EntriesFollow}
-use Rattle.stm_world.proofs.Calls.{at_moment_follows}
+use Rattle.stm_events.proofs.Calls.{at_moment_follows}
 use Rattle.stm_world.proofs.Slots.{no_runner}
 use Rattle.stm_world.proofs.SoundSteps.{call_sound, event_sound}
 

@@ -15,11 +15,11 @@ use Rattle.stm_watch.specs.Calls.{poll_found, watcher_at, is_one_lost, Step as W
 use Rattle.stm_outcome.specs.declared.refusal.Refusal.TheVariants.{NoWatcher, Compacted as CompactedRefusal, FutureRevision}
 use Rattle.stm_txn.specs.Standing.{Standing, AreKeptFor, HasKept, with_watchers, watch_step, watched, poll_step, polled, cancel_step, cancelled}
 use Rattle.stm_txn.specs.Standing.{with_floor, floor_step, raised}
-use Rattle.stm_world.specs.declared.reply.Reply.{Reply}
-use Rattle.stm_world.specs.declared.reply.Reply.TheVariants.{Lost}
-use Rattle.stm_world.specs.declared.refusal.Denied.{Denied}
-use Rattle.stm_world.specs.declared.refusal.Refusal.TheVariants.{Store}
-use Rattle.stm_world.specs.Reported.{denied, batch_reply, poll_reply, store_after_call, store_after_poll}
+use Rattle.stm_events.specs.declared.reply.Reply.{Reply}
+use Rattle.stm_events.specs.declared.reply.Reply.TheVariants.{Lost}
+use Rattle.stm_events.specs.declared.refusal.Denied.{Denied}
+use Rattle.stm_events.specs.declared.refusal.Refusal.TheVariants.{Store}
+use Rattle.stm_events.specs.Replies.{denied, batch_reply, poll_reply, store_after_call, store_after_poll}
 use Rattle.stm_world.proofs.KeptFor.{kept_set, kept_by_watch, kept_by_poll, kept_by_compaction}
 use Rattle.stm_world.proofs.Truth.{keeps_same}
 use Rattle.stm_world.proofs.Entered.{EntriesFollow, floor_stays, nothing_follows}

@@ -33,13 +33,13 @@ use Rattle.stm_outcome.specs.declared.answer.OpAnswer.TheVariants.{Put as PutAns
 use Rattle.stm_outcome.specs.declared.refusal.Refusal.TheVariants.{NoWatcher, EmptyKey, FutureRevision, Compacted as CompactedRefusal}
 use Rattle.stm_entries.specs.declared.entry.Entry.{Entry}
 use Rattle.stm_entries.specs.declared.entry.Entry.TheVariants.{Program}
-use Rattle.stm_world.specs.declared.event.WorldEvent.{WorldEvent}
-use Rattle.stm_world.specs.declared.event.WorldEvent.TheVariants.{Start, Step, Txn, WatchKey, WatchRange, Poll, Cancel, Compact}
-use Rattle.stm_world.specs.declared.reply.Reply.{Reply}
-use Rattle.stm_world.specs.declared.reply.Reply.TheVariants.{Started, Fetched, Committed, Conflict, GaveUp, Aborted, Faulted, Txn as TxnDone, Watching, Batch, Compacted, Lost}
-use Rattle.stm_world.specs.declared.refusal.Denied.{Denied}
-use Rattle.stm_world.specs.declared.refusal.Refusal.TheVariants.{Store}
-use Rattle.stm_world.specs.Reported.{denied}
+use Rattle.stm_events.specs.declared.event.WorldEvent.{WorldEvent}
+use Rattle.stm_events.specs.declared.event.WorldEvent.TheVariants.{Start, Step, Txn, WatchKey, WatchRange, Poll, Cancel, Compact}
+use Rattle.stm_events.specs.declared.reply.Reply.{Reply}
+use Rattle.stm_events.specs.declared.reply.Reply.TheVariants.{Started, Fetched, Committed, Conflict, GaveUp, Aborted, Faulted, Txn as TxnDone, Watching, Batch, Compacted, Lost}
+use Rattle.stm_events.specs.declared.refusal.Denied.{Denied}
+use Rattle.stm_events.specs.declared.refusal.Refusal.TheVariants.{Store}
+use Rattle.stm_events.specs.Replies.{denied}
 use Rattle.stm_world.specs.Task.{Task}
 use Rattle.stm_world.specs.Log.{Line, IsLogOf, store}
 use Rattle.stm_txn.specs.Standing.{at_revision}

@@ -41,10 +41,10 @@ use Rattle.stm_attempt.specs.Fetches.{base_of, HaveOneBase}
 use Rattle.stm_entries.specs.declared.entry.Entry.{Entry}
 use Rattle.stm_entries.specs.Replayed.{without_moment}
 use Rattle.stm_entries.specs.Replay.{replay}
-use Rattle.stm_world.specs.declared.reply.Reply.{Reply}
-use Rattle.stm_world.specs.declared.reply.Reply.TheVariants.{Started, Prefetched, Fetched, Committed, Conflict, GaveUp, Aborted, Faulted, Ended}
-use Rattle.stm_world.specs.declared.reply.Reply.TheVariants.{Txn as TxnDone, Granted, Kept, Revoked, Advanced, Watching, Batch, Cancelled, Compacted, Lost}
-use Rattle.stm_world.specs.declared.refusal.Denied.{Denied}
+use Rattle.stm_events.specs.declared.reply.Reply.{Reply}
+use Rattle.stm_events.specs.declared.reply.Reply.TheVariants.{Started, Prefetched, Fetched, Committed, Conflict, GaveUp, Aborted, Faulted, Ended}
+use Rattle.stm_events.specs.declared.reply.Reply.TheVariants.{Txn as TxnDone, Granted, Kept, Revoked, Advanced, Watching, Batch, Cancelled, Compacted, Lost}
+use Rattle.stm_events.specs.declared.refusal.Denied.{Denied}
 use Rattle.stm_world.specs.Task.{Task, answer_at, after_list, after_fetch, after_conflict}
 use Rattle.stm_world.specs.Log.{Line, begun, running, store, known_after, reported}
 use Rattle.stm_world.specs.Doomed.{FailedCommit, NamesAConflict, IsRealFailure, Stopped, IsEndOnOneState, IsRealStop, since, failed_commits}

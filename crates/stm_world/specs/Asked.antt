@@ -1,8 +1,7 @@
 -- The answers that an attempt has read are those of its program's list, and after them those that the program asked for, in that order.
 --
 -- The Go package `concurrency`, "STM": a read of a key that was not read before is one fetch.
-use Rattle.std.specs.Prelude.{◌≡◌, ℕ, Bool, false, bytes_eq, not, List, [], ◌∷◌, ◌++◌, length, map, filter, take, drop, Some}
-use Rattle.std.specs.List.{list_any}
+use Rattle.std.specs.Prelude.{◌≡◌, ℕ, false, List, [], ◌∷◌, ◌++◌, length, map, take, drop, Some}
 use Rattle.stm_history.specs.declared.key_state.ReadAnswer.{ReadAnswer}
 use Rattle.stm_program.specs.Syntax.{ProgramTree}
 use Rattle.stm_steps.specs.declared.run.Run.{Run}
@@ -10,6 +9,7 @@ use Rattle.stm_steps.specs.declared.run.Answered.TheVariants.{Ended}
 use Rattle.stm_attempt.specs.Settled.{run_on, wanted}
 use Rattle.stm_attempt.specs.Entering.{is_due}
 use Rattle.stm_attempt.specs.Laws.{BeginsWithList}
+use Rattle.stm_events.specs.FirstReads.{keys_first_read}
 
 -- each of the answers after these was added when the program's run wanted its key
 abbrev pub AskedBehind : ProgramTree → List ReadAnswer → List ReadAnswer → Type 0
@@ -20,14 +20,6 @@ AskedBehind program before (a ∷ reads) = (wanted (run_on program before) ≡ S
 abbrev pub AreAsked : ProgramTree → List ReadAnswer → Type 0
 AreAsked program reads =
     let count : ℕ = length program.prefetch in AskedBehind program (take count reads) (drop count reads)
-
-abbrev pub is_other : List (List ℕ) → List ℕ → Bool
-is_other keys key = not (list_any (bytes_eq key) keys)
-
--- The keys in the order in which an attempt first reads them: those of its list, then the others that its run reads.
-abbrev pub keys_first_read : List (List ℕ) → List (List ℕ) → List (List ℕ)
-keys_first_read [] reads = reads
-keys_first_read (key ∷ keys) reads = (key ∷ keys) ++ filter (is_other (key ∷ keys)) reads
 
 abbrev pub keys_read : List ReadAnswer → List (List ℕ)
 keys_read reads = map (λ a. a.key) reads

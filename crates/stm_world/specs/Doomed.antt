@@ -24,9 +24,9 @@ use Rattle.stm_compile.specs.Conflicts.{Seen, seen_by, IsChangedAbove}
 use Rattle.stm_attempt.specs.Settled.{run_on}
 use Rattle.stm_attempt.specs.Entering.{is_due}
 use Rattle.stm_attempt.specs.Fetches.{base_of}
-use Rattle.stm_world.specs.declared.reply.Reply.{Reply}
-use Rattle.stm_world.specs.declared.reply.Reply.TheVariants.{Conflict, GaveUp, Aborted, Faulted}
-use Rattle.stm_world.specs.declared.refusal.Denied.{Denied}
+use Rattle.stm_events.specs.declared.reply.Reply.{Reply}
+use Rattle.stm_events.specs.declared.reply.Reply.TheVariants.{Conflict, GaveUp, Aborted, Faulted}
+use Rattle.stm_events.specs.declared.refusal.Denied.{Denied}
 use Rattle.stm_world.specs.Task.{Task}
 use Rattle.stm_world.specs.Log.{Line, is_id, runner_started, begun, running, store, reported}
 use Rattle.stm_world.specs.Headline.{OfEachLog, AreOfOneState}

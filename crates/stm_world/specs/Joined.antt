@@ -1,6 +1,6 @@
 -- Events that are run after others.
 use Rattle.std.specs.Prelude.{◌≡◌, List, ◌++◌}
-use Rattle.stm_world.specs.declared.event.WorldEvent.{WorldEvent}
+use Rattle.stm_events.specs.declared.event.WorldEvent.{WorldEvent}
 use Rattle.stm_world.specs.Log.{Line, IsLogOf}
 use Rattle.stm_world.specs.World.{World, world_after, replies_to}
 

@@ -11,10 +11,10 @@ use Rattle.stm_txn.specs.Standing.{Standing, transacted, granted, kept_alive, re
 use Rattle.stm_txn.specs.Standing.{Setup}
 use Rattle.stm_outcome.specs.Terms.{Terms}
 use Rattle.stm_compile.specs.Committed.{committed}
-use Rattle.stm_world.specs.declared.event.WorldEvent.{WorldEvent}
-use Rattle.stm_world.specs.declared.event.WorldEvent.TheVariants.{Step}
-use Rattle.stm_world.specs.declared.reply.Reply.TheVariants.{Ended}
-use Rattle.stm_world.specs.declared.refusal.Refusal.TheVariants.{Store}
+use Rattle.stm_events.specs.declared.event.WorldEvent.{WorldEvent}
+use Rattle.stm_events.specs.declared.event.WorldEvent.TheVariants.{Step}
+use Rattle.stm_events.specs.declared.reply.Reply.TheVariants.{Ended}
+use Rattle.stm_events.specs.declared.refusal.Refusal.TheVariants.{Store}
 use Rattle.stm_world.specs.Log.{Line}
 use Rattle.stm_world.specs.Right.{IsRight}
 

@@ -13,11 +13,11 @@ use Rattle.stm_watch.specs.Pending.{watching_from, pending, first_pending, pendi
 use Rattle.stm_watch.specs.Calls.{watcher_at}
 use Rattle.stm_txn.specs.Standing.{Standing, IsKeptFor}
 use Rattle.stm_txn.specs.Standing.{Setup}
-use Rattle.stm_world.specs.declared.event.WorldEvent.{WorldEvent}
-use Rattle.stm_world.specs.declared.event.WorldEvent.TheVariants.{WatchKey, WatchRange, Poll, Cancel}
-use Rattle.stm_world.specs.declared.reply.Reply.{Reply}
-use Rattle.stm_world.specs.declared.reply.Reply.TheVariants.{Watching as WatchingReply, Batch, Cancelled, Lost}
-use Rattle.stm_world.specs.declared.refusal.Denied.{Denied}
+use Rattle.stm_events.specs.declared.event.WorldEvent.{WorldEvent}
+use Rattle.stm_events.specs.declared.event.WorldEvent.TheVariants.{WatchKey, WatchRange, Poll, Cancel}
+use Rattle.stm_events.specs.declared.reply.Reply.{Reply}
+use Rattle.stm_events.specs.declared.reply.Reply.TheVariants.{Watching as WatchingReply, Batch, Cancelled, Lost}
+use Rattle.stm_events.specs.declared.refusal.Denied.{Denied}
 use Rattle.stm_world.specs.Log.{Line, is_id, store}
 use Rattle.stm_world.specs.Headline.{OfEachLog}
 

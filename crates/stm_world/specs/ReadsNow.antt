@@ -10,8 +10,8 @@ use Rattle.stm_program.specs.Levels.{is_comparing}
 use Rattle.stm_compile.specs.Committed.{conflict_now}
 use Rattle.stm_compile.specs.Laws.{AreNow}
 use Rattle.stm_attempt.specs.Settled.{run_on}
-use Rattle.stm_world.specs.declared.event.WorldEvent.{WorldEvent}
-use Rattle.stm_world.specs.declared.event.WorldEvent.TheVariants.{Step}
+use Rattle.stm_events.specs.declared.event.WorldEvent.{WorldEvent}
+use Rattle.stm_events.specs.declared.event.WorldEvent.TheVariants.{Step}
 use Rattle.stm_world.specs.World.{World, Runner, runner_at}
 
 -- Where the runner's program has come to its end, at a level that compares, and no compare of its commit fails, each value and

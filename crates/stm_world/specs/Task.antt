@@ -11,7 +11,7 @@ use Rattle.stm_program.specs.declared.level.Level.{Level}
 use Rattle.stm_compile.specs.Answers.{answer_now}
 use Rattle.stm_compile.specs.CommitTxn.{reread_keys}
 use Rattle.stm_attempt.specs.Known.{Known}
-use Rattle.stm_world.specs.declared.reply.KeyRead.{KeyRead}
+use Rattle.stm_events.specs.declared.reply.KeyRead.{KeyRead}
 use Rattle.stm_attempt.specs.Entering.{gone_on}
 
 -- a program, the level that it commits at, and how many commits its run may send

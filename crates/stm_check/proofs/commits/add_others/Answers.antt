@@ -1,7 +1,7 @@
 use Rattle.std.proofs.Common.{map, sym, arith}
 use Rattle.std.proofs.lemmas.List.{append-nil}
 use Rattle.std.specs.Prelude.{string_bytes}
-use Rattle.stm_world.specs.Asked.{is_other}
+use Rattle.stm_events.specs.FirstReads.{is_other}
 use Rattle.stm_check.proofs.CommitLemmas.{other_more, others_end}
 use Rattle.stm_check.proofs.commits.add_others.Goals as goal
 

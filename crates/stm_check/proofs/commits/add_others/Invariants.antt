@@ -1,6 +1,6 @@
 use Rattle.std.proofs.Common.{◌≡◌, ◌++◌, map, take}
 use Rattle.std.specs.Prelude.{filter, string_bytes}
-use Rattle.stm_world.specs.Asked.{is_other}
+use Rattle.stm_events.specs.FirstReads.{is_other}
 use Rattle.stm_check.proofs.commits.add_others.Given as goal
 
 -- the others of the keys so far are added

@@ -1,6 +1,6 @@
 use Rattle.std.proofs.Common.{◌≡◌, false, List, sym, ap, ◌∙◌, take_all}
 use Rattle.std.specs.List.{list_any}
-use Rattle.stm_world.specs.declared.event.WorldEvent.{WorldEvent}
+use Rattle.stm_events.specs.declared.event.WorldEvent.{WorldEvent}
 use Rattle.stm_exploring.specs.Asking.{is_step}
 use Rattle.stm_exploring.proofs.AskingLemmas.{first_step_at, no_step}
 use Rattle.stm_exploring.proofs.asking.first_step.Goals as goal

@@ -1,6 +1,6 @@
 use Rattle.std.proofs.Common.{◌≡◌, List, IfOk, subst}
 use Rattle.stm_txn.specs.Standing.{Setup}
-use Rattle.stm_world.specs.declared.event.WorldEvent.{WorldEvent}
+use Rattle.stm_events.specs.declared.event.WorldEvent.{WorldEvent}
 use Rattle.stm_schedules.specs.Outcomes.{Ends}
 use Rattle.stm_schedules.specs.Places.{Place}
 use Rattle.stm_texts.specs.Opens.{as_setup}

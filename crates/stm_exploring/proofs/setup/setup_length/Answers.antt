@@ -1,5 +1,5 @@
 use Rattle.std.proofs.Common.{◌≡◌, ◌-◌, ℕ, suc, false, List, take, drop, sym, ap, subst, ◌∙◌, arith}
-use Rattle.stm_world.specs.declared.event.WorldEvent.{WorldEvent}
+use Rattle.stm_events.specs.declared.event.WorldEvent.{WorldEvent}
 use Rattle.stm_schedules.specs.Scenarios.{has_start}
 use Rattle.stm_exploring.proofs.AskingLemmas.{LastStart, last_start_at, no_setup}
 use Rattle.stm_exploring.proofs.setup.setup_length.Goals as goal

@@ -1,7 +1,7 @@
 use Rattle.std.proofs.Common.{◌+◌, List, subst, arith}
 use Rattle.std.proofs.lemmas.List.{drop_all}
 use Rattle.std.specs.Prelude.{string_bytes}
-use Rattle.stm_world.specs.declared.event.WorldEvent.{WorldEvent}
+use Rattle.stm_events.specs.declared.event.WorldEvent.{WorldEvent}
 use Rattle.stm_world.specs.World.{replies_to}
 use Rattle.stm_faulted_runs.specs.Lines.{faults_from, faults_reported}
 use Rattle.stm_faulted_runs.specs.ReportedFaults.{reported_as}

@@ -1,6 +1,6 @@
 use Rattle.std.proofs.Common.{◌∙◌, Result, ap}
-use Rattle.stm_world.specs.declared.reply.Reply.{Reply}
-use Rattle.stm_world.specs.declared.refusal.Denied.{Denied}
+use Rattle.stm_events.specs.declared.reply.Reply.{Reply}
+use Rattle.stm_events.specs.declared.refusal.Denied.{Denied}
 use Rattle.stm_retry.proofs.WorldLemmas.{taken}
 use Rattle.stm_faulted_runs.specs.Lines.{reported_by}
 use Rattle.stm_faulted_runs.proofs.events.take.Goals as goal

@@ -1,7 +1,7 @@
 use Rattle.std.proofs.Common.{◌≡◌, ◌+◌, ◌∷◌, [], List, Ok, Err, length, refl, sym, ap, ◌∙◌, arith}
 use Rattle.std.proofs.lemmas.Result.{err_from_is_err_and}
 use Rattle.std.specs.Vec.Iter.{into_iter_items}
-use Rattle.stm_world.specs.declared.event.WorldEvent.{WorldEvent}
+use Rattle.stm_events.specs.declared.event.WorldEvent.{WorldEvent}
 use Rattle.stm_jobs.specs.Accepting.{sorted_of, add_event, accepted}
 use Rattle.stm_jobs.proofs.AcceptLemmas.{within_ok, within_err, next_event, stops_at, all_sorted, nothing_left}
 use Rattle.stm_jobs.proofs.accepting.accept.Goals as goal

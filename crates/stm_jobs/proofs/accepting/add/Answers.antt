@@ -3,7 +3,7 @@ use Rattle.stm_json.specs.declared.cause.Cause.TheVariants.{Shape}
 use Rattle.stm_json.specs.declared.read_error.ReadError.{ReadError}
 use Rattle.stm_json.specs.Outcome.{Outcome, bad}
 use Rattle.stm_json.specs.Returns.{Returns, ReturnsFault}
-use Rattle.stm_world.specs.declared.event.WorldEvent.{WorldEvent}
+use Rattle.stm_events.specs.declared.event.WorldEvent.{WorldEvent}
 use Rattle.stm_jobs.specs.Accepting.{Sorted, sorted_of, add_event}
 use Rattle.stm_jobs.proofs.accepting.add.Goals as goal
 

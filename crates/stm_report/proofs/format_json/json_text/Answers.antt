@@ -36,10 +36,10 @@ returns c =
     ap (λ (entries : List Entry). (replay entries (opening start)).live) c.history.ensures.entries ∙ ap (λ (r : Replayed). r.live) c.history.ensures.replays in
     let live : HasLeases c.in_ok-leases.leases w.standing.live =
     same_leases c.in_ok-leases.leases replayed w.standing.live (sym is_live) (c.in_ok-leases.ensures start) in
-    let text : string_bytes c.push_object.new.text
+    let text : string_bytes c.push_line.new.text
     ≡ ((events ++ lines_text (key_objects kept listed)) ++ leases) ++ line_text (end_object (now kept) (length w.entries)) =
     rw (
-      c.in_ok-push_object.ensures,
+      c.in_ok-push_line.ensures,
       c.in_ok-push_leases.ensures w.standing.live live,
       c.in_ok-push_keys.ensures,
       c.store-2.ensures.standing,

@@ -10,5 +10,5 @@ returns-in_ok-object-in-Some c =
     let key = c.args.key.now in
     let state = c.in-Some.state.now in
     let present : Some state ≡ key_now h key = c.in-Some.ensures.value ∙ ap (λ (kept : History). key_now kept key) c.keys.ensures.history in
-    subst (λ (line : List ℕ). OnOk c.push_object.result (string_bytes c.push_object.new.text ≡ string_bytes c.args.text.now ++ line))
-    (sym (one_key h key state (view c.in_ok-object-in-Some.object) present c.in_ok-object-in-Some.ensures.object)) c.push_object.ensures
+    subst (λ (line : List ℕ). OnOk c.push_line.result (string_bytes c.push_line.new.text ≡ string_bytes c.args.text.now ++ line))
+    (sym (one_key h key state (view c.in_ok-object-in-Some.object) present c.in_ok-object-in-Some.ensures.object)) c.push_line.ensures

@@ -1,6 +1,6 @@
 use Rattle.std.proofs.Common.{◌≡◌, List, Result, IfOk, length, ap, sym, subst, ◌∙◌}
-use Rattle.stm_world.specs.declared.reply.Reply.{Reply}
-use Rattle.stm_world.specs.declared.refusal.Denied.{Denied}
+use Rattle.stm_events.specs.declared.reply.Reply.{Reply}
+use Rattle.stm_events.specs.declared.refusal.Denied.{Denied}
 use Rattle.stm_world.specs.World.{World, world_after, replies_to}
 use Rattle.stm_report.specs.FormatScript.{IsTextOf}
 use Rattle.stm_report.proofs.FormatRowLemmas.{one_reply}

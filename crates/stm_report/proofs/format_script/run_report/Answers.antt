@@ -1,5 +1,5 @@
 use Rattle.std.proofs.Common.{◌≡◌, List, IfOk, ap, subst, ◌∙◌}
-use Rattle.stm_world.specs.declared.event.WorldEvent.{WorldEvent}
+use Rattle.stm_events.specs.declared.event.WorldEvent.{WorldEvent}
 use Rattle.stm_world.specs.World.{World, opened}
 use Rattle.stm_report.specs.FormatScript.{IsTextFrom, IsRunText}
 use Rattle.stm_report.proofs.format_script.run_report.Goals as goal

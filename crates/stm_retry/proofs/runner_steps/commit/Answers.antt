@@ -7,7 +7,7 @@ use Rattle.stm_world.specs.World.{Runner, commit}
 use Rattle.stm_retry.specs.declared.step_outcome.StepOutcome.TheVariants.{Ends}
 use Rattle.stm_retry.specs.RunnerView.{AreNamed}
 use Rattle.stm_retry.specs.RunnerReturns.{workplace, Leaves}
-use Rattle.stm_world.specs.declared.reply.Reply.{Reply}
+use Rattle.stm_events.specs.declared.reply.Reply.{Reply}
 use Rattle.stm_retry.proofs.StepLemmas.{of_run, take_leaves, fail_comes_to, refusal_comes_to, reread_named}
 use Rattle.stm_retry.proofs.runner_steps.commit.Goals as goal
 

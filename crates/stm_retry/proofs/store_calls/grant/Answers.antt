@@ -4,8 +4,8 @@ use Rattle.stm_entries.specs.declared.entry.Entry.{Entry}
 use Rattle.stm_entries.specs.declared.entry.Entry.TheVariants.{Grant as GrantEntry}
 use Rattle.stm_journal.specs.JournalState.{JournalState}
 use Rattle.stm_journal.specs.Entering.{granted_in}
-use Rattle.stm_world.specs.declared.event.WorldEvent.TheVariants.{Grant}
-use Rattle.stm_world.specs.declared.reply.Reply.TheVariants.{Granted}
+use Rattle.stm_events.specs.declared.event.WorldEvent.TheVariants.{Grant}
+use Rattle.stm_events.specs.declared.reply.Reply.TheVariants.{Granted}
 use Rattle.stm_world.proofs.NeverOutOfMemory.{granted_never}
 use Rattle.stm_retry.proofs.CallLemmas.{call_taken, call_refused, entry_is_call, entry_never}
 use Rattle.stm_retry.proofs.store_calls.grant.Goals as goal

@@ -2,8 +2,8 @@ use Rattle.std.proofs.Common.{Ok, refl}
 use Rattle.stm_txn.specs.Standing.{transacted}
 use Rattle.stm_journal.specs.JournalState.{JournalState}
 use Rattle.stm_journal.specs.Entering.{made}
-use Rattle.stm_world.specs.declared.event.WorldEvent.TheVariants.{Txn}
-use Rattle.stm_world.specs.declared.reply.Reply.TheVariants.{Txn as TxnDone}
+use Rattle.stm_events.specs.declared.event.WorldEvent.TheVariants.{Txn}
+use Rattle.stm_events.specs.declared.reply.Reply.TheVariants.{Txn as TxnDone}
 use Rattle.stm_world.proofs.Wants.{transacted_never}
 use Rattle.stm_retry.proofs.CallLemmas.{call_taken, call_refused, txn_is_call, txn_never}
 use Rattle.stm_retry.proofs.store_calls.make_txn.Goals as goal

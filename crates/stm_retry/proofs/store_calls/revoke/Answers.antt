@@ -4,8 +4,8 @@ use Rattle.stm_entries.specs.declared.entry.Entry.{Entry}
 use Rattle.stm_entries.specs.declared.entry.Entry.TheVariants.{Revoke as RevokeEntry}
 use Rattle.stm_journal.specs.JournalState.{JournalState}
 use Rattle.stm_journal.specs.Entering.{revoked_in}
-use Rattle.stm_world.specs.declared.event.WorldEvent.TheVariants.{Revoke}
-use Rattle.stm_world.specs.declared.reply.Reply.TheVariants.{Revoked}
+use Rattle.stm_events.specs.declared.event.WorldEvent.TheVariants.{Revoke}
+use Rattle.stm_events.specs.declared.reply.Reply.TheVariants.{Revoked}
 use Rattle.stm_world.proofs.NeverOutOfMemory.{revoked_never}
 use Rattle.stm_retry.proofs.CallLemmas.{call_taken, call_refused, entry_is_call, entry_never}
 use Rattle.stm_retry.proofs.store_calls.revoke.Goals as goal

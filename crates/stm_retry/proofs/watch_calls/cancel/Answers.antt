@@ -2,8 +2,8 @@ use Rattle.std.proofs.Common.{Ok, Result, refl, sym, subst}
 use Rattle.stm_outcome.specs.declared.refusal.Refusal.{Refusal}
 use Rattle.stm_txn.specs.Standing.{Step, IsRefusalOf, cancelled}
 use Rattle.stm_journal.specs.JournalState.{JournalState}
-use Rattle.stm_world.specs.declared.event.WorldEvent.TheVariants.{Cancel}
-use Rattle.stm_world.specs.declared.reply.Reply.TheVariants.{Cancelled}
+use Rattle.stm_events.specs.declared.event.WorldEvent.TheVariants.{Cancel}
+use Rattle.stm_events.specs.declared.reply.Reply.TheVariants.{Cancelled}
 use Rattle.stm_world.proofs.NeverOutOfMemory.{cancelled_never}
 use Rattle.stm_retry.proofs.WatchCalls.{watch_taken, watch_refused}
 use Rattle.stm_retry.proofs.watch_calls.cancel.Goals as goal

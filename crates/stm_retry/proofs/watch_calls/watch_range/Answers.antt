@@ -2,8 +2,8 @@ use Rattle.std.proofs.Common.{Ok, refl}
 use Rattle.stm_watch.specs.declared.watched.Watched.TheVariants.{Range}
 use Rattle.stm_txn.specs.Standing.{watched}
 use Rattle.stm_journal.specs.JournalState.{JournalState}
-use Rattle.stm_world.specs.declared.event.WorldEvent.TheVariants.{WatchRange}
-use Rattle.stm_world.specs.declared.reply.Reply.TheVariants.{Watching}
+use Rattle.stm_events.specs.declared.event.WorldEvent.TheVariants.{WatchRange}
+use Rattle.stm_events.specs.declared.reply.Reply.TheVariants.{Watching}
 use Rattle.stm_world.proofs.NeverOutOfMemory.{watched_never}
 use Rattle.stm_retry.proofs.WatchCalls.{watch_taken, watch_refused}
 use Rattle.stm_retry.proofs.watch_calls.watch_range.Goals as goal

@@ -1,9 +1,9 @@
 use Rattle.std.proofs.Common.{Result, sym, ap, subst}
 use Rattle.stm_journal.specs.JournalState.{JournalState}
-use Rattle.stm_world.specs.declared.event.WorldEvent.{WorldEvent}
-use Rattle.stm_world.specs.declared.event.WorldEvent.TheVariants.{Start, Step}
-use Rattle.stm_world.specs.declared.reply.Reply.{Reply}
-use Rattle.stm_world.specs.declared.refusal.Denied.{Denied}
+use Rattle.stm_events.specs.declared.event.WorldEvent.{WorldEvent}
+use Rattle.stm_events.specs.declared.event.WorldEvent.TheVariants.{Start, Step}
+use Rattle.stm_events.specs.declared.reply.Reply.{Reply}
+use Rattle.stm_events.specs.declared.refusal.Denied.{Denied}
 use Rattle.stm_world.specs.World.{World}
 use Rattle.stm_retry.specs.WorldOf.{world_of}
 use Rattle.stm_retry.specs.Returns.{IsStep}

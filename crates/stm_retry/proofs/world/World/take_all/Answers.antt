@@ -1,8 +1,8 @@
 use Rattle.std.proofs.Common.{◌≡◌, ◌+◌, ◌<◌, List, ◌++◌, length, drop, sym, ◌∙◌, ap, arith, length-drop, Result, false, true, subst}
 use Rattle.stm_outcome.specs.declared.advance.Expired.{Expired}
-use Rattle.stm_world.specs.declared.event.WorldEvent.{WorldEvent}
-use Rattle.stm_world.specs.declared.reply.Reply.{Reply}
-use Rattle.stm_world.specs.declared.refusal.Denied.{Denied}
+use Rattle.stm_events.specs.declared.event.WorldEvent.{WorldEvent}
+use Rattle.stm_events.specs.declared.reply.Reply.{Reply}
+use Rattle.stm_events.specs.declared.refusal.Denied.{Denied}
 use Rattle.stm_world.specs.World.{World, step, replies_to}
 use Rattle.stm_retry.specs.Returns.{IsStep, IsRunStop, ran_out}
 use Rattle.stm_retry.proofs.WorldLemmas.{taken, stops_at, replies_step, rest_step, reached_step}

@@ -20,7 +20,6 @@ use Rattle.stm_txn.specs.LeaseKeys.{deletions_of}
 use Rattle.stm_txn.specs.Standing.{Standing, Advance, with_history, without_lease, ended, terms_of}
 use Rattle.stm_txn.specs.Standing.{at_moment, expire_up_to, advanced, HasCome}
 use Rattle.stm_txn.proofs.Ending.{ended_is, due_lives}
-use Rattle.stm_entries.specs.declared.entry.Entry.{Entry}
 use Rattle.stm_entries.specs.declared.entry.Entry.TheVariants.{Foreign, Expire}
 use Rattle.stm_entries.specs.Entered.{if_changed, expiries}
 use Rattle.stm_entries.specs.Replayed.{replay_terms, without_moment, with_history as replayed_with}

@@ -1,5 +1,5 @@
 -- What the events that are calls of the journal return and leave.
-use Rattle.std.proofs.Common.{◌≡◌, ◌≢◌, ◌<◌, ◌∙◌, ◌⊎◌, inl, inr, ℕ, List, [], ◌∷◌, ◌++◌, Option, Some, Result, Ok, Err, Bool, true, false, cond}
+use Rattle.std.proofs.Common.{◌≡◌, ◌≢◌, ◌<◌, ◌∙◌, ◌⊎◌, inl, inr, ℕ, List, [], ◌∷◌, ◌++◌, Option, None, Some, Result, Ok, Err, Bool, true, false, cond}
 use Rattle.std.proofs.Common.{refl, sym, ap, subst, arith}
 use Rattle.std.specs.Prelude.{IsOk, nat_lt}
 use Rattle.std.proofs.lemmas.Bool.{ltb-true}
@@ -20,7 +20,7 @@ use Rattle.stm_journal.specs.Entering.{entered, one_entry, IsAdvanced, IsCutShor
 use Rattle.stm_events.specs.declared.event.WorldEvent.{WorldEvent}
 use Rattle.stm_events.specs.declared.event.WorldEvent.TheVariants.{Advance}
 use Rattle.stm_events.specs.declared.reply.Reply.{Reply}
-use Rattle.stm_events.specs.declared.reply.Reply.TheVariants.{Txn as TxnDone}
+use Rattle.stm_events.specs.declared.reply.Reply.TheVariants.{Txn as TxnDone, Advanced}
 use Rattle.stm_events.specs.declared.refusal.Refusal.TheVariants.{Store}
 use Rattle.stm_events.specs.declared.refusal.Denied.{Denied}
 use Rattle.stm_events.specs.Replies.{denied, reply_to, store_after_call, advance_reply}
@@ -142,7 +142,7 @@ txn_never j txn (Err cause) never = never
 -- ---- an advance ----
 
 -- what an advance comes to
-pub advance_is : (before after : JournalState) (moment : ℕ) (expired : List Expired) (cause : Option StoreRefusal) (runners : List Slot) →
+advance_is : (before after : JournalState) (moment : ℕ) (expired : List Expired) (cause : Option StoreRefusal) (runners : List Slot) →
     IsAdvanced before moment expired cause after →
     IsStep (step (Advance moment) (world_of before runners)) (advance_reply moment expired cause) (world_of after runners)
 advance_is before after moment expired cause runners x = record {
@@ -150,6 +150,13 @@ advance_is before after moment expired cause runners x = record {
   next_is = ap (λ (a : StoreAdvance). world_of (gone_on before a.leaves (expiries a.expired)) runners) x.advance
       ∙ ap (λ (j : JournalState). world_of j runners) (sym x.journal);
 }
+
+-- one that the store took
+pub advance_taken : (before after : JournalState) (moment : ℕ) (expired reported : List Expired) → reported ≡ expired →
+    IsAdvanced before moment expired None after → CallReturns (Advance moment) (Ok (Advanced moment reported)) before after
+advance_taken before after moment expired reported same x runners =
+    subst (λ (l : List Expired). IsStep (step (Advance moment) (world_of before runners)) (Ok (Advanced moment l)) (world_of after runners)) (sym same)
+    (advance_is before after moment expired None runners x)
 
 left_by : (before after : JournalState) (moment : ℕ) (expired : List Expired) (runners : List Slot) →
     ((expired ≡ []) × (after ≡ before)) ⊎ JournalCutShort before moment expired after →

@@ -55,7 +55,7 @@ refused_by event report s (Err c) cause call want never refusal es runners =
 taken_by : {A : Type 0} (event : WorldEvent) (report : A → Reply) (s next : Standing) (o : Result (StoreStep A) StoreRefusal) (answer : A)
     (reply : Result Reply Denied) → IsWatchCall event report s o → o ≡ Ok record { answer = answer; next = next } → reply ≡ Ok (report answer) →
     QuietReturns event reply s next
-taken_by event report s next o answer reply call taken replied es runners =
+taken_by {A = A} event report s next o answer reply call taken replied es runners =
     let one : step event (world_with runners s es) ≡ record { reply = Ok (report answer); next = world_with runners next es } =
     call runners es
     ∙ ap (λ (x : Result (StoreStep A) StoreRefusal). quietly_called (reply_to report x) (store_after_call s x) (world_with runners s es)) taken in

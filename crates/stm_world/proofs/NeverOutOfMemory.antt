@@ -95,14 +95,14 @@ granted_for s id ttl false true lives = λ e. absurd (cc)
 granted_for s id ttl false false true = λ e. absurd (cc)
 granted_for s id ttl false false false = tt
 
-granted_never : (s : Standing) (id ttl : ℕ) → NeverWants (granted s id ttl)
+pub granted_never : (s : Standing) (id ttl : ℕ) → NeverWants (granted s id ttl)
 granted_never s id ttl = granted_for s id ttl (not (is_id id)) (not (is_ttl ttl)) (is_live_in s.live id)
 
 kept_for : (s : Standing) (id : ℕ) (o : Option Term) → NeverWants (kept_by s id o)
 kept_for s id None = λ e. absurd (cc)
 kept_for s id (Some term) = tt
 
-kept_never : (s : Standing) (id : ℕ) → NeverWants (kept_alive s id)
+pub kept_never : (s : Standing) (id : ℕ) → NeverWants (kept_alive s id)
 kept_never s id = kept_for s id (finmap.get s.live id)
 
 revoked_for : (s : Standing) (id : ℕ) (live used : Bool) → NeverWants (revoked_by s id live used)
@@ -110,7 +110,7 @@ revoked_for s id false used = λ e. absurd (cc)
 revoked_for s id true true = λ e. absurd (cc)
 revoked_for s id true false = tt
 
-revoked_never : (s : Standing) (id : ℕ) → NeverWants (revoked s id)
+pub revoked_never : (s : Standing) (id : ℕ) → NeverWants (revoked s id)
 revoked_never s id = revoked_for s id (is_live_in s.live id) (is_used_up s.history (deletions_of s.history id))
 
 -- ---- commits ----

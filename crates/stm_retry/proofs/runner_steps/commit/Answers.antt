@@ -19,7 +19,7 @@ returns-in-Ok-Committed c run x =
     let after : JournalState = c.commit_trusted.new.self in
     let revision = c.in-Ok-Committed.revision in
     let reported = rw c.in-Ok-Committed.field-0-is at c.in-Ok-Committed.ensures.verdict in
-    let made = has_committed j after ready run c.in-Ok-Committed.index revision (of_run r run ready x c.in-Ok-Committed.ensures.run c.requires.named) reported in
+    let made = has_committed j after ready run _ revision (of_run r run ready x c.in-Ok-Committed.ensures.run c.requires.named) reported in
     subst (λ (reply : Reply). Leaves c.args.id (Ok (Ends reply)) (workplace j r) (workplace after r) (commit c.args.id r r.known.reads run))
     (sym c.reply_committed.ensures)
     (take_leaves c.args.id r r run ready j after revision c.attempts-attempts.result c.in-Ok.copies.output c.in-Ok.copies.trace c.in-Ok.copies.answers

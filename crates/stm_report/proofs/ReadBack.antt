@@ -1,10 +1,12 @@
 -- Written JSON has no line feed, so a text is cut into the lines that it was made of.
 use Rattle.std.proofs.Common.{◌≡◌, ℕ, suc, ◌+◌, ◌/◌, ◌%◌, ◌^◌, ◌<◌, Bool, true, false, cond, List, [], ◌∷◌, ◌++◌, ℤ, pos, negsuc, decimal, refl, sym}
-use Rattle.std.proofs.Common.{Some, ◌∙◌, ap, subst, arith, append_assoc, eqb-true}
+use Rattle.std.proofs.Common.{Some, ◌∙◌, ap, subst, arith, append_assoc, eqb-true, length, take, drop, get_or, IsUtf8}
 use Rattle.std.proofs.lemmas.Bool.{ltb-true, ne_eqb}
 use Rattle.std.proofs.lemmas.Fmt.{decimal_is_IsNumeral}
 use Rattle.std.proofs.lemmas.List.Splits.{slice_split-cons_yes, slice_split-cons_no}
+use Rattle.std.proofs.lemmas.Str.{IsUtf8-take, IsUtf8-drop, IsCharBoundary-before_ascii, IsCharBoundary-after_ascii}
 use Rattle.std.specs.Prelude.{nat_lt, ◌==◌, ◌||◌}
+use Rattle.std.specs.Str.{IsCharBoundary}
 use Rattle.std.specs.Char.{digit_value, digit_char}
 use Rattle.std.specs.Fmt.{signed_decimal}
 use Rattle.std.specs.List.{onto_first}
@@ -131,21 +133,51 @@ mutual
 
 -- ---- the lines
 
+-- what stands before a line feed, what it is, and what stands from it on
+before_feed : (c rest : List ℕ) → take (length c) (c ++ 10 ∷ rest) ≡ c
+before_feed [] rest = refl
+before_feed (b ∷ c) rest = ap (λ (l : List ℕ). b ∷ l) (before_feed c rest)
+
+at_feed : (c rest : List ℕ) → get_or (c ++ 10 ∷ rest) (length c) 0 ≡ 10
+at_feed [] rest = refl
+at_feed (b ∷ c) rest = at_feed c rest
+
+from_feed : (c rest : List ℕ) → drop (length c) (c ++ 10 ∷ rest) ≡ 10 ∷ rest
+from_feed [] rest = refl
+from_feed (b ∷ c) rest = from_feed c rest
+
+within_text : (c rest : List ℕ) → length c < length (c ++ 10 ∷ rest)
+within_text [] rest = omega arith
+within_text (b ∷ c) rest = let more : length c < length (c ++ 10 ∷ rest) = within_text c rest in omega (arith, more)
+
+-- UTF-8 is cut by a line feed into two texts in UTF-8
+cut_at_feed : (c rest : List ℕ) → IsUtf8 (c ++ 10 ∷ rest) → IsUtf8 c × IsUtf8 rest
+cut_at_feed c rest utf8 =
+    let text : List ℕ = c ++ 10 ∷ rest in
+    let feed : get_or text (length c) 0 ≡ 10 = at_feed c rest in
+    let cut : IsCharBoundary text (length c) = IsCharBoundary-before_ascii text (length c) (within_text c rest) (omega (arith, feed)) in
+    let behind : IsUtf8 (10 ∷ rest) = subst IsUtf8 (from_feed c rest) (IsUtf8-drop text (length c) utf8 cut) in (
+      subst IsUtf8 (before_feed c rest) (IsUtf8-take text (length c) utf8 cut),
+      IsUtf8-drop (10 ∷ rest) 1 behind (IsCharBoundary-after_ascii (10 ∷ rest) 0 behind (omega arith) (omega arith)),
+    )
+
 cut_behind : (c rest : List ℕ) → HasNoFeed c → parts_of (c ++ 10 ∷ rest) ≡ c ∷ parts_of rest
 cut_behind [] rest none = slice_split-cons_yes is_line_feed 10 rest refl
 cut_behind (b ∷ c) rest none =
     slice_split-cons_no is_line_feed b (c ++ 10 ∷ rest) none.0 ∙ ap (onto_first b) (cut_behind c rest none.1)
 
-parts_spell : (lines : List ReportLine) → AreReadable lines → SpellsParts (parts_of (text_of lines)) lines
-parts_spell [] readable = refl
-parts_spell (l ∷ lines) (one, others) =
-    let c : List ℕ = compact_text (line_data l) in (
+parts_spell : (lines : List ReportLine) → AreReadable lines → IsUtf8 (text_of lines) → SpellsParts (parts_of (text_of lines)) lines
+parts_spell [] readable utf8 = refl
+parts_spell (l ∷ lines) (one, others) utf8 =
+    let c : List ℕ = compact_text (line_data l) in
+    let whole : (c ++ 10 ∷ []) ++ text_of lines ≡ c ++ 10 ∷ text_of lines = append_assoc c (10 ∷ []) (text_of lines) in
+    let halves : IsUtf8 c × IsUtf8 (text_of lines) = cut_at_feed c (text_of lines) (subst IsUtf8 whole utf8) in (
       c,
       parts_of (text_of lines),
-      ap parts_of (append_assoc c (10 ∷ []) (text_of lines)) ∙ cut_behind c (text_of lines) (data_none (line_data l) one.0),
-      (line_data l, written_is_read (line_data l) one.0 (line_is_shallow l), (spell (line_data l) one.0, one.1)),
-      parts_spell lines others,
+      ap parts_of whole ∙ cut_behind c (text_of lines) (data_none (line_data l) one.0),
+      (line_data l, written_is_read (line_data l) one.0 halves.0 (line_is_shallow l), (spell (line_data l) one.0, one.1)),
+      parts_spell lines others halves.1,
     )
 
 pub reports_are_read_back : ReportsAreReadBack
-reports_are_read_back r readable short = report_reads (text_of r.lines) r (short, parts_spell r.lines readable)
+reports_are_read_back r readable utf8 short = report_reads (text_of r.lines) r (short, parts_spell r.lines readable utf8)

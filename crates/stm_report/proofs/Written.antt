@@ -2,9 +2,7 @@
 use Rattle.std.proofs.Common.{◌≡◌, ℕ, suc, ◌^◌, ◌<◌, ◌≤◌, max, Bool, true, false, cond, List, [], ◌∷◌, ◌++◌, Option, Some, None, option_map, option_and_then}
 use Rattle.std.proofs.Common.{ℤ, pos, negsuc, decimal, IsUtf8, refl, sym, ◌∙◌, ap, subst, arith, append-nil}
 use Rattle.std.proofs.lemmas.Bool.{ltb-true}
-use Rattle.std.proofs.lemmas.Fmt.{IsAscii-decimal, IsAscii-signed}
-use Rattle.std.proofs.lemmas.Str.{IsUtf8-append, IsUtf8-nil, IsUtf8-from_ascii, is_utf8-from_IsUtf8}
-use Rattle.std.specs.Fmt.{signed_decimal}
+use Rattle.std.proofs.lemmas.Str.{is_utf8-from_IsUtf8}
 use Rattle.json.specs.Token.{Token}
 use Rattle.json.specs.Lex.{tokens}
 use Rattle.json.specs.Print.{print}
@@ -13,11 +11,10 @@ use Rattle.json.specs.Tree as tree
 use Rattle.json.proofs.Printed.Decimals.{IsNumber-decimal, IsNumber-signed_decimal}
 use Rattle.json.proofs.Printed.Tokens.{tokens-print}
 use Rattle.json.proofs.Printed.Trees.{value-json_tokens, ArePrintable-json_tokens}
-use Rattle.json.proofs.Printed.Utf8.{IsUtf8-are_ascii, IsUtf8-quoted, IsUtf8-boolean}
 use Rattle.serde_json.specs.Data.{Num, Data, null, boolean, number, string, array, object, Items, no_items, item, depth, items_depth}
 use Rattle.serde_json.specs.Find.{of_integer}
 use Rattle.serde_json.specs.Read.{read, number_of, of_json, of_items, max_depth}
-use Rattle.serde_json.specs.Written.{number_text, outline, items_outline, compact_text, items_text, comma_if}
+use Rattle.serde_json.specs.Written.{number_text, outline, items_outline, compact_text}
 use Rattle.serde_json.proofs.Numbers.{number_of-decimal, number_of-negative}
 use Rattle.serde_json.proofs.Texts.{print-outline}
 use Rattle.stm_json.specs.Bytes.{data_of}
@@ -87,31 +84,6 @@ mutual
   items_have_numbers no_items plain = tt
   items_have_numbers (item d ds) (one, others) = (has_numbers d one, items_have_numbers ds others)
 
--- ---- its bytes
-
-integer_utf8 : (z : ℤ) → is_64_bit z ≡ true → IsUtf8 (number_text (of_integer z))
-integer_utf8 (pos n) fits = IsUtf8-from_ascii (decimal n) (IsAscii-decimal n (below n (ltb-true n (2 ^ 63) fits)))
-integer_utf8 (negsuc n) fits = IsUtf8-from_ascii (signed_decimal (negsuc n)) (IsAscii-signed (negsuc n) (ltb-true n (2 ^ 63) fits))
-
-comma_utf8 : (later : Bool) → IsUtf8 (comma_if later)
-comma_utf8 true = IsUtf8-are_ascii (44 ∷ []) refl
-comma_utf8 false = IsUtf8-nil
-
-mutual
-  data_utf8 : (d : Data) → IsPlain d → IsUtf8 (compact_text d)
-  data_utf8 null plain = IsUtf8-are_ascii (110 ∷ 117 ∷ 108 ∷ 108 ∷ []) refl
-  data_utf8 (boolean b) plain = IsUtf8-boolean b
-  data_utf8 (number m) plain = by_integer (λ (n : Num). IsUtf8 (number_text n)) integer_utf8 m plain
-  data_utf8 (string s) plain = IsUtf8-quoted s plain
-  data_utf8 (array ds) plain = IsUtf8-append (91 ∷ []) (items_text false ds) (IsUtf8-are_ascii (91 ∷ []) refl) (items_utf8 false ds plain)
-  data_utf8 (object ms) plain = absurd plain
-
-  items_utf8 : (later : Bool) (ds : Items) → ArePlain ds → IsUtf8 (items_text later ds)
-  items_utf8 later no_items plain = IsUtf8-are_ascii (93 ∷ []) refl
-  items_utf8 later (item d ds) (one, others) =
-      IsUtf8-append (comma_if later) (compact_text d ++ items_text true ds) (comma_utf8 later)
-      (IsUtf8-append (compact_text d) (items_text true ds) (data_utf8 d one) (items_utf8 true ds others))
-
 -- ---- the whole
 
 -- tokens that are those of some JSON are read as what it is
@@ -120,11 +92,11 @@ tokens_read text j d same shallow is =
     ap (λ (o : Option (json.Json × List Token)). option_and_then of_json (option_and_then (λ p. json.if_last p.0 p.1) o))
     (ap (json.value max_depth) (same ∙ sym (append-nil (tree.json_tokens j))) ∙ value-json_tokens j max_depth [] shallow) ∙ is
 
-pub written_is_read : (d : Data) → IsPlain d → depth d ≤ max_depth → data_of (compact_text d) ≡ Some d
-written_is_read d plain shallow =
+pub written_is_read : (d : Data) → IsPlain d → IsUtf8 (compact_text d) → depth d ≤ max_depth → data_of (compact_text d) ≡ Some d
+written_is_read d plain utf8 shallow =
     let ts : List Token = tree.json_tokens (outline d) in
     let text : compact_text d ≡ print ts = sym (print-outline d) in
     let same : tokens (compact_text d) ≡ ts = ap tokens text ∙ tokens-print ts (ArePrintable-json_tokens (outline d) (has_numbers d plain)) in
     let deep : tree.depth (outline d) ≤ max_depth = let is : tree.depth (outline d) ≡ depth d = depth_is d plain in omega (arith, is) in
-    ap (λ (b : Bool). cond b (read (compact_text d)) None) (is_utf8-from_IsUtf8 (compact_text d) (data_utf8 d plain))
+    ap (λ (b : Bool). cond b (read (compact_text d)) None) (is_utf8-from_IsUtf8 (compact_text d) utf8)
     ∙ tokens_read (compact_text d) (outline d) d same deep (data_read d plain)

@@ -11,13 +11,13 @@ use Rattle.stm_reports.specs.LineData.{line_data}
 use Rattle.stm_reports.specs.Reading.{report_in}
 use Rattle.stm_reports.specs.Text.{text_of}
 
--- each text in the data is UTF-8, and each number whole and of 64 bits with a sign; there is no object
+-- each number in the data is whole and of 64 bits with a sign, and there is no object
 abbrev mutual
   pub IsPlain : Data → Type 0
   IsPlain null = Unit {0}
   IsPlain (boolean b) = Unit {0}
   IsPlain (number n) = (z : ℤ) × (n ≡ of_integer z) × (is_64_bit z ≡ true)
-  IsPlain (string s) = IsUtf8 s
+  IsPlain (string s) = Unit {0}
   IsPlain (array ds) = ArePlain ds
   IsPlain (object ms) = ⊥
 
@@ -25,11 +25,12 @@ abbrev mutual
   ArePlain no_items = Unit {0}
   ArePlain (item d ds) = IsPlain d × ArePlain ds
 
--- lines of such data, in which a deletion of one key tells one at most
+-- lines of such data, in which a deletion of one key deletes one at most
 abbrev pub AreReadable : List ReportLine → Type 0
 AreReadable [] = Unit {0}
 AreReadable (l ∷ lines) = (IsPlain (line_data l) × CountsFit l) × AreReadable lines
 
--- The text of a report of such lines is read as this report, unless it is longer than a text may be.
+-- The text of a report of such lines, in UTF-8, is read as this report, unless it is longer than a text may be.
 abbrev pub ReportsAreReadBack : Type 0
-ReportsAreReadBack = (r : Report) → AreReadable r.lines → length (text_of r.lines) ≤ MOST_BYTES → report_in (text_of r.lines) ≡ Ok r
+ReportsAreReadBack =
+    (r : Report) → AreReadable r.lines → IsUtf8 (text_of r.lines) → length (text_of r.lines) ≤ MOST_BYTES → report_in (text_of r.lines) ≡ Ok r

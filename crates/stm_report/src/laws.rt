@@ -28,8 +28,8 @@ pub fn scripts_pass_checks()
     ensures { ScriptsPassChecks }
 {}
 
-/// The text of a report is read as that report where it is at most 16777216 bytes long, its texts are UTF-8, its numbers
-/// are of 64 bits with a sign, and no deletion of one key tells more than one.
+/// The text of a report is read as that report where it is in UTF-8 and at most 16777216 bytes long, its numbers are of
+/// 64 bits with a sign, and no deletion of one key deletes more than one.
 pub fn reports_are_read_back()
     ensures { ReportsAreReadBack }
 {}

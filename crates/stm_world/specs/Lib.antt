@@ -1,5 +1,3 @@
-pub mod Names
-pub mod Reported
 pub mod Task
 pub mod Asked
 pub mod Log

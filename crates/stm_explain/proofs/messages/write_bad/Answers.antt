@@ -2,8 +2,8 @@ use Rattle.std.proofs.Common.{◌++◌, List, ℕ, codes}
 use Rattle.std.proofs.KnownBytes.{Appends-trans}
 use Rattle.std.proofs.lemmas.Result.{err_from_is_err_and}
 use Rattle.stm_json.specs.CauseNames.{cause_name}
-use Rattle.stm_messages.proofs.PieceLemmas.{longer, behind, grouped}
-use Rattle.stm_messages.proofs.messages.write_bad.Goals as goal
+use Rattle.stm_explain.proofs.PieceLemmas.{longer, behind, grouped}
+use Rattle.stm_explain.proofs.messages.write_bad.Goals as goal
 
 abbrev between : List ℕ
 between = codes ": "

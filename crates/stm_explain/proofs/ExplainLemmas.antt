@@ -1,7 +1,7 @@
 -- What is said of a fault, and the explanation after it.
 use Rattle.std.proofs.Common.{◌++◌, ◌∙◌, List, [], ℕ, Bool, true, false, Option, Result, Ok, Err, sym, true≢false, append-nil}
 use Rattle.stm_devices.specs.Transfers.{HasWritten}
-use Rattle.stm_messages.specs.Saying.{Says, IsExplained, SaysMore}
+use Rattle.stm_explain.specs.Saying.{Says, IsExplained, SaysMore}
 
 -- what was written was said
 pub says : {A E : Type 0} (before after : Option (List ℕ)) (failed : Bool) (result : Result A E) (text : List ℕ) → HasWritten before after failed result text

@@ -1,7 +1,7 @@
 use Rattle.std.proofs.KnownBytes.{Appends-trans}
 use Rattle.std.proofs.lemmas.Result.{err_from_is_err_and}
-use Rattle.stm_messages.proofs.PieceLemmas.{longer, behind}
-use Rattle.stm_messages.proofs.messages.write_both.Goals as goal
+use Rattle.stm_explain.proofs.PieceLemmas.{longer, behind}
+use Rattle.stm_explain.proofs.messages.write_both.Goals as goal
 
 pub returns-in_err-write_text : goal.returns-in_err-write_text
 returns-in_err-write_text g c =

@@ -1,7 +1,7 @@
 //! What is said on standard error of an input that is bad.
 ghost use Rattle.std.specs.Prelude.{◌≡◌, ◌++◌, false};
 ghost use Rattle.stm_devices.specs.Transfers.{HasWritten};
-ghost use Rattle.stm_messages.specs.Saying.{bad_input};
+ghost use Rattle.stm_explain.specs.Saying.{bad_input};
 
 use stm_devices::{DeviceFault, Sink, write_all};
 use stm_json::BadInput;

@@ -4,16 +4,16 @@ use std::io::{self, Read, Write};
 
 /// A reader or a writer that notes why it failed last.
 #[derive(Drop)]
-pub struct Noting<D> {
+pub(crate) struct Noting<D> {
     /// The reader or the writer.
     device: D,
     /// Why it failed last, where it has failed.
-    pub failure: Option<io::Error>,
+    pub(crate) failure: Option<io::Error>,
 }
 
 impl<D> Noting<D> {
     /// A device that has not failed.
-    pub fn new(device: D) -> Noting<D> {
+    pub(crate) fn new(device: D) -> Noting<D> {
         Noting {
             device,
             failure: None,

@@ -6,7 +6,7 @@ use std::rt::Files;
 
 /// A file, or standard input. A file that could not be opened fails when it is read.
 #[derive(Drop)]
-pub enum Opened<F, I> {
+pub(crate) enum Opened<F, I> {
     /// An open file.
     File(F),
     /// Standard input.
@@ -16,7 +16,7 @@ pub enum Opened<F, I> {
 }
 
 /// The file of a path, or standard input where the path is `-`.
-pub fn open<R: Files + Input>(rt: &R, path: &str) -> Opened<R::File, R::Reader> {
+pub(crate) fn open<R: Files + Input>(rt: &R, path: &str) -> Opened<R::File, R::Reader> {
     if path == "-" {
         return Opened::Standard(rt.reader());
     }

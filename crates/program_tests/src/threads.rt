@@ -1,6 +1,6 @@
 //! Devices that fail at each of their calls in turn, under the command `threads`. What is expected comes from the rules, and never from a run.
 
-use crate::devices::{Fault, Faults, NONE, reader_of, writer_of};
+use crate::devices::{Fault, Faults, NONE, READ_FAULTS, WRITE_FAULTS, front, reader_of, writer_of};
 use std::alloc::Global;
 use std::io::ErrorKind;
 use std::process::Abort;
@@ -39,19 +39,12 @@ enum Failing {
 /// The status of the command, what is written, and what is said.
 type Ending = (u8, &'static [u8], &'static [u8]);
 
-/// So many bytes from the front of a text.
-fn front(text: &str, count: usize) -> &[u8] {
-    let bytes = text.as_bytes();
-    let end = count.min(bytes.len());
-    &bytes[..end]
-}
-
-/// How a command ends whose device fails once it has moved so many bytes.
-fn broken(failing: Failing, moved: usize) -> Ending {
+/// How a command ends whose device fails once it has moved this number of pieces, which have this length.
+fn broken(failing: Failing, pieces: usize, piece: usize) -> Ending {
     match failing {
         Failing::Input => (3, b"".as_slice(), DEVICE_FAULT),
-        Failing::Output => (3, front(PRINTED, moved), DEVICE_FAULT),
-        Failing::Message => (2, b"".as_slice(), front(SAID, moved)),
+        Failing::Output => (3, front(PRINTED, pieces, piece), DEVICE_FAULT),
+        Failing::Message => (2, b"".as_slice(), front(SAID, pieces, piece)),
     }
 }
 
@@ -67,7 +60,7 @@ fn whole(failing: Failing) -> Ending {
 fn failing_by(failing: Failing, fault: Fault) -> (&'static str, Faults) {
     let (mut scenario, mut faults) = (JOBS, NONE);
     match failing {
-        Failing::Input => faults.input = fault,
+        Failing::Input => faults.scenario = fault,
         Failing::Output => faults.out = fault,
         Failing::Message => {
             scenario = BAD;
@@ -86,7 +79,7 @@ fn ends<T: Abort + Threads + Wait + Sync>(
     ending: Ending,
 ) {
     let (scenario, faults) = failing_by(failing, fault);
-    let mut input = Std::new(reader_of(scenario, faults.input));
+    let mut input = Std::new(reader_of(scenario.as_bytes(), false, faults.scenario));
     let mut out = Std::new(writer_of(alloc, faults.out));
     let mut err = Std::new(writer_of(alloc, faults.err));
     let ended = threads_to(rt, alloc, &mut input, 2, &mut out, &mut err);
@@ -96,7 +89,7 @@ fn ends<T: Abort + Threads + Wait + Sync>(
     assert!(rt; err.device.bytes.as_slice() == said);
 }
 
-/// A device that needs so many calls, of which each fails in turn, and at last none.
+/// A device that needs this number of calls, of which each fails in turn, and at last none.
 fn each_fails<T: Abort + Threads + Wait + Sync>(
     rt: &T,
     alloc: Global,
@@ -111,8 +104,7 @@ fn each_fails<T: Abort + Threads + Wait + Sync>(
             bad_call,
             kind,
         };
-        let moved = bad_call.saturating_mul(piece);
-        ends(rt, alloc, failing, fault, broken(failing, moved));
+        ends(rt, alloc, failing, fault, broken(failing, bad_call, piece));
     }
     let fault = Fault {
         piece,
@@ -121,19 +113,6 @@ fn each_fails<T: Abort + Threads + Wait + Sync>(
     };
     ends(rt, alloc, failing, fault, whole(failing));
 }
-
-/// How a reader fails.
-const READ_FAULTS: &[Option<ErrorKind>] = &[
-    Some(ErrorKind::Interrupted),
-    Some(ErrorKind::BrokenPipe),
-];
-
-/// How a writer fails: by an error, or by taking no byte.
-const WRITE_FAULTS: &[Option<ErrorKind>] = &[
-    Some(ErrorKind::Interrupted),
-    Some(ErrorKind::BrokenPipe),
-    None,
-];
 
 /// Devices, the length of their pieces, the number of calls, and how these fail.
 const DEVICES: [(Failing, usize, usize, &[Option<ErrorKind>]); 5] = [

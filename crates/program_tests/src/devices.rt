@@ -6,7 +6,7 @@ use std::io;
 use std::io::{ErrorKind, Read, Write};
 
 /// How a device moves bytes, and when it fails: it moves pieces of a length, and one of its calls, counted from 0, fails with an error of
-/// a kind, or moves no byte where there is none. Those behind it would go on, so that a command that goes on after a fault comes to a good
+/// a kind, or moves no byte where there is none. Those after it would go on, so that a command that goes on after a fault comes to a good
 /// end.
 #[derive(Clone, Copy)]
 pub struct Fault {
@@ -15,6 +15,19 @@ pub struct Fault {
     pub kind: Option<ErrorKind>,
 }
 
+/// How a reader fails.
+pub const READ_FAULTS: &[Option<ErrorKind>] = &[
+    Some(ErrorKind::Interrupted),
+    Some(ErrorKind::BrokenPipe),
+];
+
+/// How a writer fails: by an error, or by taking no byte.
+pub const WRITE_FAULTS: &[Option<ErrorKind>] = &[
+    Some(ErrorKind::Interrupted),
+    Some(ErrorKind::BrokenPipe),
+    None,
+];
+
 /// A device that does not fail.
 const NEVER: Fault = Fault {
     piece: usize::MAX,
@@ -22,7 +35,7 @@ const NEVER: Fault = Fault {
     kind: None,
 };
 
-/// How the devices of a command fail: the reader of its scenario, that of a report, its output and its standard error.
+/// How the devices of a command fail: the reader of its scenario or of its jobs, that of a report, its output and its standard error.
 #[derive(Clone, Copy)]
 pub struct Faults {
     pub scenario: Fault,
@@ -115,7 +128,7 @@ pub fn writer_of(alloc: Global, fault: Fault) -> Taker {
     }
 }
 
-/// So many pieces from the front of a text.
+/// The first pieces of a text, each of this length.
 pub fn front(text: &str, pieces: usize, piece: usize) -> &[u8] {
     let bytes = text.as_bytes();
     let end = pieces.saturating_mul(piece).min(bytes.len());

@@ -49,7 +49,7 @@ fn endings(alloc: Global, keeps: &str) -> u8 {
 const RULES: [(&str, u8); 3] = [("[]", 1), (r#"[["abort","never"]]"#, 1), ("[[", 0)];
 
 #[test]
-fn an_observer_is_reported_once_of_the_end(rt: HostRuntime) {
+fn an_observer_is_notified_once_at_the_end(rt: HostRuntime) {
     for (keeps, count) in RULES {
         assert_eq!(rt; endings(rt.alloc(), keeps), count, "{keeps}");
     }

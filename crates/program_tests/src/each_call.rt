@@ -2,7 +2,7 @@
 //! rules, and never from a run.
 
 use crate::commands::{Left, check, is_left, recipe, script};
-use crate::devices::{Fault, Faults, NONE, front};
+use crate::devices::{Fault, Faults, NONE, READ_FAULTS, WRITE_FAULTS, front};
 use std::alloc::Global;
 use std::io::ErrorKind;
 use std::process::Abort;
@@ -32,19 +32,6 @@ const RELEASE: &str = concat!(
 
 /// How the usage of `dequeue` begins: 48 bytes.
 const USAGE: &str = "error: dequeue takes QUEUE\n\nUsage: stmrun recipe";
-
-/// How a reader fails.
-const READ_FAULTS: [Option<ErrorKind>; 2] = [
-    Some(ErrorKind::Interrupted),
-    Some(ErrorKind::BrokenPipe),
-];
-
-/// How a writer fails: by an error, or by taking no byte.
-const WRITE_FAULTS: [Option<ErrorKind>; 3] = [
-    Some(ErrorKind::Interrupted),
-    Some(ErrorKind::BrokenPipe),
-    None,
-];
 
 /// Which device of a command fails.
 #[derive(Clone, Copy)]
@@ -139,8 +126,8 @@ fn ends(
     is_left(rt, &left, "a device fails", status, written, said);
 }
 
-/// A device that needs so many calls, of which each fails in turn, and at last none. Until then the front of a text is written, piece by
-/// piece; without a fault it is another one.
+/// A device that needs this number of calls, of which each fails in turn, and at last none. Until then the front of a text is written, piece
+/// by piece; without a fault it is another one.
 fn each_breaks(
     rt: &impl Abort,
     alloc: Global,
@@ -184,7 +171,7 @@ fn each_breaks(
     );
 }
 
-/// A standard error of which each of so many calls fails in turn, one a byte: the status stays.
+/// A standard error of which each of its calls fails in turn, one a byte: the status stays.
 fn each_refuses(
     rt: &impl Abort,
     alloc: Global,
@@ -234,7 +221,7 @@ const MESSAGES: [(Failing, usize, &str); 3] = [
 fn readers_that_fail(rt: HostRuntime) {
     for (failing, piece, calls, whole) in READERS {
         for kind in READ_FAULTS {
-            each_breaks(&rt, rt.alloc(), failing, piece, calls, kind, "", whole);
+            each_breaks(&rt, rt.alloc(), failing, piece, calls, *kind, "", whole);
         }
     }
 }
@@ -243,7 +230,7 @@ fn readers_that_fail(rt: HostRuntime) {
 fn writers_that_fail(rt: HostRuntime) {
     for (failing, piece, calls, whole) in WRITERS {
         for kind in WRITE_FAULTS {
-            each_breaks(&rt, rt.alloc(), failing, piece, calls, kind, whole, whole);
+            each_breaks(&rt, rt.alloc(), failing, piece, calls, *kind, whole, whole);
         }
     }
 }
@@ -252,7 +239,7 @@ fn writers_that_fail(rt: HostRuntime) {
 fn messages_that_fail(rt: HostRuntime) {
     for (failing, calls, said) in MESSAGES {
         for kind in WRITE_FAULTS {
-            each_refuses(&rt, rt.alloc(), failing, calls, kind, said);
+            each_refuses(&rt, rt.alloc(), failing, calls, *kind, said);
         }
     }
 }

@@ -11,7 +11,7 @@ use Rattle.stm_check.specs.declared.judging.CheckFault.{CheckFault}
 use Rattle.stm_report.specs.declared.whole_comparing.WholeChecked.{WholeChecked}
 use Rattle.stm_texts.specs.Reading.{scenario_in}
 use Rattle.stm_faulted_runs.specs.Lines.{OrNothing, ExplainsRun}
-pub use Rattle.stm_messages.specs.Saying.{IsExplained, SaysMore, SaysSome}
+pub use Rattle.stm_explain.specs.Saying.{IsExplained, SaysMore, SaysSome}
 use Rattle.stm_commands.specs.Statuses.{status_of, message_of}
 use Rattle.stm_commands.specs.Checking.{Devices, DoesTo, answer_status, fault_status as check_status, fault_message as check_message}
 use Rattle.stm_commands.specs.WholeChecking.{DoesTo as WholeDoesTo, SaysOfAnswer}

@@ -1,7 +1,7 @@
 -- The statuses of the program, and what it says of a fault.
 use Rattle.std.specs.Prelude.{◌≡◌, ℕ, List, Bool, false, Option, Result, Ok, Err, codes}
 use Rattle.std.specs.Io.KnownBytes.{Keeps}
-pub use Rattle.stm_messages.specs.Saying.{bad_input, Says}
+pub use Rattle.stm_explain.specs.Saying.{bad_input, Says}
 use Rattle.stm_report.specs.declared.run_script.ScriptFault.{ScriptFault}
 use Rattle.stm_report.specs.declared.run_script.ScriptFault.TheVariants.{OutOfMemory, Bad, Read, Write}
 use Rattle.stm_devices.specs.Ends.{Devices}

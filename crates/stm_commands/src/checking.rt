@@ -7,7 +7,7 @@ ghost use Rattle.stm_commands.specs.Checking.{answer_status, answer_text, fault_
 
 use std::alloc::{AllocError, Global};
 use stm_check::{CheckFault, Checked, WrongCause, check_sources};
-use stm_messages::{write_bad, write_text};
+use stm_explain::{write_bad, write_text};
 use stm_report::{DeviceFault, Sink, Source};
 
 /// The status of an answer.
@@ -104,7 +104,7 @@ pub(crate) fn status(fault: &CheckFault) -> u8
 }
 
 /// Says what went wrong, and gives the status. Takes no memory.
-pub(crate) fn report<E: Sink>(err: &mut E, fault: &CheckFault) -> u8
+pub(crate) fn report_fault<E: Sink>(err: &mut E, fault: &CheckFault) -> u8
     requires { E.failed err.old ≡ false }
     ensures { SaysOf (E.held err.old) (E.held err.new) (E.failed err.new) fault.now result }
 {
@@ -147,6 +147,6 @@ pub fn check_to<S: Source, R: Source, W: Sink, E: Sink>(
 {
     match answer(alloc, scenario, report, out) {
         Ok(checked) => status_of(checked),
-        Err(fault) => report(err, &fault),
+        Err(fault) => report_fault(err, &fault),
     }
 }

@@ -13,9 +13,8 @@ use crate::scripting::{status as script_status, write_message as write_script};
 use crate::whole_checking::{answer as whole_answer, say};
 use std::alloc::Global;
 use stm_check::CheckFault;
-use stm_explain::{Input, Kept};
+use stm_explain::{Input, Kept, write_text};
 use stm_faulted_runs::{Named, faults_explained};
-use stm_messages::write_text;
 use stm_report::{DeviceFault, Format, ScriptFault, Sink, Source, script_as};
 
 // ---- explanations

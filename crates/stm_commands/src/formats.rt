@@ -5,7 +5,7 @@ ghost use Rattle.stm_commands.specs.Statuses.{EndsAs, SaysNoFormat};
 
 use crate::scripting::report;
 use std::alloc::Global;
-use stm_messages::write_text;
+use stm_explain::write_text;
 use stm_report::{Format, Sink, Source, script_as};
 
 /// What is said of a word that names no format, in the manner of the other usage faults.

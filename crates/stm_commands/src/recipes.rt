@@ -5,7 +5,7 @@ ghost use Rattle.stm_recipe_lines.specs.Reading.{recipe_in};
 ghost use Rattle.stm_commands.specs.Recipes.{usage_text, fault_status, fault_message, SaysOf, Ends};
 
 use std::alloc::Global;
-use stm_messages::{write_both, write_text};
+use stm_explain::{write_both, write_text};
 use stm_recipe_lines::{RecipeFault, RecipeWords, WordsFault, print_recipe};
 use stm_report::{DeviceFault, Sink};
 

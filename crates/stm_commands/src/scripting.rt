@@ -5,7 +5,7 @@ ghost use Rattle.stm_devices.specs.Transfers.{HasWritten};
 ghost use Rattle.stm_commands.specs.Statuses.{status_of, message_of, SaysOf, Ends};
 
 use std::alloc::Global;
-use stm_messages::{write_bad, write_text};
+use stm_explain::{write_bad, write_text};
 use stm_report::{DeviceFault, ScriptFault, Sink, Source, script};
 
 /// The status of a fault.

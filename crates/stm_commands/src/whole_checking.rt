@@ -4,10 +4,10 @@ ghost use Rattle.stm_devices.specs.declared.transfer.TheConstants.{MOST_READ};
 ghost use Rattle.stm_devices.specs.Transfers.{HasWritten};
 ghost use Rattle.stm_commands.specs.WholeChecking.{no_text, answer_text, expected_text, Prints, SaysExpected, SaysOfAnswer, Does, Ends};
 
-use crate::checking::report;
+use crate::checking::report_fault;
 use std::alloc::{AllocError, Global};
 use stm_check::CheckFault;
-use stm_messages::write_text;
+use stm_explain::write_text;
 use stm_report::{DeviceFault, Sink, Source, WholeChecked, check_whole, write_all};
 
 /// The line of a line that is not as expected.
@@ -146,6 +146,6 @@ pub fn check_whole_to<S: Source, R: Source, W: Sink, E: Sink>(
 {
     match answer(alloc, scenario, report, out) {
         Ok(checked) => say(err, &checked),
-        Err(fault) => report(err, &fault),
+        Err(fault) => report_fault(err, &fault),
     }
 }

@@ -1,2 +1,4 @@
 pub mod WordLemmas
 pub mod MarkLemmas
+pub mod ExplainLemmas
+pub mod PieceLemmas

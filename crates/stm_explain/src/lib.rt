@@ -1,6 +1,7 @@
-//! What is said, beside its place and cause, of a fault of an input: where in the file it stands, what was found there, and what is allowed.
+//! What is said of a fault of an input: its place and cause, written piece by piece, which takes no memory, and what explains it to people:
+//! where in the file it stands, what was found there, and what is allowed.
 //!
-//! Nothing here decides anything: a reader has refused the input, and its answer stands. An explanation is text for people.
+//! Nothing here decides anything: a reader has refused the input, and its answer stands.
 #![tactic(auto)]
 
 mod allowed;
@@ -9,6 +10,7 @@ mod forms;
 mod kept;
 mod laws;
 mod marked;
+mod messages;
 mod offsets;
 mod position;
 mod syntax;
@@ -23,5 +25,8 @@ pub use forms::{
 pub use kept::Kept;
 pub use laws::words_are_those_of_readers;
 pub use marked::Marked;
+pub use messages::{write_bad, write_both, write_text};
 pub use position::{Position, position_of};
+pub use stm_devices::{DeviceFault, Sink};
+pub use stm_json::BadInput;
 pub use values::shown;

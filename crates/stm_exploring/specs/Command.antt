@@ -9,7 +9,7 @@ use Rattle.stm_exploring.specs.declared.printed.Verdict.TheVariants.{Kept, Broke
 use Rattle.stm_exploring.specs.declared.reading.ExploreFault.{ExploreFault}
 use Rattle.stm_exploring.specs.declared.reading.ExploreFault.TheVariants.{OutOfMemory, BadScenario, BadProgram, Device}
 use Rattle.stm_exploring.specs.Exploring.{Sources, Searches, Gathers}
-use Rattle.stm_messages.specs.Saying.{bad_input, Says}
+use Rattle.stm_explain.specs.Saying.{bad_input, Says}
 
 -- ---- answers and faults
 

@@ -3,7 +3,7 @@
 use Rattle.std.specs.Prelude.{◌≡◌, ◌==◌, ℕ, List, Bool, false, Option, Result, Ok, Err}
 use Rattle.std.specs.List.{after_first}
 use Rattle.std.specs.Io.KnownBytes.{Keeps}
-use Rattle.stm_messages.specs.Saying.{Says, SaysMore}
+use Rattle.stm_explain.specs.Saying.{Says, SaysMore}
 use Rattle.stm_texts.specs.Reading.{scenario_in}
 use Rattle.stm_faulted_runs.specs.Lines.{OrNothing}
 use Rattle.stm_faulted_runs.specs.Rules.{ExplainsRule}

@@ -10,8 +10,8 @@ use crate::printed::{Printed, Verdict};
 use crate::reading::ExploreFault;
 use std::alloc::Global;
 use stm_devices::{DeviceFault, Sink, Source};
+use stm_explain::{write_bad, write_text};
 use stm_explore::{Budget, Observer};
-use stm_messages::{write_bad, write_text};
 use stm_program::Level;
 
 /// The status of what a search came to.

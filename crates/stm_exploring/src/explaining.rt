@@ -2,7 +2,7 @@
 ghost use Rattle.std.specs.Prelude.{◌≡◌, ◌≤◌, ◌+◌, ◌++◌, false, IfSome, string_bytes};
 ghost use Rattle.stm_devices.specs.declared.transfer.TheConstants.{MOST_READ};
 ghost use Rattle.stm_devices.specs.Transfers.{HasWritten};
-ghost use Rattle.stm_messages.specs.Saying.{IsExplained, Says};
+ghost use Rattle.stm_explain.specs.Saying.{IsExplained, Says};
 ghost use Rattle.stm_texts.specs.Reading.{scenario_in};
 ghost use Rattle.stm_faulted_runs.specs.Lines.{OrNothing};
 ghost use Rattle.stm_faulted_runs.specs.Rules.{ExplainsRule};
@@ -16,10 +16,9 @@ use crate::printed::{Printed, Verdict};
 use crate::reading::ExploreFault;
 use std::alloc::Global;
 use stm_devices::{DeviceFault, Sink, Source};
-use stm_explain::{Input, Kept};
+use stm_explain::{Input, Kept, write_text};
 use stm_explore::{Budget, Observer};
 use stm_faulted_runs::{Named, rule_explained};
-use stm_messages::write_text;
 use stm_program::Level;
 
 /// The explanation of what is wrong with a scenario or with the program of a rule; none of another fault.

@@ -1,1 +1,4 @@
+pub mod Draw
 pub mod Ends
+pub mod Laws
+pub mod Seats

@@ -1,6 +1,6 @@
 //! What a run of jobs comes to.
+use crate::drawing::JobSeat;
 use crate::job_end::JobEnd;
-use stm_draw::JobSeat;
 use stm_hall::Hall;
 
 /// All jobs have ended.

@@ -1,13 +1,16 @@
-//! Jobs: what one is, how it ends, and what a run of jobs comes to.
+//! Jobs: what one is, how threads draw their numbers, how one ends, and what a run of jobs comes to.
 //!
 //! These are types that the workers and the texts of jobs have in common. They stand below both, so neither waits for the other.
 #![tactic(auto)]
 
+mod drawing;
 mod gathered;
 mod job;
 mod job_end;
+pub mod laws;
 mod store_refusal;
 
+pub use drawing::{JobSeat, JobTable, Size, View};
 pub use gathered::{FaultCause, Gathered, RunFault};
 pub use job::Job;
 pub use job_end::{JobEnd, JobRefusal};

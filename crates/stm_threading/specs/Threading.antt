@@ -11,7 +11,7 @@ use Rattle.stm_threading.specs.declared.running.JobsFault.{JobsFault}
 use Rattle.stm_threading.specs.declared.running.JobsFault.TheVariants.{OutOfMemory, Bad, Read, Write, Spawn, Audit}
 use Rattle.stm_threading.specs.declared.shown.Printing.{Printing}
 use Rattle.stm_threading.specs.Running.{Does}
-use Rattle.stm_messages.specs.Saying.{bad_input, Says, SaysMore, SaysSome}
+use Rattle.stm_explain.specs.Saying.{bad_input, Says, SaysMore, SaysSome}
 
 -- 2 for bad input, 3 for want of memory, a failed device, a thread that was refused and an end that does not stand
 abbrev pub fault_status : JobsFault → ℕ

@@ -7,10 +7,9 @@ ghost use Rattle.stm_threading.specs.Threading.{faulted_job, faulted_jobs, SaysJ
 
 use std::alloc::{AllocError, Global};
 use stm_devices::Sink;
-use stm_explain::Kept;
+use stm_explain::{Kept, write_text};
 use stm_faulted_runs::{FaultedJob, Named, jobs_explained};
 use stm_job::JobEnd;
-use stm_messages::write_text;
 
 /// Adds a job, where it came to a fault.
 fn push_faulted<'a>(

@@ -1,7 +1,7 @@
 //! The statuses of the command `threads`, and what it says of a fault.
 ghost use Rattle.std.specs.Prelude.{◌≡◌, ◌++◌, false, decimal, string_bytes};
 ghost use Rattle.stm_devices.specs.Transfers.{HasWritten};
-ghost use Rattle.stm_messages.specs.Saying.{IsExplained};
+ghost use Rattle.stm_explain.specs.Saying.{IsExplained};
 ghost use Rattle.stm_threading.specs.declared.running.JobsFault.TheVariants.{Audit};
 ghost use Rattle.stm_threading.specs.Threading.{fault_status, fault_message, SaysOf, SaysMoreOf, SaysBy};
 
@@ -9,8 +9,7 @@ use crate::running::JobsFault;
 use itoa::Buffer;
 use std::alloc::Global;
 use stm_devices::{DeviceFault, Sink};
-use stm_explain::{Input, Kept};
-use stm_messages::{write_bad, write_text};
+use stm_explain::{Input, Kept, write_bad, write_text};
 
 /// The status of a fault.
 fn status(fault: &JobsFault) -> u8

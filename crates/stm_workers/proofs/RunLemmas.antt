@@ -1,7 +1,7 @@
 -- What a run of jobs comes to.
 use Rattle.std.proofs.Common.{◌≡◌, ℕ, ◌+◌, ◌<◌, true, List, length, count_by, Result, Ok, IfOk, refl, sym, ◌∙◌, ap, subst}
-use Rattle.stm_draw.specs.declared.table.JobSeat.{JobSeat}
-use Rattle.stm_draw.specs.declared.view.Size.{Size}
+use Rattle.stm_job.specs.declared.drawing.table.JobSeat.{JobSeat}
+use Rattle.stm_job.specs.declared.drawing.view.Size.{Size}
 use Rattle.stm_journal.specs.JournalState.{JournalState}
 use Rattle.stm_workers.specs.declared.start_point.StartPoint.{StartPoint}
 use Rattle.stm_job.specs.declared.job.Job.{Job}

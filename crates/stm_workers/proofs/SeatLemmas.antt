@@ -7,13 +7,13 @@ use Rattle.std.proofs.lemmas.List.{map-append}
 use Rattle.std.proofs.lemmas.List.Sums.{sum_by-cons, sum_by-append, sum_by_push}
 use Rattle.std.specs.List.Sorted.{IsPermutation, IsNonDecreasingBy}
 use Rattle.std.proofs.lemmas.List.Sorted.{sum_by-IsPermutation, length_permutation, All-permutation, IsPermutation-sym, IsNonDecreasingBy-drop}
-use Rattle.stm_draw.specs.declared.view.Size.{Size}
-use Rattle.stm_draw.specs.declared.view.View.{View}
-use Rattle.stm_draw.specs.declared.table.JobSeat.{JobSeat}
+use Rattle.stm_job.specs.declared.drawing.view.Size.{Size}
+use Rattle.stm_job.specs.declared.drawing.view.View.{View}
+use Rattle.stm_job.specs.declared.drawing.table.JobSeat.{JobSeat}
 use Rattle.atomic_table.specs.Seated.{TableId}
-use Rattle.stm_draw.specs.Seats.{IsSeatAt, seat_view}
-use Rattle.stm_draw.specs.Draw.{EachOnce, Knows, times, once_below, fresh, given, drew, joined, after_none}
-use Rattle.stm_draw.proofs.Counted.{as_many}
+use Rattle.stm_job.specs.Seats.{IsSeatAt, seat_view}
+use Rattle.stm_job.specs.Draw.{EachOnce, Knows, times, once_below, fresh, given, drew, joined, after_none}
+use Rattle.stm_job.proofs.Counted.{as_many}
 use Rattle.stm_journal.specs.JournalState.{JournalState}
 use Rattle.stm_job.specs.declared.job_end.JobEnd.{JobEnd}
 use Rattle.stm_job.specs.declared.job.Job.{Job}

@@ -10,7 +10,7 @@ use Rattle.std.specs.declared.sync.ledger.Ledger as Ledger
 use Rattle.std.proofs.alloc.Global.TheSendSync as heap
 use Rattle.std.proofs.sync.Mutex.TheSendSync as mutex
 use Rattle.std.proofs.sync.atomic.AtomicBool.TheSendSync as flag
-use Rattle.stm_draw.proofs.table.JobTable.TheSendSync as table
+use Rattle.stm_job.proofs.drawing.table.JobTable.TheSendSync as table
 use Rattle.stm_workers.specs.declared.locked.RunOfJobs as RunOfJobs
 use Rattle.stm_workers.proofs.Sent.{job_sync, locked_send}
 use Rattle.stm_workers.specs.contracts.shared.Shared as Shared

@@ -1,10 +1,10 @@
 -- What a worker has drawn, and the ends of the jobs that it drew.
 use Rattle.std.specs.Prelude.{◌≡◌, ℕ, List, All, map, count_by, Some, slice_get}
-use Rattle.stm_draw.specs.declared.table.JobSeat.{JobSeat}
-use Rattle.stm_draw.specs.declared.view.Size.{Size}
-use Rattle.stm_draw.specs.declared.view.View.{View}
-use Rattle.stm_draw.specs.Draw.{EachOnce, IsWhole}
-use Rattle.stm_draw.specs.Seats.{seat_view}
+use Rattle.stm_job.specs.declared.drawing.table.JobSeat.{JobSeat}
+use Rattle.stm_job.specs.declared.drawing.view.Size.{Size}
+use Rattle.stm_job.specs.declared.drawing.view.View.{View}
+use Rattle.stm_job.specs.Draw.{EachOnce, IsWhole}
+use Rattle.stm_job.specs.Seats.{seat_view}
 use Rattle.stm_job.specs.declared.job_end.JobEnd.{JobEnd}
 use Rattle.stm_job.specs.Ends.{is_committed}
 use Rattle.stm_workers.specs.declared.worker.EndOf.{EndOf}

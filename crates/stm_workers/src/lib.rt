@@ -24,7 +24,8 @@ pub use auditing::audit;
 pub use gate::{Gate, NoGate};
 pub use run::{MOST_WORKERS, run_workers};
 pub use start_point::StartPoint;
-pub use stm_draw::{JobSeat, JobTable};
 pub use stm_hall::{CommitRefusal, FetchRefusal, Hall, ReadAnswer, Sequence, Text, Verdict};
-pub use stm_job::{FaultCause, Gathered, Job, JobEnd, JobRefusal, RunFault, StoreRefusal};
+pub use stm_job::{
+    FaultCause, Gathered, Job, JobEnd, JobRefusal, JobSeat, JobTable, RunFault, StoreRefusal,
+};
 pub use stm_meaning::Fault;

@@ -19,7 +19,7 @@ use stm_txn::{Txn, TxnAnswer};
 /// each worker has one part of it, and so has who started them.
 pub(crate) trait RunOfJobs: Ledger {
     ghost use Rattle.atomic_table.specs.Seated.{TableId};
-    ghost use Rattle.stm_draw.specs.declared.view.Size.{Size};
+    ghost use Rattle.stm_job.specs.declared.drawing.view.Size.{Size};
     ghost use Rattle.std.specs.Prelude.{List};
     ghost use Rattle.stm_journal.specs.JournalState.{JournalState};
     ghost use Rattle.stm_job.specs.declared.job.Job.{Job};
@@ -35,7 +35,7 @@ pub(crate) trait RunOfJobs: Ledger {
 
 impl RunOfJobs for Brand {
     ghost use Rattle.std.specs.Prelude.{[]};
-    ghost use Rattle.stm_draw.specs.Draw.{size_of};
+    ghost use Rattle.stm_job.specs.Draw.{size_of};
     ghost use Rattle.stm_workers.specs.Calls.{no_hall, no_table};
 
     ghost table = { no_table };

@@ -1,6 +1,6 @@
 //! The ends of jobs, each at the place of its job.
 ghost use Rattle.std.specs.Prelude.{◌≡◌, List, All, length, count_by, IfOk, IfErr};
-ghost use Rattle.stm_draw.specs.Draw.{EachOnce};
+ghost use Rattle.stm_job.specs.Draw.{EachOnce};
 ghost use Rattle.stm_journal.specs.JournalState.{JournalState};
 ghost use Rattle.stm_job.specs.declared.job.Job.{Job as AnyJob};
 ghost use Rattle.stm_job.specs.Ends.{is_committed};
@@ -11,8 +11,7 @@ ghost use Rattle.stm_workers.specs.Drawn.{attempts_in, committed_in, ends_in, jo
 use crate::thread_fault::ThreadFault;
 use crate::worker::EndOf;
 use std::alloc::{AllocError, Global};
-use stm_draw::JobSeat;
-use stm_job::JobEnd;
+use stm_job::{JobEnd, JobSeat};
 
 /// The ends of jobs and the number of their attempts, each at the place of its job, and the seat that has drawn them.
 #[derive(Drop)]

@@ -1,7 +1,7 @@
 //! The run of jobs by several threads.
 ghost use Rattle.std.specs.Prelude.{◌≡◌, ◌+◌, ◌≤◌, ◌<◌, length, count_by, IfOk, IfErr, IfNone, IfSome};
-ghost use Rattle.stm_draw.specs.Draw.{size_of, newcomer};
-ghost use Rattle.stm_draw.specs.Seats.{IsSeatAt, seat_view, table_id, table_size};
+ghost use Rattle.stm_job.specs.Draw.{size_of, newcomer};
+ghost use Rattle.stm_job.specs.Seats.{IsSeatAt, seat_view, table_id, table_size};
 ghost use Rattle.stm_job.specs.Ends.{is_committed};
 ghost use Rattle.stm_workers.specs.Commits.{commits_in, TookCommitsOf};
 ghost use Rattle.stm_workers.specs.Calls.{HasGoneOn, HasKeptStore};
@@ -25,9 +25,8 @@ use std::sync::atomic::AtomicBool;
 use std::sync::ledger::Blank;
 use std::sync::{Mutex, Wait};
 use std::thread::Threads;
-use stm_draw::{JobSeat, JobTable};
 use stm_hall::Hall;
-use stm_job::{FaultCause, Gathered, Job, JobEnd, RunFault};
+use stm_job::{FaultCause, Gathered, Job, JobEnd, JobSeat, JobTable, RunFault};
 
 /// How many workers there may be.
 pub const MOST_WORKERS: usize = 16;

@@ -1,7 +1,7 @@
 //! What all workers of a run share.
 ghost use Rattle.std.specs.Prelude.{◌≡◌, ◌<◌, ◌≤◌, All, length, IfOk};
-ghost use Rattle.stm_draw.specs.Draw.{drew};
-ghost use Rattle.stm_draw.specs.Seats.{IsSeatAt, seat_view, table_id, table_size};
+ghost use Rattle.stm_job.specs.Draw.{drew};
+ghost use Rattle.stm_job.specs.Seats.{IsSeatAt, seat_view, table_id, table_size};
 ghost use Rattle.stm_workers.specs.Runs.{HasItsRun, BringsToEnd};
 ghost use Rattle.stm_workers.specs.Drawn.{committed_in, drawing, jobs_of};
 
@@ -14,8 +14,7 @@ use std::alloc::{AllocError, Global};
 use std::sync::atomic::{AtomicBool, Ordering};
 use std::sync::ledger::Share;
 use std::sync::{Mutex, Wait};
-use stm_draw::{JobSeat, JobTable};
-use stm_job::Job;
+use stm_job::{Job, JobSeat, JobTable};
 
 /// What all workers of a run share: the lock round the hall, the table that they draw from, the jobs, the gate, and whether the run was given up.
 #[derive(Drop)]

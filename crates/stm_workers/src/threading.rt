@@ -1,6 +1,6 @@
 //! The threads of a run: how they are started, and joined.
 ghost use Rattle.std.specs.Prelude.{◌≡◌, ◌+◌, ◌≤◌, ◌<◌, vec_len, vec_capacity, IfErr, OnOk};
-ghost use Rattle.stm_draw.specs.Seats.{seat_view, table_id, table_size};
+ghost use Rattle.stm_job.specs.Seats.{seat_view, table_id, table_size};
 ghost use Rattle.stm_workers.specs.declared.thread_fault.ThreadFault.TheVariants.{OutOfMemory, Spawn};
 
 use crate::gate::Gate;
@@ -12,7 +12,7 @@ use std::alloc::AllocError;
 use std::sync::Wait;
 use std::thread;
 use std::thread::{JoinHandle, Scope, Threads};
-use stm_draw::JobTable;
+use stm_job::JobTable;
 
 /// Draws jobs, each of which the worker brings to its end, until there are none left.
 fn draw_all<R: RunOfJobs, W: Wait, G: Gate>(

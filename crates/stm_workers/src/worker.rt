@@ -1,15 +1,14 @@
 //! What a worker has, and who starts the workers and takes in what they hand back.
 ghost use Rattle.std.specs.Prelude.{◌≡◌, ◌+◌, ◌<◌, ◌≤◌, [], All, OnOk};
-ghost use Rattle.stm_draw.specs.Draw.{newcomer, EachOnce};
-ghost use Rattle.stm_draw.specs.Seats.{IsSeatAt, seat_view, table_id, table_size};
+ghost use Rattle.stm_job.specs.Draw.{newcomer, EachOnce};
+ghost use Rattle.stm_job.specs.Seats.{IsSeatAt, seat_view, table_id, table_size};
 ghost use Rattle.stm_workers.specs.Runs.{HasItsRun};
 ghost use Rattle.stm_workers.specs.Drawn.{jobs_of, committed_in, drawing, used_up, HasDrawnAll};
 
 use crate::locked::RunOfJobs;
 use std::alloc::{AllocError, Global};
 use std::sync::ledger::Share;
-use stm_draw::{JobSeat, JobTable};
-use stm_job::JobEnd;
+use stm_job::{JobEnd, JobSeat, JobTable};
 
 /// The end of one job.
 #[derive(Drop)]

@@ -1,6 +1,8 @@
 //! The commands with their faults explained: where a bad input is bad, and which file the system refused and why.
 ghost use Rattle.std.specs.Prelude.{◌≡◌, false};
 
+use crate::files::{Opened, open};
+use crate::noting::Noting;
 use crate::terminals::shown_budget;
 use std::io;
 use std::io::Input;
@@ -9,7 +11,6 @@ use stm_commands::{
     Format, Kept, Std, check_explained_to, check_whole_explained_to, script_explained_to,
 };
 use stm_exploring::{Level, explore_explained_to, outcomes_explained_to};
-use stm_files::{Noting, Opened, open};
 
 /// The name of an input, as people know it.
 fn name_of(path: &str) -> &str {

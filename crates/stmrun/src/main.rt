@@ -3,9 +3,12 @@
 #![tactic(auto)]
 
 mod explaining;
+mod files;
+mod noting;
 mod terminals;
 mod threading;
 
+use files::open;
 use std::process::ExitCode;
 use std::sync::Wait;
 use std::thread::Threads;
@@ -17,7 +20,6 @@ pub use stm_commands::{
 };
 use stm_exploring::Level;
 pub use stm_exploring::{explore_explained_to, explore_to, outcomes_explained_to, outcomes_to};
-use stm_files::open;
 pub use stm_threading::{threads_as_to, threads_to};
 use terminals::shown_budget;
 use threading::{printing_of, run_threads};

@@ -3,10 +3,10 @@ ghost use Rattle.std.specs.Prelude.{◌≤◌};
 ghost use Rattle.stm_workers.specs.declared.run.TheConstants.{MOST_WORKERS};
 
 use crate::explaining::{kept, say_unread, say_unwritten};
+use crate::noting::Noting;
 use std::sync::Wait;
 use std::thread::Threads;
 use stm_commands::Std;
-use stm_files::Noting;
 use stm_threading::{Printing, ThreadsOptions, threads_as_to};
 
 /// What is printed of jobs: what several runs of them come to, or one run, with the ends of the jobs or without.

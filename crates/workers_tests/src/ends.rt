@@ -1,13 +1,13 @@
 //! How jobs end, and what is left of the hall that was handed in. What is expected comes from the rules, and never from a run.
 
-use crate::making::add_job;
+use crate::jobs::add_job;
+use crate::transactions::put_of;
 use std::alloc::{AllocError, Global};
 use std::sync::Wait;
 use std::test::Fail;
 use std::thread::Threads;
-use stm_history::Text;
 use stm_program::Level;
-use stm_txn::{Op, ShortList, Store, Txn};
+use stm_txn::{Store, Txn};
 use stm_workers::{Gathered, Hall, Job, JobEnd, JobRefusal, NoGate, ReadAnswer, run_workers};
 
 /// Two of the six jobs commit, and each other one ends in a way of its own. The last one aborts before it looks up a key, on its list.
@@ -31,25 +31,8 @@ fn add_jobs(alloc: Global, jobs: &mut Vec<Job>) -> Result<(), Fail> {
     Ok(())
 }
 
-fn empty_txn(alloc: Global) -> Txn {
-    Txn {
-        compares: ShortList::new(alloc),
-        success: ShortList::new(alloc),
-        failure: ShortList::new(alloc),
-    }
-}
-
-/// Adds a put of "a".
-fn add_put(alloc: Global, txn: &mut Txn) -> Result<(), AllocError> {
-    let key = Text::copy_of(alloc, "a")?;
-    let value = Text::copy_of(alloc, "1")?;
-    let lease = 0;
-    txn.success.push(Op::Put { key, value, lease })
-}
-
-/// Another client commits a transaction to a hall, after a put was added to it.
-fn commit_with_put(alloc: Global, hall: &mut Hall, txn: &mut Txn) -> Result<(), Fail> {
-    add_put(alloc, txn)?;
+/// Another client commits a transaction to a hall.
+fn commit(hall: &mut Hall, txn: &Txn) -> Result<(), Fail> {
     match hall.foreign(txn) {
         Ok(answer) => {
             drop(answer);
@@ -61,8 +44,8 @@ fn commit_with_put(alloc: Global, hall: &mut Hall, txn: &mut Txn) -> Result<(), 
 
 /// Another client puts "a".
 fn commit_into(alloc: Global, hall: &mut Hall) -> Result<(), Fail> {
-    let mut txn = empty_txn(alloc);
-    let done = commit_with_put(alloc, hall, &mut txn);
+    let txn = put_of(alloc, "a", "1")?;
+    let done = commit(hall, &txn);
     drop(txn);
     done
 }

@@ -5,7 +5,7 @@ ghost use Rattle.std.specs.Prelude.{◌≤◌};
 ghost use Rattle.stm_workers.specs.declared.run.TheConstants.{MOST_WORKERS};
 
 use crate::ends::report_end;
-use crate::making::add_job;
+use crate::jobs::add_job;
 use std::alloc::{AllocError, Global};
 use std::process::Abort;
 use std::sync::Wait;

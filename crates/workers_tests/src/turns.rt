@@ -1,6 +1,6 @@
 //! No lock is held while a job is evaluated: between the fetch of one job and its commit another job commits. The two workers are left to themselves, so
 //! the run is repeated until that is seen. A worker that evaluates under the lock never shows it.
-use crate::making::add_job;
+use crate::jobs::add_job;
 use std::alloc::{AllocError, Global};
 use std::process::Abort;
 use std::sync::Wait;

@@ -1,4 +1,4 @@
-use Rattle.stm_messages.proofs.ExplainLemmas.{says_more}
+use Rattle.stm_explain.proofs.ExplainLemmas.{says_more}
 use Rattle.stm_commands.specs.Checking.{fault_message}
 use Rattle.stm_commands.proofs.explaining.report_check.Goals as goal
 

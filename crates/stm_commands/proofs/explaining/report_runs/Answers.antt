@@ -1,7 +1,7 @@
 use Rattle.std.proofs.Common.{sym, subst}
 use Rattle.stm_texts.specs.Reading.{scenario_in}
 use Rattle.stm_faulted_runs.specs.Lines.{OrNothing, ExplainsRun}
-use Rattle.stm_messages.proofs.ExplainLemmas.{says}
+use Rattle.stm_explain.proofs.ExplainLemmas.{says}
 use Rattle.stm_commands.proofs.explaining.report_runs.Goals as goal
 
 pub returns-clause-says : goal.returns-clause-says

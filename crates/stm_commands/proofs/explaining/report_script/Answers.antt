@@ -1,4 +1,4 @@
-use Rattle.stm_messages.proofs.ExplainLemmas.{says_more}
+use Rattle.stm_explain.proofs.ExplainLemmas.{says_more}
 use Rattle.stm_commands.specs.Statuses.{message_of}
 use Rattle.stm_commands.proofs.explaining.report_script.Goals as goal
 

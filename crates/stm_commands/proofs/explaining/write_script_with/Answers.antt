@@ -1,6 +1,6 @@
 use Rattle.std.proofs.KnownBytes.{Appends-trans}
 use Rattle.std.proofs.lemmas.Result.{err_from_is_err_and}
-use Rattle.stm_messages.proofs.PieceLemmas.{longer, behind}
+use Rattle.stm_explain.proofs.PieceLemmas.{longer, behind}
 use Rattle.stm_commands.specs.Statuses.{message_of}
 use Rattle.stm_commands.proofs.explaining.write_script_with.Goals as goal
 

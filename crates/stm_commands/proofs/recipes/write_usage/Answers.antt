@@ -2,7 +2,7 @@ use Rattle.std.proofs.Common.{◌++◌, List, ℕ, codes}
 use Rattle.std.proofs.KnownBytes.{Appends-trans}
 use Rattle.std.proofs.lemmas.Result.{err_from_is_err_and}
 use Rattle.stm_recipe_lines.specs.FaultTexts.{fault_text}
-use Rattle.stm_messages.proofs.PieceLemmas.{longer, behind}
+use Rattle.stm_explain.proofs.PieceLemmas.{longer, behind}
 use Rattle.stm_commands.specs.declared.recipes.TheConstants.{USAGE}
 use Rattle.stm_commands.proofs.recipes.write_usage.Goals as goal
 

@@ -1,7 +1,7 @@
 use Rattle.std.proofs.Common.{List, ℕ, codes}
 use Rattle.std.proofs.KnownBytes.{Appends-trans}
 use Rattle.std.proofs.lemmas.Result.{err_from_is_err_and}
-use Rattle.stm_messages.proofs.PieceLemmas.{longer, behind}
+use Rattle.stm_explain.proofs.PieceLemmas.{longer, behind}
 use Rattle.stm_commands.proofs.whole_checking.write_line.Goals as goal
 
 abbrev begin : List ℕ

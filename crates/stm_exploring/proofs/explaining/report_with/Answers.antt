@@ -1,4 +1,4 @@
-use Rattle.stm_messages.proofs.ExplainLemmas.{says_more}
+use Rattle.stm_explain.proofs.ExplainLemmas.{says_more}
 use Rattle.stm_exploring.specs.Command.{fault_message}
 use Rattle.stm_exploring.proofs.explaining.report_with.Goals as goal
 

@@ -1,4 +1,4 @@
-use Rattle.stm_messages.proofs.ExplainLemmas.{says}
+use Rattle.stm_explain.proofs.ExplainLemmas.{says}
 use Rattle.stm_exploring.proofs.explaining.say_rule.Goals as goal
 
 pub returns : goal.returns

@@ -1,6 +1,6 @@
 use Rattle.std.proofs.KnownBytes.{Appends-trans}
 use Rattle.std.proofs.lemmas.Result.{err_from_is_err_and}
-use Rattle.stm_messages.proofs.PieceLemmas.{longer, behind}
+use Rattle.stm_explain.proofs.PieceLemmas.{longer, behind}
 use Rattle.stm_exploring.specs.Command.{fault_message}
 use Rattle.stm_exploring.proofs.explaining.write_with.Goals as goal
 

@@ -2,7 +2,7 @@ use Rattle.std.proofs.Common.{sym, subst}
 use Rattle.stm_texts.specs.Reading.{scenario_in}
 use Rattle.stm_faulted_runs.specs.Lines.{OrNothing}
 use Rattle.stm_faulted_runs.specs.Jobs.{ExplainsJobs}
-use Rattle.stm_messages.proofs.ExplainLemmas.{says}
+use Rattle.stm_explain.proofs.ExplainLemmas.{says}
 use Rattle.stm_threading.specs.Threading.{faulted_jobs}
 use Rattle.stm_threading.proofs.faults.report_jobs.Goals as goal
 

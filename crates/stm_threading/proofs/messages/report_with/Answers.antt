@@ -1,4 +1,4 @@
-use Rattle.stm_messages.proofs.ExplainLemmas.{says_more}
+use Rattle.stm_explain.proofs.ExplainLemmas.{says_more}
 use Rattle.stm_threading.specs.Threading.{fault_message}
 use Rattle.stm_threading.proofs.messages.report_with.Goals as goal
 

@@ -1,8 +1,8 @@
 use Rattle.std.proofs.Common.{◌+◌, List, All, length, ap, sym, subst, ◌∙◌, count_by}
 use Rattle.std.proofs.lemmas.Result.{IfOk-weaker}
-use Rattle.stm_draw.specs.declared.table.JobSeat.{JobSeat}
-use Rattle.stm_draw.specs.declared.view.Size.{Size}
-use Rattle.stm_draw.specs.Draw.{size_of}
+use Rattle.stm_job.specs.declared.drawing.table.JobSeat.{JobSeat}
+use Rattle.stm_job.specs.declared.drawing.view.Size.{Size}
+use Rattle.stm_job.specs.Draw.{size_of}
 use Rattle.stm_journal.specs.JournalState.{JournalState}
 use Rattle.stm_job.specs.declared.job.Job.{Job}
 use Rattle.stm_job.specs.Ends.{is_committed}

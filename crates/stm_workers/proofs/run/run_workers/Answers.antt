@@ -1,5 +1,5 @@
 use Rattle.std.proofs.Common.{◌≡◌, ◌∙◌, ◌+◌, length, count_by}
-use Rattle.stm_draw.specs.Draw.{size_of}
+use Rattle.stm_job.specs.Draw.{size_of}
 use Rattle.stm_job.specs.Ends.{is_committed}
 use Rattle.stm_workers.specs.Commits.{commits_in}
 use Rattle.stm_workers.specs.Drawn.{HasDrawnAll}

@@ -1,4 +1,4 @@
-use Rattle.stm_draw.specs.Seats.{table_id, table_size}
+use Rattle.stm_job.specs.Seats.{table_id, table_size}
 use Rattle.stm_workers.proofs.run.run_workers.Given as goal
 
 -- the run is of the table, the hall and the ledger that it is called with

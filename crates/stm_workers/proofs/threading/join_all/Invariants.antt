@@ -1,5 +1,5 @@
 use Rattle.std.proofs.Common.{◌≡◌, ◌+◌, ◌<◌, vec_len}
-use Rattle.stm_draw.specs.Seats.{seat_view}
+use Rattle.stm_job.specs.Seats.{seat_view}
 use Rattle.stm_workers.proofs.threading.join_all.Given as goal
 
 -- each worker that was joined gave back a part and a pass that it had used

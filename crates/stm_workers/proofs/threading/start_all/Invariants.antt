@@ -1,5 +1,5 @@
 use Rattle.std.proofs.Common.{◌≡◌, ◌+◌, ◌≤◌, vec_len, vec_capacity}
-use Rattle.stm_draw.specs.Seats.{seat_view}
+use Rattle.stm_job.specs.Seats.{seat_view}
 use Rattle.stm_workers.proofs.threading.start_all.Given as goal
 
 -- each worker took a part and a pass, and there is room for the handles of all

@@ -1,8 +1,8 @@
 use Rattle.std.proofs.Common.{◌<◌, ℕ, sym, ap, subst, ◌∙◌}
-use Rattle.stm_draw.specs.declared.view.Size.{Size}
-use Rattle.stm_draw.specs.declared.view.View.{View}
-use Rattle.stm_draw.specs.Draw.{drew}
-use Rattle.stm_draw.specs.Seats.{table_id, table_size}
+use Rattle.stm_job.specs.declared.drawing.view.Size.{Size}
+use Rattle.stm_job.specs.declared.drawing.view.View.{View}
+use Rattle.stm_job.specs.Draw.{drew}
+use Rattle.stm_job.specs.Seats.{table_id, table_size}
 use Rattle.stm_workers.proofs.SeatLemmas.{seat_at, none_left}
 use Rattle.stm_workers.proofs.shared.Shared.draw_next.Goals as goal
 

@@ -1,7 +1,7 @@
 use Rattle.std.proofs.Common.{List, sym, ap, ◌∙◌, arith}
 use Rattle.std.proofs.lemmas.List.Elements.{All-same, All-nil}
-use Rattle.stm_draw.specs.declared.view.View.{View}
-use Rattle.stm_draw.specs.Seats.{seat_view}
+use Rattle.stm_job.specs.declared.drawing.view.View.{View}
+use Rattle.stm_job.specs.Seats.{seat_view}
 use Rattle.stm_workers.specs.declared.worker.EndOf.{EndOf}
 use Rattle.stm_workers.specs.Runs.{HasItsRun}
 use Rattle.stm_workers.specs.Drawn.{committed_in}

@@ -1,6 +1,6 @@
 use Rattle.std.proofs.Common.{List, sym, ap, ◌∙◌}
 use Rattle.std.proofs.lemmas.List.Elements.{All-same, All-append}
-use Rattle.stm_draw.specs.Seats.{seat_view}
+use Rattle.stm_job.specs.Seats.{seat_view}
 use Rattle.stm_workers.specs.declared.worker.EndOf.{EndOf}
 use Rattle.stm_workers.specs.Runs.{HasItsRun}
 use Rattle.stm_workers.specs.Drawn.{jobs_of, committed_in}

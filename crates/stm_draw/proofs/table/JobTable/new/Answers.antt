@@ -1,5 +1,0 @@
-use Rattle.stm_draw.proofs.Keeps.{begins}
-use Rattle.stm_draw.proofs.table.JobTable.new.Goals as goal
-
-pub of_words-requires : goal.of_words-requires
-of_words-requires c = begins _

@@ -1,3 +1,0 @@
-pub mod Draw
-pub mod Seats
-pub mod Laws

@@ -1,2 +1,0 @@
-pub mod ExplainLemmas
-pub mod PieceLemmas

@@ -1,0 +1,56 @@
+//! Why the system refused what was asked of a reader or a writer.
+
+use std::io::{self, Read, Write};
+
+/// A reader or a writer that notes why it failed last.
+#[derive(Drop)]
+pub(crate) struct Noting<D> {
+    /// The reader or the writer.
+    device: D,
+    /// Why it failed last, where it has failed.
+    pub(crate) failure: Option<io::Error>,
+}
+
+impl<D> Noting<D> {
+    /// A device that has not failed.
+    pub(crate) fn new(device: D) -> Noting<D> {
+        Noting {
+            device,
+            failure: None,
+        }
+    }
+}
+
+impl<R: Read> Read for Noting<R> {
+    fn read(&mut self, buffer: &mut [u8]) -> io::Result<usize> {
+        match self.device.read(buffer) {
+            Ok(count) => Ok(count),
+            Err(error) => {
+                self.failure = Some(error);
+                Err(error)
+            }
+        }
+    }
+}
+
+impl<W: Write> Write for Noting<W> {
+    fn write(&mut self, bytes: &[u8]) -> io::Result<usize> {
+        match self.device.write(bytes) {
+            Ok(count) => Ok(count),
+            Err(error) => {
+                self.failure = Some(error);
+                Err(error)
+            }
+        }
+    }
+
+    fn flush(&mut self) -> io::Result<()> {
+        match self.device.flush() {
+            Ok(()) => Ok(()),
+            Err(error) => {
+                self.failure = Some(error);
+                Err(error)
+            }
+        }
+    }
+}

@@ -1,5 +1,5 @@
 -- The calls of the store that are no runner's: what each leaves is what its entry replays to, and what was true stays so.
-use Rattle.std.proofs.Common.{◌≡◌, ℕ, ◌≤◌, List, [], ◌∷◌, Ok, true, refl, sym, ◌∙◌, ap}
+use Rattle.std.proofs.Common.{◌≡◌, ℕ, ◌≤◌, List, Ok, true, refl, sym, ◌∙◌}
 use Rattle.std.proofs.Common.{subst, arith}
 use Rattle.std.specs.FinMap as finmap
 use Rattle.stm_history.specs.declared.change.Change.{Change}
@@ -18,7 +18,6 @@ use Rattle.stm_entries.specs.declared.entry.Entry.{Entry}
 use Rattle.stm_entries.specs.declared.entry.Entry.TheVariants.{Grant as GrantEntry, Renew, Revoke as RevokeEntry}
 use Rattle.stm_entries.specs.Entered.{if_taken, if_changed, expiries}
 use Rattle.stm_events.specs.Replies.{store_after_call}
-use Rattle.stm_events.proofs.Entered.{Enters}
 use Rattle.stm_events.proofs.Calls.{txn_cases, txn_enters, grant_cases, grant_enters, keep_cases, keep_enters, revoke_cases, revoke_enters}
 use Rattle.stm_events.proofs.Calls.{KeepsExpiries, expiry_cases, at_moment_enters, advance_cases, advance_enters}
 use Rattle.stm_world.proofs.Truth.{Keeps, keeps_same, keeps_changes, keeps_twice}

@@ -313,6 +313,7 @@ taken_follows start log runners entries id task run done law x listed is_run is_
               is_alone = came.alone;
               emits = refl;
               sees = refl;
+              changes = came.applies;
               reached = refl;
               reported = refl;
               in_order = answers_are_the_reads task.program reads run well.listed listed well.asked is_run;

@@ -1,5 +1,5 @@
 -- Wrong logs are rejected.
-use Rattle.std.proofs.Common.{◌≡◌, ◌≢◌, inl, inr, ℕ, ◌+◌, ◌-◌, ◌≤◌, zero, suc, List, [], ◌∷◌, length, take, Option, Some, None, Ok, Err, Bool, true, false, cond}
+use Rattle.std.proofs.Common.{◌≡◌, ◌≢◌, inl, inr, ℕ, ◌+◌, ◌-◌, ◌<◌, ◌≤◌, zero, suc, List, [], ◌∷◌, length, take, Option, Some, None, Ok, Err, Bool, true, false, cond}
 use Rattle.std.proofs.Common.{refl, sym, ◌∙◌, ap, subst, arith}
 use Rattle.std.specs.Prelude.{nat_eq, nat_lt, slice_set, Result}
 use Rattle.std.proofs.lemmas.Bool.{le-leb}
@@ -13,6 +13,10 @@ use Rattle.stm_steps.specs.declared.run.Answered.TheVariants.{Ended as EndedRun,
 use Rattle.stm_steps.specs.declared.trace_item.TraceItem.{TraceItem}
 use Rattle.stm_steps.specs.declared.value.Value.{Value}
 use Rattle.stm_steps.specs.declared.fault.Fault.{Fault}
+use Rattle.stm_meaning.specs.Meaning.{run_over}
+use Rattle.stm_entries.specs.Replayed.{without_moment}
+use Rattle.stm_entries.specs.Alone.{seen_at, applied_run}
+use Rattle.stm_outcome.specs.Outcome.{Done as StoreDone}
 use Rattle.stm_attempt.specs.Settled.{run_on}
 use Rattle.stm_attempt.specs.Entering.{is_due}
 use Rattle.std.proofs.lemmas.List.{length-map}
@@ -42,8 +46,8 @@ use Rattle.stm_watch.specs.Pending.{pending, pending_events, batch_of, after_pol
 use Rattle.stm_watch.specs.Calls.{watcher_at, poll_found}
 use Rattle.stm_events.specs.Replies.{denied, reply_to, advance_reply, poll_reply}
 use Rattle.stm_world.specs.Task.{Task, modified_now}
-use Rattle.stm_world.specs.Log.{Line, begun, running, started, is_start, runner_started, is_id, task_in, store, reported}
-use Rattle.stm_world.specs.Right.{IsRight, AreRight, RunnerIsRight, Situation, HasList, ReplyIsRight, EndsWith, IsRefused, situation}
+use Rattle.stm_world.specs.Log.{Line, begun, running, failures, started, is_start, runner_started, is_id, task_in, store, reported}
+use Rattle.stm_world.specs.Right.{IsRight, AreRight, RunnerIsRight, Situation, HasList, ReplyIsRight, EndsWith, IsCommitted, IsRefused, situation}
 use Rattle.stm_world.specs.World.{World}
 use Rattle.stm_world.specs.Headline.{Holds}
 use Rattle.stm_world.specs.WrongLogs.{WrongLogs, runner_reported}
@@ -364,6 +368,38 @@ refused_list : (start : Setup) (log : List Line) (id : ℕ) (task : Task) (cause
 refused_list start log id task cause runs due few right =
     none_refused_list (situation start log id task) cause due few (is_listed start log id task (Ended id cause) runs right).1
 
+-- ---- commits ----
+
+commit_beyond_limit : (start : Setup) (log : List Line) (id : ℕ) (task : Task) (revision attempts : ℕ) (output : List Value) (trace : List TraceItem)
+    (answers : List ReadAnswer) → running id log ≡ Some task → task.limit < attempts
+    → IsRight start log (Step id) (Ok (Committed id revision attempts output trace answers)) → ⊥
+commit_beyond_limit start log id task revision attempts output trace answers runs beyond right =
+    let within = (is_listed start log id task (Committed id revision attempts output trace answers) runs right).2 in omega (arith, beyond, within)
+
+conflict_of_the_last : (start : Setup) (log : List Line) (id : ℕ) (task : Task) (key : List ℕ) (seen now_modified : ℕ) → running id log ≡ Some task
+    → task.limit ≤ failures id log + 1 → IsRight start log (Step id) (Ok (Conflict id key seen now_modified)) → ⊥
+conflict_of_the_last start log id task key seen now_modified runs last right =
+    let before = (is_listed start log id task (Conflict id key seen now_modified) runs right).1 in omega (arith, last, before)
+
+one_revision : (at : Situation) (run : Run) (alone : StoreDone) (revision : ℕ) (output : List Value) (trace : List TraceItem) (answers : List ReadAnswer)
+    → run_over (seen_at at.task.level at.reads at.store.history) at.task.program.statements ≡ EndedRun run
+    → applied_run (without_moment at.store) run ≡ Ok alone → IsCommitted at revision output trace answers → revision ≡ now alone.history
+one_revision at run alone revision output trace answers is applies c =
+    let one : EndedRun run ≡ EndedRun c.commits.run = sym is ∙ c.is_alone in
+    let same : run ≡ c.commits.run = cc in
+    let both : Ok alone ≡ Ok c.done = sym applies ∙ ap (applied_run (without_moment at.store)) same ∙ c.changes in
+    let done : alone ≡ c.done = cc in
+    c.reached ∙ sym (ap (λ (d : StoreDone). now d.history) done)
+
+another_revision : (start : Setup) (log : List Line) (id : ℕ) (task : Task) (run : Run) (alone : StoreDone) (revision attempts : ℕ) (output : List Value)
+    (trace : List TraceItem) (answers : List ReadAnswer) → running id log ≡ Some task
+    → run_over (seen_at task.level (reported start id task log).reads (store start log).history) task.program.statements ≡ EndedRun run
+    → applied_run (without_moment (store start log)) run ≡ Ok alone → revision ≢ now alone.history
+    → IsRight start log (Step id) (Ok (Committed id revision attempts output trace answers)) → ⊥
+another_revision start log id task run alone revision attempts output trace answers runs is applies other right =
+    let commit = (is_listed start log id task (Committed id revision attempts output trace answers) runs right).3 in
+    other (one_revision (situation start log id task) run alone revision output trace answers is applies commit)
+
 -- ---- events without a reply ----
 
 no_answer : (start : Setup) (event : WorldEvent) (events : List WorldEvent) (w : World) → Holds start (event ∷ events) [] w → ⊥
@@ -380,6 +416,9 @@ wrong_logs = record {
   step_of_none = step_of_none;
   another_runner = another_runner;
   another_abort = another_abort;
+  commit_beyond_limit = commit_beyond_limit;
+  conflict_of_the_last = conflict_of_the_last;
+  another_revision = another_revision;
   refused_poll = refused_poll;
   poll_of_none = poll_of_none;
   another_watcher = λ start log id most watcher upto events other right.

@@ -13,6 +13,7 @@ use Rattle.stm_attempt.specs.Settled.{run_on}
 use Rattle.stm_events.specs.declared.event.WorldEvent.{WorldEvent}
 use Rattle.stm_events.specs.declared.event.WorldEvent.TheVariants.{Step}
 use Rattle.stm_world.specs.World.{World, Runner, runner_at}
+use Rattle.stm_world.specs.Sound.{IsSound}
 
 -- Where the runner's program has come to its end, at a level that compares, and no compare of its commit fails, each value and
 -- modification revision that it has read is that of its key now. So also where the store refuses the commit.
@@ -25,3 +26,7 @@ HasReadWhatIsNow w r =
 abbrev pub ReadsAreNow : WorldEvent → World → Type 0
 ReadsAreNow (Step id) w = (r : Runner) → runner_at id w.runners ≡ Some r → HasReadWhatIsNow w r
 ReadsAreNow event w = Unit {0}
+
+-- So it is in each sound world, whichever event comes.
+abbrev pub CommitsReadWhatIsNow : Type 0
+CommitsReadWhatIsNow = (event : WorldEvent) (w : World) → IsSound w → ReadsAreNow event w

@@ -27,7 +27,8 @@ use Rattle.stm_compile.specs.Conflicts.{IsConflict}
 use Rattle.stm_attempt.specs.Settled.{run_on}
 use Rattle.stm_attempt.specs.Entering.{is_due}
 use Rattle.stm_attempt.specs.Fetches.{at_of}
-use Rattle.stm_entries.specs.Alone.{seen_at}
+use Rattle.stm_entries.specs.Replayed.{without_moment}
+use Rattle.stm_entries.specs.Alone.{seen_at, applied_run}
 use Rattle.stm_entries.specs.Entered.{answers_kept}
 use Rattle.stm_events.specs.declared.event.WorldEvent.{WorldEvent}
 use Rattle.stm_events.specs.declared.event.WorldEvent.TheVariants.{Start, Step, Txn, Grant, Keep, Revoke, Advance}
@@ -104,8 +105,8 @@ pub record Commits (at : Situation) (outcome : Result Done StoreRefusal) : Type 
   pub comes_to : committed (terms_of at.store) at.task.level at.reads run ≡ outcome
 
 -- A commit that succeeds: at a comparing level output and trace are those of the program run alone on the state of this
--- moment, at ReadCommitted those of its run on what it read, which is reported. What it read are the keys of its list, and then the others that
--- the run reads, in the order of its first reads.
+-- moment, at ReadCommitted those of its run on what it read, which is reported. The last write of each key of this run, with nothing compared, is
+-- what the commit changes in the store. What it read are the keys of its list, and then the others that the run reads, in the order of its first reads.
 pub record IsCommitted (at : Situation) (revision : ℕ) (output : List Value) (trace : List TraceItem) (answers : List ReadAnswer) : Type 0 where
   pub done : Done
   pub commits : Commits at (Ok done)
@@ -113,6 +114,7 @@ pub record IsCommitted (at : Situation) (revision : ℕ) (output : List Value) (
   pub is_alone : run_over (seen_at at.task.level at.reads at.store.history) at.task.program.statements ≡ EndedRun commits.run
   pub emits : output ≡ commits.run.output
   pub sees : trace ≡ commits.run.trace
+  pub changes : applied_run (without_moment at.store) commits.run ≡ Ok done
   pub reached : revision ≡ now done.history
   pub reported : answers ≡ answers_kept at.task.level at.reads
   pub in_order : keys_first_read at.task.program.prefetch commits.run.reads ≡ keys_read at.reads

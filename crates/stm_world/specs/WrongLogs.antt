@@ -1,6 +1,7 @@
 -- Wrong logs, which show what being right rules out.
-use Rattle.std.specs.Prelude.{◌≡◌, ◌≢◌, ℕ, ◌≤◌, true, false, List, [], ◌∷◌, length, Option, Some, None, Result, Ok, Err}
+use Rattle.std.specs.Prelude.{◌≡◌, ◌≢◌, ℕ, ◌+◌, ◌<◌, ◌≤◌, true, false, List, [], ◌∷◌, length, Option, Some, None, Result, Ok, Err}
 use Rattle.stm_history.specs.declared.key_state.ReadAnswer.{ReadAnswer}
+use Rattle.stm_history.specs.History.{now}
 use Rattle.stm_program.specs.Syntax.{ProgramTree}
 use Rattle.stm_program.specs.declared.level.Level.{Level}
 use Rattle.stm_steps.specs.declared.fault.Fault.{Fault}
@@ -9,7 +10,9 @@ use Rattle.stm_steps.specs.declared.run.Run.{Run}
 use Rattle.stm_steps.specs.declared.run.Answered.TheVariants.{Ended, Wants}
 use Rattle.stm_steps.specs.declared.trace_item.TraceItem.{TraceItem}
 use Rattle.stm_steps.specs.declared.value.Value.{Value}
+use Rattle.stm_meaning.specs.Meaning.{run_over}
 use Rattle.stm_outcome.specs.declared.refusal.Refusal.{Refusal as StoreRefusal}
+use Rattle.stm_outcome.specs.Outcome.{Done as StoreDone}
 use Rattle.stm_outcome.specs.Terms.{is_below_floor}
 use Rattle.stm_keys.specs.declared.event.Event.{Event}
 use Rattle.stm_watch.specs.Watching.{Watching}
@@ -18,6 +21,8 @@ use Rattle.stm_watch.specs.Calls.{watcher_at}
 use Rattle.stm_attempt.specs.Settled.{run_on}
 use Rattle.stm_attempt.specs.Entering.{is_due}
 use Rattle.stm_attempt.specs.Fetches.{at_of}
+use Rattle.stm_entries.specs.Replayed.{without_moment}
+use Rattle.stm_entries.specs.Alone.{seen_at, applied_run}
 use Rattle.stm_events.specs.declared.event.WorldEvent.{WorldEvent}
 use Rattle.stm_events.specs.declared.event.WorldEvent.TheVariants.{Start, Step, Poll, Compact}
 use Rattle.stm_events.specs.declared.reply.Reply.{Reply}
@@ -25,7 +30,7 @@ use Rattle.stm_events.specs.declared.reply.Reply.TheVariants.{Started, Prefetche
 use Rattle.stm_events.specs.declared.reply.KeyRead.{KeyRead}
 use Rattle.stm_events.specs.declared.refusal.Denied.{Denied}
 use Rattle.stm_world.specs.Task.{Task}
-use Rattle.stm_world.specs.Log.{Line, begun, running, store, reported}
+use Rattle.stm_world.specs.Log.{Line, begun, running, failures, store, reported}
 use Rattle.stm_world.specs.Right.{IsRight, AreRight}
 use Rattle.stm_world.specs.World.{World}
 use Rattle.stm_world.specs.Headline.{Holds}
@@ -67,6 +72,19 @@ pub record WrongLogs : Type 0 where
   pub another_abort : (start : Setup) (log : List Line) (id : ℕ) (task : Task) (run : Run) (text : List ℕ) → running id log ≡ Some task
       → run_on task.program (reported start id task log).reads ≡ Ended run → run.end ≡ Done
       → IsRight start log (Step id) (Ok (Aborted id text)) → ⊥
+  -- no run sends more commits than it may, the one that succeeds among them
+  pub commit_beyond_limit : (start : Setup) (log : List Line) (id : ℕ) (task : Task) (revision attempts : ℕ) (output : List Value) (trace : List TraceItem)
+      (answers : List ReadAnswer) → running id log ≡ Some task → task.limit < attempts
+      → IsRight start log (Step id) (Ok (Committed id revision attempts output trace answers)) → ⊥
+  -- nor does it go on after the conflict of the last commit that it may send
+  pub conflict_of_the_last : (start : Setup) (log : List Line) (id : ℕ) (task : Task) (key : List ℕ) (seen now_modified : ℕ) → running id log ≡ Some task
+      → task.limit ≤ failures id log + 1 → IsRight start log (Step id) (Ok (Conflict id key seen now_modified)) → ⊥
+  -- a commit leads to no other revision than what its program's run, alone at this moment, makes of the store
+  pub another_revision : (start : Setup) (log : List Line) (id : ℕ) (task : Task) (run : Run) (alone : StoreDone) (revision attempts : ℕ) (output : List Value)
+      (trace : List TraceItem) (answers : List ReadAnswer) → running id log ≡ Some task
+      → run_over (seen_at task.level (reported start id task log).reads (store start log).history) task.program.statements ≡ Ended run
+      → applied_run (without_moment (store start log)) run ≡ Ok alone → revision ≢ now alone.history
+      → IsRight start log (Step id) (Ok (Committed id revision attempts output trace answers)) → ⊥
   -- a watcher that is there is not refused a poll, for NoWatcher or anything else
   pub refused_poll : (start : Setup) (log : List Line) (id most : ℕ) (w : Watching) (refusal : Denied)
       → watcher_at id (store start log).watchers ≡ Some w → IsRight start log (Poll id most) (Err refusal) → ⊥

@@ -6,6 +6,7 @@ ghost use Rattle.stm_world.specs.Headline.{Headline, HeadlineGoesOn, OneState, R
 ghost use Rattle.stm_world.specs.Joined.{RunsGoOn};
 ghost use Rattle.stm_world.specs.NeverOutOfMemory.{NeverOutOfMemory};
 ghost use Rattle.stm_world.specs.OneReply.{OneRightReply};
+ghost use Rattle.stm_world.specs.ReadsNow.{CommitsReadWhatIsNow};
 ghost use Rattle.stm_world.specs.Sound.{WorldsAreSound};
 ghost use Rattle.stm_world.specs.Notifying.{WatchersAreNotified};
 ghost use Rattle.stm_world.specs.WrongFailures.{WrongFailures, WrongRuns};
@@ -77,7 +78,8 @@ pub fn keys_are_read_once()
 /// These wrong logs are rejected: an event has no reply, or a reply no event, as of a world that answers nothing or stops at
 /// some event; a step of a runner that runs is refused, or a start that may send a commit; a
 /// number is given twice; a runner's step is answered with another runner's reply; a program that is done is
-/// reported to have aborted; a poll of a watcher that is there is refused, or one of a watcher that is not there
+/// reported to have aborted; a commit is one more than the run may send, or a run goes on after the conflict of its last one; a commit leads to
+/// another revision than its program's run alone at that moment; a poll of a watcher that is there is refused, or one of a watcher that is not there
 /// is answered; a poll reports another watcher's batch, or an event where none is pending; a lost watcher gets a batch, or one
 /// that is not lost is reported as lost; a step fetches at a base that is compacted, or the store refuses one that is not; a list is fetched again or
 /// in part, or is refused though the store takes it, or a program reads, commits, fails or ends before its list is read; a compaction at or below the
@@ -110,6 +112,12 @@ pub fn wrong_failures_are_none()
 /// In a sound world the revision that a runner's next fetch names is one that the store has reached.
 pub fn worlds_are_sound()
     ensures { WorldsAreSound }
+{}
+
+/// In a sound world, where the program of the runner that is stepped has come to its end at a level that compares, and no compare of its commit
+/// fails, each value and modification revision that it has read is that of its key now, also where the store refuses the commit.
+pub fn commits_read_what_is_now()
+    ensures { CommitsReadWhatIsNow }
 {}
 
 /// From any sound world, also one that has run before, events only append entries: these are legal, each at its

@@ -32,7 +32,7 @@ use Rattle.stm_retry.specs.CallReturns.{CallReturns}
 
 -- ---- refusals ----
 
--- what is told of a refusal, whether it is that memory ran out or not
+-- what is reported of a refusal, whether it is that memory ran out or not
 pub refusal_reports : (event : WorldEvent) (d : Denied) (cause : StoreRefusal) (old new : World) →
     (cause ≡ OutOfMemory → OutOfMemoryReturns event d.expired old new) → (cause ≢ OutOfMemory → IsStep (step event old) (Err d) new) →
     StoreRefusalReturns cause event d old new
@@ -61,7 +61,7 @@ stepped_as report j runners (Err cause) = record { reply = denied (Store cause);
 abbrev pub IsCall : {A : Type 0} → WorldEvent → (A → Reply) → JournalState → Result (JournalStep A) StoreRefusal → Type 0
 IsCall event report j o = (runners : List Slot) → step event (world_of j runners) ≡ stepped_as report j runners o
 
--- that memory ran out may be told of the event where the step takes it
+-- that memory ran out may be reported of the event where the step takes it
 abbrev pub MayRunOut : WorldEvent → JournalState → Type 0
 MayRunOut event j = (runners : List Slot) → IsOk (step event (world_of j runners)).reply →
     OutOfMemoryReturns event [] (world_of j runners) (world_of j runners)
@@ -187,7 +187,7 @@ advance_stopped before after moment expired cause (inr x) runners =
 abbrev pub world_with : List Slot → Standing → List Entry → World
 world_with runners s es = record { standing = s; runners = runners; entries = es }
 
--- what is told of an event that is no entry, in every world that has this store
+-- the event, which is no entry, has this reply in every world that has this store
 abbrev pub QuietReturns : WorldEvent → Result Reply Denied → Standing → Standing → Type 0
 QuietReturns event reply s next = (es : List Entry) (runners : List Slot) → Returns event reply (world_with runners s es) (world_with runners next es)
 

@@ -8,6 +8,6 @@ use Rattle.stm_world.specs.World.{Slot}
 use Rattle.stm_retry.specs.Returns.{Returns}
 use Rattle.stm_retry.specs.WorldOf.{world_of}
 
--- what is told of the event in every world that has this journal
+-- the event has this reply in every world that has this journal, and leaves this one
 abbrev pub CallReturns : WorldEvent → Result Reply Denied → JournalState → JournalState → Type 0
 CallReturns event reply before after = (runners : List Slot) → Returns event reply (world_of before runners) (world_of after runners)

@@ -25,22 +25,12 @@ use crate::slots::{Slot, put_slot, take_runner};
 use crate::step_outcome::StepOutcome;
 use std::alloc::{AllocError, Global};
 use stm_attempt::{Next, Ready};
-use stm_history::{KeyState, ReadAnswer, Sequence, Text};
+use stm_history::{ReadAnswer, Sequence, Text, mod_rev_of};
 use stm_journal::{Copies, Journal, Verdict, copies_of};
 use stm_meaning::{End, Run};
 use stm_program::{Level, Program};
 use stm_txn::Refusal as StoreRefusal;
 use stm_world::{Denied, KeyRead, Refusal, Reply};
-
-/// The modification revision of a key's state, 0 where it is absent.
-fn mod_rev_in(kv: &Option<KeyState>) -> u64
-    ensures { result ≡ mod_of kv.now }
-{
-    match kv {
-        None => 0,
-        Some(state) => state.mod_rev,
-    }
-}
 
 /// Takes the answer to a fetch of this key, which the runner waits for.
 fn take_answer(
@@ -55,7 +45,7 @@ fn take_answer(
     ensures ok { OnOk result (runner.new.runner ≡ with_answer answer runner.old.runner) }
     ensures err { OnErr result (runner.new.runner ≡ runner.old.runner) }
 {
-    let mod_rev = mod_rev_in(&answer.kv);
+    let mod_rev = mod_rev_of(&answer.kv);
     let of_rev = answer.of_rev;
     let revision = answer.revision;
     runner.supply(answer)?;
@@ -96,7 +86,7 @@ fn read_reported(answer: &ReadAnswer) -> Result<KeyRead, AllocError>
     ensures { IfOk result (λ read. read ≡ key_read answer.now) }
 {
     let key = answer.key.clone()?;
-    let mod_rev = mod_rev_in(&answer.kv);
+    let mod_rev = mod_rev_of(&answer.kv);
     Ok(KeyRead { key, mod_rev })
 }
 

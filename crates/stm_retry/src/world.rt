@@ -42,7 +42,8 @@ use stm_world::{Denied, Entry, Refusal, Reply, WorldEvent};
 /// the history, and the store stands for it: it has the revisions from its floor on.
 pub struct World {
     alloc: Global,
-    /// The revision at which the store opened.
+    /// The revision at which the store opened, where the entries begin. The journal has it too, but contracts of the parts see the world that they
+    /// are, without it.
     opened: u64,
     parts: Parts,
 }

@@ -191,7 +191,7 @@ module _ (old new : Opening) (oldest : List Event) (numbered : new.number ≡ ol
         ∙ versions_same key newer (older_recorded old newer (oldest ∷ []) kept.events);
   }
 
--- ---- what chains tell once the oldest revision is forgotten
+-- ---- what chains show once the oldest revision is forgotten
 
 module _ {Y S : Type 0} (old : Opening) (next : HashMap (String Y) Chain S) (newer : List (List Event)) (oldest : List Event)
     (chains : List ℕ → Option Chain) (kept : IsKept old (newer ++ oldest ∷ []) chains)
@@ -331,7 +331,7 @@ drops_then between at_last a b c still one two = λ state n absent first.
     let early = one state n absent first in
     let late = two state n (λ key none. absent key (still key none)) early.0 in (late.0, late.1 ∙ early.1)
 
--- versions told otherwise
+-- the same for versions that are equal at each key
 pub drops_same : (f g : List ℕ → Versions) (a b : List (List ℕ)) → ((key : List ℕ) → g key ≡ f key) → DropsAbsent f a b → DropsAbsent g a b
 drops_same f g a b same drops = λ state n absent first. drops state n (λ key none. absent key (same key ∙ none)) first
 

@@ -168,7 +168,7 @@ same_found m n moves distinct k =
     lookup_permutation string_eq_equiv m.entries n.entries moves distinct (λ name. bytes_eq k (string_bytes name))
     (λ x y. nat_list_eq_equiv.congr k (string_bytes x) (string_bytes y))
 
--- presence, told otherwise
+-- the same for an equal presence
 pub same_presence : (p q : List ℕ → Bool) (n : ℕ) (keys : List (List ℕ)) → ((k : List ℕ) → q k ≡ p k) → StandFirst p n keys → StandFirst q n keys
 same_presence p q n keys same first = record { within = first.within; each = λ place k is. same k ∙ first.each place k is }
 

@@ -1,4 +1,4 @@
--- What the versions of a chain tell of its key.
+-- What the versions of a chain show of its key.
 use Rattle.std.proofs.Common.{◌≡◌, ℕ, ◌+◌, ◌≤◌, ◌<◌, Bool, true, false, List, [], ◌∷◌, ◌++◌, length, map, reverse, take, drop, get_or, Option, Some, None}
 use Rattle.std.proofs.Common.{suc, refl, sym, ◌∙◌, ap, subst, inl, inr}
 use Rattle.std.proofs.Common.{Result, Ok, Err, OnErr, ◌-◌, zero, arith, cond, IfSome, is_some, ne_eqb, eq-eqb, ltb}
@@ -47,7 +47,7 @@ recorded_below below bound [] = []
 recorded_below below bound (events ∷ older) =
     cond (nat_lt (below + suc (length older)) bound) (events ∷ older) (recorded_below below bound older)
 
--- each is the number of one of so many revisions
+-- each is the number of one of these revisions
 abbrev pub AreKept : ℕ → ℕ → List ℕ → Type 0
 AreKept below count [] = Unit {0}
 AreKept below count (number ∷ older) = IsKeptNumber below count number × AreKept below count older
@@ -172,7 +172,7 @@ walked_step before key below bound events older versions reported (Some e) about
     ∙ reported
     ∙ sym (ap (λ b. state_recorded before key (cond b (events ∷ older) (recorded_below below bound older))) more)
 
--- the newest number below a bound tells what the key was after the revisions below it
+-- the newest number below a bound leads to what the key was after the revisions below it
 walked : (opening : Opening) (before : Option KeyState) (key : List ℕ) (bound : ℕ) (recorded : List (List Event)) →
     after_event (event_there opening.number recorded key (newest_below bound (versions_of opening key recorded).numbers)) before
     ≡ state_recorded before key (recorded_below opening.number bound recorded)
@@ -251,7 +251,7 @@ still_recorded opening bound (events ∷ older) is =
     by_test true rest = is
     by_test false rest = rest
 
--- the newest number below a bound tells what the key was at the revision below it
+-- the newest number below a bound leads to what the key was at the revision below it
 pub found_then : (opening : Opening) (r : ℕ) (xs : List (List Event)) (chains : List ℕ → Option Chain) (key : List ℕ) (bound : ℕ) →
     IsKept opening (reverse xs) chains → bound ≡ r + 1 →
     found_below opening.number xs key bound (versions_in (chains key)) ≡ key_after opening key (revisions_up_to opening r (changes_of (reverse xs)))
@@ -262,7 +262,7 @@ found_then opening r xs chains key bound kept is =
     ∙ recorded_state opening key (changes_of part)
     ∙ ap (key_after opening key) (below_up_to opening r bound (reverse xs) is)
 
--- the newest number of a key's chain tells what the key is
+-- the newest number of a key's chain leads to what the key is
 pub found_all : (opening : Opening) (xs : List (List Event)) (chains : List ℕ → Option Chain) (key : List ℕ) → IsKept opening (reverse xs) chains →
     found_now opening.number xs key (versions_in (chains key)) ≡ key_after opening key (changes_of (reverse xs))
 found_all opening xs chains key kept =
@@ -413,7 +413,7 @@ view_kept opening next opened floor xs ys keys more v alike same present is =
     } in c) present
     ∙ is
 
--- what a store with these chains opens with is what they tell of before
+-- what a store with these chains opens with is what they keep of before
 module _ {Y S : Type 0} (m : HashMap (String Y) Chain S) (below : ℕ) where
   pub before_found : (key : List ℕ) → find (slice_cmp nat_cmp) key (opening_of below m).states ≡ (versions_in (get_by_text m key)).before
   before_found key =

@@ -23,7 +23,7 @@ pub record Versions : Type 0 where
 abbrev pub no_versions : Versions
 no_versions = record { before = None; numbers = [] }
 
--- a chain has the versions of its key, and room for so many more
+-- a chain has the versions of its key, and room for `room` more
 pub record Chain : Type 0 where
   pub versions : Versions
   pub room : ℕ
@@ -82,7 +82,7 @@ abbrev pub event_from : ℕ → List (List Event) → List ℕ → Option ℕ �
 event_from below recorded key None = None
 event_from below recorded key (Some number) = event_about key (events_with below recorded number)
 
--- the newest event of a key, as its chain tells it
+-- the newest event of a key, by its chain
 abbrev pub newest_event : ℕ → List (List Event) → List ℕ → Versions → Option Event
 newest_event below recorded key versions = event_from below recorded key (slice_get versions.numbers 0)
 
@@ -90,15 +90,15 @@ newest_event below recorded key versions = event_from below recorded key (slice_
 abbrev pub state_from : ℕ → List (List Event) → List ℕ → Option KeyState → Option ℕ → Option KeyState
 state_from below recorded key before number = after_event (event_from below recorded key number) before
 
--- what a key is after the revisions below a bound, as its chain tells it
+-- what a key is after the revisions below a bound, by its chain
 abbrev pub found_below : ℕ → List (List Event) → List ℕ → ℕ → Versions → Option KeyState
 found_below below recorded key bound versions = state_from below recorded key versions.before (newest_below bound versions.numbers)
 
--- what a key is after all revisions, as its chain tells it
+-- what a key is after all revisions, by its chain
 abbrev pub found_now : ℕ → List (List Event) → List ℕ → Versions → Option KeyState
 found_now below recorded key versions = state_from below recorded key versions.before (slice_get versions.numbers 0)
 
--- a number is that of one of so many revisions
+-- a number is that of one of `count` revisions above `below`
 abbrev pub IsKeptNumber : ℕ → ℕ → ℕ → Type 0
 IsKeptNumber below count number = (below < number) × (number ≤ below + count)
 
@@ -118,7 +118,7 @@ abbrev pub present_among : (List ℕ → Option KeyState) → List (List ℕ) �
 present_among state [] = []
 present_among state (key ∷ keys) = with_state key (state key) (present_among state keys)
 
--- The present keys stand first, so many: a key stands below the count exactly where it is present.
+-- The present keys are the first `count`: a key stands below the count exactly where it is present.
 pub record StandFirst (present : List ℕ → Bool) (count : ℕ) (keys : List (List ℕ)) : Type 0 where
   pub within : count ≤ length keys
   pub each : (place : ℕ) (key : List ℕ) → slice_get keys place ≡ Some key → present key ≡ nat_lt place count

@@ -124,7 +124,7 @@ impl Chain {
         self.newest = Some(version);
     }
 
-    /// Forgets the oldest version, after which the key was as is told here. It takes no memory.
+    /// Forgets the oldest version, after which the key was `before`. It takes no memory.
     pub(crate) fn forget_oldest(&mut self, before: Option<KeyState>)
         ensures { self.new.versions ≡ record { before = before; numbers = without_oldest self.old.versions.numbers } }
     {

@@ -442,7 +442,7 @@ fn index_of_versions(chains: &Chains, key: &str) -> usize
     }
 }
 
-/// Forgets the oldest version of the chain at an index, after which its key was as is told here.
+/// Forgets the oldest version of the chain at an index, after which its key was `before`.
 fn forget_at(chains: &mut Chains, index: usize, before: Option<KeyState>)
     requires { index < length chains.old.entries }
     ensures names { names_of chains.new ≡ names_of chains.old }

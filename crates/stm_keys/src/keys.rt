@@ -299,7 +299,7 @@ impl Keys {
         Ok(self.look_back(key, revision))
     }
 
-    /// What a key was at a revision that has come, below the floor too: at one below those that are kept it is told as it was before these.
+    /// What a key was at a revision that has come, below the floor too: at one below those that are kept, what it was before these.
     pub fn look_back(&self, key: &str, revision: u64) -> Option<&KeyState>
         requires { revision ≤ now self.now.history }
         ensures { option_copied result ≡ key_at self.now.history key.now revision }
@@ -582,7 +582,7 @@ impl Keys {
 impl Keys {
     /// A copy of the keys at every revision. It shares the texts of the keys that events show.
     ///
-    /// It takes a step for each revision and for each change in it, and want of memory is its only refusal.
+    /// It takes a step for each revision and for each change in it, and is refused only where an allocation fails.
     pub fn copy(&self) -> Result<Keys, AllocError>
         ensures { IfOk result (λ copy. copy ≡ self.now) }
     {

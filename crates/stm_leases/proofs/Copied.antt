@@ -38,7 +38,7 @@ found_by : {A : Type 0} (es : List (String A × Attachment)) (key : List ℕ)
 found_by [] key = refl
 found_by (e ∷ es) key = ap (cond (bytes_eq key (string_bytes e.0)) (Some e.1)) (found_by es key)
 
--- the lease that a key hangs on, under the key
+-- the lease that a key is attached to, under the key
 abbrev with_lease : List ℕ × Attachment → List ℕ × ℕ
 with_lease e = (e.0, e.1.lease)
 

@@ -54,7 +54,7 @@ module _ (live : Live) (now : ℕ) where
     pub since : due term ≡ d.since
     pub is_due : due term ≤ now
 
-  -- what is told of these ids: a due one that comes no later than any, or that none is due
+  -- what is reported of these ids: a due one that comes no later than any, or that none is due
   abbrev IsReported : List ℕ → Option DueLease → Type 0
   IsReported ids None = (id : ℕ) (term : Term) → IsAmong id ids → finmap.get live id ≡ Some term → now < due term
   IsReported ids (Some d) = StandsDue d

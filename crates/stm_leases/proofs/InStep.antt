@@ -199,7 +199,7 @@ module _ {A : Type 0} where
           held = λ q l node key is holds. in_step.held q l node key (sym (same q) ∙ is) holds;
         }
 
-    -- a lease on which no key hangs has an empty list
+    -- a lease to which no key is attached has an empty list
     pub no_entries : (id list : ℕ) → list_of id ≡ Some list → ((key : List ℕ) (place : Attachment) → place_of key ≡ Some place → place.lease ≢ id)
         → length (entries_at keys list) ≡ 0
     no_entries id list live no_keys = by_entries (entries_at keys list) refl

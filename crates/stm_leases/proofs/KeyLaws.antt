@@ -1,4 +1,4 @@
--- The keys on a lease are those that hang on it, and a lease has one list of keys.
+-- The keys on a lease are those that are attached to it, and a lease has one list of keys.
 use Rattle.std.proofs.Common.{◌≡◌, ℕ, zero, suc, ◌<◌, Bool, true, false, cond, ◌&&◌, T, is_some, nat_eq, List, [], ◌∷◌, length, map, get_or, Option, Some, None}
 use Rattle.std.proofs.Common.{Contains, refl, sym, ap, subst, ◌∙◌, inl, inr, arith}
 use Rattle.std.proofs.lemmas.Bool.{eqb-true}
@@ -43,7 +43,7 @@ same_text : (x y : List ℕ) → eq_by_cmp (slice_cmp nat_cmp) x y ≡ true → 
 same_text x y is = finmap.slice_cmp-IsAntisymmetric finmap.nat_cmp-IsAntisymmetric x y (tied (slice_cmp nat_cmp x y) is)
 
 module _ (attached : Attached) (id : ℕ) where
-  -- what the kept keys hang on
+  -- what the kept keys are attached to
   kept : (key : List ℕ) → finmap.get (finmap.retain_keys attached (λ k. is_on id (finmap.get attached k))) key ≡ cond (is_on id (finmap.get attached key))
       (finmap.get attached key) None
   kept key = finmap.get-retain_keys attached (λ k. is_on id (finmap.get attached k)) key

@@ -46,7 +46,7 @@ bytes_flip x y =
     (λ t. (bytes_eq-Decides y x).1 (sym ((bytes_eq-Decides x y).0 t)))
     (λ t. (bytes_eq-Decides x y).1 (sym ((bytes_eq-Decides y x).0 t)))
 
--- the place of a key that hangs on a lease
+-- the place of a key that is attached to a lease
 pub placed_at : (place_of : List ℕ → Option Attachment) (id : ℕ) (key : List ℕ) (o : Option Attachment) → place_of key ≡ o
     → option_map (λ (p : Attachment). p.lease) o ≡ Some id → (p : Attachment) × (place_of key ≡ Some p) × (p.lease ≡ id)
 placed_at place_of id key None found same = absurd (cc)
@@ -132,7 +132,7 @@ module _ {A : Type 0} where
           (nat_list_cmp_total.antisymm (string_bytes (get_or sorted k s)) (string_bytes (get_or sorted (suc k) s))) no_fall
           (is_eq-slice_cmp (string_bytes (get_or sorted k s)) (string_bytes (get_or sorted (suc k) s)) ∙ rw (← first, ← second) differ))
 
-  -- a key hangs on a lease exactly where the lease's list has a node
+  -- a key is attached to a lease exactly where the lease's list has a node
   pub list-has_keys : (s : Leases) (list_of : ℕ → Option ℕ) (place_of : List ℕ → Option Attachment) (keys : Lists (String A)) (id list : ℕ)
       → AreInStep list_of place_of keys → ((key : List ℕ) → lease_of s key ≡ option_map (λ (p : Attachment). p.lease) (place_of key)) → list_of id ≡ Some list
       → IsTrue (is_some (first_node (entries_at keys list))) ↔ HasKeys (lease_of s) id
@@ -159,7 +159,7 @@ module _ {A : Type 0} where
       among [] c = absurd (omega (arith, c.1))
       among (e ∷ xs) c = refl
 
-  -- no key hangs on a lease that has no list
+  -- no key is attached to a lease that has no list
   pub none-attach : (s : Leases) (list_of : ℕ → Option ℕ) (place_of : List ℕ → Option Attachment) (keys : Lists (String A)) (id : ℕ)
       → AreInStep list_of place_of keys → ((key : List ℕ) → lease_of s key ≡ option_map (λ (p : Attachment). p.lease) (place_of key)) → list_of id ≡ None
       → ¬ HasKeys (lease_of s) id

@@ -113,7 +113,7 @@ module _ {A S R : Type 0} (leases : IndexMap ℕ Lease S) (attached : IndexMap (
   pub term-found : (id : ℕ) (l : Lease) (term : Term) → get nat_eq leases id ≡ Some l → finmap.get now.live id ≡ Some term → term_in l ≡ term
   term-found id l term found is = same_Some (term_in l) term (sym (live-now id ∙ ap (option_map term_in) found) ∙ is)
 
-  -- a key hangs on a live lease
+  -- a key is attached to a live lease
   pub attach-on-live : {B : Type 0} (keys : Lists (String B)) → AreInStep (list_in leases) (get_by_text attached) keys → AttachedToLive now
   attach-on-live keys in_step key id is = by_lease (get nat_eq leases place.0.lease) refl had.1
     where
@@ -155,7 +155,7 @@ module _ {A S R : Type 0} (leases : IndexMap ℕ Lease S) (attached : IndexMap (
       ap (λ keys. record (view_of leases attached spare) { attached = keys }) (attached-remove leases attached spare new key updates)
       ∙ ap (λ (s : Leases). record s { attached = finmap.remove s.attached key }) seen
 
-  -- a detached key hangs on no lease
+  -- a detached key is attached to no lease
   pub detached-loose : (new : IndexMap (String A) Attachment R) (key : List ℕ)
       → ((q : List ℕ) → get_by_text new q ≡ cond (bytes_eq key q) None (get_by_text attached q)) → lease_of (view_of leases new spare) key ≡ None
   detached-loose new key updates =
@@ -183,7 +183,7 @@ module _ {A S R : Type 0} (leases : IndexMap ℕ Lease S) (attached : IndexMap (
   removed-log new id updates log stands q =
       ap (λ (s : Leases). finmap.get s.live q) (removed-view new id updates) ∙ log-remove now log id stands q
 
-  -- no key hangs on a lease, in the table
+  -- no key is attached to a lease, in the table
   pub none-placed : (id : ℕ) → ((key : List ℕ) → lease_of now key ≢ Some id) → (key : List ℕ) (place : Attachment) → get_by_text attached key ≡ Some place
       → place.lease ≢ id
   none-placed id none key place found same =

@@ -106,7 +106,7 @@ still_timed table before after timed played more kept = record {
   only = λ slot d is. timed.only slot d (sym (kept slot) ∙ is);
 }
 
--- the same slots of a table that tells the same
+-- the same slots of a table that has the same leases
 pub same_timed : (table new : ℕ → Option Lease) (due : Tournament) → ((id : ℕ) → new id ≡ table id) → IsTimed table due → IsTimed new due
 same_timed table new due same timed = record {
   played = timed.played;

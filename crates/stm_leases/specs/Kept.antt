@@ -32,7 +32,7 @@ abbrev pub Holds : {A : Type 0} → List (ℕ × String A) → ℕ → List ℕ 
 Holds [] node key = ⊥
 Holds (entry ∷ rest) node key = ((entry.0 ≡ node) × (string_bytes entry.1 ≡ key)) ⊎ Holds rest node key
 
--- each live lease has a list of its own, on which stand exactly the keys that hang on the lease
+-- each live lease has a list of its own, on which stand exactly the keys that are attached to the lease
 pub record AreInStep {A : Type 0} (list_of : ℕ → Option ℕ) (place_of : List ℕ → Option Attachment) (keys : Lists (String A)) : Type 0 where
   pub listed : (id list : ℕ) → list_of id ≡ Some list → HasList keys list
   pub own : (id other list : ℕ) → list_of id ≡ Some list → list_of other ≡ Some list → id ≡ other

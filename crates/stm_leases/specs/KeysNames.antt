@@ -1,4 +1,4 @@
--- The names of the causes for which a lease's keys are not told, as a report spells them.
+-- The names of the causes for which a lease's keys are not returned, as a report spells them.
 use Rattle.std.specs.Prelude.{ℕ, List, codes}
 use Rattle.stm_leases.specs.declared.errors.KeysError.{KeysError}
 use Rattle.stm_leases.specs.declared.errors.KeysError.TheVariants.{LeaseNotFound, OutOfMemory}

@@ -11,7 +11,7 @@ pub record FirstDueIsNext : Type 0 where
   pub next : (live : Live) (now id : ℕ) → (first_due live now ≡ Some id) ↔ IsNextDue live now id
   pub none : (live : Live) (now : ℕ) → (first_due live now ≡ None) ↔ NoneIsDue live now
 
--- The keys on a lease are those that hang on it, ascending by bytes.
+-- The keys on a lease are those that are attached to it, ascending by bytes.
 abbrev pub KeysOnAreKeys : Type 0
 KeysOnAreKeys = (attached : Attached) (id : ℕ) → AreKeysOf (finmap.get attached) id (keys_on attached id)
 

@@ -8,7 +8,7 @@ use Rattle.stm_leases.specs.LeaseLog.{LogItem, Term, term_of}
 use Rattle.stm_leases.specs.Live.{Live, is_live_in}
 use Rattle.stm_leases.specs.AttachedKeys.{Attached}
 
--- the live leases by id, the lease that each attached key hangs on by the key's bytes, and how many
+-- the live leases by id, the lease of each attached key by the key's bytes, and how many
 -- attaches are certain of their room
 pub record Leases : Type 0 where
   pub live : Live
@@ -33,11 +33,11 @@ leases_code =
 abbrev pub IsLive : Leases → ℕ → Type 0
 IsLive s id = IsTrue (is_live_in s.live id)
 
--- the lease that a key hangs on, if it hangs on one
+-- the lease that a key is attached to, if it is attached to one
 abbrev pub lease_of : Leases → List ℕ → Option ℕ
 lease_of s key = map.get s.attached key
 
--- each attached key hangs on a live lease
+-- each attached key is attached to a live lease
 abbrev pub AttachedToLive : Leases → Type 0
 AttachedToLive s = (key : List ℕ) (id : ℕ) → lease_of s key ≡ Some id → IsLive s id
 

@@ -63,7 +63,7 @@ impl fmt::Display for LeaseNotFound {
 
 impl Error for LeaseNotFound {}
 
-/// Why the keys of a lease are not told.
+/// Why the keys of a lease are not returned.
 #[derive(Debug, Clone, Copy, PartialEq, Eq)]
 pub enum KeysError {
     /// The id is not live.

@@ -6,7 +6,7 @@ pub fn first_due_is_next()
     ensures { FirstDueIsNext }
 {}
 
-/// The keys on a lease are those that hang on it, ascending by bytes.
+/// The keys on a lease are those that are attached to it, ascending by bytes.
 pub fn keys_on_are_keys()
     ensures { KeysOnAreKeys }
 {}

@@ -23,7 +23,7 @@ impl Lease {
     }
 }
 
-/// Where an attached key hangs: on which lease, and at which node of that lease's list.
+/// Where an attached key stands: on which lease, and at which node of that lease's list.
 #[derive(Clone, Copy)]
 pub(crate) struct Attachment {
     pub lease: u64,

@@ -1,4 +1,4 @@
-//! Leases with the times they are due, and the keys that hang on them.
+//! Leases with the times they are due, and the keys that are attached to them.
 //!
 //! The rules are those of the Lease part of etcd's API reference. Moments and times to live are in
 //! whole seconds; the caller hands the moment in.

@@ -17,14 +17,14 @@ use std::alloc::{AllocError, Global};
 use std::marker::Model;
 use stm_lists::Lists;
 
-/// The live leases, and the keys that hang on them.
+/// The live leases, and the keys that are attached to them.
 ///
 /// Contracts see the live leases by id, the lease of each attached key by the key's bytes, and the
-/// number `spare`: so many calls of `attach` have their room.
+/// number `spare`: that many calls of `attach` have their room.
 pub struct Leases {
     leases: IndexMap<u64, Lease>,
     attached: IndexMap<String, Attachment>,
-    // For each live lease the list of the keys that hang on it.
+    // For each live lease the list of the keys that are attached to it.
     keys: Lists<String>,
     // When each lease falls due, in the slot that its list names.
     due: Tournament,
@@ -190,7 +190,7 @@ impl Leases {
 
     /// Whether the id is that of a live lease.
     ///
-    /// Every live id and its time to live are in their ranges, and each attached key hangs on a live lease.
+    /// Every live id and its time to live are in their ranges, and each attached key is attached to a live lease.
     pub fn is_live(&self, id: u64) -> bool
         ensures live { result ≡ is_live_in self.now.live id }
         ensures in_range { AreInRange self.now.live }
@@ -206,7 +206,7 @@ impl Leases {
         let _leases = &self.leases;
     }
 
-    /// Makes sure of room for `additional` attaches. Want of memory changes nothing.
+    /// Makes sure of room for `additional` attaches. A failed allocation changes nothing.
     pub fn reserve_attach(&mut self, additional: usize) -> Result<(), AllocError>
         ensures ok { OnOk result (self.new ≡ record self.old { spare = max self.old.spare additional }) }
         ensures err { OnErr result (self.new ≡ self.old) }
@@ -242,7 +242,7 @@ impl Leases {
         }
     }
 
-    /// Takes a key off its lease, and gives the lease's id; `None` where it hung on none.
+    /// Detaches a key from its lease, and returns the lease's id; `None` where it was attached to none.
     pub fn detach(&mut self, key: &str) -> Option<u64>
         ensures id { result ≡ lease_of self.old key.now }
         ensures detached { self.new ≡ record self.old { attached = finmap.remove self.old.attached key.now } }
@@ -253,7 +253,7 @@ impl Leases {
         Some(place.lease)
     }
 
-    /// The keys that hang on a live lease, ascending by bytes.
+    /// The keys that are attached to a live lease, ascending by bytes.
     pub fn keys_of(&self, id: u64) -> Result<Vec<String>, KeysError>
         ensures live { IsLive self.now id → IsOkUnless result KeysError.OutOfMemory }
         ensures not_live { ¬ IsLive self.now id → result ≡ Err KeysError.LeaseNotFound }
@@ -269,7 +269,7 @@ impl Leases {
         Ok(keys)
     }
 
-    /// Whether a key hangs on the lease. It takes no memory.
+    /// Whether a key is attached to the lease. It takes no memory.
     pub fn has_keys(&self, id: u64) -> bool
         ensures { IsTrue result ↔ HasKeys (lease_of self.now) id }
     {
@@ -293,7 +293,7 @@ impl Leases {
         Some(first.id)
     }
 
-    /// Ends a live lease on which no key hangs, as `has_keys` tests, by a revocation or its expiry.
+    /// Ends a live lease to which no key is attached, as `has_keys` tests, by a revocation or its expiry.
     pub fn remove(&mut self, id: u64)
         requires live { IsLive self.old id }
         requires no_keys { ¬ HasKeys (lease_of self.old) id }
@@ -317,9 +317,9 @@ impl Leases {
 }
 
 impl Leases {
-    /// A copy of the leases and of the keys that hang on them, with no room yet for further attaches.
+    /// A copy of the leases and of the keys that are attached to them, with no room yet for further attaches.
     ///
-    /// Want of memory is its only refusal.
+    /// A failed allocation is its only refusal.
     pub fn copy(&self) -> Result<Leases, AllocError>
         ensures { IfOk result (λ copy. copy ≡ record self.now { spare = 0 }) }
     {

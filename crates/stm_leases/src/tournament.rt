@@ -102,7 +102,7 @@ impl Tournament {
         }
     }
 
-    /// Makes sure that there is this slot. Want of memory changes nothing.
+    /// Makes sure that there is this slot. A failed allocation changes nothing.
     pub fn reserve(&mut self, alloc: Global, slot: usize) -> Result<(), AllocError>
         requires { IsPlayed self.old }
         ensures played { IsPlayed self.new }
@@ -121,7 +121,7 @@ impl Tournament {
         Ok(())
     }
 
-    /// The same slots, and empty ones behind them.
+    /// The same slots, and empty ones after them.
     fn copied(&self, alloc: Global, slots: usize) -> Result<Tournament, AllocError>
         requires played { IsPlayed self.now }
         requires more { self.now.slots ≤ slots }

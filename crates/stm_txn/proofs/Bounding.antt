@@ -39,7 +39,7 @@ live_case live id (Some term) fits is found =
 pub live_fits : (live : Live) (id : ℕ) → AreInRange live → is_live_in live id ≡ true → id ≤ HIGHEST_NUMBER
 live_fits live id fits found = live_case live id (finmap.get live id) fits refl found
 
--- a change that hangs its key on a live lease, or on none
+-- a change that attaches its key to a live lease, or to none
 named_fits : (live : Live) (key : List ℕ) (lease : ℕ) (zero_lease : Bool) (rest : List (List ℕ × ℕ)) → AreInRange live → nat_eq lease 0 ≡ zero_lease →
     AttachedToLive live (with_attach key (cond zero_lease None (Some lease)) rest) → (lease ≤ HIGHEST_NUMBER) × AttachedToLive live rest
 named_fits live key lease true rest fits is attach =

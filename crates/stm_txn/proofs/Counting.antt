@@ -50,7 +50,7 @@ changes_alike h (Del key ∷ ops) =
 
 -- ---- the revision of a transaction
 
--- the counter behind what a transaction comes to is so many higher
+-- the counter after what a transaction comes to is higher by a number
 abbrev IsHigherBy : History → ℕ → Result Done Refusal → Type 0
 IsHigherBy h more o = IfOk o (λ (d : Done). now d.history ≡ now h + more)
 
@@ -79,7 +79,7 @@ step_higher : (s : Standing) (more : ℕ) (o : Result Done Refusal) → IsHigher
 step_higher s more (Ok done) is = is
 step_higher s more (Err refusal) is = tt
 
--- what is told of it is one revision more, or none
+-- what is reported of it is one revision more, or none
 pub reported_revision : (s : Standing) (txn : Txn) (reported : Bool) → reported ≡ would_change s.history txn →
     IfOk (transacted s txn) (λ step. now step.next.history ≡ now s.history + cond reported 1 0)
 reported_revision s txn reported is =

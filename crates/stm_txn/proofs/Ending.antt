@@ -39,7 +39,7 @@ use Rattle.stm_outcome.proofs.Branching.{equal_text, apart_case, apart_back}
 use Rattle.stm_txn.proofs.Running.{none_used, all_used}
 use Rattle.stm_txn.proofs.Naming.{skipped, rest_ascending, are_keys}
 
--- a renewal leaves the keys where they hang
+-- a renewal leaves the keys where they are attached
 renewed_case : (r : Result (Unit {0}) LeaseNotFound) (old new : Leases) (id at : ℕ) (o : Option Term) → finmap.get old.live id ≡ o →
     (IsOk r ↔ IsLive old id) →
     ((term : Term) → finmap.get old.live id ≡ Some term → new ≡ record old { live = finmap.insert old.live id (record term { renewed = at }) }) →
@@ -55,7 +55,7 @@ pub renewed_attached : (r : Result (Unit {0}) LeaseNotFound) (old new : Leases) 
     OnErr r (new ≡ old) → new.attached ≡ old.attached
 renewed_attached r old new id at found ok err = renewed_case r old new id at (finmap.get old.live id) refl found ok err
 
--- keys hang as they are stored once their leases moved with a revision's changes
+-- keys are attached as stored once their leases moved with a revision's changes
 attached_by_change : (n : ℕ) (o : Option Change) (s : Option KeyState) → attached_after o (attaching s) ≡ attaching (after_change n o s)
 attached_by_change n None s = refl
 attached_by_change n (Some (Put key value lease)) None = refl
@@ -84,7 +84,7 @@ distinct_deletions (k ∷ ks) ascending = (below_all k ks ascending, distinct_de
 pub deletions_are_distinct : (h : History) (id : ℕ) → HasDistinctKeys (deletions_of h id)
 deletions_are_distinct h id = distinct_deletions (keys_of_lease h id) (are_keys h id).ascending
 
--- a key that hangs on a lease is present
+-- a key that is attached to a lease is present
 attaching_present : (s : Option KeyState) (id : ℕ) → attaching s ≡ Some id → IsSome s
 attaching_present None id is = cc
 attaching_present (Some s) id is = refl
@@ -100,7 +100,7 @@ present_deletions h id (k ∷ ks) attach = (
 pub deletions_are_present : (h : History) (id : ℕ) → DeletePresent h (deletions_of h id)
 deletions_are_present h id = present_deletions h id (keys_of_lease h id) (λ key has. ((are_keys h id).each key).0 has)
 
--- deletions hang nothing
+-- deletions attach nothing
 no_attaches : (keys : List (List ℕ)) → attached_of (map Del keys) ≡ []
 no_attaches [] = refl
 no_attaches (k ∷ ks) = no_attaches ks
@@ -129,7 +129,7 @@ deletion_case (x ∷ xs) key n s =
       | false ↦ deletion_case xs key n s
     ]
 
--- once its keys are deleted, no key hangs on a lease
+-- once its keys are deleted, no key is attached to a lease
 gone_case : (h : History) (id : ℕ) (keys : List (List ℕ)) (key : List ℕ) (n : ℕ) → AreKeysOf (lease_now h) id keys →
     (change_of key (map Del keys) ≡ None) ⊎ (after_change n (change_of key (map Del keys)) (key_now h key) ≡ None) →
     attaching (after_change n (change_of key (map Del keys)) (key_now h key)) ≡ Some id → ⊥
@@ -151,7 +151,7 @@ gone_from h id (k ∷ ks) key are is =
 pub gone : (h : History) (id : ℕ) (key : List ℕ) → lease_now (with_changes h (deletions_of h id)) key ≡ Some id → ⊥
 gone h id key is = gone_from h id (keys_of_lease h id) key (are_keys h id) is
 
--- a key that hangs on the lease is what uses up the revisions
+-- a key that is attached to the lease is what uses up the revisions
 not_true : (b : Bool) → (b ≡ true → ⊥) → b ≡ false
 not_true true never = absurd (never refl)
 not_true false never = refl

@@ -22,7 +22,7 @@ bytes_eq_comm : (a b : List ℕ) → bytes_eq a b ≡ bytes_eq b a
 bytes_eq_comm a b =
     same_from_decides (bytes_eq a b) (bytes_eq b a) (bytes_eq-Decides a b) ((λ e. sym (same_text b a e)), (λ e. equal_text b a (sym e)))
 
--- where keys hang once one of them is hung on a lease, or taken off
+-- where keys are attached once one of them is attached to a lease, or detached
 pub get_attached : (m : finmap.FinMap (slice_cmp nat_cmp) ℕ) (k : List ℕ) (id : ℕ) (q : List ℕ) →
     finmap.get (finmap.insert m k id) q ≡ cond (bytes_eq k q) (Some id) (finmap.get m q)
 get_attached m k id q =
@@ -35,7 +35,7 @@ get_taken m k q =
     finmap.get-remove nat_list_cmp_total m k q
     ∙ ap (λ b. cond b None (finmap.get m q)) (is_eq-slice_cmp q k ∙ bytes_eq_comm q k)
 
--- a key that hangs nowhere is not taken off
+-- a key that is attached to no lease is not detached
 none_taken : (b : Bool) (before : Option ℕ) → before ≡ None → cond b None before ≡ None
 none_taken true before is = refl
 none_taken false before is = is
@@ -44,7 +44,7 @@ detached-none : (cs : List Change) (key : List ℕ) → detached_all cs key None
 detached-none [] key = refl
 detached-none (c ∷ cs) key = ap (detached_all cs key) (none_taken (bytes_eq (key_of c) key) None refl) ∙ detached-none cs key
 
--- where a key hangs once the keys of changes are taken off
+-- where a key is attached once the keys of changes are detached
 abbrev none_if : Option Change → Option ℕ → Option ℕ
 none_if None before = before
 none_if (Some c) before = None
@@ -58,7 +58,7 @@ detached_reported : (cs : List Change) (key : List ℕ) (x : Option ℕ) → det
 detached_reported [] key x = refl
 detached_reported (c ∷ cs) key x = detached_case (bytes_eq (key_of c) key) c cs key x (detached_reported cs key x)
 
--- a key without a change is not among those that the changes hang
+-- a key without a change is not among those that the changes attach
 loose_with : (key k : List ℕ) (to : Option ℕ) (rest : List (List ℕ × ℕ)) → bytes_eq key k ≡ false → IsLoose key rest → IsLoose key (with_attach k to rest)
 loose_with key k None rest apart loose = loose
 loose_with key k (Some id) rest apart loose = (apart, loose)
@@ -69,7 +69,7 @@ loose_of key (c ∷ cs) none =
     let split : (bytes_eq (key_of c) key ≡ false) × (change_of key cs ≡ None) = apart_case (bytes_eq (key_of c) key) c (change_of key cs) none in
     loose_with key (key_of c) (attached_by c) (attached_of cs) (apart_back (key_of c) key split.0) (loose_of key cs split.1)
 
--- keys of distinct changes that hang nowhere can be hung where the changes say
+-- keys of distinct changes that are attached nowhere can be attached where the changes say
 can_with : (f : List ℕ → Option ℕ) (live : Live) (k : List ℕ) (to : Option ℕ) (rest : List (List ℕ × ℕ)) →
     f k ≡ None → IsLoose k rest → AttachedToLive live (with_attach k to rest) → (AttachedToLive live rest → CanAttach f live rest) → CanAttach f live (with_attach k to rest)
 can_with f live k None rest free loose on_live others = others on_live
@@ -90,7 +90,7 @@ can_attach f live (c ∷ cs) distinct on_live free =
     (λ others. can_attach f live cs distinct.1 others
     (λ key d is. found_case (bytes_eq (key_of c) key) c d (change_of key cs) (f key ≡ None) is (λ e. free key e)))
 
--- where a key hangs once the keys of changes are hung
+-- where a key is attached once the keys of changes are attached
 abbrev or_attached : Option ℕ → Option ℕ → Option ℕ
 or_attached None before = before
 or_attached (Some id) before = Some id
@@ -126,19 +126,19 @@ moved_case (Some c) before = on_none (attached_by c)
     on_none None = refl
     on_none (Some id) = refl
 
--- after both walks each key hangs where its change says
+-- after both walks each key is attached where its change says
 pub moved : (cs : List Change) (key : List ℕ) (before middle after : Option ℕ) → HasDistinctKeys cs →
     middle ≡ detached_all cs key before → after ≡ attached_all (attached_of cs) key middle → after ≡ attached_after (change_of key cs) before
 moved cs key before middle after distinct off on =
     on ∙ ap (attached_all (attached_of cs) key) (off ∙ detached_reported cs key before) ∙ attached_reported cs key distinct (none_if (change_of key cs) before)
     ∙ moved_case (change_of key cs) before
 
--- a key with a change hangs nowhere in between
+-- a key with a change is attached nowhere in between
 pub free_between : (cs : List Change) (key : List ℕ) (before middle : Option ℕ) (d : Change) → middle ≡ detached_all cs key before → change_of key cs ≡ Some d →
     middle ≡ None
 free_between cs key before middle d off is = off ∙ detached_reported cs key before ∙ ap (λ o. none_if o before) is
 
--- the rest can be hung once the first one is
+-- the rest can be attached once the first one is
 pub can_after : (f g : List ℕ → Option ℕ) (live next : Live) (attach : List ℕ × ℕ) (rest : List (List ℕ × ℕ)) → IsLoose attach.0 rest → CanAttach f live rest →
     ((key : List ℕ) → g key ≡ attached_one attach key (f key)) → next ≡ live → CanAttach g next rest
 can_after f g live next attach [] loose can reported same = tt

@@ -1,4 +1,4 @@
--- The keys of a lease, computed from the history, are those that hang on it.
+-- The keys of a lease, computed from the history, are those that are attached to it.
 use Rattle.std.proofs.Common.{◌≡◌, ℕ, ◌<◌, zero, suc, Bool, true, false, cond, List, [], ◌∷◌, length, get_or, Option, Some, None, refl, sym, ◌∙◌, ap, subst}
 use Rattle.std.proofs.Common.{arith, eqb-true, inl, inr}
 use Rattle.std.specs.Prelude.{bytes_eq, ◌↔◌, ◌⊎◌, ◌||◌, ◌++◌, map, Contains, filter, is_some}

@@ -59,7 +59,7 @@ matching_fit watched (e ∷ es) fits =
       | false ↦ matching_fit watched es fits.1
     ]
 
--- ---- what is told
+-- ---- what is reported
 
 abbrev AllReportedFit : List PendingRevision → Type 0
 AllReportedFit [] = Unit {0}

@@ -38,7 +38,7 @@ all_readable terms (op ∷ ops) none =
     let parts : (op_refusal terms op ≡ None) × (branch_refusal terms ops ≡ None) = both_none (op_refusal terms op) (branch_refusal terms ops) none in
     ap (λ b. b && are_readable (now terms.history) ops) (one_readable terms op parts.0) ∙ all_readable terms ops parts.1
 
--- one more change at the end hangs its key after the others
+-- one more change at the end attaches its key after the others
 with_attach-append : (key : List ℕ) (to : Option ℕ) (xs ys : List (List ℕ × ℕ)) → with_attach key to xs ++ ys ≡ with_attach key to (xs ++ ys)
 with_attach-append key None xs ys = refl
 with_attach-append key (Some id) xs ys = refl
@@ -69,7 +69,7 @@ live_push live cs c before one =
     let P : List (List ℕ × ℕ) → Type 0 = AttachedToLive live in
     subst P (sym (attached_of-push cs c)) (live-append live (attached_of cs) (with_attach (key_of c) (attached_by c) []) before one)
 
--- what a branch hangs, it hangs on live leases
+-- what a branch attaches, it attaches to live leases
 live_after : (s : Standing) (done : List Change) (ops : List Op) → branch_refusal (terms_of s) ops ≡ None → AttachedToLive s.live (attached_of done) →
     AttachedToLive s.live (attached_of (changes_copied s.history done ops))
 live_after s done [] none before = before

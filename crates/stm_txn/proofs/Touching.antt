@@ -1,4 +1,4 @@
--- Watchers that are told of the last revision stand for the history with it.
+-- Watchers that are notified of the last revision stand for the history with it.
 use Rattle.std.proofs.Common.{◌≡◌, ◌∙◌, ℕ, ◌+◌, List, map, sym, ap, subst, arith}
 use Rattle.stm_history.specs.declared.change.Change.{Change}
 use Rattle.stm_history.specs.History.{History, now, add_revision}

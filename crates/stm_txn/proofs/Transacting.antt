@@ -45,7 +45,7 @@ placed s next txn a is =
     place_within (key_now s.history) txn.compares a.failed
     (sym (ap (λ (x : TxnAnswer). x.failed) found.2) ∙ answered_failed (terms_of s) txn found.0 found.1)
 
--- what holds of each answer that is defined holds of a result that tells it
+-- what holds of each answer that is defined holds of a result that returns it
 pub of_answer : {P : TxnAnswer → Type 0} (s next : Standing) (txn : Txn) (r : Result TxnAnswer Refusal) → Returns (transacted s txn) r next →
     ((a : TxnAnswer) → transacted s txn ≡ Ok record { answer = a; next = next } → P a) → IfOk r P
 of_answer s next txn (Ok a) reports each = each a reports

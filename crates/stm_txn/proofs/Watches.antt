@@ -1,4 +1,4 @@
--- What the store tells of its watchers' answers.
+-- What the store reports of its watchers' answers.
 use Rattle.std.proofs.Common.{◌≡◌, ℕ, List, Option, Result, Ok, Err, IsOk, OnErr, refl, sym, ap, subst}
 use Rattle.stm_watch.specs.declared.watched.Watched.{Watched}
 use Rattle.stm_watch.specs.declared.watchers.Batch.{Batch}

@@ -79,7 +79,7 @@ at_the_floor : transacted left (get_a 4) ≡ Ok (record {
 })
 at_the_floor = refl
 
--- ---- a watcher of a that was told of nothing, and one of b that was told of everything
+-- ---- a watcher of a that was notified of nothing, and one of b that was notified of everything
 
 abbrev of_a_and_b : List (Option Watching)
 of_a_and_b = Some (watching_from (opened_at 1) 0 (Key (codes "a")) 0) ∷ Some (watching_from three_puts.history 0 (Key (codes "b")) 0) ∷ []

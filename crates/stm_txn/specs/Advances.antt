@@ -1,4 +1,4 @@
--- What an advance is, told step by step, apart from how it is computed.
+-- What an advance is, step by step, apart from how it is computed.
 use Rattle.std.specs.Prelude.{◌≡◌, ℕ, ◌≤◌, List, [], ◌∷◌, Option, Some, None, Ok, Err}
 use Rattle.stm_leases.specs.DueFirst.{NoneIsDue, IsNextDue}
 use Rattle.stm_leases.specs.AttachedKeys.{AreKeysOf}
@@ -28,6 +28,6 @@ pub record Expires (start : Standing) (moment : ℕ) : Type 0 where
 abbrev pub AdvanceExpires : Type 0
 AdvanceExpires = (start : Standing) (moment : ℕ) → start.moment ≤ moment → Expires start moment
 
--- The keys of a lease are those that hang on it, ascending by bytes.
+-- The keys of a lease are those that are attached to it, ascending by bytes.
 abbrev pub KeysOfLeaseAreAttached : Type 0
 KeysOfLeaseAreAttached = (h : History) (id : ℕ) → AreKeysOf (lease_now h) id (keys_of_lease h id)

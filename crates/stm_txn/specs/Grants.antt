@@ -1,5 +1,5 @@
--- The refusals of a grant, as the store tells them. No public clause cites this module.
-use Rattle.std.specs.Prelude.{Option, Some, None, Result, Ok, Err}
+-- The refusals of a grant, as the store reports them. No public clause cites this module.
+use Rattle.std.specs.Prelude.{Result, Ok, Err}
 use Rattle.stm_leases.specs.declared.errors.GrantError.{GrantError}
 use Rattle.stm_leases.specs.declared.errors.GrantError.TheVariants.{LeaseIdOutOfRange, TtlOutOfRange, LeaseExists, OutOfMemory}
 use Rattle.stm_outcome.specs.declared.refusal.Refusal.{Refusal}
@@ -15,7 +15,3 @@ grant_refusal_of OutOfMemory = MemoryRefusal
 abbrev pub grant_reported : Result (Unit {0}) GrantError → Result (Unit {0}) Refusal
 grant_reported (Ok done) = Ok done
 grant_reported (Err cause) = Err (grant_refusal_of cause)
-
-abbrev pub reported_refusal : Option GrantError → Option Refusal
-reported_refusal None = None
-reported_refusal (Some cause) = Some (grant_refusal_of cause)

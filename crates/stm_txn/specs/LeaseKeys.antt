@@ -1,6 +1,6 @@
 -- The keys of a lease, as a list that is computed from the history.
 --
--- etcd's API reference, "Lease": the keys of a lease are those whose last put named it. That they are told ascending by
+-- etcd's API reference, "Lease": the keys of a lease are those whose last put named it. That they are returned ascending by
 -- bytes is this store's own choice.
 use Rattle.std.specs.Prelude.{ℕ, List, [], ◌∷◌, map, filter}
 use Rattle.std.specs.Ordering.{nat_cmp}
@@ -27,7 +27,7 @@ in_order (key ∷ keys) = with_key key (in_order keys)
 abbrev pub keys_named : History → List (List ℕ)
 keys_named h = in_order (named_by h)
 
--- the keys that hang on a lease now, ascending by bytes
+-- the keys that are attached to a lease now, ascending by bytes
 abbrev pub keys_of_lease : History → ℕ → List (List ℕ)
 keys_of_lease h id = filter (λ key. is_on id (lease_now h key)) (keys_named h)
 

@@ -1,6 +1,6 @@
--- The keys that hang on leases.
+-- The keys that are attached to leases.
 --
--- etcd's API reference, "Lease": a key hangs on at most one lease, the one of its last put.
+-- etcd's API reference, "Lease": a key is attached to at most one lease, the one of its last put.
 use Rattle.std.specs.Prelude.{◌≡◌, ℕ, true, nat_eq, if◌then◌else◌, List, [], ◌∷◌, Option, Some, None}
 use Rattle.std.specs.FinMap as finmap
 use Rattle.stm_history.specs.declared.change.Change.{Change}
@@ -13,16 +13,16 @@ use Rattle.stm_leases.specs.Live.{Live}
 abbrev pub lease_named : ℕ → Option ℕ
 lease_named lease = if nat_eq lease 0 then None else Some lease
 
--- the lease that a key hangs on, by its state
+-- the lease that a key is attached to, by its state
 abbrev pub attaching : Option KeyState → Option ℕ
 attaching None = None
 attaching (Some s) = lease_named s.lease
 
--- the lists of keys are those of the state: each key hangs where its state says
+-- the lists of keys are those of the state: each key is attached where its state says
 abbrev pub AttachedAsStored : (List ℕ → Option ℕ) → History → Type 0
 AttachedAsStored lease_of h = (key : List ℕ) → lease_of key ≡ attaching (key_now h key)
 
--- the lease that a key hangs on now
+-- the lease that a key is attached to now
 abbrev pub lease_now : History → List ℕ → Option ℕ
 lease_now h key = attaching (key_now h key)
 
@@ -41,7 +41,7 @@ abbrev pub with_attach : List ℕ → Option ℕ → List (List ℕ × ℕ) → 
 with_attach key None rest = rest
 with_attach key (Some id) rest = (key, id) ∷ rest
 
--- the keys that changes hang on a lease, with the lease of each, in the order of the changes
+-- the keys that changes attach to a lease, with the lease of each, in the order of the changes
 abbrev pub attached_of : List Change → List (List ℕ × ℕ)
 attached_of [] = []
 attached_of (c ∷ cs) = with_attach (key_of c) (attached_by c) (attached_of cs)

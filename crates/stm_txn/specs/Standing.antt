@@ -1,9 +1,9 @@
 -- What a store is, and what each of its calls makes of it.
 --
 -- etcd's API reference, "Transaction", "Lease" and "Watch": a transaction is one step; a grant makes a lease live, a
--- keep-alive renews it, and a revocation or its expiry ends it with its keys; a watcher is told of every change from its
+-- keep-alive renews it, and a revocation or its expiry ends it with its keys; a watcher is notified of every change from its
 -- start on, whatever made it; and "Compaction": the revisions below the compacted one can't be read any more, and a
--- watcher that was not told of them yet is cancelled. This store's own choices are that the keys of a lease go in one
+-- watcher that was not notified of them yet is cancelled. This store's own choices are that the keys of a lease go in one
 -- revision, ascending by bytes, that due leases end by the moment when they were due, then by id, and that watchers are
 -- polled, so that a poll is what cancels a watcher that is lost.
 use Rattle.std.specs.Prelude.{◌≡◌, ◌≤◌, ◌⊎◌, ℕ, zero, suc, ◌-◌, false, nat_le, nat_lt, if◌then◌else◌, List, [], ◌∷◌, ◌++◌, length, map}
@@ -76,12 +76,12 @@ pub record Step (A : Type 0) : Type 0 where
   pub answer : A
   pub next : Standing
 
--- A call is refused for its definition's cause. Where the definition answers, only memory can be wanting.
+-- A call is refused for its definition's cause. Where the definition answers, only an allocation can fail.
 abbrev pub IsRefusalOf : {T : Type 0} → Result T Refusal → Refusal → Type 0
 IsRefusalOf (Ok done) refusal = refusal ≡ OutOfMemory
 IsRefusalOf (Err cause) refusal = refusal ≡ cause
 
--- A call comes to what its definition says, its answer and the store after it, unless memory was wanting.
+-- A call comes to what its definition says, its answer and the store after it, unless an allocation failed.
 abbrev pub Returns : {A : Type 0} → Result (Step A) Refusal → Result A Refusal → Standing → Type 0
 Returns defined (Ok answer) next = defined ≡ Ok record { answer = answer; next = next }
 Returns defined (Err refusal) next = IsRefusalOf defined refusal
@@ -172,7 +172,7 @@ after expired rest = record { expired = expired ++ rest.expired; leaves = rest.l
 abbrev pub expired_in : ℕ → Standing → Expired
 expired_in id next = record { id = id; revision = now next.history }
 
--- due leases end one after another, each the first that is due, and at most so many
+-- due leases end one after another, each the first that is due, and at most a number of them
 abbrev pub expire_up_to : ℕ → Standing → Advance
 expire_up_to zero s = record { expired = []; leaves = s; cause = None }
 expire_up_to (suc more) s =
@@ -201,7 +201,7 @@ advanced s moment =
 abbrev pub HasCome : Standing → List Expired → Standing → Type 0
 HasCome start expired left = expire_up_to (length expired) start ≡ record { expired = expired; leaves = left; cause = None }
 
--- An advance was stopped by want of memory: with what the rest would come to it is the whole one, and a due lease that
+-- An advance was stopped by a failed allocation: with what the rest would come to it is the whole one, and a due lease that
 -- can end is next.
 pub record IsStopped (whole : Advance) (expired : List Expired) (left : Standing) : Type 0 where
   pub so_far : whole ≡ after expired (expire_all left)
@@ -209,7 +209,7 @@ pub record IsStopped (whole : Advance) (expired : List Expired) (left : Standing
   pub is_next : first_due left.live left.moment ≡ Some id
   pub can_end : IsOk (ended left id)
 
--- why an advance that is refused was: its definition's cause, or want of memory
+-- why an advance that is refused was: its definition's cause, or a failed allocation
 abbrev pub IsCutShort : Advance → List Expired → Refusal → Standing → Type 0
 IsCutShort whole expired cause left =
     (whole ≡ record { expired = expired; leaves = left; cause = Some cause }) ⊎ ((cause ≡ OutOfMemory) × IsStopped whole expired left)
@@ -248,7 +248,7 @@ abbrev pub poll_step : Standing → Result (WatchStep Batch) PollRefusal → Res
 poll_step s (Ok step) = Ok record { answer = step.answer; next = with_watchers s step.next }
 poll_step s (Err cause) = Err (poll_cause cause)
 
--- a poll of a watcher, of at most so many revisions
+-- a poll of a watcher, of at most `most` revisions
 abbrev pub polled : Standing → ℕ → ℕ → Result (Step Batch) Refusal
 polled s id most = poll_step s (poll s.history id most s.watchers)
 

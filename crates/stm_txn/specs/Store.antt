@@ -9,7 +9,7 @@ use Rattle.stm_leases.specs.Leases.{term_code}
 use Rattle.stm_watch.specs.Watching.{Watching}
 use Rattle.stm_txn.specs.Standing.{Standing}
 
--- What a store is, and beside it the list of its present keys in the order in which `Keys::at` tells them. No call's
+-- What a store is, and beside it the list of its present keys in the order in which `Keys::at` gives them. No call's
 -- meaning speaks of that order.
 pub record StoreView : Type 0 where
   pub standing : Standing

@@ -1,4 +1,4 @@
--- What the watchers answer, as the store tells it. No public clause cites this module.
+-- What the watchers answer, as the store reports it. No public clause cites this module.
 use Rattle.std.specs.Prelude.{ℕ, Result, Ok, Err}
 use Rattle.stm_watch.specs.declared.watchers.Batch.{Batch}
 use Rattle.stm_watch.specs.declared.refusal.WatchRefusal.{WatchRefusal}

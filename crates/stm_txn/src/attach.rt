@@ -13,7 +13,7 @@ use stm_history::{Change, Text};
 use stm_keys::Event;
 use stm_leases::Leases;
 
-/// A key that is to hang on a lease, with the two texts that this takes.
+/// A key that is to be attached to a lease, with the two texts that this takes.
 #[derive(Drop)]
 pub(crate) struct Attach {
     key: String,
@@ -39,7 +39,7 @@ fn attach_of(alloc: Global, key: &Text, lease: u64) -> Result<Attach, AllocError
     Ok(Attach { key, copy, lease })
 }
 
-/// The keys that changes hang on a lease.
+/// The keys that changes attach to a lease.
 pub(crate) fn prepare_attaches(alloc: Global, changes: &[Change]) -> Result<Vec<Attach>, AllocError>
     ensures { IfOk result (λ attaches. attaches.items ≡ attached_of changes.now) }
 {
@@ -54,7 +54,7 @@ pub(crate) fn prepare_attaches(alloc: Global, changes: &[Change]) -> Result<Vec<
     Ok(attaches)
 }
 
-/// Takes the key of an event off its lease, if it hangs on one.
+/// Detaches the key of an event from its lease, if it is attached to one.
 fn take_off(leases: &mut Leases, event: &Event)
     ensures { leases.new ≡ record leases.old { attached = finmap.remove leases.old.attached (key_of_event event.now) } }
 {
@@ -96,7 +96,7 @@ fn attach_all(leases: &mut Leases, attaches: Vec<Attach>)
     }
 }
 
-/// Moves the keys of a revision's events to the leases that they are to hang on.
+/// Moves the keys of a revision's events to the leases that they are to be attached to.
 pub(crate) fn move_keys(leases: &mut Leases, events: &[Event], attaches: Vec<Attach>)
     requires distinct { HasDistinctKeys (map change_of_event events.now) }
     requires attaches { attaches.items ≡ attached_of (map change_of_event events.now) }

@@ -3,12 +3,13 @@ ghost use Rattle.std.specs.Prelude.{◌≡◌, ◌+◌, ◌≤◌, ◌++◌, ◌
 ghost use Rattle.stm_history.specs.History.{now, key_now};
 ghost use Rattle.stm_history.specs.declared.change.Change.TheVariants.{Put, Del};
 ghost use Rattle.stm_outcome.specs.Branches.{carried, count_of, is_readable, are_readable, has_changes};
+ghost use Rattle.stm_outcome.specs.Outcome.{is_used_up, chosen, would_change};
 ghost use Rattle.stm_outcome.specs.LookUps.{copy, read_copied, change_copied, with_copied, answer_copied, changes_copied, answers_copied};
 
 use std::alloc::{AllocError, Global};
 use stm_history::{Change, KeyState, ReadAnswer, Text, find_change};
-use stm_keys::Keys;
-use stm_outcome::{Op, OpAnswer, ShortList};
+use stm_keys::{HIGHEST_REVISION, Keys};
+use stm_outcome::{FailedCompare, Op, OpAnswer, ShortList, Txn, find_failed};
 
 /// What a branch answers, and what it changes.
 #[derive(Drop)]
@@ -123,7 +124,7 @@ fn change(keys: &Keys, changes: &[Change], op: &Op) -> Result<Option<Change>, Al
     }
 }
 
-/// Puts the change that an operation makes, if it makes one, behind those so far.
+/// Puts the change that an operation makes, if it makes one, after those so far.
 fn add_change(keys: &Keys, changes: &mut Vec<Change>, op: &Op) -> Result<(), AllocError>
     ensures { OnOk result (changes.new.items ≡ with_copied changes.old.items (change_copied keys.now.history changes.old.items op.now)) }
 {
@@ -201,4 +202,30 @@ pub(crate) fn makes_changes(keys: &Keys, ops: &[Op]) -> bool
         }
     }
     false
+}
+
+/// Whether a branch is to change something at the highest revision.
+pub(crate) fn uses_up(keys: &Keys, ops: &[Op]) -> bool
+    ensures { result ≡ is_used_up keys.now.history (changes_copied keys.now.history [] ops.now) }
+{
+    let is_highest = keys.revision() == HIGHEST_REVISION;
+    is_highest && makes_changes(keys, ops)
+}
+
+/// The operations of the branch that runs.
+pub(crate) fn choose(txn: &Txn, failed: Option<FailedCompare>) -> &[Op]
+    ensures { result.now ≡ chosen failed txn.now }
+{
+    match failed {
+        None => txn.success.as_slice(),
+        Some(_) => txn.failure.as_slice(),
+    }
+}
+
+/// Whether the branch that the compares pick would change something.
+pub(crate) fn would_change(keys: &Keys, txn: &Txn) -> bool
+    ensures { result ≡ would_change keys.now.history txn.now }
+{
+    let failed = find_failed(txn.compares.as_slice(), keys);
+    makes_changes(keys, choose(txn, failed))
 }

@@ -2,7 +2,7 @@
 ghost use Rattle.stm_txn.specs.Advances.{KeysOfLeaseAreAttached, AdvanceExpires};
 ghost use Rattle.stm_txn.specs.PresentKeys.{PresentKeysAreListed};
 
-/// The keys of a lease, as they are computed from the history, are those that hang on it, ascending by bytes.
+/// The keys of a lease, as they are computed from the history, are those that are attached to it, ascending by bytes.
 pub fn keys_of_lease_are_attached()
     ensures { KeysOfLeaseAreAttached }
 {}

@@ -9,9 +9,11 @@ mod attach;
 mod branch;
 mod changes;
 pub mod laws;
+mod lease_calls;
 mod refuse;
 mod refused;
 mod store;
+mod watch_calls;
 mod writes;
 
 pub use stm_history::ReadAnswer;

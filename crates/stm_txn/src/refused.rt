@@ -1,21 +1,24 @@
 //! Why a call would be refused, found without changing anything.
-ghost use Rattle.std.specs.Prelude.{◌≡◌, ℕ, Option, None};
+ghost use Rattle.std.specs.Prelude.{◌≡◌, ℕ, Option, None, [], false};
+ghost use Rattle.stm_outcome.specs.Branches.{branch_refusal};
 ghost use Rattle.stm_outcome.specs.Terms.{terms_at, terms_above};
 ghost use Rattle.stm_outcome.specs.declared.answer.FailedCompare.{FailedCompare as AFailedCompare};
 ghost use Rattle.stm_outcome.specs.Checks.{fault_of, has_clash};
-ghost use Rattle.stm_outcome.specs.LookUps.{outcome_copied};
-ghost use Rattle.stm_outcome.specs.Outcome.{outcome};
+ghost use Rattle.stm_outcome.specs.LookUps.{changes_copied, outcome_copied};
+ghost use Rattle.stm_outcome.specs.Outcome.{outcome, is_used_up};
 ghost use Rattle.stm_txn.specs.Standing.{refusal_of};
 
+use crate::branch::{choose, uses_up};
 use crate::refuse::find_refusal;
-use crate::store::{choose, uses_up};
 use stm_keys::Keys;
 use stm_leases::Leases;
 use stm_outcome::{Op, Refusal, Txn, find_failed, find_fault};
 
 /// Why a branch would be refused, whose first failed compare does not matter for that.
-fn find_run_refusal(keys: &Keys, leases: &Leases, ops: &[Op]) -> Option<Refusal>
-    ensures { (failed : Option AFailedCompare) → result ≡ refusal_of (outcome_copied (terms_above keys.now.floor keys.now.history leases.now.live) failed ops.now) }
+pub(crate) fn find_run_refusal(keys: &Keys, leases: &Leases, ops: &[Op]) -> Option<Refusal>
+    ensures allowed { result ≡ None → branch_refusal (terms_above keys.now.floor keys.now.history leases.now.live) ops.now ≡ None }
+    ensures room { result ≡ None → is_used_up keys.now.history (changes_copied keys.now.history [] ops.now) ≡ false }
+    ensures refusal { (failed : Option AFailedCompare) → result ≡ refusal_of (outcome_copied (terms_above keys.now.floor keys.now.history leases.now.live) failed ops.now) }
 {
     if let Some(refusal) = find_refusal(ops, keys, leases) {
         return Some(refusal);

@@ -1,4 +1,4 @@
--- What a watcher is told once the oldest revisions are dropped, and once it was told more.
+-- What a watcher is notified of once the oldest revisions are dropped, and once it was notified of more.
 use Rattle.std.proofs.Common.{◌≡◌, ℕ, zero, suc, ◌-◌, ◌≤◌, ◌<◌, max, Bool, true, false, cond, List, [], ◌∷◌, ◌++◌, length, map, take, Option, Some, None}
 use Rattle.std.proofs.Common.{refl, sym, ◌∙◌, ap, arith, inl, inr}
 use Rattle.std.specs.Prelude.{nat_lt, nat_le}
@@ -21,7 +21,7 @@ use Rattle.stm_watch.specs.Places.{is_lost}
 use Rattle.stm_watch.specs.Pending.{matching, pending_of_revision, pending_above, pending, number_of_first, first_pending, last_number, batch_of, after_poll}
 use Rattle.stm_watch.proofs.Notifying.{nothing_above, from_the_later, head_is}
 
--- what is told of a revision with these events
+-- what a watcher sees of a revision with these events
 abbrev part_of : ℕ → Watched → List Event → Bool → List PendingRevision
 part_of number watched events above = cond above (pending_of_revision number (matching watched events)) []
 
@@ -74,7 +74,7 @@ module _ (old new : Opening) (above : old.number ≤ new.number) (seen : ℕ) (w
             ∙ sym (nothing_above old (max seen new.number) watched (changes ∷ older) (omega (arith, more)))
       ]
 
--- A history that was cut tells what the whole one tells above the cut.
+-- A history that was cut shows what the whole one shows above the cut.
 pub reported_cut : (h : History) (number seen : ℕ) (watched : Watched) → number ≤ now h →
     pending_above (cut number h).opening seen watched (cut number h).revisions ≡ pending_above h.opening (max seen number) watched h.revisions
 reported_cut h number seen watched reached = elim (cases_lt h.opening.number number) [
@@ -127,7 +127,7 @@ passed_over floor opening seen below watched (changes ∷ older) less not =
           ∙ none_below floor n (matching watched shown) (nat_lt seen n) (omega (arith, within, less)) not_last)
     ]
 
--- A watcher that is not lost at a floor is told the same once the revisions below the floor are dropped.
+-- A watcher that is not lost at a floor sees the same once the revisions below the floor are dropped.
 pub followed_cut : (h : History) (floor seen : ℕ) (watched : Watched) → floor ≤ now h
     → is_lost floor (number_of_first (pending_above h.opening seen watched h.revisions)) ≡ false
     → pending_above (cut (floor - 1) h).opening seen watched (cut (floor - 1) h).revisions ≡ pending_above h.opening seen watched h.revisions
@@ -152,7 +152,7 @@ pub seen_not_lost : (floor : ℕ) (opening : Opening) (seen : ℕ) (watched : Wa
 seen_not_lost floor opening seen watched revisions le =
     first_case floor opening seen watched revisions (number_of_first (pending_above opening seen watched revisions)) le refl
 
--- ---- a watcher that was told more
+-- ---- a watcher that was notified of more
 
 both_parts : (floor : ℕ) (ts us : List PendingRevision) → is_lost floor (number_of_first ts) ≡ false → is_lost floor (number_of_first us) ≡ false
     → is_lost floor (number_of_first (ts ++ us)) ≡ false
@@ -198,7 +198,7 @@ module _ (floor : ℕ) (opening : Opening) (seen later : ℕ) (watched : Watched
       (not_lost_later older (first_part floor (pending_above opening seen watched older) (part_of n watched shown (nat_lt seen n)) not))
       (last_not_lost changes older (pending_above opening seen watched older) refl not)
 
--- ---- up to where a poll tells
+-- ---- up to where a poll reports
 
 abbrev AreAbove : ℕ → List PendingRevision → Type 0
 AreAbove seen [] = Unit {0}

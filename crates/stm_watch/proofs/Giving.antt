@@ -14,7 +14,7 @@ use Rattle.stm_watch.specs.declared.watchers.Batch.{Batch}
 use Rattle.stm_watch.specs.Pending.{pending_above, pending, number_of_first, first_pending, pending_events, last_number, batch_of, after_poll}
 use Rattle.stm_watch.proofs.Notifying.{nothing_above}
 
--- so many of these revisions are given with their events, up to one of them, and the rest is what is told above that
+-- `count` of these revisions are given with their events, up to one of them, and the rest is what is pending above that
 abbrev pub AreGiven : List PendingRevision → (ℕ → List PendingRevision) → ℕ → ℕ → List Event → ℕ → Type 0
 AreGiven all above seen count events upto =
     (given : List PendingRevision) × (length given ≡ count) × (events ≡ pending_events given) × (upto ≡ last_number seen given) × (all ≡ given ++ above upto)
@@ -55,7 +55,7 @@ made_whole most seen counter given long =
     ∙ ap (λ (b : Bool). batch (pending_events given) (cond b (max seen counter) (last_number seen given)))
     (le-leb (length given) most long)
 
--- what is told above a revision of a history
+-- what is pending above a revision of a history
 abbrev pub above_of : History → Watching → ℕ → List PendingRevision
 above_of h w upto = pending_above h.opening upto w.watched h.revisions
 

@@ -1,4 +1,4 @@
--- The revisions that a watcher is told of, one after the other.
+-- The revisions that a watcher is notified of, one after the other.
 use Rattle.std.proofs.Common.{◌≡◌, ℕ, ◌+◌, ◌≤◌, ◌<◌, max, Bool, true, false, cond, ◌||◌, ◌&&◌}
 use Rattle.std.proofs.Common.{List, [], ◌∷◌, ◌++◌, length, map, suc, Option, Some, None, is_some}
 use Rattle.std.proofs.Common.{refl, sym, ◌∙◌, ap, arith, append-nil, append_assoc, inl, inr, eqb-true, ne_eqb, eq-eqb}
@@ -25,11 +25,11 @@ use Rattle.stm_watch.specs.Keys.{is_watched, is_any_watched}
 use Rattle.stm_watch.specs.Pending.{matching, pending_of_revision, pending_above, number_of_first, first_pending, is_any_pending}
 use Rattle.stm_watch.specs.Touch.{first_with}
 
--- what is told of the last of these revisions
+-- what is pending of the last of these revisions
 abbrev last_part : Opening → ℕ → Watched → List Change → List (List Change) → Bool → List PendingRevision
 last_part opening number watched changes older above = cond above (pending_of_revision number (matching watched (events_above opening changes older))) []
 
--- nothing is told above the last revision
+-- nothing is pending above the last revision
 pub nothing_above : (opening : Opening) (seen : ℕ) (watched : Watched) (revisions : List (List Change)) → number_of_last opening revisions ≤ seen
     → pending_above opening seen watched revisions ≡ []
 nothing_above opening seen watched [] above = refl
@@ -57,7 +57,7 @@ from_the_later opening seen watched revisions = elim (cases_lt seen opening.numb
   | inr more ↦ ap (λ (n : ℕ). pending_above opening n watched revisions) (let e : seen ≡ max seen opening.number = omega arith in e)
 ]
 
--- above a revision stands what is told of the next one, and then what is told above that
+-- above a revision stands what is pending of the next one, and then what is pending above that
 pub next_is : (opening : Opening) (r : ℕ) (watched : Watched) (revisions : List (List Change)) → opening.number ≤ r → r < number_of_last opening revisions →
     pending_above opening r watched revisions
     ≡ pending_of_revision (suc r) (matching watched (events_numbered opening (suc r) revisions)) ++ pending_above opening (suc r) watched revisions
@@ -99,7 +99,7 @@ next_is opening r watched (changes ∷ older) opened below =
         ∙ ap (λ b. now_reported ++ (rest ++ part b)) both
         ∙ ap (λ b. pending_of_revision (suc r) (matching watched (found b)) ++ pending_above opening (suc r) watched (changes ∷ older)) (sym differs)
 
--- ---- the next revision that is told
+-- ---- the next revision that is pending
 
 reported_at_some : (number : ℕ) (found : List Event) → 0 < length found → pending_of_revision number found ≡ record { number = number; events = found } ∷ []
 reported_at_some number [] some = absurd (omega arith)
@@ -136,13 +136,13 @@ module _ (h : History) (watched : Watched) (above passed : ℕ) (found : List Ev
   none_is_passed none =
       next_reported ∙ ap (λ (ts : List PendingRevision). ts ++ pending_above h.opening (passed + 1) watched h.revisions) (reported_at_none (passed + 1) found none)
 
--- ---- whether something is told
+-- ---- whether something is pending
 
 key_of_shown : (n : ℕ) (before : List ℕ → Option KeyState) (c : Change) → key_of_event (event_of n before c) ≡ key_of c
 key_of_shown n before (Put key value lease) = refl
 key_of_shown n before (Del key) = refl
 
--- a revision is told where a key that it changes is watched
+-- a revision is pending where a key that it changes is watched
 any_reported : (number n : ℕ) (before : List ℕ → Option KeyState) (watched : Watched) (changes : List Change) →
     is_any_pending (pending_of_revision number (matching watched (map (event_of n before) changes))) ≡ is_any_watched watched changes
 any_reported number n before watched [] = refl
@@ -170,7 +170,7 @@ any_shown watched (e ∷ es) =
     ap (λ (k : List ℕ). is_watched watched k || list_any (λ (x : Event). is_watched watched (key_of_event x)) es) (key_shown e)
     ∙ ap (λ b. is_watched watched (key_of (change_of_event e)) || b) (any_shown watched es)
 
--- ---- the first revision that is told
+-- ---- the first revision that is pending
 
 pub some_first : (ts : List PendingRevision) → is_some (number_of_first ts) ≡ is_any_pending ts
 some_first [] = refl
@@ -226,7 +226,7 @@ any_of_key key (c ∷ cs) =
     by_test true o same = refl
     by_test false o same = same
 
--- it is the next revision of which a watcher of the key is told
+-- it is the next revision of which a watcher of the key is notified
 pub next_of_key : (opening : Opening) (above : ℕ) (key : List ℕ) (revisions : List (List Change)) →
     first_change opening above key revisions ≡ number_of_first (pending_above opening above (Key key) revisions)
 next_of_key opening above key [] = refl
@@ -240,7 +240,7 @@ next_of_key opening above key (changes ∷ older) =
     (any_reported n n (λ k. key_after opening k older) (Key key) changes)))
     ∙ sym (first_append (pending_above opening above (Key key) older) (last_part opening n (Key key) changes older (nat_lt above n)))
 
--- ---- what is told of the first revision, and what is told after it
+-- ---- what is pending of the first revision, and what is pending after it
 
 abbrev reported : ℕ → List Event → PendingRevision
 reported number events = record { number = number; events = events }

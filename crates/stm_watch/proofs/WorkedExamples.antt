@@ -38,7 +38,7 @@ second_poll = refl
 nothing_left : is_pending put_and_deleted (after_poll 1 put_and_deleted (after_poll 1 put_and_deleted from_two)) ≡ false
 nothing_left = refl
 
--- a poll of no revision tells nothing new while something is pending
+-- a poll of no revision reports nothing new while something is pending
 no_revision : batch_of 0 put_and_deleted from_two ≡ record { events = []; upto = 1 }
 no_revision = refl
 
@@ -62,7 +62,7 @@ three_and_one = record {
 abbrev below_c : Watching
 below_c = watching_from three_and_one 0 (Range (codes "a") (codes "c")) 1
 
--- a revision is told whole, in the order of operations, and all is told then
+-- a revision is reported whole, in the order of operations, and all is reported then
 whole_revision : batch_of 1 three_and_one below_c
     ≡ record { events = PutEvent (codes "a") (made_at 2) ∷ PutEvent (codes "b") (made_at 2) ∷ []; upto = 3 }
 whole_revision = refl
@@ -104,7 +104,7 @@ one_is_lost = refl
 none_is_lost : compacted two_puts 2 of_a_and_c ≡ of_a_and_c
 none_is_lost = refl
 
--- its poll tells so and cancels it, and the next one finds none
+-- its poll says so and cancels it, and the next one finds none
 lost_poll : poll left 1 9 one_lost ≡ Err Compacted
 lost_poll = refl
 
@@ -120,7 +120,7 @@ other_poll : poll left 2 9 one_lost ≡ Ok (record {
 })
 other_poll = refl
 
--- a watcher from below the floor is lost from its start, and one from the floor on is told all from there on
+-- a watcher from below the floor is lost from its start, and one from the floor on sees all from there on
 from_below : watch left 3 (Key (codes "a")) 2 one_lost
     ≡ Ok (record { answer = 3; next = one_lost ++ Some (record { watched = Key (codes "a"); seen = 1; lost = true }) ∷ [] })
 from_below = refl

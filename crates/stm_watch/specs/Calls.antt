@@ -44,7 +44,7 @@ poll_found h id most ws (Some w) =
     if w.lost then Err Compacted
     else Ok (record { answer = batch_of most h w; next = slice_set ws (id - 1) (Some (after_poll most h w)) })
 
--- a poll of at most so many revisions
+-- a poll of at most `most` revisions
 abbrev pub poll : History → ℕ → ℕ → List (Option Watching) → Result (Step Batch) PollRefusal
 poll h id most ws = poll_found h id most ws (watcher_at id ws)
 
@@ -57,7 +57,7 @@ is_one_lost (Some w) = w.lost
 abbrev pub after_refused : ℕ → List (Option Watching) → List (Option Watching)
 after_refused id ws = if is_one_lost (watcher_at id ws) then cancelled id ws else ws
 
--- A compaction at a revision, which is the floor then, loses a watcher for which events of revisions below it are pending: it was not told
+-- A compaction at a revision, which is the floor then, loses a watcher for which events of revisions below it are pending: it was not notified
 -- of them, and can't be any more. (etcd's API reference, "Watch": `compact_revision` of a `WatchResponse`.)
 abbrev pub compacted_one : History → ℕ → Watching → Watching
 compacted_one h floor w = record w { lost = w.lost || is_lost floor (first_pending h w) }
@@ -65,7 +65,7 @@ compacted_one h floor w = record w { lost = w.lost || is_lost floor (first_pendi
 abbrev pub compacted : History → ℕ → List (Option Watching) → List (Option Watching)
 compacted h floor ws = map (option_map (compacted_one h floor)) ws
 
--- A call comes to what its definition says, unless memory was wanting.
+-- A call comes to what its definition says, unless an allocation failed.
 abbrev pub WatchReturns : Result (Step ℕ) WatchRefusal → Result ℕ WatchRefusal → List (Option Watching) → Type 0
 WatchReturns defined (Ok id) next = defined ≡ Ok (record { answer = id; next = next })
 WatchReturns defined (Err EmptyKey) next = defined ≡ Err EmptyKey
@@ -109,12 +109,12 @@ abbrev pub IsNextReady : List (Option Watcher) → Option ℕ → Type 0
 IsNextReady ws (Some id) = is_ready_at id ws ≡ true
 IsNextReady ws None = (id : ℕ) → is_ready_at id ws ≡ false
 
--- whether a poll has something to tell the watcher with a number: events that are pending, or that it is lost
+-- whether a poll has something to report to the watcher with a number: events that are pending, or that it is lost
 abbrev pub is_pending_for : History → Option Watching → Bool
 is_pending_for h None = false
 is_pending_for h (Some w) = w.lost || is_pending h w
 
--- one for which a poll has something to tell, nothing exactly where there is none
+-- one for which a poll has something to report, nothing exactly where there is none
 abbrev pub IsNextPending : History → List (Option Watching) → Option ℕ → Type 0
 IsNextPending h ws (Some id) = is_pending_for h (watcher_at id ws) ≡ true
 IsNextPending h ws None = (id : ℕ) → is_pending_for h (watcher_at id ws) ≡ false

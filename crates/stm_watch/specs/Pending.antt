@@ -1,8 +1,8 @@
 -- The events that are pending for a watcher, and the batch of a poll.
 --
 -- etcd's API reference, "Watch": `start_revision` of a `WatchCreateRequest` is inclusive, and 0 stands for the next revision; a
--- `WatchResponse` has the events in the order of their revisions, those of one revision are never parted, and none is dropped or told twice,
--- unless the revision was compacted before the watcher was told of it. That a batch has at most so many revisions, and tells up to which
+-- `WatchResponse` has the events in the order of their revisions, those of one revision are never parted, and none is dropped or sent twice,
+-- unless the revision was compacted before the watcher was notified of it. That a batch has at most `most` revisions, and says up to which
 -- one, is this store's own.
 use Rattle.std.specs.Prelude.{ℕ, ◌-◌, max, nat_eq, nat_le, nat_lt, ◌&&◌, Bool, true, false, if◌then◌else◌, List, [], ◌∷◌, ◌++◌, length, take, Option, Some, None}
 use Rattle.std.specs.List.{filter, flat_map}
@@ -28,12 +28,12 @@ watching_from h floor watched from =
 abbrev pub matching : Watched → List Event → List Event
 matching watched events = filter (λ e. is_watched watched (key_of_event e)) events
 
--- a revision is told where it has events that match
+-- a revision is pending where it has events that match
 abbrev pub pending_of_revision : ℕ → List Event → List PendingRevision
 pending_of_revision number [] = []
 pending_of_revision number (e ∷ es) = record { number = number; events = e ∷ es } ∷ []
 
--- the revisions above one that are told, the oldest first
+-- the revisions above one that are pending, the oldest first
 abbrev pub pending_above : Opening → ℕ → Watched → List (List Change) → List PendingRevision
 pending_above opening seen watched [] = []
 pending_above opening seen watched (changes ∷ older) =
@@ -71,7 +71,7 @@ abbrev pub last_number : ℕ → List PendingRevision → ℕ
 last_number seen [] = seen
 last_number seen (t ∷ ts) = last_number t.number ts
 
--- The batch has the pending events of at most so many revisions. It tells up to the counter where it has all of them, and else up to
+-- The batch has the pending events of at most `most` revisions. It reaches up to the counter where it has all of them, and else up to
 -- the last revision that it has.
 abbrev pub batch_of : ℕ → History → Watching → Batch
 batch_of most h w =

@@ -14,7 +14,7 @@ use Rattle.stm_watch.specs.Pending.{first_pending, batch_of, after_poll}
 abbrev pub followed : Watcher → Watching
 followed w = record { watched = w.watched; seen = w.seen; lost = false }
 
--- a watcher that was told up to a revision, ready where something is there above it
+-- a watcher that was notified up to a revision, ready where something is there above it
 abbrev pub awaiting : History → Watched → ℕ → Watcher
 awaiting h watched seen = record { watched = watched; seen = seen; first = first_above h watched seen }
 
@@ -31,7 +31,7 @@ IsFollowed h w = w.first ≡ first_pending h (followed w)
 abbrev pub standing : History → Watching → Watcher
 standing h w = record { watched = w.watched; seen = w.seen; first = first_pending h w }
 
--- a watcher is given its batch, and has been told so far
+-- a watcher is given its batch, and has been notified up to its end
 abbrev pub IsPolled : History → ℕ → Option Watcher → Batch → Option Watcher → Type 0
 IsPolled h most None batch new = ⊥
 IsPolled h most (Some w) batch new = (batch ≡ batch_of most h (followed w)) × (new ≡ Some (standing h (after_poll most h (followed w))))

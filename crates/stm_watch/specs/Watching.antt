@@ -2,8 +2,8 @@
 use Rattle.std.specs.Prelude.{ℕ, Bool}
 use Rattle.stm_watch.specs.declared.watched.Watched.{Watched}
 
--- It watches these keys, was told, or did not want to know, what happened up to a revision, and is lost where events that it was to be
--- told are below the floor of the store.
+-- It watches these keys, was notified of, or did not want to know, what happened up to a revision, and is lost where events that it was to
+-- see are below the floor of the store.
 pub record Watching : Type 0 where
   pub watched : Watched
   pub seen : ℕ

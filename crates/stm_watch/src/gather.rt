@@ -34,14 +34,14 @@ impl Gathered {
     }
 }
 
-/// Up to which revision a watcher has been told once nothing is pending.
+/// Up to which revision a watcher has been notified once nothing is pending.
 fn reported_all(keys: &Keys, watcher: &Watcher) -> u64
     ensures { result ≡ max watcher.now.seen (now keys.now.history) }
 {
     watcher.seen.max(keys.revision())
 }
 
-/// The pending events of a watcher, of at most so many revisions. A revision of a range is looked for from the last
+/// The pending events of a watcher, of at most `most` revisions. A revision of a range is looked for from the last
 /// one that was given, and where nothing is pending, none is looked at.
 pub(crate) fn gather(
     alloc: Global,

@@ -113,7 +113,7 @@ impl Index {
         self.add_list(key)
     }
 
-    /// Makes room for one more watcher, and the list on which it stands when it is idle. Want of memory leaves no
+    /// Makes room for one more watcher, and the list on which it stands when it is idle. A failed allocation leaves no
     /// watcher out.
     pub(crate) fn make_room(&mut self, watched: &Watched) -> Result<(), AllocError>
         ensures kept { (ws : List (Option Kept)) → Covers self.old ws → Covers self.new ws }

@@ -1,7 +1,7 @@
 //! Watchers of the keys of a store.
 //!
-//! A watcher is told the events of its key, or of the keys of its range, of every revision from its start on, each
-//! once and in order. It is lost where the store was compacted before it was told of a revision: the next poll says so.
+//! A watcher is notified of the events of its key, or of the keys of its range, of every revision from its start on, each
+//! once and in order. It is lost where the store was compacted before it was notified of a revision: the next poll says so.
 //! `specs/Pending.antt` says which events are pending, `specs/Calls.antt` what a call makes of the watchers that there
 //! are.
 #![tactic(auto)]

@@ -52,7 +52,7 @@ impl RangeEntry {
     }
 }
 
-/// Lowers a bound, so that a key is not below it. Want of memory changes nothing.
+/// Lowers a bound, so that a key is not below it. A failed allocation changes nothing.
 fn lower(bound: &mut Text, key: &Text) -> Result<(), AllocError>
     ensures below { is_le (slice_cmp nat_cmp bound.new bound.old) ≡ true }
     ensures ok { OnOk result (is_le (slice_cmp nat_cmp bound.new key.now) ≡ true) }
@@ -63,7 +63,7 @@ fn lower(bound: &mut Text, key: &Text) -> Result<(), AllocError>
     Ok(())
 }
 
-/// Raises a bound, so that a key is not above it. Want of memory changes nothing.
+/// Raises a bound, so that a key is not above it. A failed allocation changes nothing.
 fn raise(bound: &mut Text, key: &Text) -> Result<(), AllocError>
     ensures above { is_le (slice_cmp nat_cmp bound.old bound.new) ≡ true }
     ensures ok { OnOk result (is_le (slice_cmp nat_cmp key.now bound.new) ≡ true) }
@@ -122,7 +122,7 @@ impl Bounds {
         self.low.cmp(key).is_le() && key.cmp(&self.high).is_lt()
     }
 
-    /// Widens the bounds, so that a range is within them. Want of memory leaves none outside.
+    /// Widens the bounds, so that a range is within them. A failed allocation leaves none outside.
     fn widen(&mut self, entry: &RangeEntry) -> Result<(), AllocError>
         ensures kept { (e : Entry) → IsWithin e self.old → IsWithin e self.new }
         ensures ok { OnOk result (IsWithin entry.now self.new) }
@@ -209,7 +209,7 @@ impl Page {
             .partition_point(|entry| entry.is_up_to(first, place))
     }
 
-    /// Adds an entry. Want of memory leaves none out.
+    /// Adds an entry. A failed allocation leaves none out.
     pub(crate) fn add(&mut self, entry: RangeEntry) -> Result<(), AllocError>
         ensures kept { (e : Entry) → StandsOn e self.old → StandsOn e self.new }
         ensures ok { OnOk result (StandsOn entry self.new) }
@@ -245,7 +245,7 @@ impl Page {
         Ok(Page { bounds, entries })
     }
 
-    /// Makes the bounds those of the entries, and no wider. Want of memory changes nothing.
+    /// Makes the bounds those of the entries, and no wider. A failed allocation changes nothing.
     pub(crate) fn tighten(&mut self) -> Result<(), AllocError>
         ensures { (e : Entry) → StandsOn e self.old → StandsOn e self.new }
     {

@@ -1,4 +1,4 @@
-//! What watchers are told of a revision.
+//! What watchers see of a revision.
 ghost use Rattle.std.specs.Prelude.{◌≡◌, ◌++◌, [], ◌∷◌, IfOk, OnOk};
 ghost use Rattle.stm_watch.specs.Pending.{matching, is_any_pending, pending_of_revision};
 ghost use Rattle.stm_watch.specs.Walk.{first_above};
@@ -28,7 +28,7 @@ fn has_any(watched: &Watched, events: &[Event]) -> bool
     false
 }
 
-/// Puts a copy of an event behind these, where it is of a key that is watched.
+/// Puts a copy of an event after these, where it is of a key that is watched.
 fn push_matching(
     copies: &mut Vec<Event>,
     watched: &Watched,
@@ -57,7 +57,7 @@ pub(crate) fn copy_matching(
     Ok(copies)
 }
 
-/// The first revision above one of which a watcher of a range is told something. It takes no memory.
+/// The first revision above one of which a watcher of a range is notified. It takes no memory.
 fn next_in_range(keys: &Keys, watched: &Watched, above: u64) -> Option<u64>
     ensures { result ≡ first_above keys.now.history watched.now above }
 {
@@ -71,7 +71,7 @@ fn next_in_range(keys: &Keys, watched: &Watched, above: u64) -> Option<u64>
     None
 }
 
-/// The first revision above one of which a watcher is told something: of a key by halves among the revisions that
+/// The first revision above one of which a watcher is notified: of a key by halves among the revisions that
 /// changed it, of a range by a walk over all. It takes no memory.
 pub(crate) fn next_number(keys: &Keys, watched: &Watched, above: u64) -> Option<u64>
     ensures { result ≡ first_above keys.now.history watched.now above }

@@ -64,7 +64,7 @@ impl Ranges {
         self.pages[at].tighten()
     }
 
-    /// Splits a page in two, each with bounds of its own. Want of memory leaves no entry out.
+    /// Splits a page in two, each with bounds of its own. A failed allocation leaves no entry out.
     fn split(&mut self, at: usize) -> Result<(), AllocError>
         requires { at < vec_len self.old.pages }
         ensures kept { Keeps self.old.pages.items self.new.pages.items }
@@ -76,7 +76,7 @@ impl Ranges {
         Ok(())
     }
 
-    /// A page for an entry with this first key and place that is not full. Want of memory leaves no entry out.
+    /// A page for an entry with this first key and place that is not full. A failed allocation leaves no entry out.
     fn make_room(&mut self, first: &Text, place: usize) -> Result<usize, AllocError>
         requires { 0 < vec_len self.old.pages }
         ensures kept { Keeps self.old.pages.items self.new.pages.items }
@@ -100,7 +100,7 @@ impl Ranges {
         Ok(())
     }
 
-    /// Adds an entry. Want of memory leaves none out.
+    /// Adds an entry. A failed allocation leaves none out.
     fn add_entry(&mut self, entry: RangeEntry) -> Result<(), AllocError>
         ensures kept { Keeps self.old.pages.items self.new.pages.items }
         ensures ok { OnOk result (HasEntry self.new.pages.items entry) }
@@ -113,7 +113,7 @@ impl Ranges {
         Ok(())
     }
 
-    /// Adds the watcher at a place, if it watches a range. Want of memory leaves no watcher out.
+    /// Adds the watcher at a place, if it watches a range. A failed allocation leaves no watcher out.
     pub(crate) fn add(&mut self, watched: &Watched, place: usize) -> Result<(), AllocError>
         ensures kept { Keeps self.old.pages.items self.new.pages.items }
         ensures ok { OnOk result (IsEntered watched.now place self.new.pages.items) }

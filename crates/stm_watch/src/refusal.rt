@@ -52,12 +52,12 @@ impl From<AllocError> for WatchRefusal {
 }
 
 /// Why a poll is refused. It cancels a watcher that was lost, and otherwise leaves the watchers as they were: a poll
-/// that wanted memory gives the same batch later.
+/// in which an allocation failed gives the same batch later.
 #[derive(Debug, Drop, Clone, Copy, PartialEq, Eq)]
 pub enum PollRefusal {
     /// There is no such watcher, or it was cancelled.
     NoWatcher,
-    /// The watcher is lost: events that it was to be told are of a revision below the store's floor.
+    /// The watcher is lost: events that it was to see are of a revision below the store's floor.
     Compacted,
     /// A growth was refused.
     OutOfMemory,

@@ -110,14 +110,14 @@ impl Slots {
         }
     }
 
-    /// Makes room for one more watcher. Want of memory changes nothing.
+    /// Makes room for one more watcher. A failed allocation changes nothing.
     pub(crate) fn reserve(&mut self) -> Result<(), AllocError>
         ensures { self.new ≡ self.old }
     {
         self.watchers.reserve(1)
     }
 
-    /// Adds a watcher. Want of memory changes nothing.
+    /// Adds a watcher. A failed allocation changes nothing.
     pub(crate) fn push(&mut self, watcher: Watcher) -> Result<(), AllocError>
         ensures ok { OnOk result (self.new ≡ self.old ++ Some watcher ∷ []) }
         ensures err { OnErr result (self.new ≡ self.old) }
@@ -135,7 +135,7 @@ impl Slots {
         clear(&mut self.watchers[index]);
     }
 
-    /// Notes a change of a key at a new revision at one place, and tells whether it made the watcher there ready.
+    /// Notes a change of a key at a new revision at one place, and returns whether it made the watcher there ready.
     pub(crate) fn touch(&mut self, index: usize, revision: u64, key: &Text) -> bool
         ensures touched { self.new ≡ touch_at revision key.now index self.old }
         ensures made { result ≡ true → (w : Kept) × (slice_index_or self.old index None ≡ Some w) × (self.new ≡ slice_set self.old index (Some (made_ready revision w))) }

@@ -89,7 +89,7 @@ impl Table {
         self.slots.watcher(place)
     }
 
-    /// Puts a watcher at the next place. Want of memory leaves the places as they were.
+    /// Puts a watcher at the next place. A failed allocation leaves the places as they were.
     pub(crate) fn place(&mut self, watcher: Watcher) -> Result<(), AllocError>
         ensures ok { OnOk result (self.new ≡ self.old ++ Some watcher ∷ []) }
         ensures err { OnErr result (self.new ≡ self.old) }

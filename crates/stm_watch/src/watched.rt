@@ -1,4 +1,4 @@
-//! What a watcher watches, and how far it has been told.
+//! What a watcher watches, and how far it has been notified.
 ghost use Rattle.std.specs.Prelude.{◌≡◌, ◌&&◌, nat_lt};
 ghost use Rattle.stm_watch.specs.Keys.{is_watched};
 ghost use Rattle.stm_watch.specs.Places.{is_lost};
@@ -26,12 +26,12 @@ impl Watched {
     }
 }
 
-/// A watcher: what it watches, how far it has been told, and the first revision of which events are pending for it.
+/// A watcher: what it watches, how far it has been notified, and the first revision of which events are pending for it.
 #[derive(Debug, Drop, Clone)]
 pub struct Watcher {
     /// What it watches.
     pub watched: Watched,
-    /// It was told, or did not want to know, what happened up to this revision.
+    /// It was notified of, or did not want to know, what happened up to this revision.
     pub seen: u64,
     /// The first revision of which events are pending, `None` where none are. The watcher is ready where there is one, and lost where
     /// that one is below the store's floor.
@@ -46,7 +46,7 @@ impl Watcher {
         revision > self.seen && self.watched.has(key)
     }
 
-    /// Whether events that it was to be told are below a floor.
+    /// Whether events that it was to see are below a floor.
     pub(crate) fn is_lost(&self, floor: u64) -> bool
         ensures { result ≡ is_lost floor self.now.first }
     {

@@ -21,7 +21,7 @@ use stm_keys::{Event, Keys, Sequence, Text};
 pub struct Batch {
     /// The events, by revision, those of one revision in the order of operations. No revision is parted.
     pub events: Sequence<Event>,
-    /// The watcher has been told everything that it watches from its start on up to this revision.
+    /// The watcher has been notified of everything that it watches from its start on up to this revision.
     pub upto: u64,
 }
 
@@ -46,7 +46,7 @@ impl Drop for Watchers {
     }
 }
 
-/// A watcher that was told up to a revision, and is ready where events of later ones are there.
+/// A watcher that was notified up to a revision, and is ready where events of later ones are there.
 fn waiting(watched: Watched, seen: u64, keys: &Keys) -> Watcher
     ensures { result ≡ awaiting keys.now.history watched seen }
 {
@@ -80,8 +80,8 @@ impl Watchers {
         })
     }
 
-    /// A new watcher. It is told what happens from a revision on, or with 0 what happens next. Below the floor that revision is the first
-    /// of those of which events are pending, since nobody can tell any more whether they are.
+    /// A new watcher. It sees what happens from a revision on, or with 0 what happens next. Below the floor that revision is the first
+    /// of those of which events are pending, since nobody can say any more whether they are.
     fn started(&self, watched: Watched, from: u64, keys: &Keys) -> Watcher
         ensures watching { watching_of self.now.floor result ≡ watching_from keys.now.history self.now.floor watched from }
         ensures stands { Stands keys.now.history self.now.floor (Some result) }
@@ -218,11 +218,11 @@ impl Watchers {
         self.table.watcher(place).is_lost(self.floor)
     }
 
-    /// Gives a watcher the pending events of at most so many revisions, and whole revisions only.
+    /// Gives a watcher the pending events of at most `most` revisions, and whole revisions only.
     ///
     /// The watchers stand for the history of these keys, and do so after the call. It is refused for the first of
     /// these that holds: `NoWatcher` where there is none with this number, or it was cancelled, `Compacted` where it is
-    /// lost, which cancels it, and `OutOfMemory`. Otherwise a refusal changes nothing, so that a poll that wanted memory
+    /// lost, which cancels it, and `OutOfMemory`. Otherwise a refusal changes nothing, so that a poll in which an allocation failed
     /// gives the same batch later.
     pub fn poll(&mut self, id: u64, keys: &Keys, most: u64) -> Result<Batch, PollRefusal>
         requires { StandFor keys.now.history self.old }
@@ -247,7 +247,7 @@ impl Watchers {
 impl Watchers {
     /// A copy of the watchers: they keep their numbers, the same ones are ready, and the same ones are lost.
     ///
-    /// Want of memory is its only refusal.
+    /// A failed allocation is its only refusal.
     pub fn copy(&self) -> Result<Watchers, AllocError>
         ensures { IfOk result (λ copy. copy ≡ self.now) }
     {

@@ -4,7 +4,7 @@ use Rattle.stm_watch.specs.Pending.{pending, pending_above, number_of_first, pen
 use Rattle.stm_watch.specs.Slots.{followed}
 use Rattle.stm_watch.proofs.gather.gather.Given as goal
 
--- so many of the revisions that are pending are given, the others are above the last of them, and the first of those is next
+-- `count` of the revisions that are pending are given, the others are above the last of them, and the first of those is next
 abbrev pub invariant-loop-count : goal.invariant-loop-count
 invariant-loop-count l = record {
   within : l.count ≤ l.most;

@@ -3,7 +3,7 @@ use Rattle.stm_history.specs.History.{now}
 use Rattle.stm_watch.specs.Pending.{pending_above}
 use Rattle.stm_watch.proofs.pending_revision.next_in_range.Given as goal
 
--- nothing was told of the revisions that were passed
+-- nothing of the revisions that were passed is pending
 abbrev pub invariant-loop-passed : goal.invariant-loop-passed
 invariant-loop-passed l = record {
   opened : l.keys.history.opening.number ≤ l.passed;

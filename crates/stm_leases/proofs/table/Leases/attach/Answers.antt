@@ -7,7 +7,7 @@ use Rattle.stm_leases.proofs.InStep.{attached}
 use Rattle.stm_leases.proofs.Seen.{table-has, lease_of-now, attached-view}
 use Rattle.stm_leases.proofs.table.Leases.attach.Goals as goal
 
--- a key that hangs on no lease has no place
+-- a key that is attached to no lease has no place
 by_place : (o : Option Attachment) → option_map (λ (p : Attachment). p.lease) o ≡ None → o ≡ None
 by_place None none = refl
 by_place (Some p) none = absurd (cc)

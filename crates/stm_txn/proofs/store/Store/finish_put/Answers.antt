@@ -1,4 +1,4 @@
-use Rattle.std.proofs.Common.{sym, subst, List, [], ◌∷◌}
+use Rattle.std.proofs.Common.{sym, subst, [], ◌∷◌}
 use Rattle.stm_history.specs.declared.change.Change.{Change}
 use Rattle.stm_txn.specs.Leasing.{attached_of, AttachedToLive}
 use Rattle.stm_txn.proofs.store.Store.finish_put.Goals as goal

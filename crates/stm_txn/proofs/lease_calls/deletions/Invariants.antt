@@ -2,7 +2,7 @@ use Rattle.std.proofs.Common.{◌≡◌, ◌++◌, map}
 use Rattle.std.specs.Prelude.{string_bytes}
 use Rattle.std.specs.Vec.Iter.{into_iter_items}
 use Rattle.stm_history.specs.declared.change.Change.TheVariants.{Del}
-use Rattle.stm_txn.proofs.store.deletions.Given as goal
+use Rattle.stm_txn.proofs.lease_calls.deletions.Given as goal
 
 -- the deletions so far, followed by those of the keys that are left
 abbrev pub invariant-loop-key : goal.invariant-loop-key

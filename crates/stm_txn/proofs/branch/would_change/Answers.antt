@@ -4,7 +4,7 @@ use Rattle.stm_outcome.specs.Branches.{changes_of_branch, has_changes}
 use Rattle.stm_outcome.specs.Compares.{first_failed}
 use Rattle.stm_outcome.specs.Outcome.{chosen}
 use Rattle.stm_txn.proofs.Counting.{changes_alike}
-use Rattle.stm_txn.proofs.store.would_change.Goals as goal
+use Rattle.stm_txn.proofs.branch.would_change.Goals as goal
 
 pub returns : goal.returns
 returns c =

@@ -1,0 +1,139 @@
+//! The calls of a store about its watchers.
+ghost use Rattle.std.specs.Prelude.{◌≡◌, ◌+◌, ◌<◌, ◌≤◌, ℕ, Option, List, [], ◌∷◌, ◌++◌, length, if◌then◌else◌, IfOk, IfErr, IfSome, OnOk, OnErr, IsOkUnless};
+ghost use Rattle.std.specs.Prelude.{map, string_bytes, Ok, Err, None, Some, true, false};
+ghost use Rattle.std.specs.FinMap as finmap;
+ghost use Rattle.stm_history.specs.declared.revisions.TheConstants.{HIGHEST_REVISION, HIGHEST_NUMBER};
+ghost use Rattle.stm_history.specs.declared.change.Change.{Change};
+ghost use Rattle.stm_history.specs.History.{History, now, add_revision, IsRevision, HasDistinctKeys};
+ghost use Rattle.stm_keys.specs.Keys.{DeletePresent};
+ghost use Rattle.stm_watch.specs.Places.{no_watchers, watchings};
+ghost use Rattle.stm_watch.specs.Calls.{StandFor};
+ghost use Rattle.stm_leases.specs.LeaseLog.{LogItem, Grant, Renew, Revoke};
+ghost use Rattle.stm_leases.specs.Leases.{StandsFor};
+ghost use Rattle.stm_leases.specs.Live.{is_live_in, AreInRange};
+ghost use Rattle.stm_leases.specs.DueFirst.{first_due};
+ghost use Rattle.stm_outcome.specs.Branches.{branch_refusal};
+ghost use Rattle.stm_outcome.specs.declared.answer.FailedCompare.{FailedCompare as AFailedCompare};
+ghost use Rattle.stm_outcome.specs.Terms.{most_operations};
+ghost use Rattle.stm_outcome.specs.LookUps.{changes_copied, answers_copied, outcome_copied};
+ghost use Rattle.stm_outcome.specs.Outcome.{is_used_up, chosen, would_change};
+ghost use Rattle.stm_txn.specs.ChangesHeld.{changes_held};
+ghost use Rattle.stm_history.specs.declared.change.Change.TheVariants.{Put as PutChange};
+ghost use Rattle.stm_outcome.specs.declared.answer.OpAnswer.TheVariants.{Put as PutAnswer};
+ghost use Rattle.stm_txn.specs.Grants.{grant_refusal_of, grant_reported};
+ghost use Rattle.stm_txn.specs.WatchReported.{watch_reported, poll_reported};
+
+use crate::store::Store;
+use stm_outcome::Refusal;
+use stm_watch::{Batch, PollRefusal, WatchRefusal};
+
+/// What a watch answers.
+fn reported_watch(watched: Result<u64, WatchRefusal>) -> Result<u64, Refusal>
+    ensures { result ≡ watch_reported watched }
+{
+    match watched {
+        Ok(id) => Ok(id),
+        Err(WatchRefusal::EmptyKey) => Err(Refusal::EmptyKey),
+        Err(WatchRefusal::OutOfMemory) => Err(Refusal::OutOfMemory),
+    }
+}
+
+/// What a poll answers.
+fn reported_poll(polled: Result<Batch, PollRefusal>) -> Result<Batch, Refusal>
+    ensures { result ≡ poll_reported polled }
+{
+    match polled {
+        Ok(batch) => Ok(batch),
+        Err(PollRefusal::NoWatcher) => Err(Refusal::NoWatcher),
+        Err(PollRefusal::Compacted) => Err(Refusal::Compacted),
+        Err(PollRefusal::OutOfMemory) => Err(Refusal::OutOfMemory),
+    }
+}
+
+impl Store {
+    ghost use Rattle.stm_outcome.specs.Checks.{has_clash, fault_of};
+    ghost use Rattle.stm_txn.specs.Leasing.{attached_of, AttachedToLive, lease_now};
+    ghost use Rattle.stm_txn.specs.LeaseKeys.{deletions_of};
+    ghost use Rattle.stm_outcome.specs.Outcome.{with_changes, answer_of};
+    ghost use Rattle.stm_outcome.specs.Numbers.{AnswerFits, StatesFit, ExpiredFits, AllExpiredFit, EventsFit};
+    ghost use Rattle.stm_txn.specs.Standing.{opening, at_revision, IsRefusalOf, Returns, refusal_of, transacted, made, written, granted, kept_alive, reported, ended, revoked};
+    ghost use Rattle.stm_txn.specs.Standing.{terms_of, watched, polled, poll_refused, cancelled, raised, compacted};
+    ghost use Rattle.stm_watch.specs.declared.watched.Watched.TheVariants.{Key, Range};
+    ghost use Rattle.stm_watch.specs.Calls.{IsNextPending};
+    ghost use Rattle.stm_txn.specs.Standing.{after, expired_in, expire_all, at_moment, advanced, HasCome, IsStopped, IsCutShort, with_expiries};
+
+    /// Watches a key from a revision on, 0 for the next one, and gives the watcher's number: 1, 2, 3, .., which is
+    /// never used again. A start above the counter waits for that revision, and one below the floor leaves the watcher
+    /// lost.
+    ///
+    /// It is refused for the first of `EmptyKey` and `OutOfMemory` that holds, and then changes nothing, and takes no
+    /// number. (etcd's API reference, "Watch": `key` and `start_revision` of a `WatchCreateRequest`.)
+    pub fn watch_key(&mut self, key: &str, from: u64) -> Result<u64, Refusal>
+        ensures step { Returns (watched self.old.standing (Key key.now) from) result self.new.standing }
+        ensures present { self.new.present ≡ self.old.present }
+        ensures err { OnErr result (self.new ≡ self.old) }
+    {
+        let watched = self.watchers.watch_key(key, from, &self.keys);
+        reported_watch(watched)
+    }
+
+    /// Watches the keys from `first` on that are below `end`, by bytes, as `watch_key` watches one. An `end` that is
+    /// not above `first` leaves none. `EmptyKey` is answered where `first` is empty.
+    pub fn watch_range(&mut self, first: &str, end: &str, from: u64) -> Result<u64, Refusal>
+        ensures step { Returns (watched self.old.standing (Range first.now end.now) from) result self.new.standing }
+        ensures present { self.new.present ≡ self.old.present }
+        ensures err { OnErr result (self.new ≡ self.old) }
+    {
+        let watched = self.watchers.watch_range(first, end, from, &self.keys);
+        reported_watch(watched)
+    }
+
+    /// Cancels a watcher. It takes no memory. `NoWatcher` is answered where there is none with this number, or it was
+    /// cancelled, and changes nothing.
+    pub fn cancel(&mut self, id: u64) -> Result<(), Refusal>
+        ensures step { cancelled self.old.standing id ≡ reported result self.new.standing }
+        ensures present { self.new.present ≡ self.old.present }
+        ensures err { OnErr result (self.new ≡ self.old) }
+    {
+        match self.watchers.cancel(id) {
+            Ok(()) => Ok(()),
+            Err(_) => Err(Refusal::NoWatcher),
+        }
+    }
+
+    /// A watcher for which events are pending, or one that is lost, `None` exactly where there is none. It takes no
+    /// memory.
+    pub fn next_ready(&self) -> Option<u64>
+        ensures { IsNextPending self.now.standing.history self.now.standing.watchers result }
+    {
+        self.watchers.next_ready()
+    }
+
+    /// A poll, without the bounds of its numbers.
+    fn take_batch(&mut self, id: u64, most: u64) -> Result<Batch, Refusal>
+        ensures step { Returns (polled self.old.standing id most) result self.new.standing }
+        ensures present { self.new.present ≡ self.old.present }
+        ensures refused { OnErr result (self.new.standing ≡ poll_refused self.old.standing id) }
+    {
+        let polled = self.watchers.poll(id, &self.keys, most);
+        reported_poll(polled)
+    }
+
+    /// Gives a watcher the pending events of at most `most` revisions, and whole revisions only, and notes how far it
+    /// has been notified. The numbers of the events are at most `HIGHEST_NUMBER`.
+    ///
+    /// It is refused for the first of these that holds: `NoWatcher`, where there is none with this number or it was
+    /// cancelled, `Compacted`, where it is lost, and `OutOfMemory`. A lost one is cancelled then, and otherwise a refusal
+    /// changes nothing: a poll in which an allocation failed gives the same batch later. (etcd's API reference, "Watch":
+    /// `compact_revision` of a `WatchResponse`.)
+    pub fn poll(&mut self, id: u64, most: u64) -> Result<Batch, Refusal>
+        ensures step { Returns (polled self.old.standing id most) result self.new.standing }
+        ensures present { self.new.present ≡ self.old.present }
+        ensures numbers { IfOk result (λ batch. EventsFit batch.events) }
+        ensures refused { OnErr result (self.new.standing ≡ poll_refused self.old.standing id) }
+    {
+        let _counter = self.keys.revision();
+        let batch = self.take_batch(id, most)?;
+        Ok(batch)
+    }
+}

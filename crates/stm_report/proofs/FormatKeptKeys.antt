@@ -1,18 +1,10 @@
--- What a store has kept of a history shows the present as the whole does, and so do its objects and notes.
+-- What a store has kept of a history shows the present as the whole does, and so do its notes.
 use Rattle.std.proofs.Common.{◌≡◌, ℕ, ◌≤◌, List, [], ◌∷◌, ◌++◌, Option, refl, ◌∙◌, ap}
-use Rattle.serde_json.specs.Data.{Data}
 use Rattle.stm_history.specs.declared.key_state.KeyState.{KeyState}
 use Rattle.stm_history.specs.History.{History, now, key_now}
 use Rattle.stm_history.specs.Cut.{cut}
 use Rattle.stm_history.proofs.CutLaws.{cut_keeps_keys_now}
-use Rattle.stm_report.specs.FormatFields.{objects_of_key, key_objects}
 use Rattle.stm_report.specs.FormatNotes.{notes_of_key, key_notes}
-
-pub same_objects : (h : History) (number : ℕ) → number ≤ now h → (keys : List (List ℕ)) → key_objects (cut number h) keys ≡ key_objects h keys
-same_objects h number reached [] = refl
-same_objects h number reached (key ∷ keys) =
-    ap (λ (o : Option KeyState). objects_of_key key o ++ key_objects (cut number h) keys) (cut_keeps_keys_now h number reached key)
-    ∙ ap (λ (objects : List Data). objects_of_key key (key_now h key) ++ objects) (same_objects h number reached keys)
 
 pub same_notes : (h : History) (number : ℕ) → number ≤ now h → (keys : List (List ℕ)) → key_notes (cut number h) keys ≡ key_notes h keys
 same_notes h number reached [] = refl

@@ -1,5 +1,5 @@
 -- Rows, one for each event.
-use Rattle.std.proofs.Common.{◌≡◌, ℕ, suc, ◌+◌, ◌<◌, ◌≤◌, List, [], ◌∷◌, ◌++◌, length, drop, get_or, Result, refl, sym, ap, ◌∙◌, append_assoc, append-nil, arith}
+use Rattle.std.proofs.Common.{◌≡◌, ℕ, suc, ◌+◌, ◌<◌, ◌≤◌, List, [], ◌∷◌, ◌++◌, length, map, drop, get_or, Result, refl, sym, ap, ◌∙◌, append_assoc, append-nil, arith}
 use Rattle.std.proofs.lemmas.List.{drop_all}
 use Rattle.stm_events.specs.declared.event.WorldEvent.{WorldEvent}
 use Rattle.stm_events.specs.declared.reply.Reply.{Reply}
@@ -7,7 +7,8 @@ use Rattle.stm_events.specs.declared.refusal.Denied.{Denied}
 use Rattle.stm_world.specs.World.{World, step, replies_to}
 use Rattle.stm_report.specs.declared.format_row.Row.{Row}
 use Rattle.stm_report.specs.FormatRows.{row_of, rows_of, AreNumbered}
-use Rattle.stm_report.specs.FormatFields.{event_objects}
+use Rattle.stm_report.specs.FormatFields.{line_object}
+use Rattle.stm_report.specs.Report.{event_lines}
 use Rattle.stm_report.specs.FormatLaws.{OneRowAnEvent, OneObjectAnEvent}
 use Rattle.stm_report.proofs.Joining.{left_at}
 
@@ -26,7 +27,7 @@ numbered n [] replies = tt
 numbered n (e ∷ es) [] = tt
 numbered n (e ∷ es) (r ∷ rs) = (refl, numbered (suc n) es rs)
 
-pub one_object : (n : ℕ) (replies : List (Result Reply Denied)) → length (event_objects n replies) ≡ length replies
+pub one_object : (n : ℕ) (replies : List (Result Reply Denied)) → length (map line_object (event_lines n replies)) ≡ length replies
 one_object n [] = refl
 one_object n (r ∷ rs) = ap suc (one_object (suc n) rs)
 

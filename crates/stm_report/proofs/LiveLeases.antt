@@ -7,12 +7,13 @@ use Rattle.stm_entries.specs.declared.live_leases.LiveLease.{LiveLease}
 use Rattle.stm_entries.specs.LiveLeases.{HasLeases}
 use Rattle.stm_entries.proofs.ListedLeases.{terms, listed}
 use Rattle.stm_check.specs.StoreLines.{lease_line, lease_lines}
-use Rattle.stm_reports.specs.Text.{text_of}
+use Rattle.stm_report.specs.declared.line_form.LineForm.{LineForm}
+use Rattle.stm_report.specs.Forms.{formed_text}
 
 -- once no lease is left, the text is the whole
-pub no_lease : (text total : List ℕ) (left : List (ℕ × LiveLease)) → left ≡ [] → text ++ text_of (map lease_line (terms left)) ≡ total → text ≡ total
-no_lease text total left none so_far =
-    sym (append-nil text) ∙ ap (λ (es : List (ℕ × LiveLease)). text ++ text_of (map lease_line (terms es))) (sym none) ∙ so_far
+pub no_lease : (form : LineForm) (text total : List ℕ) (left : List (ℕ × LiveLease)) → left ≡ [] → text ++ formed_text form (map lease_line (terms left)) ≡ total → text ≡ total
+no_lease form text total left none so_far =
+    sym (append-nil text) ∙ ap (λ (es : List (ℕ × LiveLease)). text ++ formed_text form (map lease_line (terms es))) (sym none) ∙ so_far
 
 pub lines_of_map : (m : BTreeMap ℕ LiveLease) (live : Live) → IsOrdered nat_cmp m → HasLeases m live → map lease_line (terms m.entries) ≡ lease_lines live
 lines_of_map m live rises has = ap (map lease_line) (listed m live rises has)

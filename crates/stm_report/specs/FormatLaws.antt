@@ -1,12 +1,13 @@
 -- Laws of the formats.
-use Rattle.std.specs.Prelude.{◌≡◌, ℕ, List, [], ◌∷◌, ◌+◌, ◌||◌, length, Bool, false, if◌then◌else◌, nat_eq, Result}
+use Rattle.std.specs.Prelude.{◌≡◌, ℕ, List, [], ◌∷◌, ◌+◌, ◌||◌, length, map, Bool, false, if◌then◌else◌, nat_eq, Result}
 use Rattle.stm_events.specs.declared.event.WorldEvent.{WorldEvent}
 use Rattle.stm_events.specs.declared.reply.Reply.{Reply}
 use Rattle.stm_events.specs.declared.refusal.Denied.{Denied}
 use Rattle.stm_world.specs.World.{World, replies_to}
 use Rattle.stm_report.specs.FormatEscaped.{escaped}
 use Rattle.stm_report.specs.FormatRows.{rows_of, AreNumbered}
-use Rattle.stm_report.specs.FormatFields.{event_objects}
+use Rattle.stm_report.specs.FormatFields.{line_object}
+use Rattle.stm_report.specs.Report.{event_lines}
 use Rattle.stm_report.specs.FormatText.{rows_text}
 
 -- A run has one row for each event, and they are numbered in its order from 1.
@@ -17,7 +18,7 @@ OneRowAnEvent =
 
 -- and one object for each event
 abbrev pub OneObjectAnEvent : Type 0
-OneObjectAnEvent = (events : List WorldEvent) (w : World) → length (event_objects 1 (replies_to events w)) ≡ length events
+OneObjectAnEvent = (events : List WorldEvent) (w : World) → length (map line_object (event_lines 1 (replies_to events w))) ≡ length events
 
 abbrev pub has : ℕ → List ℕ → Bool
 has b [] = false

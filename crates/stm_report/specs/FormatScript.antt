@@ -16,7 +16,7 @@ use Rattle.stm_report.specs.Report.{IsReport}
 use Rattle.stm_devices.specs.Ends.{Devices, IsUntouched}
 use Rattle.stm_report.specs.declared.format.Format.{Format}
 use Rattle.stm_report.specs.declared.format.Format.TheVariants.{Lines, Json, Text, Svg}
-use Rattle.stm_report.specs.FormatFields.{json_text}
+use Rattle.stm_report.specs.Forms.{json_text}
 use Rattle.stm_report.specs.FormatRows.{rows_of}
 use Rattle.stm_report.specs.FormatNotes.{notes_of}
 use Rattle.stm_report.specs.FormatText.{text_of}

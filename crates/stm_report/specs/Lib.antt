@@ -13,6 +13,7 @@ pub mod FormatNotes
 pub mod FormatText
 pub mod FormatSvg
 pub mod FormatFields
+pub mod Forms
 pub mod FormatScript
 pub mod FormatLaws
 pub mod WholeLines

@@ -1,10 +1,11 @@
 //! The lines of a report as objects.
-ghost use Rattle.std.specs.Prelude.{◌≡◌, false, map, IfOk};
+ghost use Rattle.std.specs.Prelude.{◌≡◌, ℕ, false, map, IfOk};
 ghost use Rattle.serde_json.specs.Data.{no_members};
 ghost use Rattle.serde_json.specs.View.{view, items_view, members_view};
 ghost use Rattle.serde_json.specs.Written.{has_float};
-ghost use Rattle.stm_reports.specs.Lines.{IsOfRunner};
-ghost use Rattle.stm_report.specs.FormatFields.{members_named, object_of, reply_fields, event_fields, event_object, key_object, lease_object, end_object};
+ghost use Rattle.stm_reports.specs.Lines.{IsOfRunner, reply_reported, line_reported};
+ghost use Rattle.stm_reports.specs.declared.line.ReportLine.TheVariants as lines;
+ghost use Rattle.stm_report.specs.FormatFields.{members_named, object_of, line_fields, line_object};
 
 use serde_json::{Map, Value as Json};
 use std::alloc::{AllocError, Global};
@@ -44,7 +45,7 @@ fn object_of(alloc: Global, line: Json, names: &[&str]) -> Result<Json, AllocErr
 /// The names of the fields of the line of a runner's event.
 fn runner_fields(reply: &Reply) -> &'static [&'static str]
     requires { IsOfRunner reply.now }
-    ensures { map (λ name. name.now) result.now ≡ reply_fields reply.now }
+    ensures { (n : ℕ) → map (λ name. name.now) result.now ≡ line_fields (reply_reported n reply.now) }
 {
     match reply {
         Reply::Started { .. } => &["event", "kind", "runner"],
@@ -66,7 +67,7 @@ fn runner_fields(reply: &Reply) -> &'static [&'static str]
 
 /// The names of the fields of the line of an event that was taken.
 fn reply_fields(reply: &Reply) -> &'static [&'static str]
-    ensures { map (λ name. name.now) result.now ≡ reply_fields reply.now }
+    ensures { (n : ℕ) → map (λ name. name.now) result.now ≡ line_fields (reply_reported n reply.now) }
 {
     match reply {
         Reply::Txn { .. } => &["event", "kind", "succeeded", "revision", "answers"],
@@ -85,7 +86,7 @@ fn reply_fields(reply: &Reply) -> &'static [&'static str]
 
 /// The names of the fields of the line of an event with its reply.
 fn event_fields(reply: &Result<Reply, Denied>) -> &'static [&'static str]
-    ensures { map (λ name. name.now) result.now ≡ event_fields reply.now }
+    ensures { (n : ℕ) → map (λ name. name.now) result.now ≡ line_fields (line_reported n reply.now) }
 {
     match reply {
         Ok(reply) => reply_fields(reply),
@@ -99,7 +100,7 @@ pub(crate) fn event_object(
     number: u64,
     reply: &Result<Reply, Denied>,
 ) -> Result<Json, AllocError>
-    ensures object { IfOk result (λ v. view v ≡ event_object number reply.now) }
+    ensures object { IfOk result (λ v. view v ≡ line_object (line_reported number reply.now)) }
     ensures no_float { IfOk result (λ v. has_float (view v) ≡ false) }
 {
     let line = event_json(alloc, number, reply)?;
@@ -108,7 +109,7 @@ pub(crate) fn event_object(
 
 /// The object of a present key.
 pub(crate) fn key_object(alloc: Global, key: &str, state: &KeyState) -> Result<Json, AllocError>
-    ensures object { IfOk result (λ v. view v ≡ key_object key.now state.now) }
+    ensures object { IfOk result (λ v. view v ≡ line_object (lines.Key key.now state.now)) }
     ensures no_float { IfOk result (λ v. has_float (view v) ≡ false) }
 {
     let line = key_json(alloc, key, state)?;
@@ -134,7 +135,7 @@ pub(crate) fn lease_object(
     ttl: u64,
     renewed: u64,
 ) -> Result<Json, AllocError>
-    ensures object { IfOk result (λ v. view v ≡ lease_object id (record { ttl = ttl; renewed = renewed })) }
+    ensures object { IfOk result (λ v. view v ≡ line_object (lines.Lease id ttl renewed)) }
     ensures no_float { IfOk result (λ v. has_float (view v) ≡ false) }
 {
     let line = lease_json(alloc, id, ttl, renewed)?;
@@ -143,7 +144,7 @@ pub(crate) fn lease_object(
 
 /// The object of the end.
 pub(crate) fn end_object(alloc: Global, revision: u64, entries: u64) -> Result<Json, AllocError>
-    ensures object { IfOk result (λ v. view v ≡ end_object revision entries) }
+    ensures object { IfOk result (λ v. view v ≡ line_object (lines.End revision entries)) }
     ensures no_float { IfOk result (λ v. has_float (view v) ≡ false) }
 {
     let line = end_json(alloc, revision, entries)?;

@@ -6,8 +6,8 @@ ghost use Rattle.stm_report.specs.FormatNotes.{end_note, notes_of};
 
 use crate::format_pieces::{Piece, said};
 use std::alloc::{AllocError, Global};
-use stm_journal::present_keys;
 use stm_history::{KeyState, Sequence};
+use stm_journal::present_keys;
 use stm_retry::{Denied, Reply, Store, World};
 
 /// The note of a key that is present.

@@ -9,12 +9,11 @@ ghost use Rattle.stm_report.specs.FormatText.{text_of};
 ghost use Rattle.stm_report.specs.FormatSvg.{svg_of};
 
 use crate::format::Format;
-use crate::format_json::json_text;
 use crate::format_notes::notes_of;
 use crate::format_rows::rows_of;
 use crate::format_svg::svg_of;
 use crate::format_text::text_of;
-use crate::report_text::report;
+use crate::report_text::{report, report_objects};
 use crate::run_script::ScriptFault;
 use std::alloc::{AllocError, Global};
 use stm_devices::{ReadFault, Sink, Source, read_all, write_all};
@@ -66,7 +65,7 @@ pub fn render(
 {
     match format {
         Format::Lines => Ok(report(alloc, world, replies)?.into_bytes()),
-        Format::Json => Ok(json_text(alloc, world, replies)?.into_bytes()),
+        Format::Json => Ok(report_objects(alloc, world, replies)?.into_bytes()),
         Format::Text => text_from(alloc, world, events, replies),
         Format::Svg => svg_from(alloc, world, events, replies),
     }

@@ -13,7 +13,6 @@
 mod format;
 mod format_columns;
 mod format_fields;
-mod format_json;
 mod format_laws;
 mod format_notes;
 mod format_pieces;
@@ -25,6 +24,7 @@ mod format_text;
 mod format_words;
 mod laws;
 mod leases;
+mod line_form;
 mod report_text;
 mod run_script;
 mod whole_comparing;

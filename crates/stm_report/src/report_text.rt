@@ -1,44 +1,108 @@
-//! Reports.
-ghost use Rattle.std.specs.Prelude.{◌≡◌, ◌++◌, map, IfOk, OnOk, string_bytes};
+//! Reports, in the forms that are lines of JSON.
+ghost use Rattle.std.specs.Prelude.{◌≡◌, ◌++◌, false, map, IfOk, OnOk, string_bytes};
+ghost use Rattle.serde_json.specs.View.{view};
+ghost use Rattle.serde_json.specs.Written.{has_float};
 ghost use Rattle.stm_history.specs.History.{key_now};
 ghost use Rattle.stm_leases.specs.Live.{Live};
 ghost use Rattle.stm_entries.specs.LiveLeases.{HasLeases};
 ghost use Rattle.stm_check.specs.StoreLines.{key_lines_of, key_lines, lease_lines};
-ghost use Rattle.stm_reports.specs.Text.{text_of};
-ghost use Rattle.stm_report.specs.Report.{event_lines, IsReport};
+ghost use Rattle.stm_reports.specs.Lines.{line_reported};
+ghost use Rattle.stm_reports.specs.declared.line.ReportLine.TheVariants as lines;
+ghost use Rattle.stm_report.specs.Forms.{formed, formed_text, json_text};
+ghost use Rattle.stm_report.specs.Report.{event_lines, report_of, IsReport};
 
+use crate::format_fields::{end_object, event_object, key_object, lease_object};
 use crate::leases::live_leases;
+use crate::line_form::LineForm;
+use serde_json::Value as Json;
 use std::alloc::{AllocError, Global};
 use std::collections::BTreeMap;
-use stm_journal::present_keys;
 use stm_entries::LiveLease;
+use stm_history::KeyState;
+use stm_journal::present_keys;
 use stm_reports::{end_json, event_json, key_json, lease_json, push_line};
 use stm_retry::{Denied, Reply, Store, World};
+
+/// The line of an event in a form.
+fn event_line(
+    alloc: Global,
+    form: LineForm,
+    number: u64,
+    reply: &Result<Reply, Denied>,
+) -> Result<Json, AllocError>
+    ensures line { IfOk result (λ v. view v ≡ formed form (line_reported number reply.now)) }
+    ensures no_float { IfOk result (λ v. has_float (view v) ≡ false) }
+{
+    match form {
+        LineForm::Array => event_json(alloc, number, reply),
+        LineForm::Object => event_object(alloc, number, reply),
+    }
+}
+
+/// The line of a present key in a form.
+fn key_line(alloc: Global, form: LineForm, key: &str, state: &KeyState) -> Result<Json, AllocError>
+    ensures line { IfOk result (λ v. view v ≡ formed form (lines.Key key.now state.now)) }
+    ensures no_float { IfOk result (λ v. has_float (view v) ≡ false) }
+{
+    match form {
+        LineForm::Array => key_json(alloc, key, state),
+        LineForm::Object => key_object(alloc, key, state),
+    }
+}
+
+/// The line of a live lease in a form.
+fn lease_line(alloc: Global, form: LineForm, id: u64, lease: LiveLease) -> Result<Json, AllocError>
+    ensures line { IfOk result (λ v. view v ≡ formed form (lines.Lease id lease.ttl lease.renewed)) }
+    ensures no_float { IfOk result (λ v. has_float (view v) ≡ false) }
+{
+    match form {
+        LineForm::Array => lease_json(alloc, id, lease.ttl, lease.renewed),
+        LineForm::Object => lease_object(alloc, id, lease.ttl, lease.renewed),
+    }
+}
+
+/// The last line in a form.
+fn end_line(alloc: Global, form: LineForm, revision: u64, entries: u64) -> Result<Json, AllocError>
+    ensures line { IfOk result (λ v. view v ≡ formed form (lines.End revision entries)) }
+    ensures no_float { IfOk result (λ v. has_float (view v) ≡ false) }
+{
+    match form {
+        LineForm::Array => end_json(alloc, revision, entries),
+        LineForm::Object => end_object(alloc, revision, entries),
+    }
+}
 
 /// Adds a line for each event, numbered from 1.
 fn push_events(
     alloc: Global,
     text: &mut String,
+    form: LineForm,
     replies: &[Result<Reply, Denied>],
 ) -> Result<(), AllocError>
-    ensures { OnOk result (string_bytes text.new ≡ string_bytes text.old ++ text_of (event_lines 1 replies.now)) }
+    ensures { OnOk result (string_bytes text.new ≡ string_bytes text.old ++ formed_text form (event_lines 1 replies.now)) }
 {
     for (before, reply) in replies.iter().enumerate() {
-        let line = event_json(alloc, before as u64 + 1, reply)?;
+        let line = event_line(alloc, form, before as u64 + 1, reply)?;
         push_line(alloc, text, &line)?;
     }
     Ok(())
 }
 
 /// Adds the line of a key, if it is present.
-fn push_key(alloc: Global, text: &mut String, store: &Store, key: &str) -> Result<(), AllocError>
+fn push_key(
+    alloc: Global,
+    text: &mut String,
+    form: LineForm,
+    store: &Store,
+    key: &str,
+) -> Result<(), AllocError>
     ensures { OnOk result (string_bytes text.new
-        ≡ string_bytes text.old ++ text_of (key_lines_of key.now (key_now store.now.standing.history key.now))) }
+        ≡ string_bytes text.old ++ formed_text form (key_lines_of key.now (key_now store.now.standing.history key.now))) }
 {
     match store.keys().get(key) {
         None => Ok(()),
         Some(state) => {
-            let line = key_json(alloc, key, state)?;
+            let line = key_line(alloc, form, key, state)?;
             push_line(alloc, text, &line)
         }
     }
@@ -48,14 +112,15 @@ fn push_key(alloc: Global, text: &mut String, store: &Store, key: &str) -> Resul
 fn push_keys(
     alloc: Global,
     text: &mut String,
+    form: LineForm,
     store: &Store,
     keys: &[String],
 ) -> Result<(), AllocError>
     ensures { OnOk result (string_bytes text.new
-        ≡ string_bytes text.old ++ text_of (key_lines store.now.standing.history (map string_bytes keys.now))) }
+        ≡ string_bytes text.old ++ formed_text form (key_lines store.now.standing.history (map string_bytes keys.now))) }
 {
     for key in keys {
-        push_key(alloc, text, store, key.as_str())?;
+        push_key(alloc, text, form, store, key.as_str())?;
     }
     Ok(())
 }
@@ -64,22 +129,45 @@ fn push_keys(
 fn push_leases(
     alloc: Global,
     text: &mut String,
+    form: LineForm,
     leases: &BTreeMap<u64, LiveLease>,
 ) -> Result<(), AllocError>
-    ensures { OnOk result ((live : Live) → HasLeases leases.now live → string_bytes text.new ≡ string_bytes text.old ++ text_of (lease_lines live)) }
+    ensures { OnOk result ((live : Live) → HasLeases leases.now live
+        → string_bytes text.new ≡ string_bytes text.old ++ formed_text form (lease_lines live)) }
 {
     for (id, lease) in leases {
-        let line = lease_json(alloc, *id, lease.ttl, lease.renewed)?;
+        let line = lease_line(alloc, form, *id, *lease)?;
         push_line(alloc, text, &line)?;
     }
     Ok(())
+}
+
+/// The lines of the report of a world and its replies in a form.
+fn written(
+    alloc: Global,
+    form: LineForm,
+    world: &World,
+    replies: &[Result<Reply, Denied>],
+) -> Result<String, AllocError>
+    ensures { IfOk result (λ text. string_bytes text ≡ formed_text form (report_of world.now replies.now).lines) }
+{
+    let present = present_keys(alloc, world.store().keys())?;
+    let leases = live_leases(alloc, world.history())?;
+    let mut text = String::new(alloc);
+    push_events(alloc, &mut text, form, replies)?;
+    push_keys(alloc, &mut text, form, world.store(), present.as_slice())?;
+    push_leases(alloc, &mut text, form, &leases)?;
+    let revision = world.store().keys().revision();
+    let end = end_line(alloc, form, revision, world.history().len() as u64)?;
+    push_line(alloc, &mut text, &end)?;
+    Ok(text)
 }
 
 /// The report of a world and the replies that it gave: a line for each event, one for each key that is present,
 /// ascending by bytes, one for each live lease, ascending by id, and the end line with the revision and the
 /// number of entries.
 ///
-/// Each line is a compact JSON array and a line feed. It fails where a growth was refused.
+/// Each line is a compact JSON array and a line feed. It fails where an allocation failed.
 pub fn report(
     alloc: Global,
     world: &World,
@@ -87,14 +175,16 @@ pub fn report(
 ) -> Result<String, AllocError>
     ensures { IfOk result (λ text. IsReport world.now replies.now (string_bytes text)) }
 {
-    let present = present_keys(alloc, world.store().keys())?;
-    let leases = live_leases(alloc, world.history())?;
-    let mut text = String::new(alloc);
-    push_events(alloc, &mut text, replies)?;
-    push_keys(alloc, &mut text, world.store(), present.as_slice())?;
-    push_leases(alloc, &mut text, &leases)?;
-    let revision = world.store().keys().revision();
-    let end = end_json(alloc, revision, world.history().len() as u64)?;
-    push_line(alloc, &mut text, &end)?;
-    Ok(text)
+    written(alloc, LineForm::Array, world, replies)
+}
+
+/// The lines of the report of a world and its replies as objects. It fails where an allocation failed.
+pub(crate) fn report_objects(
+    alloc: Global,
+    world: &World,
+    replies: &[Result<Reply, Denied>],
+) -> Result<String, AllocError>
+    ensures { IfOk result (λ text. string_bytes text ≡ json_text world.now replies.now) }
+{
+    written(alloc, LineForm::Object, world, replies)
 }

@@ -11,4 +11,4 @@ returns-in_ok-line-in-Some c =
     let state = c.in-Some.state.now in
     let present : Some state ≡ key_now h key = c.in-Some.ensures.value ∙ ap (λ (kept : History). key_now kept key) c.keys.ensures.history in
     subst (λ (line : List ℕ). OnOk c.push_line.result (string_bytes c.push_line.new.text ≡ string_bytes c.args.text.now ++ line))
-    (sym (one_key h key state (view c.in_ok-line-in-Some.line) present c.in_ok-line-in-Some.ensures)) c.push_line.ensures
+    (sym (one_key c.args.form h key state (view c.in_ok-line-in-Some.line) present c.in_ok-line-in-Some.ensures.line)) c.push_line.ensures

@@ -3,7 +3,6 @@ ghost use Rattle.std.specs.Prelude.{◌≡◌, ℕ, List, ◌<◌, ◌≤◌, by
 ghost use Rattle.std.specs.Prelude.{drop};
 ghost use Rattle.std.specs.List.{find, IsDistinct};
 ghost use Rattle.indexmap.specs.IndexMap.{get_by_text};
-ghost use Rattle.stm_history.specs.History.{value_of, mod_of};
 ghost use Rattle.stm_history.specs.declared.key_state.ReadAnswer.{ReadAnswer as Answer};
 ghost use Rattle.stm_history.specs.declared.revisions.TheConstants.{HIGHEST_NUMBER};
 ghost use Rattle.stm_outcome.specs.Numbers.{ReadFits};
@@ -14,7 +13,7 @@ ghost use Rattle.stm_compile.specs.declared.read_set.TheConstants.{MOST_SEARCHED
 use indexmap::IndexMap;
 use std::alloc::{AllocError, Global};
 use std::marker::Model;
-use stm_history::{HIGHEST_REVISION, KeyState, ReadAnswer, Sequence};
+use stm_history::{HIGHEST_REVISION, ReadAnswer, Sequence, mod_rev_of, value_of};
 use stm_meaning::Lookup;
 
 /// How many answers or writes are searched one by one. For so few that is quicker than a table, which takes memory at its first key.
@@ -256,34 +255,14 @@ impl Lookup for ReadSet {
     fn value(&self, key: &str) -> Option<&str> {
         match self.get(key) {
             None => None,
-            Some(answer) => Some(value_in(&answer.kv)),
+            Some(answer) => Some(value_of(&answer.kv)),
         }
     }
 
     fn mod_rev(&self, key: &str) -> Option<u64> {
         match self.get(key) {
             None => None,
-            Some(answer) => Some(mod_rev_in(&answer.kv)),
+            Some(answer) => Some(mod_rev_of(&answer.kv)),
         }
-    }
-}
-
-/// The value of a key's state, "" where it is absent.
-fn value_in(kv: &Option<KeyState>) -> &str
-    ensures { result.now ≡ value_of kv.now }
-{
-    match kv {
-        None => "",
-        Some(state) => state.value.as_str(),
-    }
-}
-
-/// The modification revision of a key's state, 0 where it is absent.
-pub(crate) fn mod_rev_in(kv: &Option<KeyState>) -> u64
-    ensures { result ≡ mod_of kv.now }
-{
-    match kv {
-        None => 0,
-        Some(state) => state.mod_rev,
     }
 }

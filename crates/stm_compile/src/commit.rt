@@ -195,7 +195,7 @@ fn rereads(alloc: Global, level: Level, reads: &ReadSet) -> Result<Vec<Op>, Allo
 /// has the writes in the order of first writes. At the two serializable levels its failure list reads each
 /// key of the read set again; at the other two it is empty. (`clientv3/concurrency`, "STM".)
 ///
-/// The one refusal is want of memory.
+/// Out of memory is the only refusal.
 pub fn compile(
     alloc: Global,
     level: Level,

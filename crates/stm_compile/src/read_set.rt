@@ -22,12 +22,12 @@ pub(crate) const MOST_SEARCHED: usize = 16;
 /// The answers that an attempt has read, one for each key, in the order of first reads. Contracts see the
 /// list of them.
 ///
-/// Beside it stands an index of the answers behind the first sixteen, from each key to the place of its answer, so that no look-up is a
+/// Beside it stands an index of the answers after the first sixteen, from each key to the place of its answer, so that no look-up is a
 /// long search. (The read set of the Go package `clientv3/concurrency`, which keeps no order.)
 #[derive(Debug)]
 pub struct ReadSet {
     answers: Vec<ReadAnswer>,
-    // of the answers behind those that are searched, counted from there
+    // of the answers after those that are searched, counted from there
     places: IndexMap<String, usize>,
 }
 
@@ -80,7 +80,7 @@ impl ReadSet {
         ReadSet { answers, places }
     }
 
-    /// Adds an answer behind those that are searched, and its place to the index.
+    /// Adds an answer after those that are searched, and its place to the index.
     fn add_indexed(&mut self, answer: ReadAnswer) -> Result<(), AllocError>
         requires place { MOST_SEARCHED ≤ length self.old }
         requires new_key { answer_in answer.key self.old ≡ None }
@@ -110,7 +110,7 @@ impl ReadSet {
 
     /// Adds an answer at the end, of a key that has none yet. Its revisions are at most `HIGHEST_NUMBER`.
     ///
-    /// Want of memory is its only refusal, and leaves the answers as they were.
+    /// Out of memory is its only refusal, and leaves the answers as they were.
     pub fn add(&mut self, answer: ReadAnswer) -> Result<(), AllocError>
         requires new_key { answer_in answer.key self.old ≡ None }
         requires in_range { ReadFits answer }
@@ -140,7 +140,7 @@ impl ReadSet {
         &self.answers[place]
     }
 
-    /// The answer for a key behind those that are searched.
+    /// The answer for a key, of those after the ones that are searched.
     fn get_indexed(&self, key: &str) -> Option<&ReadAnswer>
         requires { MOST_SEARCHED ≤ length self.now }
         ensures { option_copied result ≡ answer_in key.now (drop MOST_SEARCHED self.now) }

@@ -72,19 +72,19 @@ fn detach_all(leases: &mut Leases, events: &[Event])
     }
 }
 
-/// Hangs one key on its lease.
-fn attach_one(leases: &mut Leases, attach: Attach)
-    requires loose { lease_of leases.old attach.0 ≡ None }
-    requires live { finmap.contains_key leases.old.live attach.1 ≡ true }
+/// Attaches one key to its lease.
+fn attach_one(leases: &mut Leases, added: Attach)
+    requires loose { lease_of leases.old added.0 ≡ None }
+    requires live { finmap.contains_key leases.old.live added.1 ≡ true }
     requires room { 0 < leases.old.spare }
-    ensures keys { (key : List ℕ) → lease_of leases.new key ≡ attached_one attach key (lease_of leases.old key) }
+    ensures keys { (key : List ℕ) → lease_of leases.new key ≡ attached_one added key (lease_of leases.old key) }
     ensures live { leases.new.live ≡ leases.old.live }
     ensures spare { leases.new.spare + 1 ≡ leases.old.spare }
 {
-    leases.attach(attach.key, attach.copy, attach.lease);
+    leases.attach(added.key, added.copy, added.lease);
 }
 
-/// Hangs keys on their leases.
+/// Attaches keys to their leases.
 fn attach_all(leases: &mut Leases, attaches: Vec<Attach>)
     requires can { CanAttach (lease_of leases.old) leases.old.live attaches.items }
     requires room { length attaches.items ≤ leases.old.spare }

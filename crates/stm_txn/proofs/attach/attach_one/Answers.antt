@@ -8,5 +8,5 @@ use Rattle.stm_txn.proofs.attach.attach_one.Goals as goal
 pub returns-clause-keys : goal.returns-clause-keys
 returns-clause-keys c = λ key.
     ap (λ (s : Leases). lease_of s key) c.attach.ensures
-    ∙ get_attached c.args.leases.now.attached (string_bytes c.attach.inside.key) c.attach.inside.lease key
-    ∙ ap (λ h. attached_one h key (lease_of c.args.leases.now key)) c.attach.view_is
+    ∙ get_attached c.args.leases.now.attached (string_bytes c.added.inside.key) c.added.inside.lease key
+    ∙ ap (λ h. attached_one h key (lease_of c.args.leases.now key)) c.added.view_is

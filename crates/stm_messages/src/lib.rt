@@ -3,6 +3,6 @@
 
 mod messages;
 
-pub use messages::{write_bad, write_both, write_text};
+pub use messages::{Message, write_text};
 pub use stm_devices::{DeviceFault, Sink};
 pub use stm_json::BadInput;

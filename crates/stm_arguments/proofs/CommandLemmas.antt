@@ -9,6 +9,7 @@ use Rattle.clap.specs.declared.builder.value_parser.ValueParser.{ValueParser}
 use Rattle.clap.specs.declared.builder.value_parser.ValueParser.TheVariants.{Unsigned}
 use Rattle.clap.specs.declared.error.Error.{Error}
 use Rattle.clap.specs.declared.parser.matches.ArgMatches.{ArgMatches}
+use Rattle.stm_arguments.specs.declared.arguments.TheConstants.{MOST_WORKERS}
 use Rattle.stm_arguments.specs.declared.arguments.Asked.{Asked}
 use Rattle.stm_arguments.specs.declared.arguments.Asked.TheVariants.{Script, Check, Threads, Recipe, Explore, Nothing}
 use Rattle.stm_arguments.specs.Asking.{Asks, AsksBy, HasFiles, HasName, HasSearch, HasNumbers, IsWhole}
@@ -52,19 +53,19 @@ none_in_range high text number (Some n) is reported = tt
 none_in_range high text number None is reported = λ range.
     reported (subst (λ (n : ℕ). 1 ≤ n) (sym is) range.2, subst (λ (n : ℕ). n ≤ high) (sym is) range.3)
 
--- a parser of all numbers of 64 bits, narrowed to those from 1 to 16
-pub narrowed : (all parser : ValueParser) (low high : ℤ) → all ≡ Unsigned 0 18446744073709551615 → low ≡ pos 1 → high ≡ pos 16
-    → NarrowsTo all (Some low) (Some high) parser → parser ≡ Unsigned 1 16
+-- a parser of all numbers of 64 bits, narrowed to those from 1 to MOST_WORKERS
+pub narrowed : (all parser : ValueParser) (low high : ℤ) → all ≡ Unsigned 0 18446744073709551615 → low ≡ pos 1 → high ≡ pos MOST_WORKERS
+    → NarrowsTo all (Some low) (Some high) parser → parser ≡ Unsigned 1 MOST_WORKERS
 narrowed all parser low high whole from to narrows =
     let one = subst (λ (p : ValueParser). NarrowsTo p (Some low) (Some high) parser) whole narrows in
     let two = subst (λ (i : ℤ). NarrowsTo (Unsigned 0 18446744073709551615) (Some i) (Some high) parser) from one in
     subst (λ (i : ℤ). NarrowsTo (Unsigned 0 18446744073709551615) (Some (pos 1)) (Some i) parser) to two
 
 -- what stands in the place of the number of threads is none
-pub no_workers : (rows : List Row) (text : Text) (asked : Option Asked) → Some text ≡ first_of (codes "workers") rows → (IsUnsignedIn 1 16 text → ⊥)
+pub no_workers : (rows : List Row) (text : Text) (asked : Option Asked) → Some text ≡ first_of (codes "workers") rows → (IsUnsignedIn 1 MOST_WORKERS text → ⊥)
     → IfNone asked (HasNumbers rows → ⊥)
 no_workers rows text (Some asked) is not = tt
-no_workers rows text None is not = λ there. not (subst (λ (p : Option Text). IsSomeAnd p (IsUnsignedIn 1 16)) (sym is) there.0)
+no_workers rows text None is not = λ there. not (subst (λ (p : Option Text). IsSomeAnd p (IsUnsignedIn 1 MOST_WORKERS)) (sym is) there.0)
 
 -- ---- the number of events
 

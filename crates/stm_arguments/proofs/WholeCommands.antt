@@ -33,6 +33,7 @@ use Rattle.clap.specs.declared.error.kind.ErrorKind.{ErrorKind}
 use Rattle.clap.specs.declared.error.kind.ErrorKind.TheVariants as kind
 use Rattle.clap.specs.declared.parser.matches.ValueSource.{ValueSource}
 use Rattle.clap.specs.declared.parser.matches.ValueSource.TheVariants.{CommandLine, DefaultValue}
+use Rattle.stm_arguments.specs.declared.arguments.TheConstants.{MOST_WORKERS}
 use Rattle.stm_arguments.specs.declared.repeating.TheConstants.{MOST_RUNS}
 use Rattle.stm_arguments.specs.Asking.{HasFiles, HasName, HasSearch, HasNumbers, IsWhole}
 use Rattle.stm_arguments.specs.CommandLine.{stmrun_app}
@@ -642,10 +643,10 @@ there_first P Q id (r ∷ rs) each all =
 
 -- ---- the number of threads, and that of runs
 
--- what stands in the place of the number of threads is a number from 1 to 16, and in that of the number of runs one from 1 to MOST_RUNS; of the other places
+-- what stands in the place of the number of threads is a number from 1 to MOST_WORKERS, and in that of the number of runs one from 1 to MOST_RUNS; of the other places
 -- nothing is said
 abbrev IsNumberIfThere : Text → Text → Type 0
-IsNumberIfThere id v = (bytes_eq id (codes "workers") ≡ true → IsUnsignedIn 1 16 v) × (bytes_eq id (codes "repeat") ≡ true → IsUnsignedIn 1 MOST_RUNS v)
+IsNumberIfThere id v = (bytes_eq id (codes "workers") ≡ true → IsUnsignedIn 1 MOST_WORKERS v) × (bytes_eq id (codes "repeat") ≡ true → IsUnsignedIn 1 MOST_RUNS v)
 
 accepted : (b : Bool) (k : ErrorKind) → cond b [] (k ∷ []) ≡ [] → b ≡ true
 accepted true k none = refl
@@ -662,7 +663,7 @@ threads_sets =
     let file = one_value IsNumberIfThere again (first_of_rules threads_shape.rules) refl refl
     (λ v vs none. ((λ same. absurd (true≢false (sym same))), (λ same. absurd (true≢false (sym same))))) in
     let workers = one_value IsNumberIfThere again (first_of_rules (drop 1 threads_shape.rules)) refl refl
-    (λ v vs none. ((λ same. number_passes 16 v _ none), (λ same. absurd (true≢false (sym same))))) in
+    (λ v vs none. ((λ same. number_passes MOST_WORKERS v _ none), (λ same. absurd (true≢false (sym same))))) in
     let ends = one_flag IsNumberIfThere again (first_of_rules (drop 2 threads_shape.rules)) refl refl refl
     ((λ same. absurd (true≢false (sym same))), (λ same. absurd (true≢false (sym same)))) in
     let repeat = one_value IsNumberIfThere again (first_of_rules (drop 3 threads_shape.rules)) refl refl
@@ -689,7 +690,7 @@ numbers_given words none =
       ),
     ) none in
     let given = one_given (is_given (codes "workers") rows) (last_checks threads_shape rows false kept.1).1 in (
-      given_first IsNumberIfThere (IsUnsignedIn 1 16) (codes "workers") rows (λ other v same may. may.0 same) kept.0 given,
+      given_first IsNumberIfThere (IsUnsignedIn 1 MOST_WORKERS) (codes "workers") rows (λ other v same may. may.0 same) kept.0 given,
       there_first IsNumberIfThere (IsUnsignedIn 1 MOST_RUNS) (codes "repeat") rows (λ other v same may. may.1 same) kept.0,
     )
 

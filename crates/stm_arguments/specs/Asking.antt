@@ -6,6 +6,7 @@ use Rattle.clap.specs.Words.{IsUnsignedIn, Text, Row, first_of, subcommand_of}
 use Rattle.stm_program.specs.declared.level.Level.{Level}
 use Rattle.stm_program.specs.declared.level.Level.TheVariants.{SerializableSnapshot, Serializable, RepeatableReads, ReadCommitted}
 use Rattle.stm_arguments.specs.declared.exploring.TheConstants.{USUAL_BUDGET}
+use Rattle.stm_arguments.specs.declared.arguments.TheConstants.{MOST_WORKERS}
 use Rattle.stm_arguments.specs.declared.repeating.TheConstants.{MOST_RUNS}
 use Rattle.stm_arguments.specs.declared.arguments.Asked.{Asked}
 use Rattle.stm_arguments.specs.declared.arguments.Asked.TheVariants.{Script, Check, Threads, Recipe, Explore, Nothing}
@@ -51,7 +52,7 @@ RunsAt (Some text) runs = IsSomeAnd runs (λ n. (1 ≤ n) × (n ≤ MOST_RUNS) �
 
 -- a command of this name, with what stands in the places of its arguments, asks for a script of its file, or of standard input where it names none,
 -- in the format that it names, for a check of its files, a whole one where that flag is set, for a run of its file by the number of threads that it
--- names, 1 to 16, with the ends of its jobs where that flag is set, or for as many runs as it names, for the recipe of its words, or for a search of
+-- names, 1 to MOST_WORKERS, with the ends of its jobs where that flag is set, or for as many runs as it names, for the recipe of its words, or for a search of
 -- its files, at the level of a name, with at most the events that it names; each but a recipe with its fault explained, where that flag is set
 abbrev pub AsksAt : Text → List Row → Asked → Type 0
 AsksAt name rows (Script file format explain) =
@@ -62,7 +63,7 @@ AsksAt name rows (Check scenario report whole explain) =
     × (whole ≡ is_set (first_of (codes "whole") rows)) × (explain ≡ is_set (first_of (codes "explain") rows))
 AsksAt name rows (Threads file workers ends repeat explain) =
     (name ≡ codes "threads") × (first_of (codes "FILE") rows ≡ option_map (λ path. path.now) file)
-    × NumberAt (first_of (codes "workers") rows) workers × (1 ≤ workers) × (workers ≤ 16)
+    × NumberAt (first_of (codes "workers") rows) workers × (1 ≤ workers) × (workers ≤ MOST_WORKERS)
     × (ends ≡ is_set (first_of (codes "ends") rows)) × RunsAt (first_of (codes "repeat") rows) repeat
     × (explain ≡ is_set (first_of (codes "explain") rows))
 AsksAt name rows (Recipe words) =
@@ -91,10 +92,10 @@ Asks words asked = (faults_of words ≡ []) × AsksBy (subcommand_of stmrun_app 
 abbrev pub HasFiles : List Row → Type 0
 HasFiles rows = IsSome (first_of (codes "SCENARIO") rows) × IsSome (first_of (codes "REPORT") rows)
 
--- a number from 1 to 16 stands in the place of the number of threads, and where a number of runs is named, it is one
+-- a number from 1 to MOST_WORKERS stands in the place of the number of threads, and where a number of runs is named, it is one
 abbrev pub HasNumbers : List Row → Type 0
 HasNumbers rows =
-    IsSomeAnd (first_of (codes "workers") rows) (IsUnsignedIn 1 16) × IfSome (first_of (codes "repeat") rows) (IsUnsignedIn 1 MOST_RUNS)
+    IsSomeAnd (first_of (codes "workers") rows) (IsUnsignedIn 1 MOST_WORKERS) × IfSome (first_of (codes "repeat") rows) (IsUnsignedIn 1 MOST_RUNS)
 
 -- the name of a recipe stands in its place
 abbrev pub HasName : List Row → Type 0

@@ -6,6 +6,7 @@ use Rattle.clap.specs.declared.builder.command.Command.{Command}
 use Rattle.clap.specs.declared.builder.value_parser.ValueParser.{ValueParser}
 use Rattle.clap.specs.declared.builder.value_parser.ValueParser.TheVariants.{Unsigned, String as AnyText}
 use Rattle.clap.specs.Simple.{on_top}
+use Rattle.stm_arguments.specs.declared.arguments.TheConstants.{MOST_WORKERS}
 use Rattle.stm_arguments.specs.declared.repeating.TheConstants.{MOST_RUNS}
 use Rattle.clap.specs.declared.error.kind.ErrorKind.{ErrorKind}
 use Rattle.clap.specs.declared.error.kind.ErrorKind.TheVariants.{DisplayHelp, DisplayVersion, OutOfMemory}
@@ -35,9 +36,9 @@ check_app =
     (with_rule (with_rule (with_rule (new_app (codes "check")) (wanted (codes "SCENARIO"))) (wanted (codes "REPORT"))) (flag_rule (codes "whole")))
     explain_rule
 
--- an option that has to be there, with a number from 1 to 16
+-- an option that has to be there, with a number from 1 to MOST_WORKERS
 abbrev pub workers_rule : Rule
-workers_rule = record (wanted (codes "workers")) { long = Some (codes "workers"); value_names = 1; parser = Some (Unsigned 1 16) }
+workers_rule = record (wanted (codes "workers")) { long = Some (codes "workers"); value_names = 1; parser = Some (Unsigned 1 MOST_WORKERS) }
 
 -- an option with a value that may be there, and what the value has to be
 abbrev pub option_rule : List ℕ → ValueParser → Rule

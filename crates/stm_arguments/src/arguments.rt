@@ -357,7 +357,7 @@ fn workers<'a>(alloc: Global) -> Arg<'a>
     ensures rule { rule_of result ≡ workers_rule }
     ensures local { result.global ≡ false }
 {
-    let numbers = clap::value_parser!(u64).range(1..=16);
+    let numbers = clap::value_parser!(u64).range(1..=MOST_WORKERS as i64);
     Arg::new(alloc, "workers")
         .long("workers")
         .value_name("N")
@@ -509,8 +509,8 @@ fn files_of<'a>(found: &ArgMatches<'a>) -> Option<Asked<'a>>
 
 /// A number that was read, where it is from 1 to `MOST_WORKERS`.
 fn workers_at(number: usize) -> Option<usize>
-    ensures some { IfSome result (λ workers. (1 ≤ workers) × (workers ≤ 16) × (workers ≡ number)) }
-    ensures none { IfNone result ((1 ≤ number) × (number ≤ 16) → ⊥) }
+    ensures some { IfSome result (λ workers. (1 ≤ workers) × (workers ≤ MOST_WORKERS) × (workers ≡ number)) }
+    ensures none { IfNone result ((1 ≤ number) × (number ≤ MOST_WORKERS) → ⊥) }
 {
     if number < 1 {
         return None;
@@ -523,8 +523,8 @@ fn workers_at(number: usize) -> Option<usize>
 
 /// The number that a text spells, where it is from 1 to `MOST_WORKERS`.
 fn workers_in(text: &str) -> Option<usize>
-    ensures number { IfSome result (λ workers. (1 ≤ workers) × (workers ≤ 16) × NamesNumber text.now workers) }
-    ensures none { IfNone result (IsUnsignedIn 1 16 text.now → ⊥) }
+    ensures number { IfSome result (λ workers. (1 ≤ workers) × (workers ≤ MOST_WORKERS) × NamesNumber text.now workers) }
+    ensures none { IfNone result (IsUnsignedIn 1 MOST_WORKERS text.now → ⊥) }
 {
     match text.parse::<usize>() {
         Ok(number) => workers_at(number),

@@ -1,4 +1,4 @@
--- What the calls of an attempt leave, by what the code has at hand: the reads, how many of them are told, and how far the program has come.
+-- What the calls of an attempt leave, by what the code has at hand: the reads, how many of them are reported, and how far the program has come.
 use Rattle.std.proofs.Common.{◌≡◌, refl, sym, ◌∙◌, ap, subst, ℕ, zero, suc, Bool, true, false, cond, List, [], ◌∷◌, ◌++◌, length, take}
 use Rattle.std.specs.Prelude.{Option, None, Some, is_none, IfSome, Result, Ok, Err, IfOk, OnOk}
 use Rattle.std.specs.declared.alloc.AllocError.{AllocError}
@@ -76,7 +76,7 @@ seen_at_first old before level reads prefetched reported progress view none is =
     ∙ ap (λ (l : List ReadAnswer). seen_as None level l prefetched) front)
     ∙ view
 
--- ---- all reads are told
+-- ---- all reads are reported
 
 pub all_reported : (reported : ℕ) (reads : List ReadAnswer) → reported ≡ length reads → take reported reads ≡ reads
 all_reported reported reads whole = ap (λ (n : ℕ). take n reads) whole ∙ take-length reads
@@ -302,7 +302,7 @@ pub kept_program : (program : ProgramTree) (old : AttemptState) (before : Option
     seen_as before level front prefetched ≡ old → old.program ≡ Some program → before ≡ Some program
 kept_program program old before level front prefetched view is = ap (λ (v : AttemptState). v.program) view ∙ is
 
--- the end that is told is the attempt's answer
+-- the end that is reported is the attempt's answer
 pub end_reported : (program : ProgramTree) (old : AttemptState) (before : Option ProgramTree) (level : Level) (first front reads prefetched : List ReadAnswer)
     (next : Next) (progress : Progress) → seen_as before level front prefetched ≡ old →
     gone_on program (known_of first prefetched) ≡ gone_on program (known_of front prefetched) → HasEnded progress → HasCome program reads progress →

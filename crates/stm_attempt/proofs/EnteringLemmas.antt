@@ -95,7 +95,7 @@ taken_are P (key ∷ keys) prefetched answers all is =
     subst (AllByRecursion P) (sym parts.4)
     (found_is_one P key prefetched parts.0 all parts.2, taken_are P keys prefetched parts.1 all parts.3)
 
--- one key more, behind those that were taken
+-- one key more, after those that were taken
 pub take_none : (taken : List ReadAnswer) (key : List ℕ) (keys : List (List ℕ)) (prefetched : List ReadAnswer) → answer_in key prefetched ≡ None
     → option_map (λ more. taken ++ more) (answers_of_all (key ∷ keys) prefetched) ≡ None
 take_none taken key keys prefetched none =
@@ -142,7 +142,7 @@ once-have_distinct (a ∷ answers) once =
     let parts = neither (list_any (bytes_eq a.key) (map (λ (x : ReadAnswer). x.key) answers)) (has_repeat (map (λ (x : ReadAnswer). x.key) answers)) once in
     (unlisted a.key answers parts.0, once-have_distinct answers parts.1)
 
--- a key behind others, of which none stands twice, is none of them
+-- a key after others, of which none stands twice, is none of them
 pub key_is_new : (reads : List ReadAnswer) (key : List ℕ) (later : List (List ℕ)) → has_repeat (map (λ (a : ReadAnswer). a.key) reads ++ key ∷ later) ≡ false
     → answer_in key reads ≡ None
 key_is_new [] key later once = refl
@@ -274,7 +274,7 @@ pub behind_reads : (program : ProgramTree) (before entered prefetched after : Li
 behind_reads program before entered prefetched after gone not settles =
     settles ∙ sym (gone_settled program (known_of entered prefetched) not) ∙ gone
 
--- the same after a call that was refused behind the list
+-- the same after a call that was refused after the list
 pub behind_gone : (program : ProgramTree) (before entered prefetched after : List ReadAnswer)
     → gone_on program (known_of entered prefetched) ≡ gone_on program (known_of before prefetched) → is_due program.prefetch entered ≡ false
     → Extends entered after → settled program (known_of after prefetched) ≡ settled program (known_of entered prefetched)
@@ -292,7 +292,7 @@ behind_wanted program level before entered prefetched None gone not reported = t
 behind_wanted program level before entered prefetched (Some w) gone not reported =
     behind_next program level before entered prefetched (next_wanted w) gone not reported
 
--- at the end of the run, which is the one that is told
+-- at the end of the run, which is the one that is reported
 pub behind_end : (program : ProgramTree) (level : Level) (before entered prefetched after : List ReadAnswer)
     → gone_on program (known_of entered prefetched) ≡ gone_on program (known_of before prefetched) → is_due program.prefetch entered ≡ false
     → after ≡ settled program (known_of entered prefetched)

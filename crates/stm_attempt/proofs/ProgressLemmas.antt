@@ -1,4 +1,4 @@
--- A machine that finishes as the program's run does: it still does so after its steps and with more answers, and where it stands the run is told.
+-- A machine that finishes as the program's run does: it still does so after its steps and with more answers, and where it stands the run is reported.
 use Rattle.std.proofs.Common.{◌≡◌, refl, sym, ◌∙◌, ap, subst, ℕ, Bool, true, false, cond, List, [], ◌∷◌, ◌++◌, ◌+◌, ◌<◌, ◌≤◌, length, take}
 use Rattle.std.proofs.Common.{length-append, length-take-le, append_assoc, append-nil, arith}
 use Rattle.std.proofs.Math.Seq.{take-length}
@@ -146,7 +146,7 @@ unserved_none : (answers : List ReadAnswer) (o : Option (List ℕ)) (key : List 
 unserved_none answers None key is = absurd (cc)
 unserved_none answers (Some k) key is = unserved_by k key (answer_in k answers) is
 
--- an attempt that waits for a key has read nothing that it has not told
+-- an attempt that waits for a key has read nothing that it has not reported
 pub nothing_ahead : (program : ProgramTree) (reads prefetched : List ReadAnswer) (reported : ℕ) (key : List ℕ) → reported ≤ length reads →
     gone_on program (known_of reads prefetched) ≡ gone_on program (known_of (take reported reads) prefetched) →
     awaited_by program (known_of (take reported reads) prefetched) ≡ Some key → reported ≡ length reads
@@ -165,7 +165,7 @@ nothing_ahead program reads prefetched reported key within ahead asked =
     let cut : length front ≡ reported = length-take-le reported reads within in
     omega (arith, within, count, cut)
 
--- ---- what comes behind the reads
+-- ---- what comes after the reads
 
 pub nothing_added : (before after : List ReadAnswer) → after ≡ before → Extends before after
 nothing_added before after same = record { added = []; follow = same ∙ sym (append-nil before) }
@@ -220,7 +220,7 @@ pub next_of_settled : (program : ProgramTree) (level : Level) (before prefetched
 next_of_settled program level before prefetched reads next settles reported =
     reported ∙ ap (λ (l : List ReadAnswer). next_after program level l (run_on program l)) settles
 
--- ---- what is left where the end of a run that is not done was told
+-- ---- what is left where the end of a run that is not done was reported
 
 left_at : (program : ProgramTree) (level : Level) (reads : List ReadAnswer) (run : Run) (end : End) (kept : Option ProgramTree) (after : Progress) →
     (end ≡ Done → ⊥) → after ≡ Fresh → IsLeftAtEnd (next_at_end program level reads run end) kept reads kept reads after
@@ -251,7 +251,7 @@ still_under_way program before after prefetched reported old new way more come s
       come = come;
     }
 
--- after a call that was not: all reads are told
+-- after a call that was not: all reads are reported
 pub under_way : (program : ProgramTree) (reads prefetched : List ReadAnswer) (reported : ℕ) (progress : Progress) → reported ≡ length reads →
     HasCome program reads progress → IsUnderWay program reads prefetched reported progress
 under_way program reads prefetched reported progress whole come =

@@ -56,7 +56,7 @@ keys_pushed : (taken : List ReadAnswer) (a : ReadAnswer) (key : List ℕ) (rest 
 keys_pushed [] a key rest is = ap (λ (k : List ℕ). k ∷ rest) is
 keys_pushed (x ∷ taken) a key rest is = ap (λ (l : List (List ℕ)). x.key ∷ l) (keys_pushed taken a key rest is)
 
--- and those behind it are of other keys
+-- and those after it are of other keys
 pub take_once : {A : Type 0} (keys : List (String A)) (first : String A) (key : List ℕ) (taken more prefetched : List ReadAnswer) (a copy : ReadAnswer)
     → 1 ≤ length keys → first ≡ get_or keys 0 first → key ≡ string_bytes first → Some a ≡ answer_in key prefetched → copy ≡ a → more ≡ taken ++ copy ∷ []
     → has_repeat (map (λ (x : ReadAnswer). x.key) taken ++ map string_bytes keys) ≡ false

@@ -61,7 +61,7 @@ same_base = refl
 
 -- ---- a list
 
--- the same program behind a list of both keys
+-- the same program after a list of both keys
 listing_both : ProgramTree
 listing_both = record { statements = Then (Emit (Get (Text (codes "b")))) End; prefetch = codes "a" ∷ codes "b" ∷ [] }
 

@@ -3,6 +3,7 @@ use Rattle.std.specs.Prelude.{◌≡◌, ℕ, List, [], ◌∷◌, ◌++◌, Opt
 use Rattle.stm_history.specs.declared.key_state.ReadAnswer.{ReadAnswer}
 use Rattle.stm_program.specs.Syntax.{ProgramTree}
 use Rattle.stm_program.specs.declared.level.Level.{Level}
+use Rattle.stm_program.specs.Levels.{is_serializable}
 use Rattle.stm_compile.specs.Answers.{answer_in}
 use Rattle.stm_attempt.specs.Known.{Known, serving}
 use Rattle.stm_attempt.specs.Settled.{run_on, wanted}
@@ -17,6 +18,11 @@ pub record AttemptState : Type 0 where
 -- a new attempt, for which these answers were prefetched
 abbrev pub begun : Level → List ReadAnswer → AttemptState
 begun level prefetched = record { program = None; level = level; known = record { reads = []; prefetched = prefetched } }
+
+-- the next attempt at a level after a commit that failed and read these answers again: they are prefetched for it at a serializable level, and
+-- dropped at the others
+abbrev pub begun_after : Level → List ReadAnswer → AttemptState
+begun_after level answers = begun level (if is_serializable level then answers else [])
 
 -- the attempt has no other program
 abbrev pub IsOf : ProgramTree → AttemptState → Type 0

@@ -25,7 +25,7 @@ abbrev pub answers_of_all : List (List ℕ) → List ReadAnswer → Option (List
 answers_of_all [] answers = Some []
 answers_of_all (key ∷ keys) answers = with_first (answer_in key answers) (answers_of_all keys answers)
 
--- behind a list that is taken, the reads are settled
+-- after a list that is taken, the reads are settled
 abbrev pub behind_list : ProgramTree → Known → Option (List ReadAnswer) → List ReadAnswer
 behind_list program known None = known.reads
 behind_list program known (Some answers) = settled program (known_of answers known.prefetched)

@@ -55,7 +55,7 @@ SuppliedListComesFirst =
     (program : ProgramTree) (attempt : AttemptState) (answers : List ReadAnswer) → attempt.program ≡ Some program
     → list_awaited attempt ≡ Some (map (λ a. a.key) answers) → BeginsWithList program.prefetch (supplied_all answers attempt).known.reads
 
--- The answer to a key that is awaited stands behind it.
+-- The answer to a key that is awaited stands after what was read before.
 abbrev pub SuppliedKeyComesBehind : Type 0
 SuppliedKeyComesBehind =
     (program : ProgramTree) (attempt : AttemptState) (answer : ReadAnswer) → attempt.program ≡ Some program → awaited attempt ≡ Some answer.key
@@ -79,7 +79,7 @@ WhatServesIsTaken =
     (program : ProgramTree) (known : Known) (a : ReadAnswer) → served program known.prefetched known.reads ≡ Some a
     → settled program known ≡ settled program (with_reads (known.reads ++ a ∷ []) known)
 
--- What was read stays, and what comes behind it was prefetched.
+-- What was read stays, and what comes after it was prefetched.
 pub record AddsPrefetched (known : Known) (reads : List ReadAnswer) : Type 0 where
   pub added : List ReadAnswer
   pub follow : reads ≡ known.reads ++ added

@@ -50,7 +50,7 @@ run_of_progress Fresh = None
 run_of_progress (Started m) = run_at m
 run_of_progress (Ended run) = Some run
 
--- The reads stay, and what comes behind them was added.
+-- The reads stay, and what comes after them was added.
 pub record Extends (before after : List ReadAnswer) : Type 0 where
   pub added : List ReadAnswer
   pub follow : after ≡ before ++ added
@@ -61,8 +61,8 @@ HasNotBegun reads Fresh = reads ≡ []
 HasNotBegun reads (Started m) = ⊥
 HasNotBegun reads (Ended run) = ⊥
 
--- The first `reported` of the reads are those that the attempt is seen to have. Those behind them were prefetched, and taken by a call that was refused
--- then: going on takes them again.
+-- The first `reported` of the reads are those that the attempt is seen to have. Those after them were prefetched, and taken by a call that was
+-- refused then: going on takes them again.
 pub record IsUnderWay (program : ProgramTree) (reads prefetched : List ReadAnswer) (reported : ℕ) (progress : Progress) : Type 0 where
   pub within : reported ≤ length reads
   pub ahead : gone_on program (known_of reads prefetched) ≡ gone_on program (known_of (take reported reads) prefetched)

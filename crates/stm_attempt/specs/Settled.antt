@@ -33,7 +33,7 @@ abbrev pub taken : (List ReadAnswer → List ReadAnswer) → List ReadAnswer →
 taken again reads None = reads
 taken again reads (Some a) = again (reads ++ a ∷ [])
 
--- the reads after taking so many answers at most
+-- the reads after taking at most this many answers
 unfoldable pub settle : ℕ → ProgramTree → List ReadAnswer → List ReadAnswer → List ReadAnswer
 settle zero program prefetched reads = reads
 settle (suc n) program prefetched reads = taken (settle n program prefetched) reads (served program prefetched reads)

@@ -24,7 +24,7 @@ use stm_program::{Level, Program};
 pub struct Attempt {
     program: Option<Program>,
     level: Level,
-    // what was read, and behind the first `reported` of it the prefetched answers that a refused call took
+    // what was read, and after the first `reported` of it the prefetched answers that a refused call took
     reads: ReadSet,
     reported: usize,
     prefetched: ReadSet,
@@ -73,7 +73,7 @@ fn first_of(answers: ReadSet, count: usize) -> Sequence<ReadAnswer>
     Sequence::of(first)
 }
 
-/// These answers, of keys that differ. The one refusal is want of memory.
+/// These answers, of keys that differ. Out of memory is the only refusal.
 fn set_of(alloc: Global, answers: Sequence<ReadAnswer>) -> Result<ReadSet, AllocError>
     requires distinct { HaveDistinctKeys answers }
     requires in_range { All ReadFits answers }
@@ -97,7 +97,7 @@ fn copy_program(program: &Option<Program>) -> Result<Option<Program>, AllocError
 }
 
 impl Attempt {
-    ghost use Rattle.stm_attempt.specs.AttemptState.{begun, IsOf, advanced, supplied, supplied_all, awaited, list_awaited};
+    ghost use Rattle.stm_attempt.specs.AttemptState.{begun, begun_after, IsOf, advanced, supplied, supplied_all, awaited, list_awaited};
     ghost use Rattle.stm_attempt.specs.Next.{next_of, key_asked, list_asked};
     ghost use Rattle.stm_attempt.specs.Leaving.{left_by};
 
@@ -127,7 +127,7 @@ impl Attempt {
     /// A new attempt at a serializable level, for which these answers were prefetched: of keys that differ, and
     /// all of one revision, as the reads of a failed commit answer them.
     ///
-    /// They serve the attempt only where its base revision is theirs. Want of memory is the only refusal.
+    /// They serve the attempt only where its base revision is theirs. Out of memory is the only refusal.
     pub fn from_prefetch(
         alloc: Global,
         level: Level,
@@ -141,6 +141,28 @@ impl Attempt {
     {
         let prefetched = set_of(alloc, answers)?;
         Ok(Attempt::begin(alloc, level, prefetched))
+    }
+
+    /// The next attempt at this level after a commit that failed, with the answers of the keys that it read again: of keys that differ, and all of
+    /// one revision.
+    ///
+    /// At a serializable level they are prefetched for it, as by `from_prefetch`; at the others nothing is. Out of memory is the only refusal; the
+    /// answers are dropped then.
+    pub fn after_conflict(
+        alloc: Global,
+        level: Level,
+        answers: Sequence<ReadAnswer>,
+    ) -> Result<Attempt, AllocError>
+        requires distinct { HaveDistinctKeys answers }
+        requires in_range { All ReadFits answers }
+        requires one_revision { ShowOneRevision answers }
+        ensures { IfOk result (λ attempt. attempt ≡ begun_after level answers) }
+    {
+        if level.is_serializable() {
+            Attempt::from_prefetch(alloc, level, answers)
+        } else {
+            Ok(Attempt::new(alloc, level))
+        }
     }
 
     /// The attempt is set at the start of a program, of which this is its copy. Before, it had read nothing.
@@ -163,7 +185,7 @@ impl Attempt {
         put(&mut self.progress, Progress::Fresh);
     }
 
-    /// The first `advance`. Where a growth is refused, the attempt is set back to what it was.
+    /// The first `advance`. Where an allocation fails, the attempt is set back to what it was.
     fn first_advance(&mut self, program: &Program) -> Result<Next, AllocError>
         requires { self.old.program ≡ None }
         ensures next { IfOk result (λ next. next ≡ next_of program.now self.old.level self.old.known) }
@@ -179,7 +201,7 @@ impl Attempt {
         next
     }
 
-    /// Each later `advance`. Where a growth is refused, the prefetched answers that were taken stay behind those told.
+    /// Each later `advance`. Where an allocation fails, the prefetched answers that were taken stay after those reported.
     fn next_advance(&mut self, program: &Program) -> Result<Next, AllocError>
         requires { self.old.program ≡ Some program.now }
         ensures next { IfOk result (λ next. next ≡ next_of program.now self.old.level self.old.known) }
@@ -203,7 +225,7 @@ impl Attempt {
     /// end.
     ///
     /// It is the same program at each call; the attempt keeps a copy from the first call that is not refused.
-    /// Repeated with nothing supplied, the call answers the same. Want of memory is the only refusal, and leaves
+    /// Repeated with nothing supplied, the call answers the same. Out of memory is the only refusal, and leaves
     /// the attempt as it was.
     pub fn advance(&mut self, program: &Program) -> Result<Next, AllocError>
         requires { IsOf program.now self.old }
@@ -220,7 +242,7 @@ impl Attempt {
         }
     }
 
-    /// The first `advance_to_end`. Where a growth is refused, the attempt is set back to what it was.
+    /// The first `advance_to_end`. Where an allocation fails, the attempt is set back to what it was.
     fn first_to_end(&mut self, program: &Program) -> Result<Next, AllocError>
         requires { self.old.program ≡ None }
         ensures next { IfOk result (λ next. next ≡ next_of program.now self.old.level self.old.known) }
@@ -236,7 +258,7 @@ impl Attempt {
         next
     }
 
-    /// Each later `advance_to_end`. Where a growth is refused, the prefetched answers that were taken stay behind those told.
+    /// Each later `advance_to_end`. Where an allocation fails, the prefetched answers that were taken stay after those reported.
     fn next_to_end(&mut self, program: &Program) -> Result<Next, AllocError>
         requires { self.old.program ≡ Some program.now }
         ensures next { IfOk result (λ next. next ≡ next_of program.now self.old.level self.old.known) }
@@ -267,9 +289,10 @@ impl Attempt {
         Ok(wanted.into_next())
     }
 
-    /// Goes on as `advance` does, for who commits the attempt once it is ready: it goes into the answer then, and is itself as before its first `advance`.
+    /// Goes on as `advance` does, for who commits the attempt once it is ready: it goes into the answer then, and is itself as before its first
+    /// `advance`.
     ///
-    /// Want of memory is the only refusal, and leaves the attempt as it was.
+    /// Out of memory is the only refusal, and leaves the attempt as it was.
     pub fn advance_to_end(&mut self, program: &Program) -> Result<Next, AllocError>
         requires { IsOf program.now self.old }
         ensures next { IfOk result (λ next. next ≡ next_of program.now self.old.level self.old.known) }
@@ -287,7 +310,7 @@ impl Attempt {
 
     /// Takes the answer for the key that `advance` just asked for. Its numbers are at most `HIGHEST_NUMBER`.
     ///
-    /// Want of memory is the only refusal, and leaves the attempt as it was; the answer is dropped.
+    /// Out of memory is the only refusal, and leaves the attempt as it was; the answer is dropped.
     pub fn supply(&mut self, answer: ReadAnswer) -> Result<(), AllocError>
         requires asked { awaited self.old ≡ Some answer.key }
         requires in_range { ReadFits answer }
@@ -302,7 +325,7 @@ impl Attempt {
     /// Takes the answers for the keys of the list that `advance` just asked for, in the list's order. All show one revision, and their numbers
     /// are at most `HIGHEST_NUMBER`.
     ///
-    /// Want of memory is the only refusal, and leaves the attempt as it was; the answers are dropped.
+    /// Out of memory is the only refusal, and leaves the attempt as it was; the answers are dropped.
     pub fn supply_all(&mut self, answers: Vec<ReadAnswer>) -> Result<(), AllocError>
         requires asked { list_awaited self.old ≡ Some (map (λ (a : Answer). a.key) answers.items) }
         requires in_range { All ReadFits answers.items }
@@ -339,7 +362,7 @@ impl Attempt {
 impl Attempt {
     /// A copy of the attempt. Where it goes on, it runs its program from the start, on what the attempt has read.
     ///
-    /// Want of memory is its only refusal.
+    /// Out of memory is its only refusal.
     pub fn copy(&self) -> Result<Attempt, AllocError>
         ensures { IfOk result (λ copy. copy ≡ self.now) }
     {

@@ -21,7 +21,7 @@ fn is_due(keys: &[String], reads: &ReadSet) -> bool
     !keys.is_empty() && reads.len() == 0
 }
 
-/// The keys of a program's list. The one refusal is want of memory.
+/// The keys of a program's list. Out of memory is the only refusal.
 pub(crate) fn list_of(alloc: Global, program: &Program) -> Result<Sequence<Text>, AllocError>
     ensures { IfOk result (λ keys. keys ≡ program.now.prefetch) }
 {
@@ -32,7 +32,7 @@ pub(crate) fn list_of(alloc: Global, program: &Program) -> Result<Sequence<Text>
     Ok(keys)
 }
 
-/// The prefetched answers of these keys, behind those that were taken. `None` where one of the keys has none.
+/// The prefetched answers of these keys, after those that were taken. `None` where one of the keys has none.
 fn take_each(
     prefetched: &ReadSet,
     keys: &[String],
@@ -54,7 +54,7 @@ fn take_each(
     }
 }
 
-/// The prefetched answers of a program's list. `None` where a key of it has none. The one refusal is want of memory.
+/// The prefetched answers of a program's list. `None` where a key of it has none. Out of memory is the only refusal.
 fn take_list(
     alloc: Global,
     program: &Program,
@@ -74,9 +74,9 @@ fn take_in(reads: &mut ReadSet, answers: ReadSet, progress: &mut Progress)
     put(progress, Progress::Fresh);
 }
 
-/// Takes the list of a program where it is due and all of it was prefetched. It tells whether the list is due still.
+/// Takes the list of a program where it is due and all of it was prefetched. Returns whether the list is due still.
 ///
-/// Want of memory is the one refusal, and leaves all as it was.
+/// Out of memory is the only refusal, and leaves all as it was.
 pub(crate) fn enter(
     alloc: Global,
     program: &Program,

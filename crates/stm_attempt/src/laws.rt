@@ -23,7 +23,7 @@ pub fn what_serves_is_taken()
     ensures { WhatServesIsTaken }
 {}
 
-/// The settled reads are those before, and behind them answers that were prefetched.
+/// The settled reads are those before, and after them answers that were prefetched.
 pub fn settling_adds_prefetched()
     ensures { SettlingAddsPrefetched }
 {}

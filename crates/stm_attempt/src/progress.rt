@@ -49,9 +49,9 @@ pub(crate) fn put(progress: &mut Progress, next: Progress)
 }
 
 /// Goes on with a machine to its run's end, or to a key that no prefetched answer serves. Each prefetched answer that
-/// serves is put behind the reads.
+/// serves is put after the reads.
 ///
-/// Where a growth is refused, the machine and the reads stand where they came to, from where the call can be repeated.
+/// Where an allocation fails, the machine and the reads stand where they came to, from where the call can be repeated.
 pub(crate) fn settle(
     machine: &mut Machine,
     prefetched: &ReadSet,
@@ -131,7 +131,7 @@ fn ready_of(
     }
 }
 
-/// A run that is done is made ready to commit. Want of memory leaves it in its place.
+/// A run that is done is made ready to commit. Out of memory leaves it in its place.
 fn made_ready(
     alloc: Global,
     program: &Program,
@@ -163,7 +163,7 @@ fn made_ready(
 }
 
 /// What an attempt answers at the end of its run. The run goes into the answer: where the program is run once more, it
-/// begins at the start. Want of memory leaves the run in its place.
+/// begins at the start. Out of memory leaves the run in its place.
 fn report_end(
     alloc: Global,
     program: &Program,
@@ -188,7 +188,7 @@ fn report_end(
     }
 }
 
-/// Whether the program stands behind its start.
+/// Whether the program has gone on from its start.
 fn has_begun(progress: &Progress) -> bool
     ensures { result ≡ has_begun progress.now }
 {
@@ -210,7 +210,7 @@ fn has_ended(progress: &Progress) -> bool
     }
 }
 
-/// A program at its start. The one refusal is want of memory.
+/// A program at its start. Out of memory is the only refusal.
 fn started(alloc: Global, program: &Program) -> Result<Progress, AllocError>
     ensures { IfOk result (λ progress. progress ≡ Progress.Started (started program.now.statements)) }
 {
@@ -218,7 +218,7 @@ fn started(alloc: Global, program: &Program) -> Result<Progress, AllocError>
     Ok(Progress::Started(machine))
 }
 
-/// Makes a machine for a program that has none. The one refusal is want of memory, and leaves all as it was.
+/// Makes a machine for a program that has none. Out of memory is the only refusal, and leaves all as it was.
 fn begin(alloc: Global, program: &Program, progress: &mut Progress) -> Result<(), AllocError>
     ensures come { (reads : List ReadAnswer) → HasCome program.now reads progress.old → HasCome program.now reads progress.new }
     ensures begun { OnOk result (has_begun progress.new ≡ true) }
@@ -233,7 +233,7 @@ fn begin(alloc: Global, program: &Program, progress: &mut Progress) -> Result<()
 
 /// Goes on to the key that is to be fetched. `None` where the run has come to its end, which is kept.
 ///
-/// Where a growth is refused, the program stands where it came to, from where the call can be repeated.
+/// Where an allocation fails, the program stands where it came to, from where the call can be repeated.
 fn come_to_fetch(
     prefetched: &ReadSet,
     reads: &mut ReadSet,
@@ -264,9 +264,10 @@ fn come_to_fetch(
     Ok(None)
 }
 
-/// Goes on with a program from where it stands, behind its list, to the key that is to be fetched. `None` where its run has come to its end, which is kept.
+/// Goes on with a program from where it stands, after its list, to the key that is to be fetched. `None` where its run has come to its end, which is
+/// kept.
 ///
-/// Where a growth is refused, the program stands where it came to, from where the call can be repeated: it answers then
+/// Where an allocation fails, the program stands where it came to, from where the call can be repeated: it answers then
 /// what it would have answered.
 fn come_behind(
     alloc: Global,
@@ -296,10 +297,10 @@ fn come_behind(
     }
 }
 
-/// Goes on with a program from where it stands, with its list first, where that is due, to what is to be fetched. `None` where its run has come to its end,
-/// which is kept.
+/// Goes on with a program from where it stands, with its list first, where that is due, to what is to be fetched. `None` where its run has come to
+/// its end, which is kept.
 ///
-/// Where a growth is refused, the program stands where it came to, from where the call can be repeated: it answers then
+/// Where an allocation fails, the program stands where it came to, from where the call can be repeated: it answers then
 /// what it would have answered.
 pub(crate) fn come_on(
     alloc: Global,
@@ -331,7 +332,7 @@ pub(crate) fn come_on(
 
 /// Goes on with a program from where it stands, to what is to be fetched, or to its end.
 ///
-/// Where a growth is refused, the program stands where it came to, from where the call can be repeated: it answers then
+/// Where an allocation fails, the program stands where it came to, from where the call can be repeated: it answers then
 /// what it would have answered.
 pub(crate) fn go_on(
     alloc: Global,
@@ -358,7 +359,7 @@ pub(crate) fn go_on(
     }
 }
 
-/// The last writes of a run as copies; `None` where they are its writes. The one refusal is want of memory.
+/// The last writes of a run as copies; `None` where they are its writes. Out of memory is the only refusal.
 fn latest_if_others(alloc: Global, run: &Run) -> Result<Option<WriteBuffer>, AllocError>
     ensures { IfOk result (AreLatest run.now.writes) }
 {
@@ -380,7 +381,8 @@ fn latest_from(latest: Option<WriteBuffer>, writes: Sequence<Write>) -> WriteBuf
     }
 }
 
-/// A run that is done, ready to commit: with its program, what that read, and its last writes, which are its writes where there are no others. It takes no memory.
+/// A run that is done, ready to commit: with its program, what that read, and its last writes, which are its writes where there are no others. It
+/// takes no memory.
 fn ready_from(
     program: Program,
     level: Level,
@@ -423,7 +425,7 @@ fn take_kept(kept: &mut Option<Program>) -> Program
     }
 }
 
-/// A run that is done goes into what is ready to commit, with the program that is kept and what that read. Want of memory leaves all in its place.
+/// A run that is done goes into what is ready to commit, with the program that is kept and what that read. Out of memory leaves all in its place.
 fn give_ready(
     alloc: Global,
     program: &Program,
@@ -451,8 +453,8 @@ fn give_ready(
     Ok(ready_from(own, level, answers, latest, take_run(progress)))
 }
 
-/// What an attempt answers at the end of its run, for who commits it then: a run that is done goes into the answer, with the program that is kept and what that
-/// read. Want of memory leaves all in its place.
+/// What an attempt answers at the end of its run, for who commits it then: a run that is done goes into the answer, with the program that is kept and
+/// what that read. Out of memory leaves all in its place.
 pub(crate) fn give_end(
     alloc: Global,
     program: &Program,

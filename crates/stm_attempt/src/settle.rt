@@ -25,9 +25,10 @@ fn base_revision(reads: &ReadSet) -> u64
 pub(crate) fn fetch_revision(level: Level, reads: &ReadSet) -> u64
     ensures { result ≡ at_of level reads.now }
 {
-    match level {
-        Level::SerializableSnapshot | Level::Serializable => base_revision(reads),
-        Level::RepeatableReads | Level::ReadCommitted => 0,
+    if level.is_serializable() {
+        base_revision(reads)
+    } else {
+        0
     }
 }
 

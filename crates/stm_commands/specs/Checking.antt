@@ -8,7 +8,7 @@ use Rattle.stm_check.specs.declared.judging.CheckFault.{CheckFault}
 use Rattle.stm_check.specs.declared.judging.CheckFault.TheVariants.{OutOfMemory, BadScenario, BadReport, Device}
 use Rattle.stm_check.specs.CauseNames.{cause_name as wrong_cause_name}
 use Rattle.stm_check.specs.Judging.{Sources, Judges, NoneFailed}
-use Rattle.stm_commands.specs.Statuses.{bad_input, Says}
+use Rattle.stm_commands.specs.Statuses.{bad_input, memory_fault, device_fault, Reports}
 
 -- ---- answers
 
@@ -22,7 +22,7 @@ answer_text (No line cause) = codes "no " ++ decimal line ++ codes " " ++ wrong_
 
 -- ---- faults
 
--- 2 for bad input, 3 for want of memory and a failed device
+-- 2 for bad input, 3 where memory ran out or a device failed
 abbrev pub fault_status : CheckFault → ℕ
 fault_status OutOfMemory = 3
 fault_status (BadScenario fault) = 2
@@ -30,10 +30,10 @@ fault_status (BadReport fault) = 2
 fault_status Device = 3
 
 abbrev pub fault_message : CheckFault → List ℕ
-fault_message OutOfMemory = codes "stmrun: out of memory\n"
+fault_message OutOfMemory = memory_fault
 fault_message (BadScenario bad) = bad_input (codes "stmrun: bad scenario at ") bad
 fault_message (BadReport bad) = bad_input (codes "stmrun: bad report at ") bad
-fault_message Device = codes "stmrun: device fault\n"
+fault_message Device = device_fault
 
 -- ---- the command
 
@@ -51,7 +51,7 @@ Prints before after failed checked (Err OutOfMemory) = (failed ≡ false) × Kee
 Prints before after failed checked (Err Device) = (failed ≡ true) × WritesFront before after (answer_text checked)
 Prints before after failed checked (Err other) = ⊥
 
--- What a check did, by its answer. At an answer its line was written; at a bad input, want of memory and a failed source
+-- What a check did, by its answer. At an answer its line was written; at a bad input, out of memory and a failed source
 -- nothing was; at a failed sink a front of the line was.
 abbrev pub DoesTo : Devices → Result Checked CheckFault → Type 0
 DoesTo d (Ok checked) = Judges d.sources (Ok checked) × (d.sink_failed ≡ false) × Appends d.before d.after (answer_text checked)
@@ -68,7 +68,7 @@ Does sources before after failed result =
 
 -- what is said and answered of a fault: its own message and status
 abbrev pub SaysOf : Option (List ℕ) → Option (List ℕ) → Bool → CheckFault → ℕ → Type 0
-SaysOf before after failed fault status = (status ≡ fault_status fault) × Says before after failed (fault_message fault)
+SaysOf before after failed fault status = Reports (fault_status fault) (fault_message fault) before after failed status
 
 abbrev pub EndsBy : Option (List ℕ) → Option (List ℕ) → Bool → Result Checked CheckFault → ℕ → Type 0
 EndsBy before after failed (Ok checked) status = (status ≡ answer_status checked) × (failed ≡ false) × Keeps before after

@@ -1,4 +1,4 @@
--- What the commands do that explain a bad input behind what they say of it, and runs that came to a fault: what they do otherwise, but for
+-- What the commands do that explain a bad input after what they say of it, and runs that came to a fault: what they do otherwise, but for
 -- the explanations.
 use Rattle.std.specs.Prelude.{◌≡◌, ℕ, List, Bool, false, Option, Result, Ok, Err}
 use Rattle.std.specs.Io.KnownBytes.{Keeps}
@@ -11,7 +11,7 @@ use Rattle.stm_check.specs.declared.judging.CheckFault.{CheckFault}
 use Rattle.stm_report.specs.declared.whole_comparing.WholeChecked.{WholeChecked}
 use Rattle.stm_texts.specs.Reading.{scenario_in}
 use Rattle.stm_faulted_runs.specs.Lines.{OrNothing, ExplainsRun}
-pub use Rattle.stm_explain.specs.Saying.{IsExplained, SaysMore, SaysSome}
+pub use Rattle.stm_explain.specs.Saying.{IsExplained, ReportsMore, SaysSome}
 use Rattle.stm_commands.specs.Statuses.{status_of, message_of}
 use Rattle.stm_commands.specs.Checking.{Devices, DoesTo, answer_status, fault_status as check_status, fault_message as check_message}
 use Rattle.stm_commands.specs.WholeChecking.{DoesTo as WholeDoesTo, SaysOfAnswer}
@@ -19,7 +19,7 @@ use Rattle.stm_commands.specs.WholeChecking.{DoesTo as WholeDoesTo, SaysOfAnswer
 -- ---- script
 
 abbrev pub ScriptSays : Option (List ℕ) → Option (List ℕ) → Bool → ScriptFault → ℕ → Type 0
-ScriptSays before after failed fault status = (status ≡ status_of fault) × SaysMore before after failed (message_of fault)
+ScriptSays before after failed fault status = ReportsMore (status_of fault) (message_of fault) before after failed status
 
 -- what is said of the runs that came to a fault, of the scenario that was kept under this name as this text
 abbrev pub SaysRuns : List ℕ → List ℕ → Option (List ℕ) → Option (List ℕ) → Bool → Type 0
@@ -37,7 +37,7 @@ ScriptEnds format name text devices before after failed status =
 -- ---- check, and check of each line
 
 abbrev pub CheckSays : Option (List ℕ) → Option (List ℕ) → Bool → CheckFault → ℕ → Type 0
-CheckSays before after failed fault status = (status ≡ check_status fault) × SaysMore before after failed (check_message fault)
+CheckSays before after failed fault status = ReportsMore (check_status fault) (check_message fault) before after failed status
 
 abbrev pub CheckEndsBy : Option (List ℕ) → Option (List ℕ) → Bool → Result Checked CheckFault → ℕ → Type 0
 CheckEndsBy before after failed (Ok checked) status = (status ≡ answer_status checked) × (failed ≡ false) × Keeps before after

@@ -1,5 +1,5 @@
 -- What the command `recipe` does to its devices, its statuses, and what it says.
-use Rattle.std.specs.Prelude.{◌≡◌, ℕ, List, ◌++◌, Bool, false, Option, Result, Ok, Err, codes}
+use Rattle.std.specs.Prelude.{◌≡◌, ℕ, List, Bool, false, Option, Result, Ok, Err}
 use Rattle.std.specs.Io.KnownBytes.{Keeps}
 use Rattle.stm_recipe_lines.specs.declared.printing.RecipeFault.{RecipeFault}
 use Rattle.stm_recipe_lines.specs.declared.printing.RecipeFault.TheVariants.{OutOfMemory, Words, Write}
@@ -8,26 +8,23 @@ use Rattle.stm_recipe_lines.specs.declared.words.WordsFault.{WordsFault}
 use Rattle.stm_recipe_lines.specs.FaultTexts.{fault_text}
 use Rattle.stm_recipe_lines.specs.Printing.{Prints}
 use Rattle.stm_commands.specs.declared.recipes.TheConstants.{USAGE}
-use Rattle.stm_commands.specs.Statuses.{Says}
+use Rattle.stm_explain.specs.Saying.{memory_fault, device_fault, usage_fault, Reports}
 
--- 2 for words that spell no recipe, 3 for want of memory and a failed device
+-- 2 for words that spell no recipe, 3 where memory ran out or a device failed
 abbrev pub fault_status : RecipeFault → ℕ
 fault_status OutOfMemory = 3
 fault_status (Words fault) = 2
 fault_status Write = 3
 
--- what is wrong with the words, and the command's usage
-abbrev pub usage_text : WordsFault → List ℕ
-usage_text fault = codes "error: " ++ fault_text fault ++ USAGE.now
-
+-- of words that spell no recipe what is wrong with them, and the command's usage
 abbrev pub fault_message : RecipeFault → List ℕ
-fault_message OutOfMemory = codes "stmrun: out of memory\n"
-fault_message (Words fault) = usage_text fault
-fault_message Write = codes "stmrun: device fault\n"
+fault_message OutOfMemory = memory_fault
+fault_message (Words fault) = usage_fault (fault_text fault) USAGE.now
+fault_message Write = device_fault
 
 -- what is said and answered of a fault: its own message and status
 abbrev pub SaysOf : Option (List ℕ) → Option (List ℕ) → Bool → RecipeFault → ℕ → Type 0
-SaysOf before after failed fault status = (status ≡ fault_status fault) × Says before after failed (fault_message fault)
+SaysOf before after failed fault status = Reports (fault_status fault) (fault_message fault) before after failed status
 
 abbrev pub EndsBy : {A : Type 0} → Option (List ℕ) → Option (List ℕ) → Bool → Result A RecipeFault → ℕ → Type 0
 EndsBy before after failed (Ok u) status = (status ≡ 0) × (failed ≡ false) × Keeps before after

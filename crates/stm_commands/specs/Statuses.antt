@@ -1,7 +1,7 @@
 -- The statuses of the program, and what it says of a fault.
 use Rattle.std.specs.Prelude.{◌≡◌, ℕ, List, Bool, false, Option, Result, Ok, Err, codes}
 use Rattle.std.specs.Io.KnownBytes.{Keeps}
-pub use Rattle.stm_explain.specs.Saying.{bad_input, Says}
+pub use Rattle.stm_explain.specs.Saying.{bad_input, memory_fault, device_fault, Says, Reports}
 use Rattle.stm_report.specs.declared.run_script.ScriptFault.{ScriptFault}
 use Rattle.stm_report.specs.declared.run_script.ScriptFault.TheVariants.{OutOfMemory, Bad, Read, Write}
 use Rattle.stm_devices.specs.Ends.{Devices}
@@ -10,7 +10,7 @@ use Rattle.stm_commands.specs.declared.formats.TheConstants.{NO_FORMAT}
 use Rattle.stm_report.specs.declared.format.Format.{Format}
 use Rattle.stm_report.specs.FormatScript.{DoesAs}
 
--- 2 for bad input, 3 for want of memory and a failed device
+-- 2 for bad input, 3 where memory ran out or a device failed
 abbrev pub status_of : ScriptFault → ℕ
 status_of OutOfMemory = 3
 status_of (Bad fault) = 2
@@ -18,14 +18,14 @@ status_of Read = 3
 status_of Write = 3
 
 abbrev pub message_of : ScriptFault → List ℕ
-message_of OutOfMemory = codes "stmrun: out of memory\n"
+message_of OutOfMemory = memory_fault
 message_of (Bad bad) = bad_input (codes "stmrun: bad scenario at ") bad
-message_of Read = codes "stmrun: device fault\n"
-message_of Write = codes "stmrun: device fault\n"
+message_of Read = device_fault
+message_of Write = device_fault
 
 -- what is said and answered of a fault: its own message and status
 abbrev pub SaysOf : Option (List ℕ) → Option (List ℕ) → Bool → ScriptFault → ℕ → Type 0
-SaysOf before after failed fault status = (status ≡ status_of fault) × Says before after failed (message_of fault)
+SaysOf before after failed fault status = Reports (status_of fault) (message_of fault) before after failed status
 
 abbrev pub EndsBy : {A : Type 0} → Option (List ℕ) → Option (List ℕ) → Bool → Result A ScriptFault → ℕ → Type 0
 EndsBy before after failed (Ok u) status = (status ≡ 0) × (failed ≡ false) × Keeps before after

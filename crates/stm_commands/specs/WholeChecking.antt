@@ -42,7 +42,7 @@ Prints before after failed checked (Err OutOfMemory) = (failed ≡ false) × Kee
 Prints before after failed checked (Err Device) = (failed ≡ true) × WritesFront before after (answer_text checked)
 Prints before after failed checked (Err other) = ⊥
 
--- What a check of a whole report did, by its answer. At an answer its line was written; at a bad input, want of memory and a failed source
+-- What a check of a whole report did, by its answer. At an answer its line was written; at a bad input, out of memory and a failed source
 -- nothing was; at a failed sink a front of the line was.
 abbrev pub DoesTo : Devices → Result WholeChecked CheckFault → Type 0
 DoesTo d (Ok checked) = Judges d.sources (Ok checked) × (d.sink_failed ≡ false) × Appends d.before d.after (answer_text checked)

@@ -1,14 +1,15 @@
 //! The command `check` over devices.
 ghost use Rattle.std.specs.Prelude.{◌≡◌, ◌≤◌, ◌+◌, false, IfOk, string_bytes};
 ghost use Rattle.stm_devices.specs.declared.transfer.TheConstants.{MOST_READ};
-ghost use Rattle.stm_devices.specs.Transfers.{HasWritten};
+ghost use Rattle.stm_explain.specs.Saying.{status_of as code_of, text_of as message_text, IsExplained};
 ghost use Rattle.stm_check.specs.declared.checking.Checked.TheVariants.{No};
 ghost use Rattle.stm_commands.specs.Checking.{answer_status, answer_text, fault_status, fault_message, SaysOf, Prints, Does, Ends};
+ghost use Rattle.stm_commands.specs.Explaining.{CheckSays};
 
 use std::alloc::{AllocError, Global};
 use stm_check::{CheckFault, Checked, WrongCause, check_sources};
-use stm_explain::{write_bad, write_text};
-use stm_report::{DeviceFault, Sink, Source};
+use stm_explain::{Message, write_text};
+use stm_report::{Sink, Source};
 
 /// The status of an answer.
 pub(crate) fn status_of(checked: Checked) -> u8
@@ -70,53 +71,52 @@ pub(crate) fn answer<S: Source, R: Source, W: Sink>(
     ensures scenario_bounded { S.reads scenario.new ≤ S.reads scenario.old + MOST_READ }
     ensures report_bounded { R.reads report.new ≤ R.reads report.old + MOST_READ }
 {
-    let checked = match check_sources(alloc, scenario, report) {
-        Ok(checked) => checked,
-        Err(fault) => return Err(fault),
-    };
-    match print(alloc, out, checked) {
-        Ok(()) => Ok(checked),
-        Err(fault) => Err(fault),
-    }
+    let checked = check_sources(alloc, scenario, report)?;
+    print(alloc, out, checked)?;
+    Ok(checked)
 }
 
-/// Writes what is said of a fault. Where the sink fails, a front of it was written.
-pub(crate) fn write_message<E: Sink>(err: &mut E, fault: &CheckFault) -> Result<(), DeviceFault>
-    requires { E.failed err.old ≡ false }
-    ensures { HasWritten (E.held err.old) (E.held err.new) (E.failed err.new) result (fault_message fault.now) }
+/// What is said of a fault.
+fn message(fault: &CheckFault) -> Message<'_>
+    ensures status { code_of result ≡ fault_status fault.now }
+    ensures text { message_text result ≡ fault_message fault.now }
 {
     match fault {
-        CheckFault::BadScenario(bad) => write_bad(err, "stmrun: bad scenario at ", bad),
-        CheckFault::BadReport(bad) => write_bad(err, "stmrun: bad report at ", bad),
-        CheckFault::OutOfMemory => write_text(err, "stmrun: out of memory\n"),
-        CheckFault::Device => write_text(err, "stmrun: device fault\n"),
+        CheckFault::BadScenario(bad) => Message::Bad {
+            begin: "stmrun: bad scenario at ",
+            bad,
+        },
+        CheckFault::BadReport(bad) => Message::Bad {
+            begin: "stmrun: bad report at ",
+            bad,
+        },
+        CheckFault::OutOfMemory => Message::OutOfMemory,
+        CheckFault::Device => Message::Device,
     }
 }
 
-/// The status of a fault.
-pub(crate) fn status(fault: &CheckFault) -> u8
-    ensures { result ≡ fault_status fault.now }
-{
-    match fault {
-        CheckFault::BadScenario(_) | CheckFault::BadReport(_) => 2,
-        CheckFault::OutOfMemory | CheckFault::Device => 3,
-    }
-}
-
-/// Says what went wrong, and gives the status. Takes no memory.
+/// Says what went wrong, and returns the status. Takes no memory.
 pub(crate) fn report_fault<E: Sink>(err: &mut E, fault: &CheckFault) -> u8
     requires { E.failed err.old ≡ false }
     ensures { SaysOf (E.held err.old) (E.held err.new) (E.failed err.new) fault.now result }
 {
-    let _ = write_message(err, fault);
-    status(fault)
+    message(fault).report(err)
+}
+
+/// Says what went wrong and its explanation, and returns the status.
+pub(crate) fn report_explained<E: Sink>(err: &mut E, fault: &CheckFault, more: &str) -> u8
+    requires works { E.failed err.old ≡ false }
+    requires explains { IsExplained more.now }
+    ensures { CheckSays (E.held err.old) (E.held err.new) (E.failed err.new) fault.now result }
+{
+    message(fault).report_with(err, more)
 }
 
 /// Checks whether `report` is a report of the scenario of `scenario`, and writes `yes` or `no LINE CAUSE` to `out`: the
 /// first wrong line, counted from 1, and why it is wrong.
 ///
 /// The scenario is read and judged first, then the report. Gives the status: 0 for yes, 1 for no, 2 where one of the two
-/// is bad, 3 where a growth was refused or one of the devices but `err` failed. On `err` it says what went wrong, and
+/// is bad, 3 where an allocation failed or one of the devices but `err` failed. On `err` it says what went wrong, and
 /// takes no memory for it: `stmrun: bad scenario at PLACE: CAUSE`, `stmrun: bad report at PLACE: CAUSE`,
 /// `stmrun: out of memory` or `stmrun: device fault`, whole where `err` then has not failed. That `err` fails changes no
 /// status. None of the devices has failed before. `scenario` and `report` are read at most 16777217 times each.

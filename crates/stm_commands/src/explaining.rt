@@ -1,21 +1,19 @@
-//! The commands that explain a bad input behind what they say of it, and runs that came to a fault.
-ghost use Rattle.std.specs.Prelude.{◌≡◌, ◌≤◌, ◌+◌, ◌++◌, false, string_bytes};
+//! The commands that explain a bad input after what they say of it, and runs that came to a fault.
+ghost use Rattle.std.specs.Prelude.{◌≡◌, ◌≤◌, ◌+◌, false, string_bytes};
 ghost use Rattle.stm_devices.specs.declared.transfer.TheConstants.{MOST_READ};
-ghost use Rattle.stm_devices.specs.Transfers.{HasWritten};
-ghost use Rattle.stm_commands.specs.Statuses.{message_of};
-ghost use Rattle.stm_commands.specs.Checking.{fault_message as check_message};
 ghost use Rattle.stm_texts.specs.Reading.{scenario_in};
 ghost use Rattle.stm_faulted_runs.specs.Lines.{OrNothing, ExplainsRun};
-ghost use Rattle.stm_commands.specs.Explaining.{IsExplained, SaysRuns, ScriptSays, CheckSays, ScriptEnds, CheckEnds, WholeCheckEnds};
+ghost use Rattle.stm_commands.specs.Explaining.{IsExplained, SaysRuns, ScriptEnds, CheckEnds, WholeCheckEnds};
 
-use crate::checking::{answer, status as check_status, status_of, write_message as write_check};
-use crate::scripting::{status as script_status, write_message as write_script};
+use crate::checking::{answer, report_explained as report_check, status_of};
+use crate::scripting::report_explained as report_script;
 use crate::whole_checking::{answer as whole_answer, say};
 use std::alloc::Global;
 use stm_check::CheckFault;
 use stm_explain::{Input, Kept, write_text};
 use stm_faulted_runs::{Named, faults_explained};
-use stm_report::{DeviceFault, Format, ScriptFault, Sink, Source, script_as};
+use stm_explain::write_text;
+use stm_report::{Format, ScriptFault, Sink, Source, script_as};
 
 // ---- explanations
 
@@ -45,7 +43,7 @@ fn check_explanation<S, R>(
     }
 }
 
-/// The explanations of the runs that came to a fault, of the scenario that a text spells; none where a growth was refused.
+/// The explanations of the runs that came to a fault, of the scenario that a text spells; none where an allocation failed.
 fn lines_of_runs(alloc: Global, name: &str, text: &str) -> String
     ensures { OrNothing (ExplainsRun name.now text.now (scenario_in text.now)) (string_bytes result) }
 {
@@ -55,7 +53,7 @@ fn lines_of_runs(alloc: Global, name: &str, text: &str) -> String
     }
 }
 
-/// The explanations of the runs of a scenario that came to a fault; none where a growth was refused, now or before.
+/// The explanations of the runs of a scenario that came to a fault; none where an allocation failed, now or before.
 fn runs_explained<S>(alloc: Global, input: &Kept<'_, S>) -> String
     ensures { OrNothing (ExplainsRun input.now.name.now input.now.bytes.items (scenario_in input.now.bytes.items)) (string_bytes result) }
 {
@@ -65,51 +63,7 @@ fn runs_explained<S>(alloc: Global, input: &Kept<'_, S>) -> String
     }
 }
 
-// ---- what is said
-
-/// Writes what is said of a fault of a script, and more behind it. Where the sink fails, a front of that was written.
-fn write_script_with<E: Sink>(
-    err: &mut E,
-    fault: &ScriptFault,
-    more: &str,
-) -> Result<(), DeviceFault>
-    requires { E.failed err.old ≡ false }
-    ensures { HasWritten (E.held err.old) (E.held err.new) (E.failed err.new) result (message_of fault.now ++ more.now) }
-{
-    write_script(err, fault)?;
-    write_text(err, more)?;
-    Ok(())
-}
-
-/// Writes what is said of a fault of a check, and more behind it. Where the sink fails, a front of that was written.
-fn write_check_with<E: Sink>(err: &mut E, fault: &CheckFault, more: &str) -> Result<(), DeviceFault>
-    requires { E.failed err.old ≡ false }
-    ensures { HasWritten (E.held err.old) (E.held err.new) (E.failed err.new) result (check_message fault.now ++ more.now) }
-{
-    write_check(err, fault)?;
-    write_text(err, more)?;
-    Ok(())
-}
-
-/// Says what went wrong with a script and its explanation, and gives the status.
-fn report_script<E: Sink>(err: &mut E, fault: &ScriptFault, more: &str) -> u8
-    requires works { E.failed err.old ≡ false }
-    requires explains { IsExplained more.now }
-    ensures { ScriptSays (E.held err.old) (E.held err.new) (E.failed err.new) fault.now result }
-{
-    let _ = write_script_with(err, fault, more);
-    script_status(fault)
-}
-
-/// Says what went wrong with a check and its explanation, and gives the status.
-fn report_check<E: Sink>(err: &mut E, fault: &CheckFault, more: &str) -> u8
-    requires works { E.failed err.old ≡ false }
-    requires explains { IsExplained more.now }
-    ensures { CheckSays (E.held err.old) (E.held err.new) (E.failed err.new) fault.now result }
-{
-    let _ = write_check_with(err, fault, more);
-    check_status(fault)
-}
+// ---- runs that came to a fault
 
 /// Explains the runs of a scenario that came to a fault, and gives the status of a good end.
 fn report_runs<S, E: Sink>(alloc: Global, input: &Kept<'_, S>, err: &mut E) -> u8
@@ -124,8 +78,8 @@ fn report_runs<S, E: Sink>(alloc: Global, input: &Kept<'_, S>, err: &mut E) -> u
 
 // ---- the commands
 
-/// Does what `script_as_to` does, with that status and that output. Behind what is said of a bad scenario stands its explanation, as a line
-/// `NAME:LINE:COLUMN: WORDS`, and of a scenario that was run a line for each run that came to a fault; or nothing where a growth was refused for
+/// Does what `script_as_to` does, with that status and that output. After what is said of a bad scenario stands its explanation, as a line
+/// `NAME:LINE:COLUMN: WORDS`, and of a scenario that was run a line for each run that came to a fault; or nothing where an allocation failed for
 /// these.
 pub fn script_explained_to<S: Source, W: Sink, E: Sink>(
     alloc: Global,
@@ -155,8 +109,8 @@ pub fn script_explained_to<S: Source, W: Sink, E: Sink>(
     }
 }
 
-/// Does what `check_to` does, with that status and that output. Behind what is said of a bad input stands its explanation, as a line
-/// `NAME:LINE:COLUMN: WORDS`, or nothing where a growth was refused for it.
+/// Does what `check_to` does, with that status and that output. After what is said of a bad input stands its explanation, as a line
+/// `NAME:LINE:COLUMN: WORDS`, or nothing where an allocation failed for it.
 pub fn check_explained_to<S: Source, R: Source, W: Sink, E: Sink>(
     alloc: Global,
     scenario: &mut Kept<'_, S>,
@@ -191,8 +145,8 @@ pub fn check_explained_to<S: Source, R: Source, W: Sink, E: Sink>(
     }
 }
 
-/// Does what `check_whole_to` does, with that status and that output. Behind what is said of a bad input stands its explanation, as a line
-/// `NAME:LINE:COLUMN: WORDS`, or nothing where a growth was refused for it.
+/// Does what `check_whole_to` does, with that status and that output. After what is said of a bad input stands its explanation, as a line
+/// `NAME:LINE:COLUMN: WORDS`, or nothing where an allocation failed for it.
 pub fn check_whole_explained_to<S: Source, R: Source, W: Sink, E: Sink>(
     alloc: Global,
     scenario: &mut Kept<'_, S>,

@@ -3,7 +3,7 @@ ghost use Rattle.std.specs.Prelude.{◌≡◌, ◌≤◌, ◌+◌, false};
 ghost use Rattle.stm_devices.specs.declared.transfer.TheConstants.{MOST_READ};
 ghost use Rattle.stm_commands.specs.Statuses.{EndsAs, SaysNoFormat};
 
-use crate::scripting::report;
+use crate::scripting::report_fault;
 use std::alloc::Global;
 use stm_explain::write_text;
 use stm_report::{Format, Sink, Source, script_as};
@@ -51,6 +51,6 @@ pub fn script_as_to<S: Source, W: Sink, E: Sink>(
 {
     match script_as(alloc, format, input, out) {
         Ok(()) => 0,
-        Err(fault) => report(err, &fault),
+        Err(fault) => report_fault(err, &fault),
     }
 }

@@ -1,47 +1,49 @@
 //! The command `script` over devices.
 ghost use Rattle.std.specs.Prelude.{◌≡◌, ◌≤◌, ◌+◌, false};
 ghost use Rattle.stm_devices.specs.declared.transfer.TheConstants.{MOST_READ};
-ghost use Rattle.stm_devices.specs.Transfers.{HasWritten};
+ghost use Rattle.stm_explain.specs.Saying.{status_of as code_of, text_of, IsExplained};
+ghost use Rattle.stm_commands.specs.Explaining.{ScriptSays};
 ghost use Rattle.stm_commands.specs.Statuses.{status_of, message_of, SaysOf, Ends};
 
 use std::alloc::Global;
-use stm_explain::{write_bad, write_text};
-use stm_report::{DeviceFault, ScriptFault, Sink, Source, script};
+use stm_explain::Message;
+use stm_report::{ScriptFault, Sink, Source, script};
 
-/// The status of a fault.
-pub(crate) fn status(fault: &ScriptFault) -> u8
-    ensures { result ≡ status_of fault.now }
+/// What is said of a fault.
+fn message(fault: &ScriptFault) -> Message<'_>
+    ensures status { code_of result ≡ status_of fault.now }
+    ensures text { text_of result ≡ message_of fault.now }
 {
     match fault {
-        ScriptFault::Bad(_) => 2,
-        ScriptFault::OutOfMemory | ScriptFault::Read | ScriptFault::Write => 3,
+        ScriptFault::Bad(bad) => Message::Bad {
+            begin: "stmrun: bad scenario at ",
+            bad,
+        },
+        ScriptFault::OutOfMemory => Message::OutOfMemory,
+        ScriptFault::Read | ScriptFault::Write => Message::Device,
     }
 }
 
-/// Writes what is said of a fault. Where the sink fails, a front of it was written.
-pub(crate) fn write_message<E: Sink>(err: &mut E, fault: &ScriptFault) -> Result<(), DeviceFault>
-    requires { E.failed err.old ≡ false }
-    ensures { HasWritten (E.held err.old) (E.held err.new) (E.failed err.new) result (message_of fault.now) }
-{
-    match fault {
-        ScriptFault::Bad(bad) => write_bad(err, "stmrun: bad scenario at ", bad),
-        ScriptFault::OutOfMemory => write_text(err, "stmrun: out of memory\n"),
-        ScriptFault::Read | ScriptFault::Write => write_text(err, "stmrun: device fault\n"),
-    }
-}
-
-/// Says what went wrong, and gives the status. Takes no memory.
-pub(crate) fn report<E: Sink>(err: &mut E, fault: &ScriptFault) -> u8
+/// Says what went wrong, and returns the status. Takes no memory.
+pub(crate) fn report_fault<E: Sink>(err: &mut E, fault: &ScriptFault) -> u8
     requires { E.failed err.old ≡ false }
     ensures { SaysOf (E.held err.old) (E.held err.new) (E.failed err.new) fault.now result }
 {
-    let _ = write_message(err, fault);
-    status(fault)
+    message(fault).report(err)
+}
+
+/// Says what went wrong and its explanation, and returns the status.
+pub(crate) fn report_explained<E: Sink>(err: &mut E, fault: &ScriptFault, more: &str) -> u8
+    requires works { E.failed err.old ≡ false }
+    requires explains { IsExplained more.now }
+    ensures { ScriptSays (E.held err.old) (E.held err.new) (E.failed err.new) fault.now result }
+{
+    message(fault).report_with(err, more)
 }
 
 /// Runs the scenario of `input` and writes its report to `out`, whole or not at all but for a failed `out`.
 ///
-/// Gives the status: 0 where the report was written, 2 where the input is no scenario, 3 where a growth was refused or
+/// Gives the status: 0 where the report was written, 2 where the input is no scenario, 3 where an allocation failed or
 /// `input` or `out` failed. On `err` it says what went wrong, and takes no memory for it: `stmrun: bad scenario at PLACE: CAUSE`,
 /// `stmrun: out of memory` or `stmrun: device fault`, whole where `err` then has not failed. That `err` fails changes no
 /// status. None of the devices has failed before. `input` is read at most 16777217 times.
@@ -65,6 +67,6 @@ pub fn script_to<S: Source, W: Sink, E: Sink>(
 {
     match script(alloc, input, out) {
         Ok(()) => 0,
-        Err(fault) => report(err, &fault),
+        Err(fault) => report_fault(err, &fault),
     }
 }

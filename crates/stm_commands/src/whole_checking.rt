@@ -60,14 +60,9 @@ pub(crate) fn answer<S: Source, R: Source, W: Sink>(
     ensures scenario_bounded { S.reads scenario.new ≤ S.reads scenario.old + MOST_READ }
     ensures report_bounded { R.reads report.new ≤ R.reads report.old + MOST_READ }
 {
-    let checked = match check_whole(alloc, scenario, report) {
-        Ok(checked) => checked,
-        Err(fault) => return Err(fault),
-    };
-    match print(alloc, out, &checked) {
-        Ok(()) => Ok(checked),
-        Err(fault) => Err(fault),
-    }
+    let checked = check_whole(alloc, scenario, report)?;
+    print(alloc, out, &checked)?;
+    Ok(checked)
 }
 
 /// Writes which line is expected, and that none is where the report has ended. Where the sink fails, a front of that was written.
@@ -115,7 +110,7 @@ pub(crate) fn say<E: Sink>(err: &mut E, checked: &WholeChecked) -> u8
 /// `no LINE Differs` to `out`: the first line that is not alike, counted from 1.
 ///
 /// The scenario is read and judged first, then the text. Gives the status: 0 for yes, 1 for no, 2 where the scenario is bad or the text
-/// is no report in its format, 3 where a growth was refused or one of the devices but `err` failed. On `err` it says at a no what is
+/// is no report in its format, 3 where an allocation failed or one of the devices but `err` failed. On `err` it says at a no what is
 /// expected, `stmrun: expected LINE`, or `stmrun: expected no more lines` where the scenario's report has ended, and of a fault what
 /// `check` says of it; that takes no memory, and is whole where `err` then has not failed. That `err` fails changes no status. None of
 /// the devices has failed before. `scenario` and `report` are read at most 16777217 times each.

@@ -155,7 +155,7 @@ unmodified_writes h first (w ∷ writes) i none =
     let below : mod_of (key_now h (key_of w)) < first + 1 = (mod_compares.below (key_of w) (first + 1) (key_now h (key_of w))).0 parts.0 in
     (omega (arith, below), unmodified_writes h first writes (i + 1) parts.1)
 
--- none of the compares behind those of the keys read fails either, wherever they are counted from
+-- none of the compares after those of the keys read fails either, wherever they are counted from
 behind_reads : (h : History) (reads : List ReadAnswer) (others : List Compare) (i : ℕ) →
     first_failed (key_now h) i (map is_as_read reads ++ others) ≡ None → (j : ℕ) × (first_failed (key_now h) j others ≡ None)
 behind_reads h [] others i none = (i, none)

@@ -126,7 +126,7 @@ place_added answers a places after kept new reported = record {
       ∙ sym (answer_in-more answers a key new);
 }
 
--- ---- answers that are searched, and those behind them
+-- ---- answers that are searched, and those after them
 
 -- the first of two that is there
 abbrev pub or_else : Option ReadAnswer → Option ReadAnswer → Option ReadAnswer
@@ -153,7 +153,7 @@ none_second : (first second : Option ReadAnswer) → or_else first second ≡ No
 none_second None second none = none
 none_second (Some a) second none = absurd (cc)
 
--- a key that has no answer has none behind so many
+-- a key that has no answer has none after the first n
 new_behind : (key : List ℕ) (n : ℕ) (answers : List ReadAnswer) → answer_in key answers ≡ None → answer_in key (drop n answers) ≡ None
 new_behind key n answers new =
     none_second (answer_in key (take n answers)) (answer_in key (drop n answers)) (sym (answer_of_both key n answers _ refl) ∙ new)
@@ -174,7 +174,7 @@ read_searched n answers a places read few new =
       distinct = distinct_added answers a read.distinct new;
     }
 
--- one answer more behind them, whose place is told
+-- one answer more after them, whose place is given
 pub read_indexed : (n : ℕ) (answers : List ReadAnswer) (a : ReadAnswer) (places after : List ℕ → Option ℕ) → AreRead n answers places →
     n ≤ length answers → answer_in a.key answers ≡ None →
     ((key : List ℕ) → after key ≡ update bytes_eq places a.key (Some (length (drop n answers))) key) → AreRead n (answers ++ a ∷ []) after
@@ -203,7 +203,7 @@ fold_is_below : (n first : ℕ) (answers : List ReadAnswer) → n ≡ fold (λ l
 fold_is_below n first [] e = omega (arith, e)
 fold_is_below n first (a ∷ answers) e = omega (arith, fold_is_below n (min first a.revision) answers e)
 
--- what is least behind all of them
+-- what is least after all of them
 pub least_is_below : (n first i : ℕ) (answers : List ReadAnswer) → fold (λ least (b : ReadAnswer). min least b.revision) n (drop i answers)
     ≡ fold (λ least (b : ReadAnswer). min least b.revision) first answers → length answers ≤ i → n ≤ first
 least_is_below n first i answers kept all =

@@ -258,7 +258,7 @@ commit_has_no_floor terms floor level reads run =
     ap (λ (o : Result Done Refusal). cond (sends_too_many terms.limit level reads (latest_writes run.writes)) (Err TooManyOps) o)
     (judged_at terms floor level reads run (conflict_now terms.history level reads (latest_writes run.writes)))
 
--- ---- what a failed commit tells
+-- ---- what a failed commit reports
 
 shown_now : (h : History) (keys : List (List ℕ)) → map (shown h) (reads_now keys) ≡ map (λ a. GetAnswer a) (map (answer_now h) keys)
 shown_now h [] = refl

@@ -89,11 +89,11 @@ unread_key = refl
 
 -- ---- the revisions up to 3 are dropped, the second put of b among them
 
--- the commit is told the same conflict
+-- the commit reports the same conflict
 after_a_compaction : conflict_now (cut 3 b_again) SerializableSnapshot (read_a ∷ []) (Put b nine 0 ∷ []) ≡ Some (record { index = 1; mod_rev = 3 })
 after_a_compaction = refl
 
--- and the state that the history opens with tells that b was changed above revision 2, but not above 3
+-- and the state that the history opens with shows that b was changed above revision 2, but not above 3
 b_was_changed : IsChangedAbove (cut 3 b_again) 2 b
 b_was_changed = refl
 

@@ -20,7 +20,7 @@ use Rattle.stm_outcome.specs.Commits.{applied, turned_down}
 use Rattle.stm_compile.specs.Now.{as_change}
 use Rattle.stm_compile.specs.CommitTxn.{compares_of, reread_keys}
 
--- how many keys a commit compares that has read and written so many
+-- how many keys a commit compares, by how many it has read and written
 abbrev pub compared : Level → ℕ → ℕ → ℕ
 compared SerializableSnapshot reads writes = reads + writes
 compared Serializable reads writes = reads
@@ -37,7 +37,7 @@ abbrev pub conflict_now : History → Level → List ReadAnswer → List Write �
 conflict_now h level reads writes = first_failed (key_now h) 0 (compares_of level reads writes)
 
 -- Where no compare fails the latest writes are applied, all at once: LeaseNotFound where one of them names a lease that is not
--- live, else RevisionsUsedUp where something changes at the highest revision. A failed compare changes nothing: it is told, with
+-- live, else RevisionsUsedUp where something changes at the highest revision. A failed compare changes nothing: it is reported, with
 -- what the keys to be read again are now.
 abbrev pub judged : Terms → Level → List ReadAnswer → Run → Option FailedCompare → Result Done Refusal
 judged terms level reads run None = applied terms (map as_change (latest_writes run.writes))

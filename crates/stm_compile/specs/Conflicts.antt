@@ -1,4 +1,4 @@
--- Conflicts: what a failed compare tells, and why it failed.
+-- Conflicts: what a failed compare reports, and why it failed.
 --
 -- The documentation of the Go package `clientv3/concurrency`, "STM": a commit fails only where a key that was read, or at
 -- serializable snapshot one that was written, has been changed since.
@@ -42,11 +42,11 @@ abbrev pub seen_of_write : ℕ → Write → Seen
 seen_of_write first w = record { key = key_of w; mod_rev = first; at = first }
 
 -- What each compare is about, in the order of the compares. Only serializable snapshot compares written keys: at the other levels no
--- compare stands behind those of the keys read.
+-- compare stands after those of the keys read.
 abbrev pub seen_by : List ReadAnswer → List Write → List Seen
 seen_by reads writes = map seen_of_read reads ++ map (seen_of_write (first_carried reads)) writes
 
--- A failed compare is a conflict: it is about this key; the key's modification revision is told; and the history changes the
+-- A failed compare is a conflict: it is about this key; the key's modification revision is reported; and the history changes the
 -- key above the revision that it was seen at.
 pub record IsConflict (h : History) (reads : List ReadAnswer) (writes : List Write) (failed : FailedCompare) : Type 0 where
   pub seen : Seen

@@ -81,7 +81,7 @@ TrueAnswersStay = (h : History) (changes : List Change) (reads : List ReadAnswer
 abbrev pub AppliedIsEffect : Type 0
 AppliedIsEffect = (h : History) (writes : List Write) → effective h (map as_change (latest_writes writes)) ≡ changes_of_writes h writes
 
--- A commit that is turned down tells the keys that it reads again as they are now, and changes nothing.
+-- A commit that is turned down reports the keys that it reads again as they are now, and changes nothing.
 pub record Rereads (h : History) (level : Level) (reads : List ReadAnswer) (failed : FailedCompare) : Type 0 where
   pub reported : (turned_down h failed (reread_keys level reads)).answer.answers ≡ map (λ a. GetAnswer a) (map (answer_now h) (reread_keys level reads))
   pub true_now : AreTrue h (map (answer_now h) (reread_keys level reads))

@@ -14,7 +14,7 @@ pub record AreAnswerPlaces (answers : List ReadAnswer) (places : List ℕ → Op
   pub within : (key : List ℕ) (i : ℕ) → places key ≡ Some i → i < length answers
   pub answer : (key : List ℕ) → answer_at answers (places key) ≡ answer_in key answers
 
--- What an attempt has read: no two answers are of one key, and those behind so many stand in an index.
+-- What an attempt has read: no two answers are of one key, and those after the first `searched` stand in an index.
 pub record AreRead (searched : ℕ) (answers : List ReadAnswer) (places : List ℕ → Option ℕ) : Type 0 where
   pub placed : AreAnswerPlaces (drop searched answers) places
   pub distinct : IsDistinct bytes_eq (map (λ (a : ReadAnswer). a.key) answers)

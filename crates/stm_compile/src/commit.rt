@@ -5,10 +5,10 @@ ghost use Rattle.stm_history.specs.declared.revisions.TheConstants.{HIGHEST_NUMB
 ghost use Rattle.stm_outcome.specs.Commits.{read_now};
 ghost use Rattle.stm_compile.specs.CommitTxn.{first_carried, is_as_read, is_unmodified, compares_of, write_op, reread_keys, commit_of};
 
-use crate::read_set::{ReadSet, mod_rev_in};
+use crate::read_set::ReadSet;
 use crate::write_buffer::WriteBuffer;
 use std::alloc::{AllocError, Global};
-use stm_history::{ReadAnswer, Text};
+use stm_history::{ReadAnswer, Text, mod_rev_of};
 use stm_outcome::{Compare, Op, Order, ShortList, Target, Txn};
 use stm_program::{Level, Write};
 
@@ -19,7 +19,7 @@ fn as_read(answer: &ReadAnswer) -> Result<Compare, AllocError>
     let key = answer.key.clone()?;
     Ok(Compare {
         key,
-        target: Target::Mod(mod_rev_in(&answer.kv)),
+        target: Target::Mod(mod_rev_of(&answer.kv)),
         order: Order::Equal,
     })
 }
@@ -180,11 +180,10 @@ fn reads_again(alloc: Global, answers: &[ReadAnswer]) -> Result<Vec<Op>, AllocEr
 fn rereads(alloc: Global, level: Level, reads: &ReadSet) -> Result<Vec<Op>, AllocError>
     ensures { IfOk result (λ ops. ops.items ≡ map read_now (reread_keys level reads.now)) }
 {
-    match level {
-        Level::SerializableSnapshot => reads_again(alloc, reads.as_slice()),
-        Level::Serializable => reads_again(alloc, reads.as_slice()),
-        Level::RepeatableReads => Ok(Vec::new(alloc)),
-        Level::ReadCommitted => Ok(Vec::new(alloc)),
+    if level.is_serializable() {
+        reads_again(alloc, reads.as_slice())
+    } else {
+        Ok(Vec::new(alloc))
     }
 }
 
@@ -196,7 +195,7 @@ fn rereads(alloc: Global, level: Level, reads: &ReadSet) -> Result<Vec<Op>, Allo
 /// has the writes in the order of first writes. At the two serializable levels its failure list reads each
 /// key of the read set again; at the other two it is empty. (`clientv3/concurrency`, "STM".)
 ///
-/// The one refusal is want of memory.
+/// Out of memory is the only refusal.
 pub fn compile(
     alloc: Global,
     level: Level,

@@ -3,7 +3,7 @@ ghost use Rattle.stm_compile.specs.Laws.{CommitComesTo, CommitIsTheRunNow, TrueR
 ghost use Rattle.stm_compile.specs.Laws.{AnswersOfOneRevision, TrueAnswersStay, AppliedIsEffect, FailedCommitRereads, CommitHasNoFloor};
 
 /// The transaction of a run comes to the run's commit: `TooManyOps` exactly where it compares or writes too
-/// much, else a failed compare is told and nothing changes, else its latest writes are applied.
+/// much, else a failed compare is reported and nothing changes, else its latest writes are applied.
 pub fn commit_comes_to()
     ensures { CommitComesTo }
 {}
@@ -53,7 +53,7 @@ pub fn applied_is_effect()
     ensures { AppliedIsEffect }
 {}
 
-/// A failed commit changes nothing. It tells the keys that were read as they are now, in the order of first
+/// A failed commit changes nothing. It reports the keys that were read as they are now, in the order of first
 /// reads, where the next attempt can use them, and no others.
 pub fn failed_commit_rereads()
     ensures { FailedCommitRereads }

@@ -3,7 +3,6 @@ ghost use Rattle.std.specs.Prelude.{◌≡◌, ℕ, List, ◌<◌, ◌≤◌, by
 ghost use Rattle.std.specs.Prelude.{drop};
 ghost use Rattle.std.specs.List.{find, IsDistinct};
 ghost use Rattle.indexmap.specs.IndexMap.{get_by_text};
-ghost use Rattle.stm_history.specs.History.{value_of, mod_of};
 ghost use Rattle.stm_history.specs.declared.key_state.ReadAnswer.{ReadAnswer as Answer};
 ghost use Rattle.stm_history.specs.declared.revisions.TheConstants.{HIGHEST_NUMBER};
 ghost use Rattle.stm_outcome.specs.Numbers.{ReadFits};
@@ -14,7 +13,7 @@ ghost use Rattle.stm_compile.specs.declared.read_set.TheConstants.{MOST_SEARCHED
 use indexmap::IndexMap;
 use std::alloc::{AllocError, Global};
 use std::marker::Model;
-use stm_history::{HIGHEST_REVISION, KeyState, ReadAnswer, Sequence};
+use stm_history::{HIGHEST_REVISION, ReadAnswer, Sequence, mod_rev_of, value_of};
 use stm_meaning::Lookup;
 
 /// How many answers or writes are searched one by one. For so few that is quicker than a table, which takes memory at its first key.
@@ -23,12 +22,12 @@ pub(crate) const MOST_SEARCHED: usize = 16;
 /// The answers that an attempt has read, one for each key, in the order of first reads. Contracts see the
 /// list of them.
 ///
-/// Beside it stands an index of the answers behind the first sixteen, from each key to the place of its answer, so that no look-up is a
+/// Beside it stands an index of the answers after the first sixteen, from each key to the place of its answer, so that no look-up is a
 /// long search. (The read set of the Go package `clientv3/concurrency`, which keeps no order.)
 #[derive(Debug)]
 pub struct ReadSet {
     answers: Vec<ReadAnswer>,
-    // of the answers behind those that are searched, counted from there
+    // of the answers after those that are searched, counted from there
     places: IndexMap<String, usize>,
 }
 
@@ -81,7 +80,7 @@ impl ReadSet {
         ReadSet { answers, places }
     }
 
-    /// Adds an answer behind those that are searched, and its place to the index.
+    /// Adds an answer after those that are searched, and its place to the index.
     fn add_indexed(&mut self, answer: ReadAnswer) -> Result<(), AllocError>
         requires place { MOST_SEARCHED ≤ length self.old }
         requires new_key { answer_in answer.key self.old ≡ None }
@@ -111,7 +110,7 @@ impl ReadSet {
 
     /// Adds an answer at the end, of a key that has none yet. Its revisions are at most `HIGHEST_NUMBER`.
     ///
-    /// Want of memory is its only refusal, and leaves the answers as they were.
+    /// Out of memory is its only refusal, and leaves the answers as they were.
     pub fn add(&mut self, answer: ReadAnswer) -> Result<(), AllocError>
         requires new_key { answer_in answer.key self.old ≡ None }
         requires in_range { ReadFits answer }
@@ -141,7 +140,7 @@ impl ReadSet {
         &self.answers[place]
     }
 
-    /// The answer for a key behind those that are searched.
+    /// The answer for a key, of those after the ones that are searched.
     fn get_indexed(&self, key: &str) -> Option<&ReadAnswer>
         requires { MOST_SEARCHED ≤ length self.now }
         ensures { option_copied result ≡ answer_in key.now (drop MOST_SEARCHED self.now) }
@@ -256,34 +255,14 @@ impl Lookup for ReadSet {
     fn value(&self, key: &str) -> Option<&str> {
         match self.get(key) {
             None => None,
-            Some(answer) => Some(value_in(&answer.kv)),
+            Some(answer) => Some(value_of(&answer.kv)),
         }
     }
 
     fn mod_rev(&self, key: &str) -> Option<u64> {
         match self.get(key) {
             None => None,
-            Some(answer) => Some(mod_rev_in(&answer.kv)),
+            Some(answer) => Some(mod_rev_of(&answer.kv)),
         }
-    }
-}
-
-/// The value of a key's state, "" where it is absent.
-fn value_in(kv: &Option<KeyState>) -> &str
-    ensures { result.now ≡ value_of kv.now }
-{
-    match kv {
-        None => "",
-        Some(state) => state.value.as_str(),
-    }
-}
-
-/// The modification revision of a key's state, 0 where it is absent.
-pub(crate) fn mod_rev_in(kv: &Option<KeyState>) -> u64
-    ensures { result ≡ mod_of kv.now }
-{
-    match kv {
-        None => 0,
-        Some(state) => state.mod_rev,
     }
 }

@@ -84,7 +84,7 @@ impl WriteBuffer {
         }
     }
 
-    /// Nothing written, and room for the writes of so many keys.
+    /// Nothing written, and room for the writes of this many keys.
     fn with_room(alloc: Global, count: usize) -> Result<WriteBuffer, AllocError>
         ensures { IfOk result (λ buffer. buffer ≡ []) }
     {
@@ -92,7 +92,7 @@ impl WriteBuffer {
         Ok(WriteBuffer { writes })
     }
 
-    /// The last write of each key of a run, in the order of first writes. Want of memory is its only refusal.
+    /// The last write of each key of a run, in the order of first writes. Out of memory is its only refusal.
     pub fn of(alloc: Global, writes: &[Write]) -> Result<WriteBuffer, AllocError>
         ensures { IfOk result (λ buffer. buffer ≡ latest_of_each writes.now) }
     {
@@ -140,7 +140,7 @@ impl WriteBuffer {
 
     /// Writes a key: in the place of its earlier write, or at the end. It searches the writes.
     ///
-    /// Want of memory is its only refusal, and leaves the writes as they were.
+    /// Out of memory is its only refusal, and leaves the writes as they were.
     pub fn write(&mut self, write: Write) -> Result<(), AllocError>
         ensures ok { OnOk result (self.new ≡ latest_of_each (self.old ++ write ∷ [])) }
         ensures err { OnErr result (self.new ≡ self.old) }

@@ -25,7 +25,7 @@ pub use forms::{
 pub use kept::Kept;
 pub use laws::words_are_those_of_readers;
 pub use marked::Marked;
-pub use messages::{write_bad, write_both, write_text};
+pub use messages::{Message, write_text};
 pub use position::{Position, position_of};
 pub use stm_devices::{DeviceFault, Sink};
 pub use stm_json::BadInput;

@@ -44,7 +44,7 @@ pub no_setup : (es : List WorldEvent) → has_start es ≡ false → (up_to_last
 no_setup [] none = (refl, refl)
 no_setup (x ∷ es) none = (rw none refl, rw none refl)
 
--- a start behind which no other stands is the last one
+-- a start after which no other stands is the last one
 pub record LastStart (es : List WorldEvent) (i : ℕ) : Type 0 where
   pub some : has_start es ≡ true
   pub front : take (suc i) es ≡ up_to_last_start es

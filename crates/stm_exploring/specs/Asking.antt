@@ -59,6 +59,6 @@ place_of s = begun (opening_of s) s.events
 abbrev pub ends_of : Scenario → Ends
 ends_of s = ends_begun (opening_of s) s.events
 
--- the scenario with the events of a schedule in the place of those behind the last start
+-- the scenario with the events of a schedule in the place of those after the last start
 abbrev pub scheduled : Scenario → List Move → Scenario
 scheduled s schedule = record { opening = s.opening; events = with_schedule s.events schedule }

@@ -9,7 +9,7 @@ use Rattle.stm_exploring.specs.declared.printed.Verdict.TheVariants.{Kept, Broke
 use Rattle.stm_exploring.specs.declared.reading.ExploreFault.{ExploreFault}
 use Rattle.stm_exploring.specs.declared.reading.ExploreFault.TheVariants.{OutOfMemory, BadScenario, BadProgram, Device}
 use Rattle.stm_exploring.specs.Exploring.{Sources, Searches, Gathers}
-use Rattle.stm_explain.specs.Saying.{bad_input, Says}
+use Rattle.stm_explain.specs.Saying.{bad_input, memory_fault, device_fault, Reports}
 
 -- ---- answers and faults
 
@@ -18,7 +18,7 @@ verdict_status Kept = 0
 verdict_status Broken = 1
 verdict_status Open = 4
 
--- 2 for bad input, 3 for want of memory and a failed device
+-- 2 for bad input, 3 where memory ran out or a device failed
 abbrev pub fault_status : ExploreFault → ℕ
 fault_status OutOfMemory = 3
 fault_status (BadScenario bad) = 2
@@ -26,10 +26,10 @@ fault_status (BadProgram bad) = 2
 fault_status Device = 3
 
 abbrev pub fault_message : ExploreFault → List ℕ
-fault_message OutOfMemory = codes "stmrun: out of memory\n"
+fault_message OutOfMemory = memory_fault
 fault_message (BadScenario bad) = bad_input (codes "stmrun: bad scenario at ") bad
 fault_message (BadProgram bad) = bad_input (codes "stmrun: bad program at ") bad
-fault_message Device = codes "stmrun: device fault\n"
+fault_message Device = device_fault
 
 -- ---- the sinks
 
@@ -47,7 +47,7 @@ Writes (Err fault) before after failed result = (result ≡ Err fault) × (faile
 
 -- what is said and answered of a fault: its own message and status
 abbrev pub SaysOf : Option (List ℕ) → Option (List ℕ) → Bool → ExploreFault → ℕ → Type 0
-SaysOf before after failed fault status = (status ≡ fault_status fault) × Says before after failed (fault_message fault)
+SaysOf before after failed fault status = Reports (fault_status fault) (fault_message fault) before after failed status
 
 -- the status of an answer, with nothing said, or that of a fault, with what is said of it
 abbrev pub EndsBy : Sunk → Result Verdict ExploreFault → ℕ → Type 0

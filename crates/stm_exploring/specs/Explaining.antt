@@ -1,9 +1,9 @@
--- What the command `explore` does where it explains a bad input behind what it says of it, and a rule that came to a fault: what it does otherwise,
+-- What the command `explore` does where it explains a bad input after what it says of it, and a rule that came to a fault: what it does otherwise,
 -- but for the explanations.
 use Rattle.std.specs.Prelude.{◌≡◌, ◌==◌, ℕ, List, Bool, false, Option, Result, Ok, Err}
 use Rattle.std.specs.List.{after_first}
 use Rattle.std.specs.Io.KnownBytes.{Keeps}
-use Rattle.stm_explain.specs.Saying.{Says, SaysMore}
+use Rattle.stm_explain.specs.Saying.{Says, ReportsMore}
 use Rattle.stm_texts.specs.Reading.{scenario_in}
 use Rattle.stm_faulted_runs.specs.Lines.{OrNothing}
 use Rattle.stm_faulted_runs.specs.Rules.{ExplainsRule}
@@ -17,9 +17,9 @@ use Rattle.stm_exploring.specs.Command.{Sunk, Writes, verdict_status, fault_stat
 
 -- what is said and answered of a fault: its own message with what explains it, and its status
 abbrev pub SaysMoreOf : Option (List ℕ) → Option (List ℕ) → Bool → ExploreFault → ℕ → Type 0
-SaysMoreOf before after failed fault status = (status ≡ fault_status fault) × SaysMore before after failed (fault_message fault)
+SaysMoreOf before after failed fault status = ReportsMore (fault_status fault) (fault_message fault) before after failed status
 
--- the schedule, which is printed of a rule that is broken behind the first line
+-- the schedule, which is printed of a rule that is broken after the first line
 abbrev pub schedule_in : List ℕ → List ℕ
 schedule_in printed = after_first (λ b. b == 10) printed
 
@@ -31,7 +31,7 @@ abbrev pub ExplainsSearched : List ℕ → List ℕ → Result Printed ExploreFa
 ExplainsSearched name text (Ok printed) said = ExplainsOnSchedule name text printed.text said
 ExplainsSearched name text (Err fault) said = ⊥
 
--- behind what is printed of a rule that is broken stands this, and else nothing
+-- after what is printed of a rule that is broken stands this, and else nothing
 abbrev pub SaysOfVerdict : Verdict → List ℕ → Option (List ℕ) → Option (List ℕ) → Bool → Type 0
 SaysOfVerdict Broken more before after failed = Says before after failed more
 SaysOfVerdict other more before after failed = (failed ≡ false) × Keeps before after

@@ -77,7 +77,7 @@ verdict_of (Open kept) = verdict.Open
 abbrev pub printed : Scenario → Explored → Printed
 printed s explored = record { verdict = verdict_of explored; text = answer_text s explored }
 
--- a search through the schedules from a place comes to this, told of schedules and of merges of events
+-- a search through the schedules from a place comes to this, in terms of schedules and of merges of events
 abbrev pub IsAnswer : ProgramTree → Place → Explored → Type 0
 IsAnswer rule p explored = IsExplored rule p explored × MergesAreKept rule p explored
 

@@ -17,7 +17,7 @@ AreNumbered [] = Unit {0}
 AreNumbered (Step runner ∷ ms) = (runner ≤ HIGHEST_NUMBER) × AreNumbered ms
 AreNumbered (Other ∷ ms) = AreNumbered ms
 
--- What is printed of a schedule behind a broken rule spells the scenario that was read with the events of the schedule in it, if it has not too
+-- What is printed of a schedule after a broken rule spells the scenario that was read with the events of the schedule in it, if it has not too
 -- many events.
 abbrev pub SchedulesSpell : Type 0
 SchedulesSpell =

@@ -38,7 +38,7 @@ end_data (ByFault fault) = list (string (codes "faulted") ∷ string (fault_name
 abbrev pub broken_line : ℕ → End → Data
 broken_line n end = list (string (codes "broken") ∷ whole n ∷ end_data end ∷ [])
 
--- the line of an answer, and behind a rule that is broken the scenario with the schedule
+-- the line of an answer, and after a rule that is broken the scenario with the schedule
 abbrev pub answer_lines : Scenario → Explored → List Data
 answer_lines s (Always longest) = count_line (codes "always") longest ∷ []
 answer_lines s (Broken moves end) = broken_line (length moves) end ∷ written_scenario (scheduled s moves) ∷ []

@@ -83,7 +83,7 @@ fn first_index(opening: Option<Opening>) -> usize
     }
 }
 
-/// The fault of a step that so many events stand before, where the first event stands at this index.
+/// The fault of a step that has this many events before it, where the first event stands at this index.
 fn step_fault(alloc: Global, first: usize, before: usize) -> Result<Scenario, ReadError>
     requires { first + before < 2 ^ 64 }
     ensures { Returns (λ s. s) result (within_list (first + before) (bad Shape)) }
@@ -93,7 +93,7 @@ fn step_fault(alloc: Global, first: usize, before: usize) -> Result<Scenario, Re
 
 /// The scenario that is asked about, each start at the level that is named, where one is.
 ///
-/// A scenario with a step is refused, as `Shape` at its first one. Beside that, want of memory is the only refusal.
+/// A scenario with a step is refused, as `Shape` at its first one. Beside that, out of memory is the only refusal.
 pub(crate) fn ask(
     alloc: Global,
     level: Option<Level>,

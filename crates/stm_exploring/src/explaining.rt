@@ -1,22 +1,21 @@
-//! The command `explore`, which explains a bad input behind what it says of it, and a rule that came to a fault.
-ghost use Rattle.std.specs.Prelude.{◌≡◌, ◌≤◌, ◌+◌, ◌++◌, false, IfSome, string_bytes};
+//! The command `explore`, which explains a bad input after what it says of it, and a rule that came to a fault.
+ghost use Rattle.std.specs.Prelude.{◌≡◌, ◌≤◌, ◌+◌, false, IfSome, string_bytes};
 ghost use Rattle.stm_devices.specs.declared.transfer.TheConstants.{MOST_READ};
-ghost use Rattle.stm_devices.specs.Transfers.{HasWritten};
 ghost use Rattle.stm_explain.specs.Saying.{IsExplained, Says};
 ghost use Rattle.stm_texts.specs.Reading.{scenario_in};
 ghost use Rattle.stm_faulted_runs.specs.Lines.{OrNothing};
 ghost use Rattle.stm_faulted_runs.specs.Rules.{ExplainsRule};
-ghost use Rattle.stm_exploring.specs.Command.{fault_message, verdict_status};
-ghost use Rattle.stm_exploring.specs.Explaining.{SaysMoreOf, SaysOfVerdict, schedule_in, ExplainsOnSchedule, ExplainsSearched, Explores, GoesThrough};
+ghost use Rattle.stm_exploring.specs.Command.{verdict_status};
+ghost use Rattle.stm_exploring.specs.Explaining.{SaysOfVerdict, schedule_in, ExplainsOnSchedule, ExplainsSearched, Explores, GoesThrough};
 
-use crate::command::{status, status_of, write, write_message};
+use crate::command::{report_explained, status_of, write};
 use crate::exploring::explore_sources;
 use crate::outcomes::outcomes_of_source;
 use crate::printed::{Printed, Verdict};
 use crate::reading::ExploreFault;
 use std::alloc::Global;
-use stm_devices::{DeviceFault, Sink, Source};
-use stm_explain::{Input, Kept, write_text};
+use stm_devices::{Sink, Source};
+use stm_explain::{Input, Kept};
 use stm_explore::{Budget, Observer};
 use stm_faulted_runs::{Named, rule_explained};
 use stm_program::Level;
@@ -47,7 +46,7 @@ fn search_explanation<S>(alloc: Global, scenario: &Kept<'_, S>, fault: &ExploreF
     }
 }
 
-/// The explanation of a rule that comes to a fault after a schedule; none where a growth was refused.
+/// The explanation of a rule that comes to a fault after a schedule; none where an allocation failed.
 fn line_of_rule(alloc: Global, name: &str, text: &str, schedule: &str) -> String
     ensures { OrNothing (ExplainsRule name.now text.now (scenario_in schedule.now)) (string_bytes result) }
 {
@@ -57,7 +56,7 @@ fn line_of_rule(alloc: Global, name: &str, text: &str, schedule: &str) -> String
     }
 }
 
-/// The schedule of a broken rule, which is printed behind the first line.
+/// The schedule of a broken rule, which is printed after the first line.
 fn schedule_in(printed: &str) -> Option<&str>
     ensures { IfSome result (λ schedule. schedule.now ≡ schedule_in printed.now) }
 {
@@ -67,7 +66,7 @@ fn schedule_in(printed: &str) -> Option<&str>
     }
 }
 
-/// The explanation of a broken rule that comes to a fault after its schedule, by what is printed of that; none where a growth was refused.
+/// The explanation of a broken rule that comes to a fault after its schedule, by what is printed of that; none where an allocation failed.
 fn line_by_printed(alloc: Global, name: &str, text: &str, printed: &str) -> String
     ensures { OrNothing (ExplainsOnSchedule name.now text.now printed.now) (string_bytes result) }
 {
@@ -77,7 +76,7 @@ fn line_by_printed(alloc: Global, name: &str, text: &str, printed: &str) -> Stri
     }
 }
 
-/// The explanation of a broken rule that comes to a fault after its schedule, by what is printed of that; none where a growth was refused, now
+/// The explanation of a broken rule that comes to a fault after its schedule, by what is printed of that; none where an allocation failed, now
 /// or before.
 fn rule_on<R>(alloc: Global, keeps: &Kept<'_, R>, printed: &str) -> String
     ensures { OrNothing (ExplainsOnSchedule keeps.now.name.now keeps.now.bytes.items printed.now) (string_bytes result) }
@@ -105,26 +104,6 @@ fn searched_explanation<R>(
     }
 }
 
-/// Writes what is said of a fault, and more behind it. Where the sink fails, a front of that was written.
-fn write_with<E: Sink>(err: &mut E, fault: &ExploreFault, more: &str) -> Result<(), DeviceFault>
-    requires { E.failed err.old ≡ false }
-    ensures { HasWritten (E.held err.old) (E.held err.new) (E.failed err.new) result (fault_message fault.now ++ more.now) }
-{
-    write_message(err, fault)?;
-    write_text(err, more)?;
-    Ok(())
-}
-
-/// Says what went wrong and its explanation, and gives the status.
-fn report_with<E: Sink>(err: &mut E, fault: &ExploreFault, more: &str) -> u8
-    requires works { E.failed err.old ≡ false }
-    requires explains { IsExplained more.now }
-    ensures { SaysMoreOf (E.held err.old) (E.held err.new) (E.failed err.new) fault.now result }
-{
-    let _ = write_with(err, fault, more);
-    status(fault)
-}
-
 /// Says what explains a broken rule.
 fn say_rule<E: Sink>(err: &mut E, more: &str)
     requires { E.failed err.old ≡ false }
@@ -146,8 +125,8 @@ fn report_verdict<E: Sink>(err: &mut E, verdict: Verdict, more: &str) -> u8
     status_of(verdict)
 }
 
-/// Does what `explore_to` does, with that status and that output. Behind what is said of a bad input stands its explanation, as a line
-/// `NAME:LINE:COLUMN: WORDS`, and behind what is printed of a rule that was broken by a fault a line of that form; or nothing where a growth was
+/// Does what `explore_to` does, with that status and that output. After what is said of a bad input stands its explanation, as a line
+/// `NAME:LINE:COLUMN: WORDS`, and after what is printed of a rule that was broken by a fault a line of that form; or nothing where memory ran out
 /// refused for these.
 pub fn explore_explained_to<S: Source, R: Source, W: Sink, E: Sink, O: Observer>(
     alloc: Global,
@@ -178,13 +157,13 @@ pub fn explore_explained_to<S: Source, R: Source, W: Sink, E: Sink, O: Observer>
         Ok(verdict) => report_verdict(err, verdict, more.as_str()),
         Err(fault) => {
             let more = rule_explanation(alloc, scenario, keeps, &fault);
-            report_with(err, &fault, more.as_str())
+            report_explained(err, &fault, more.as_str())
         }
     }
 }
 
-/// Does what `outcomes_to` does, with that status and that output. Behind what is said of a bad scenario stands its explanation, as a line
-/// `NAME:LINE:COLUMN: WORDS`, or nothing where a growth was refused for it.
+/// Does what `outcomes_to` does, with that status and that output. After what is said of a bad scenario stands its explanation, as a line
+/// `NAME:LINE:COLUMN: WORDS`, or nothing where an allocation failed for it.
 pub fn outcomes_explained_to<S: Source, W: Sink, E: Sink, O: Observer>(
     alloc: Global,
     scenario: &mut Kept<'_, S>,
@@ -206,7 +185,7 @@ pub fn outcomes_explained_to<S: Source, W: Sink, E: Sink, O: Observer>(
         Ok(verdict) => status_of(verdict),
         Err(fault) => {
             let more = search_explanation(alloc, scenario, &fault);
-            report_with(err, &fault, more.as_str())
+            report_explained(err, &fault, more.as_str())
         }
     }
 }

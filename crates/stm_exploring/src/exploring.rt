@@ -14,10 +14,10 @@ use stm_program::Level;
 /// Reads a scenario from its source to the end, then the program of a rule from its own, and looks after which schedules of the scenario the
 /// rule is kept: the first by length, and then by the order of their moves, after which it is not, or that there is none.
 ///
-/// Each start is taken at the level that is named, where one is. At most so many events are taken as `budget` has left, and its observer is told
-/// how far the search is. Neither source has failed before. It fails as `BadScenario` with the scenario's first fault, or with its first step,
-/// as `Shape`, and then the program is not read; as `BadProgram` with the program's first fault; as `OutOfMemory` where a growth was refused;
-/// and as `Device` exactly where a source has failed. At most 16777217 bytes of each are read, in at most so many reads of each.
+/// Each start is taken at the level that is named, where one is. At most as many events are taken as `budget` has left, and its observer is notified
+/// of how far the search is. Neither source has failed before. It fails as `BadScenario` with the scenario's first fault, or with its first step, as
+/// `Shape`, and then the program is not read; as `BadProgram` with the program's first fault; as `OutOfMemory` where an allocation failed; and as
+/// `Device` exactly where a source has failed. At most 16777217 bytes of each are read, in at most that many reads of each.
 pub fn explore_sources<S: Source, R: Source, O: Observer>(
     alloc: Global,
     scenario: &mut S,
@@ -36,14 +36,8 @@ pub fn explore_sources<S: Source, R: Source, O: Observer>(
     ensures scenario_bounded { S.reads scenario.new ≤ S.reads scenario.old + MOST_READ }
     ensures keeps_bounded { R.reads keeps.new ≤ R.reads keeps.old + MOST_READ }
 {
-    let scenario = match scenario_of(alloc, scenario, level) {
-        Ok(scenario) => scenario,
-        Err(fault) => return Err(fault),
-    };
-    let keeps = match program_of(alloc, keeps) {
-        Ok(program) => program,
-        Err(fault) => return Err(fault),
-    };
+    let scenario = scenario_of(alloc, scenario, level)?;
+    let keeps = program_of(alloc, keeps)?;
     match search(alloc, &scenario, &keeps, budget) {
         Ok(printed) => Ok(printed),
         Err(_) => Err(ExploreFault::OutOfMemory),

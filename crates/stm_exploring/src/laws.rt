@@ -1,7 +1,7 @@
 //! The law of what is printed of a schedule. The function does nothing: its contract is the law.
 ghost use Rattle.stm_exploring.specs.Laws.{SchedulesSpell};
 
-/// What is printed of a schedule behind a broken rule spells, by the grammar of scenarios, the scenario that was read with the events of the
+/// What is printed of a schedule after a broken rule spells, by the grammar of scenarios, the scenario that was read with the events of the
 /// schedule in it, if it has no more than 100000 events. So `script` takes it.
 pub fn schedules_spell()
     ensures { SchedulesSpell }

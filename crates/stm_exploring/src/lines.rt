@@ -49,7 +49,7 @@ fn end_json(alloc: Global, end: &End) -> Result<Json, AllocError>
     }
 }
 
-/// The line of a rule that is not kept after so many moves.
+/// The line of a rule that is not kept after this many moves.
 fn broken_json(alloc: Global, moves: u64, end: &End) -> Result<Json, AllocError>
     ensures { IfOk result (λ v. view v ≡ broken_line moves end.now) }
 {

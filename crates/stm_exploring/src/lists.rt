@@ -17,7 +17,7 @@ pub(crate) trait Written {
         ensures { IfOk result (λ v. view v ≡ written self.now) };
 }
 
-/// Writes one item more behind others.
+/// Writes one item more after others.
 fn push_item<T: Written>(alloc: Global, values: &mut Vec<Json>, item: &T) -> Result<(), AllocError>
     ensures { OnOk result (map view values.new.items ≡ map view values.old.items ++ T.written item.now ∷ []) }
 {

@@ -99,10 +99,10 @@ fn gather<O: Observer>(
 
 /// Reads a scenario from its source to the end, and looks what its whole schedules come to: the state, and how each runner ended.
 ///
-/// Each start is taken at the level that is named, where one is. At most so many events are taken as `budget` has left, and its observer is told
-/// how far the search is. The source has not failed before. It fails as `BadScenario` with the scenario's first fault, or with its first step,
-/// as `Shape`; as `OutOfMemory` where a growth was refused; and as `Device` exactly where the source has failed. At most 16777217 bytes are
-/// read, in at most so many reads.
+/// Each start is taken at the level that is named, where one is. At most as many events are taken as `budget` has left, and its observer is notified
+/// of how far the search is. The source has not failed before. It fails as `BadScenario` with the scenario's first fault, or with its first step, as
+/// `Shape`; as `OutOfMemory` where an allocation failed; and as `Device` exactly where the source has failed. At most 16777217 bytes are read, in at
+/// most that many reads.
 pub fn outcomes_of_source<S: Source, O: Observer>(
     alloc: Global,
     scenario: &mut S,
@@ -113,10 +113,7 @@ pub fn outcomes_of_source<S: Source, O: Observer>(
     ensures gathered { Gathers level (S.left scenario.old) (S.failed scenario.new) result }
     ensures bounded { S.reads scenario.new ≤ S.reads scenario.old + MOST_READ }
 {
-    let scenario = match scenario_of(alloc, scenario, level) {
-        Ok(scenario) => scenario,
-        Err(fault) => return Err(fault),
-    };
+    let scenario = scenario_of(alloc, scenario, level)?;
     match gather(alloc, &scenario, budget) {
         Ok(printed) => Ok(printed),
         Err(_) => Err(ExploreFault::OutOfMemory),

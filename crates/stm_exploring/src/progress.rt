@@ -17,14 +17,14 @@ pub struct ProgressLine<W> {
     most: u64,
     /// How many of them are left.
     left: u64,
-    /// All schedules of up to so many moves were gone through.
+    /// All schedules of at most this many moves were gone through.
     length: u64,
     /// Whether the line is shown.
     is_shown: bool,
 }
 
 impl<W> ProgressLine<W> {
-    /// The line of a search that may take so many events.
+    /// The line of a search that may take at most this many events.
     pub fn new(terminal: Option<W>, most: u64) -> ProgressLine<W> {
         ProgressLine {
             terminal,

@@ -18,7 +18,7 @@ use thiserror::Error;
 /// Why a search came to no answer.
 #[derive(Debug, Drop, Error)]
 pub enum ExploreFault {
-    /// A growth was refused.
+    /// An allocation failed.
     #[error("out of memory")]
     OutOfMemory,
     /// The first input is no scenario without steps: its first fault.
@@ -32,7 +32,7 @@ pub enum ExploreFault {
     Device,
 }
 
-/// The bytes of a source, up to so many as `stm_devices::MOST_READ`.
+/// The bytes of a source, at most `stm_devices::MOST_READ` of them.
 fn bytes_of<S: Source>(alloc: Global, source: &mut S) -> Result<Vec<u8>, ExploreFault>
     requires { S.failed source.old ≡ false }
     ensures bytes { HasRead (λ bytes. bytes.items) (S.left source.old) (S.failed source.new) result }
@@ -68,10 +68,7 @@ pub(crate) fn scenario_of<S: Source>(
     ensures scenario { ReadsScenario level (S.left source.old) (S.failed source.new) result }
     ensures bounded { S.reads source.new ≤ S.reads source.old + MOST_READ }
 {
-    let bytes = match bytes_of(alloc, source) {
-        Ok(bytes) => bytes,
-        Err(fault) => return Err(fault),
-    };
+    let bytes = bytes_of(alloc, source)?;
     match scenario_in_bytes(alloc, bytes.as_slice(), level) {
         Ok(scenario) => Ok(scenario),
         Err(ReadError::OutOfMemory) => Err(ExploreFault::OutOfMemory),
@@ -105,10 +102,7 @@ pub(crate) fn program_of<S: Source>(alloc: Global, source: &mut S) -> Result<Pro
     ensures program { ReadsProgram (S.left source.old) (S.failed source.new) result }
     ensures bounded { S.reads source.new ≤ S.reads source.old + MOST_READ }
 {
-    let bytes = match bytes_of(alloc, source) {
-        Ok(bytes) => bytes,
-        Err(fault) => return Err(fault),
-    };
+    let bytes = bytes_of(alloc, source)?;
     match program_in_bytes(alloc, bytes.as_slice()) {
         Ok(program) => Ok(program),
         Err(ReadError::OutOfMemory) => Err(ExploreFault::OutOfMemory),

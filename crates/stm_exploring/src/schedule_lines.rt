@@ -14,7 +14,7 @@ use stm_reports::push_line;
 use stm_schedules::Move;
 use stm_texts::{Opening, Scenario, WorldEvent, event_json, opening_json};
 
-/// Writes an event behind the elements so far.
+/// Writes an event after the elements so far.
 fn push_event(alloc: Global, elements: &mut Vec<Json>, event: &WorldEvent) -> Result<(), AllocError>
     ensures { OnOk result (map view elements.new.items ≡ map view elements.old.items ++ written_event event.now ∷ []) }
 {
@@ -23,7 +23,7 @@ fn push_event(alloc: Global, elements: &mut Vec<Json>, event: &WorldEvent) -> Re
     Ok(())
 }
 
-/// Writes these events behind the elements so far.
+/// Writes these events after the elements so far.
 fn push_events(
     alloc: Global,
     elements: &mut Vec<Json>,
@@ -37,7 +37,7 @@ fn push_events(
     Ok(())
 }
 
-/// Writes the event of a move behind the elements so far, where it has one.
+/// Writes the event of a move after the elements so far, where it has one.
 fn push_move(
     alloc: Global,
     elements: &mut Vec<Json>,
@@ -68,7 +68,7 @@ fn left_after(chosen: Move, others: &[WorldEvent]) -> &[WorldEvent]
     }
 }
 
-/// Writes the events of these moves behind the elements so far.
+/// Writes the events of these moves after the elements so far.
 fn push_moves(
     alloc: Global,
     elements: &mut Vec<Json>,

@@ -33,7 +33,7 @@ fn setup_length(events: &[WorldEvent]) -> usize
     0
 }
 
-/// The events up to and including the last start, and those behind it.
+/// The events up to and including the last start, and those after it.
 pub(crate) fn setup_and_others(events: &[WorldEvent]) -> (&[WorldEvent], &[WorldEvent])
     ensures setup { result.0.now ≡ up_to_last_start events.now }
     ensures others { result.1.now ≡ behind_last_start events.now }
@@ -41,7 +41,7 @@ pub(crate) fn setup_and_others(events: &[WorldEvent]) -> (&[WorldEvent], &[World
     events.split_at(setup_length(events))
 }
 
-/// Runs these events in a world, and tells what is known then of the runners' ends. Want of memory is the only refusal.
+/// Runs these events in a world, and returns what is known then of the runners' ends. Out of memory is the only refusal.
 pub(crate) fn run_setup(
     alloc: Global,
     world: &mut World,

@@ -59,7 +59,7 @@ silent start log event reported right other =
 
 -- ---- line by line
 
--- so many runners were started as there are runs, and each is one of these
+-- as many runners were started as there are runs, and each is one of these
 record Counts (log : List Line) (runs : List Started) : Type 0 where
   count : started log ≡ length runs
   are : (number : ℕ) (run : Started) → slice_get runs number ≡ Some run → IsBegun (number + 1) log run

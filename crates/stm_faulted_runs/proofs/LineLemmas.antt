@@ -1,4 +1,4 @@
--- Lines behind one another.
+-- Lines one after another.
 use Rattle.std.proofs.Common.{◌≡◌, ◌∙◌, ℕ, suc, ◌+◌, ◌<◌, List, [], ◌∷◌, ◌++◌, length, drop, get_or, map, refl, sym, ap, subst, append_assoc, append-nil, arith}
 use Rattle.std.proofs.lemmas.List.{drop_more}
 use Rattle.stm_events.specs.declared.event.WorldEvent.{WorldEvent}
@@ -16,7 +16,7 @@ one_line origin reported old new line is line_is = (line, is, (line, [], sym (ap
 pub no_line : (origin : Origin) (old : List ℕ) → Adds origin [] old old
 no_line origin old = ([], sym (append-nil old), refl)
 
--- the lines of some, and behind them those of others
+-- the lines of some, and after them those of others
 pub joined : (origin : Origin) (some others : List FaultReport) (said more : List ℕ) → ExplainsEach origin some said → ExplainsEach origin others more →
     ExplainsEach origin (some ++ others) (said ++ more)
 joined origin [] others said more none rest = subst (λ (s : List ℕ). ExplainsEach origin others (s ++ more)) (sym none) rest
@@ -28,7 +28,7 @@ joined origin (reported ∷ some) others said more (line, behind, is, line_is, e
   joined origin some others behind more each rest,
 )
 
--- What was said so far: with lines for the rest behind it, there are lines for all.
+-- What was said so far: with lines for the rest after it, there are lines for all.
 pub record HasSaid (origin : Origin) (all : List FaultReport) (old new : List ℕ) (rest : List FaultReport) : Type 0 where
   pub so_far : List ℕ
   pub added : new ≡ old ++ so_far
@@ -66,7 +66,7 @@ said_step origin all old mid new events i e w next reported within is goes repor
     ∙ ap (λ (n : ℕ). reported ++ faults_reported n (replies_to rest next)) number in
     said_more origin all old mid new reported (faults_reported (i + 1 + 1) (replies_to rest next)) (subst (λ (ts : List FaultReport). HasSaid origin all old mid ts) all_reported so_far) adds
 
--- what is told of jobs
+-- what is reported of jobs
 abbrev pub all_reported : List FaultedJob → List FaultReport
 all_reported jobs = map reported_of_job (map reported_job jobs)
 

@@ -89,7 +89,7 @@ pub found_below : (look : Lookup) (p : ProgramTree) (found : Option FoundFault) 
 found_below look p None fits is = tt
 found_below look p (Some found) fits is = begins_below look p found fits (sym is)
 
--- ---- a place behind the list of its program
+-- ---- a place after the list of its program
 
 -- the first index of a place that has one
 pub first_below : (most : ℕ) (place : List ℕ) (index : ℕ) → 1 ≤ length place → index ≡ get_or place 0 index → BeginsBelow most place → index < most

@@ -4,7 +4,7 @@ use Rattle.std.proofs.lemmas.List.{drop_more, drop_all}
 use Rattle.stm_events.specs.declared.event.WorldEvent.{WorldEvent}
 use Rattle.stm_faulted_runs.specs.Places.{Started, started_by, started_in}
 
--- the next event: its run stands behind those so far
+-- the next event: its run stands after those so far
 pub one_event : (all so_far new : List Started) (first i : ℕ) (events : List WorldEvent) (e : WorldEvent) → i < length events → e ≡ get_or events i e →
     so_far ++ started_in (first + i) (drop i events) ≡ all → new ≡ so_far ++ started_by (first + i) e →
     new ++ started_in (first + (i + 1)) (drop (i + 1) events) ≡ all

@@ -11,7 +11,7 @@ use Rattle.stm_faulted_runs.specs.Places.{Started, started_in}
 abbrev pub events_of : List Line → List WorldEvent
 events_of log = reverse (map (λ (line : Line). line.event) log)
 
--- a log tells that a runner was begun, with the program of this run
+-- by a log a runner was begun, with the program of this run
 pub record IsBegun (id : ℕ) (log : List Line) (run : Started) : Type 0 where
   pub task : Task
   pub was : begun id log ≡ Some task

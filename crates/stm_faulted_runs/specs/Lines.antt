@@ -37,11 +37,11 @@ abbrev pub OverReads : Option (List ReadAnswer) → (Lookup → Type 0) → Type
 OverReads None says = (look : Lookup) × says look
 OverReads (Some reads) says = says (reported_in reads)
 
--- what is told of the place of its fault
+-- what is said of the place of its fault
 abbrev pub IsMoreOfReported : Origin → FaultReport → List ℕ → Type 0
 IsMoreOfReported origin reported more = OverReads reported.reads (λ look. IsMoreOf origin.json (slice_get origin.runs reported.number) look reported.fault more)
 
--- a line of explanation that begins so, and tells the place
+-- a line of explanation that begins so, and says the place
 abbrev pub IsLineOf : Origin → FaultReport → List ℕ → Type 0
 IsLineOf origin reported line = (more : List ℕ) × IsMoreOfReported origin reported more × IsExplanationOf origin.name origin.text (reported.head ++ more) line
 
@@ -55,7 +55,7 @@ ExplainsEach origin (reported ∷ others) said =
 abbrev pub Adds : Origin → List FaultReport → List ℕ → List ℕ → Type 0
 Adds origin all_reported old new = (said : List ℕ) × (new ≡ old ++ said) × ExplainsEach origin all_reported said
 
--- said in this form, or nothing, where a growth was refused
+-- said in this form, or nothing, where an allocation failed
 abbrev pub OrNothing : (List ℕ → Type 0) → List ℕ → Type 0
 OrNothing Form said = (said ≡ []) ⊎ Form said
 
@@ -65,11 +65,11 @@ OrNothing Form said = (said ≡ []) ⊎ Form said
 abbrev pub run_head : ℕ → Fault → ℕ → List ℕ
 run_head event fault runner = codes "event " ++ decimal event ++ codes ": " ++ fault_name fault ++ codes " of runner " ++ decimal runner
 
--- the fault of a runner that the event with this number told; runners are numbered from 1
+-- the fault of a runner that the event with this number reported; runners are numbered from 1
 abbrev pub reported_of_run : ℕ → ℕ → Fault → FaultReport
 reported_of_run event runner fault = record { head = run_head event fault runner; fault = fault; number = runner - 1; reads = None }
 
--- the reply to the event with this number, where it tells a fault
+-- the reply to the event with this number, where it reports a fault
 abbrev pub reported_by : ℕ → Result Reply Denied → List FaultReport
 reported_by event (Ok (Faulted runner fault)) = reported_of_run event runner fault ∷ []
 reported_by event other = []

@@ -1,4 +1,4 @@
--- What is told of the place of a fault.
+-- What is said of the place of a fault.
 use Rattle.std.specs.Prelude.{◌≡◌, ◌≢◌, ◌⊎◌, ◌<◌, ◌+◌, ⊤, ℕ, suc, nat_eq, if◌then◌else◌, List, [], ◌∷◌, ◌++◌, Option, None, Some, option_and_then, unwrap_or, codes}
 use Rattle.serde_json.specs.Data.{Data, null}
 use Rattle.serde_json.specs.Find.{at}
@@ -41,12 +41,12 @@ abbrev pub BeginsBelow : ℕ → List ℕ → Type 0
 BeginsBelow most [] = ⊤
 BeginsBelow most (index ∷ inner) = index < most
 
--- a place and a reason are told
+-- a place and a reason are returned
 abbrev pub ReturnsPlace : List ℕ → List ℕ → Type 0
 ReturnsPlace place more = (reason : List ℕ) × (more ≡ codes " at " ++ pointer place ++ codes ": " ++ reason)
 
--- what is told of a fault that was found in the program of the start that is an element of a scenario's JSON: its place, where it is the fault that is to
--- be told, and else nothing
+-- what is said of a fault that was found in the program of the start that is an element of a scenario's JSON: its place, where it is the fault that
+-- is to be explained, and else nothing
 abbrev pub IsMore : Data → ℕ → Fault → Option FoundFault → List ℕ → Type 0
 IsMore scenario element fault None more = more ≡ []
 IsMore scenario element fault (Some found) more =
@@ -69,7 +69,7 @@ abbrev pub started_in : ℕ → List WorldEvent → List Started
 started_in element [] = []
 started_in element (e ∷ es) = started_by element e ++ started_in (suc element) es
 
--- what is told of a fault that a run in a scenario with this JSON comes to over a look-up; nothing where there is no such run
+-- what is said of a fault that a run in a scenario with this JSON comes to over a look-up; nothing where there is no such run
 abbrev pub IsMoreOf : Data → Option Started → Lookup → Fault → List ℕ → Type 0
 IsMoreOf scenario None look fault more = more ≡ []
 IsMoreOf scenario (Some run) look fault more = IsMore scenario run.element fault (fault_of look run.program.statements) more

@@ -1,4 +1,4 @@
--- What the answers of a run tell of a key.
+-- What the answers of a run say of a key.
 use Rattle.std.specs.Prelude.{List, option_map, min}
 use Rattle.stm_history.specs.declared.key_state.ReadAnswer.{ReadAnswer}
 use Rattle.stm_history.specs.declared.revisions.TheConstants.{HIGHEST_NUMBER}

@@ -1,4 +1,4 @@
--- What contracts see of a fault that was told.
+-- What contracts see of a fault that was reported.
 use Rattle.std.specs.Prelude.{List, [], ◌∷◌, Option, None, Some}
 use Rattle.stm_faulted_runs.specs.declared.lines.ReportedFault.{ReportedFault}
 use Rattle.stm_faulted_runs.specs.Lines.{FaultReport, reported_of_run}

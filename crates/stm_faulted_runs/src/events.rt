@@ -12,7 +12,7 @@ use crate::runs::Explained;
 use std::alloc::{AllocError, Global};
 use stm_retry::{Denied, Refusal, Reply, State, Store, StoreRefusal, World, WorldEvent};
 
-/// Whether an event was refused for want of memory.
+/// Whether an event was refused because memory ran out.
 fn is_out_of_memory(reply: &Result<Reply, Denied>) -> bool
     ensures { result ≡ ran_out reply.now }
 {
@@ -22,7 +22,7 @@ fn is_out_of_memory(reply: &Result<Reply, Denied>) -> bool
     }
 }
 
-/// Follows the reply to an event, which fails where that was refused for want of memory.
+/// Follows the reply to an event, which fails where that was refused because memory ran out.
 fn follow(
     alloc: Global,
     runners: &mut Vec<State>,
@@ -41,7 +41,7 @@ fn follow(
     }
 }
 
-/// Takes the event with this number in a world, follows its reply, and gives the fault that this tells.
+/// Takes the event with this number in a world, follows its reply, and returns the fault that this reports.
 fn take(
     alloc: Global,
     runners: &mut Vec<State>,
@@ -62,7 +62,7 @@ fn take(
     }
 }
 
-/// Lets go of what a runner was told whose fault has its line.
+/// Forgets what a runner had read whose fault has its line.
 fn forget_reported(alloc: Global, runners: &mut [State], reported: Option<ReportedFault>) {
     if let Some(reported) = reported {
         forget(alloc, runners, reported.runner);

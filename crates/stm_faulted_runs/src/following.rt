@@ -1,4 +1,4 @@
-//! What the attempts of runners were told of keys: a state for each runner, in which a key that was absent has "" and 0.
+//! What the attempts of runners had read of keys: a state for each runner, in which a key that was absent has "" and 0.
 ghost use Rattle.std.specs.Prelude.{◌≤◌, ◌<◌, length, IfOk, IfSome};
 ghost use Rattle.stm_history.specs.declared.revisions.TheConstants.{HIGHEST_NUMBER};
 
@@ -60,7 +60,7 @@ pub(crate) fn index_of(runners: &[State], runner: u64) -> Option<usize>
     Some((runner - 1) as usize)
 }
 
-/// Notes what a fetch told a runner.
+/// Notes what a fetch answered a runner.
 fn note_fetch(
     alloc: Global,
     runners: &mut [State],
@@ -75,7 +75,7 @@ fn note_fetch(
     }
 }
 
-/// Notes what a failed commit told a runner: what its keys are now.
+/// Notes what a failed commit reported to a runner: what its keys are now.
 fn note_conflict(
     alloc: Global,
     runners: &mut [State],
@@ -93,14 +93,14 @@ fn note_conflict(
     }
 }
 
-/// Lets go of what a runner was told, whose run is over.
+/// Forgets what a runner had read, whose run is over.
 pub(crate) fn forget(alloc: Global, runners: &mut [State], runner: u64) {
     if let Some(index) = index_of(runners, runner) {
         drop(replace(&mut runners[index], State::new(alloc)));
     }
 }
 
-/// Notes what a reply tells a runner, by the store as the event has left it. A runner that came to a fault keeps what it was told: it is still to be
+/// Notes what a reply shows a runner, by the store as the event has left it. A runner that came to a fault keeps what it had read: it is still to be
 /// explained.
 pub(crate) fn note(
     alloc: Global,

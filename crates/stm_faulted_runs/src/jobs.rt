@@ -102,7 +102,7 @@ fn lines_of(
     lines_in(alloc, &explained, jobs)
 }
 
-/// The same, of a scenario that is let go then.
+/// The same, of a scenario that is dropped then.
 fn lines_of_scenario(
     alloc: Global,
     source: &Named<'_>,
@@ -118,7 +118,7 @@ fn lines_of_scenario(
 
 /// A line for each of these jobs of a scenario, in this order; none where the text is no scenario.
 ///
-/// A line is `NAME:LINE:COLUMN: job JOB: FAULT at PLACE: REASON`, as `faults_explained` has it of a run. It fails where a growth was refused.
+/// A line is `NAME:LINE:COLUMN: job JOB: FAULT at PLACE: REASON`, as `faults_explained` has it of a run. It fails where an allocation failed.
 pub fn jobs_explained(
     alloc: Global,
     source: &Named<'_>,

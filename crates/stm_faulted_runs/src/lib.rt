@@ -1,7 +1,7 @@
 //! What is said, for people, of runs that came to a fault: where in the scenario's text the node stands at which a run stopped, and on which values.
 //!
-//! Where a run stops is found by evaluating its program once more on what it was told (`stm_sites`). A scenario is run once more for that, and
-//! what each runner was told is followed. Nothing here decides anything: a report stands already.
+//! Where a run stops is found by evaluating its program once more on what it had read (`stm_sites`). A scenario is run once more for that, and
+//! what each runner read is followed. Nothing here decides anything: a report stands already.
 #![tactic(auto)]
 
 mod events;

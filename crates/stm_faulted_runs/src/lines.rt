@@ -13,7 +13,7 @@ use stm_explain::Marked;
 use stm_retry::{Denied, Reply};
 use stm_steps::{Fault, Lookup, State};
 
-/// A fault that a reply tells.
+/// A fault that a reply reports.
 #[derive(Clone, Copy)]
 pub(crate) struct ReportedFault {
     /// The number of the event.
@@ -46,7 +46,7 @@ pub(crate) fn line_of(
     marked.explained_at(alloc, place.steps.as_slice(), words.as_str())
 }
 
-/// Where a run came to the fault that was told, over what its runner was told.
+/// Where a run came to the fault that was reported, over what its runner had read.
 fn place_over<L: Lookup>(
     alloc: Global,
     explained: &Explained<'_>,
@@ -59,7 +59,7 @@ fn place_over<L: Lookup>(
     place_of_run(alloc, explained, number, lookup, reported.fault)
 }
 
-/// Where the run came to the fault that was told, by what runners were told.
+/// Where the run came to the fault that was reported, by what runners had read.
 fn place_reported(
     alloc: Global,
     explained: &Explained<'_>,
@@ -110,7 +110,7 @@ fn push_run(
     Ok(())
 }
 
-/// The fault that a reply to the event with this number tells, if it tells one.
+/// The fault that a reply to the event with this number reports, if it reports one.
 fn fault_reported(event: u64, reply: &Reply) -> Option<ReportedFault>
     ensures { reported_by event (OkOf reply.now) ≡ reported_as result }
 {
@@ -124,7 +124,7 @@ fn fault_reported(event: u64, reply: &Reply) -> Option<ReportedFault>
     }
 }
 
-/// The fault that is told where the event with this number has its reply, or is denied.
+/// The fault that is reported where the event with this number has its reply, or is denied.
 pub(crate) fn fault_in(event: u64, reply: &Result<Reply, Denied>) -> Option<ReportedFault>
     ensures { reported_by event reply.now ≡ reported_as result }
 {
@@ -134,7 +134,7 @@ pub(crate) fn fault_in(event: u64, reply: &Result<Reply, Denied>) -> Option<Repo
     }
 }
 
-/// Adds the line of a fault that was told.
+/// Adds the line of a fault that was reported.
 pub(crate) fn push_reported(
     alloc: Global,
     out: &mut String,

@@ -135,7 +135,7 @@ fn state_after(alloc: Global, scenario: &Scenario) -> Result<State, AllocError>
     }
 }
 
-/// The same, of a scenario that is let go then.
+/// The same, of a scenario that is dropped then.
 fn state_left(alloc: Global, scenario: Scenario) -> Result<State, AllocError>
     requires { IsOpening scenario.opening }
     ensures { IfOk result (IsStateOf (left_by scenario)) }
@@ -161,7 +161,7 @@ fn explained_after(
 /// A line for a rule, where its program comes to a fault on the state after the scenario that this text spells; nothing otherwise:
 /// `NAME:LINE:COLUMN: FAULT of the rule at PLACE: REASON`, as `faults_explained` has it of a run.
 ///
-/// It fails where a growth was refused.
+/// It fails where an allocation failed.
 pub fn rule_explained(alloc: Global, rule: &Named<'_>, scenario: &str) -> Result<String, AllocError>
     ensures { IfOk result (λ line. ExplainsRule rule.now.name.now rule.now.text.now (scenario_in scenario.now) (string_bytes line)) }
 {

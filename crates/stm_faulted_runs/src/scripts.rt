@@ -67,7 +67,7 @@ fn lines_of(alloc: Global, source: &Named<'_>, scenario: &Scenario) -> Result<St
     lines_from(alloc, &explained, opening, scenario.events.as_slice())
 }
 
-/// The same, of a scenario that is let go then.
+/// The same, of a scenario that is dropped then.
 fn lines_of_scenario(
     alloc: Global,
     source: &Named<'_>,
@@ -85,9 +85,9 @@ fn lines_of_scenario(
 ///
 /// A line is `NAME:LINE:COLUMN: event EVENT: FAULT of runner RUNNER at PLACE: REASON`. PLACE is a JSON Pointer to the innermost node of the
 /// program at which its run stopped, LINE and COLUMN are where that begins, and REASON has the values that its parts gave. Where the program does
-/// not come to this fault on what its runner was told, the line ends behind the runner, and is that of the start.
+/// not come to this fault on what its runner had read, the line ends after the runner, and is that of the start.
 ///
-/// It fails where a growth was refused.
+/// It fails where an allocation failed.
 pub fn faults_explained(alloc: Global, source: &Named<'_>) -> Result<String, AllocError>
     ensures { IfOk result (λ said. ExplainsRun source.now.name.now source.now.text.now (scenario_in source.now.text.now) (string_bytes said)) }
 {

@@ -22,7 +22,8 @@ pub struct Gathered {
 #[derive(Drop)]
 pub struct RunFault {
     pub cause: FaultCause,
-    /// The end of each job, at its place, where an audit found one that does not stand, or had no memory to look; none where the run was broken off before.
+    /// The end of each job, at its place, where an audit found one that does not stand, or had no memory to look; none where the run was broken off
+    /// before.
     pub ends: Vec<JobEnd>,
     /// The hall that was handed in, with what was committed until then.
     pub hall: Hall,
@@ -31,7 +32,7 @@ pub struct RunFault {
 /// Why a run of jobs is broken off.
 #[derive(Debug, Clone, Copy, PartialEq, Eq)]
 pub enum FaultCause {
-    /// A growth was refused, in a worker or in the hall.
+    /// An allocation failed, in a worker or in the hall.
     OutOfMemory,
     /// A thread could not be started.
     Spawn,

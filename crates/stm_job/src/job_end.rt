@@ -3,7 +3,7 @@ use crate::store_refusal::StoreRefusal;
 use stm_history::{ReadAnswer, Sequence, Text};
 use stm_meaning::Fault;
 
-/// The end of a job. Want of memory is none: it ends the run of all jobs.
+/// The end of a job. Out of memory is none: it ends the run of all jobs.
 #[derive(Debug, Drop)]
 pub enum JobEnd {
     /// It is committed.
@@ -54,7 +54,7 @@ impl JobEnd {
 /// Why a call of a job is refused. The hall is as it was.
 #[derive(Debug, Drop)]
 pub enum JobRefusal {
-    /// The store refused it, and not for want of memory.
+    /// The store refused it, and memory had not run out.
     Store(StoreRefusal),
     /// The store's counter is below a revision that the worker has seen.
     Behind {

@@ -4,7 +4,7 @@ ghost use Rattle.stm_outcome.specs.declared.refusal.Refusal.TheVariants.{OutOfMe
 
 use stm_txn::Refusal;
 
-/// A refusal of the store that is not for want of memory: that ends the run of all jobs, and never a job.
+/// A refusal of the store other than out of memory: that ends the run of all jobs, and never a job.
 #[derive(Debug, Clone, Copy)]
 pub struct StoreRefusal {
     /// Why the call was refused.
@@ -13,7 +13,7 @@ pub struct StoreRefusal {
 }
 
 impl StoreRefusal {
-    /// The refusal for this cause, which is no want of memory.
+    /// The refusal for this cause, which is not out of memory.
     pub fn of(cause: Refusal) -> StoreRefusal
         requires { cause ≢ OutOfMemory }
         ensures { result.cause ≡ cause }

@@ -123,10 +123,7 @@ fn write_report<W: Sink>(
     requires { W.failed sink.old ≡ false }
     ensures { Writes format bytes.now (W.held sink.old) (W.held sink.new) (W.failed sink.new) result }
 {
-    let text = match report_of(alloc, format, bytes) {
-        Ok(text) => text,
-        Err(fault) => return Err(fault),
-    };
+    let text = report_of(alloc, format, bytes)?;
     match write_all(sink, text.as_slice()) {
         Ok(()) => Ok(()),
         Err(_) => Err(ScriptFault::Write),

@@ -92,13 +92,7 @@ pub fn check_whole<S: Source, R: Source>(
     ensures scenario_bounded { S.reads scenario.new ≤ S.reads scenario.old + MOST_READ }
     ensures report_bounded { R.reads report.new ≤ R.reads report.old + MOST_READ }
 {
-    let expected = match expected_of(alloc, scenario) {
-        Ok(expected) => expected,
-        Err(fault) => return Err(fault),
-    };
-    let given = match bytes_of(alloc, report) {
-        Ok(given) => given,
-        Err(fault) => return Err(fault),
-    };
+    let expected = expected_of(alloc, scenario)?;
+    let given = bytes_of(alloc, report)?;
     judge_text(alloc, expected.as_slice(), given.as_slice())
 }

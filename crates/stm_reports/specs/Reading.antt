@@ -11,7 +11,7 @@ use Rattle.stm_steps.specs.declared.trace_item.TraceItem.{TraceItem}
 use Rattle.stm_outcome.specs.declared.advance.Expired.{Expired}
 use Rattle.stm_json.specs.Parts.{text_of, list_of}
 use Rattle.stm_reports.specs.declared.line.ReportLine.{ReportLine}
-use Rattle.stm_reports.specs.declared.line.ReportLine.TheVariants.{Started, Prefetched, Fetched, Committed, Conflict, GaveUp, Aborted, Faulted, Ended, Txn, Granted}
+use Rattle.stm_reports.specs.declared.line.ReportLine.TheVariants.{Started, Prefetched, Committed, Aborted, Faulted, Ended, Txn, Granted}
 use Rattle.stm_reports.specs.declared.line.ReportLine.TheVariants.{Kept, Revoked, Advanced, Compacted, Watching, Cancelled, Batch, Lost, Refused, Key, Lease, End}
 use Rattle.stm_reports.specs.declared.line.ReportedAnswer.{ReportedAnswer}
 use Rattle.stm_keys.specs.declared.event.Event.{Event}
@@ -26,6 +26,7 @@ use Rattle.stm_reports.specs.declared.words.StandingWord.TheVariants as standing
 use Rattle.stm_json.specs.Bytes.{data_of}
 use Rattle.stm_reports.specs.Bytes.{parts_of}
 use Rattle.stm_reports.specs.Elements.{five_of, six_of}
+use Rattle.stm_reports.specs.Rests.{fetched_rest, conflict_rest, gave_up_rest}
 use Rattle.stm_reports.specs.Parts.{number_of, flag_of, fault_of, cause_of, keyed_of, value_of, trace_of, answer_of, op_of, read_of, expired_of, event_of}
 use Rattle.stm_reports.specs.Words.{named, event_words, standing_words}
 
@@ -85,9 +86,7 @@ prefetched_of n (Some p) =
 abbrev pub fetched_of : Data → Option (Data × Data × Data × Data × Data) → Outcome ReportLine
 fetched_of n None = bad Shape
 fetched_of n (Some p) =
-    within 0 (number_of n) >>= λ number. within 2 (number_of p.0) >>= λ runner. within 3 (text_of p.1) >>= λ key.
-    within 4 (number_of p.2) >>= λ mod_rev. within 5 (number_of p.3) >>= λ of_rev.
-    within 6 (number_of p.4) >>= λ revision. Ok (Fetched number runner key mod_rev of_rev revision)
+    within 0 (number_of n) >>= λ number. within 2 (number_of p.0) >>= λ runner. fetched_rest number runner p.1 p.2 p.3 p.4
 
 abbrev pub committed_of : Data → Option (Data × Data × Data × Data × Data × Data) → Outcome ReportLine
 committed_of n None = bad Shape
@@ -99,15 +98,13 @@ committed_of n (Some p) =
 abbrev pub conflict_of : Data → Option (Data × Data × Data × Data) → Outcome ReportLine
 conflict_of n None = bad Shape
 conflict_of n (Some p) =
-    within 0 (number_of n) >>= λ number. within 2 (number_of p.0) >>= λ runner. within 3 (text_of p.1) >>= λ key.
-    within 4 (number_of p.2) >>= λ seen. within 5 (number_of p.3) >>= λ now. Ok (Conflict number runner key seen now)
+    within 0 (number_of n) >>= λ number. within 2 (number_of p.0) >>= λ runner. conflict_rest number runner p.1 p.2 p.3
 
 abbrev pub gave_up_of : Data → Option (Data × Data × Data × Data × Data) → Outcome ReportLine
 gave_up_of n None = bad Shape
 gave_up_of n (Some p) =
     within 0 (number_of n) >>= λ number. within 2 (number_of p.0) >>= λ runner. within 3 (number_of p.1) >>= λ attempts.
-    within 4 (text_of p.2) >>= λ key. within 5 (number_of p.3) >>= λ seen. within 6 (number_of p.4) >>= λ now.
-    Ok (GaveUp number runner attempts key seen now)
+    gave_up_rest number runner attempts p.2 p.3 p.4
 
 abbrev pub aborted_of : Data → Option (Data × Data) → Outcome ReportLine
 aborted_of n None = bad Shape

@@ -5,7 +5,7 @@ use Rattle.stm_job.specs.declared.job_end.JobEnd.{JobEnd}
 use Rattle.stm_faulted_runs.specs.Jobs.{ReportedJob}
 use Rattle.stm_threading.specs.Threading.{faulted_job, faulted_jobs}
 
--- the next end: its job, where it came to a fault, stands behind those so far
+-- the next end: its job, where it came to a fault, stands after those so far
 pub one_end : (all so_far new : List ReportedJob) (ends : List JobEnd) (i : ℕ) (end : JobEnd) → i < length ends → end ≡ get_or ends i end →
     so_far ++ faulted_jobs i (drop i ends) ≡ all → new ≡ so_far ++ faulted_job i end → new ++ faulted_jobs (i + 1) (drop (i + 1) ends) ≡ all
 one_end all so_far new ends i end within is left added =

@@ -50,7 +50,7 @@ is_of_run shown start calls jobs text standing ends attempts committed before af
   shows = shows;
 }
 
--- a run from the hall over this store that was broken off is told by its cause
+-- a run from the hall over this store that was broken off is reported by its cause
 pub broken_off : (start : Setup) (calls : List WorldEvent) (jobs : List Job) (fault : JobsFault) (cause : FaultCause) (standing : Standing) (ends : List JobEnd)
     (before after : JournalState) → standing ≡ store_after start calls → before ≡ made_over standing
     → BrokeOff before jobs cause ends after → fault ≡ fault_reported cause → IsBrokenOff start calls jobs fault
@@ -67,7 +67,7 @@ broken_off start calls jobs fault cause standing ends before after stands made b
     by_cause NoThread broken = broken
     by_cause (AtFault job) broken = broken
 
--- one that was not is told as want of memory
+-- one that was not is reported as out of memory
 pub no_room : (start : Setup) (calls : List WorldEvent) (jobs : List Job) (fault : JobsFault) → fault ≡ OutOfMemory → IsBrokenOff start calls jobs fault
 no_room start calls jobs fault reported = subst (λ (f : JobsFault). IsBrokenOff start calls jobs f) (sym reported) tt
 

@@ -55,7 +55,7 @@ HasCounted start calls jobs before after =
     (text : List ℕ) × IsOutcome start calls jobs text
     × ((texts : List (List ℕ)) → Counts texts before → Counts (texts ++ text ∷ []) after)
 
--- The tally is that of so many texts, each of them that of such a run. That a run was made for each is the body's matter: two of them may be of
+-- The tally is that of `runs` texts, each of them that of such a run. That a run was made for each is the body's matter: two of them may be of
 -- one run.
 pub record AreCounted (runs : ℕ) (start : Setup) (calls : List WorldEvent) (jobs : List Job) (tally : Tally) : Type 0 where
   pub texts : List (List ℕ)
@@ -63,7 +63,7 @@ pub record AreCounted (runs : ℕ) (start : Setup) (calls : List WorldEvent) (jo
   pub each : All (IsOutcome start calls jobs) texts
   pub counted : Counts texts tally
 
--- what is printed of these jobs: of a run of them, in which they ended so, or what so many runs came to, of which no end is told
+-- what is printed of these jobs: of a run of them, in which they ended so, or what `runs` runs came to, of which no end is reported
 abbrev pub IsPrintedOfJobs : Printing → Setup → List WorldEvent → List Job → List JobEnd → List ℕ → Type 0
 IsPrintedOfJobs PrintValues start calls jobs ends text = IsOfRun Values start calls jobs ends text
 IsPrintedOfJobs PrintEnds start calls jobs ends text = IsOfRun Ends start calls jobs ends text
@@ -76,8 +76,8 @@ pub record IsBrokenOffFor (start : Setup) (calls : List WorldEvent) (jobs : List
   pub after : JournalState
   pub broke : BrokeOff (made_over (store_after start calls)) jobs cause ends after
 
--- What is told of a run of these jobs of which nothing is printed: the cause for which it was broken off. Memory may be wanted before the run and after
--- it, too.
+-- What is reported of a run of these jobs of which nothing is printed: the cause for which it was broken off. Memory may run out before the run and
+-- after it, too.
 abbrev pub IsBrokenOff : Setup → List WorldEvent → List Job → JobsFault → Type 0
 IsBrokenOff start calls jobs OutOfMemory = Unit {0}
 IsBrokenOff start calls jobs Spawn = IsBrokenOffFor start calls jobs NoThread
@@ -86,13 +86,13 @@ IsBrokenOff start calls jobs (Bad fault) = ⊥
 IsBrokenOff start calls jobs Read = ⊥
 IsBrokenOff start calls jobs Write = ⊥
 
--- what is told of a run that was broken off, by its cause
+-- what is reported of a run that was broken off, by its cause
 abbrev pub fault_reported : FaultCause → JobsFault
 fault_reported NoMemory = OutOfMemory
 fault_reported NoThread = Spawn
 fault_reported (AtFault job) = Audit job
 
--- what is told of an input that could not be read as a scenario of jobs
+-- what is reported of an input that could not be read as a scenario of jobs
 abbrev pub fault_read : ReadError → JobsFault
 fault_read NoRoom = OutOfMemory
 fault_read (BadText fault) = Bad fault
@@ -147,8 +147,8 @@ Writes printing bytes before after failed (Err (Audit job)) = (failed ≡ false)
 
 -- ---- the devices
 
--- What a run did, by its answer. At the end of a good one exactly what is printed of it was written, and its jobs ended so; at a bad scenario, a run that was
--- broken off, which is told by its cause, and a failed source nothing was; at a failed sink a front of the lines was.
+-- What a run did, by its answer. At the end of a good one exactly what is printed of it was written, and its jobs ended so; at a bad scenario, a run
+-- that was broken off, which is reported by its cause, and a failed source nothing was; at a failed sink a front of the lines was.
 abbrev pub Does : Printing → Devices → Result (List JobEnd) JobsFault → Type 0
 Does printing d (Ok ends) =
     (d.source_failed ≡ false) × (d.sink_failed ≡ false)

@@ -1,5 +1,5 @@
 -- What the command `threads` does to its devices, its statuses, and what it says.
-use Rattle.std.specs.Prelude.{◌≡◌, ℕ, suc, List, [], ◌∷◌, ◌++◌, Bool, true, false, Option, Result, Ok, Err, codes, decimal}
+use Rattle.std.specs.Prelude.{◌≡◌, ℕ, suc, List, [], ◌∷◌, ◌++◌, Bool, true, false, Option, Result, Ok, Err, codes}
 use Rattle.std.specs.Io.KnownBytes.{Keeps}
 use Rattle.stm_devices.specs.Ends.{Devices}
 use Rattle.stm_texts.specs.Reading.{scenario_in}
@@ -11,9 +11,9 @@ use Rattle.stm_threading.specs.declared.running.JobsFault.{JobsFault}
 use Rattle.stm_threading.specs.declared.running.JobsFault.TheVariants.{OutOfMemory, Bad, Read, Write, Spawn, Audit}
 use Rattle.stm_threading.specs.declared.shown.Printing.{Printing}
 use Rattle.stm_threading.specs.Running.{Does}
-use Rattle.stm_explain.specs.Saying.{bad_input, Says, SaysMore, SaysSome}
+use Rattle.stm_explain.specs.Saying.{bad_input, memory_fault, device_fault, thread_fault, audit_fault, Reports, ReportsMore, SaysSome}
 
--- 2 for bad input, 3 for want of memory, a failed device, a thread that was refused and an end that does not stand
+-- 2 for bad input, 3 where memory ran out, a device failed, a thread could not be started or an end does not stand
 abbrev pub fault_status : JobsFault → ℕ
 fault_status OutOfMemory = 3
 fault_status (Bad fault) = 2
@@ -23,20 +23,20 @@ fault_status Spawn = 3
 fault_status (Audit job) = 3
 
 abbrev pub fault_message : JobsFault → List ℕ
-fault_message OutOfMemory = codes "stmrun: out of memory\n"
+fault_message OutOfMemory = memory_fault
 fault_message (Bad bad) = bad_input (codes "stmrun: bad scenario at ") bad
-fault_message Read = codes "stmrun: device fault\n"
-fault_message Write = codes "stmrun: device fault\n"
-fault_message Spawn = codes "stmrun: no thread\n"
-fault_message (Audit job) = codes "stmrun: audit " ++ decimal job ++ codes "\n"
+fault_message Read = device_fault
+fault_message Write = device_fault
+fault_message Spawn = thread_fault
+fault_message (Audit job) = audit_fault job
 
 -- what is said and answered of a fault: its own message and status
 abbrev pub SaysOf : Option (List ℕ) → Option (List ℕ) → Bool → JobsFault → ℕ → Type 0
-SaysOf before after failed fault status = (status ≡ fault_status fault) × Says before after failed (fault_message fault)
+SaysOf before after failed fault status = Reports (fault_status fault) (fault_message fault) before after failed status
 
--- the same with an explanation behind the message
+-- the same with an explanation after the message
 abbrev pub SaysMoreOf : Option (List ℕ) → Option (List ℕ) → Bool → JobsFault → ℕ → Type 0
-SaysMoreOf before after failed fault status = (status ≡ fault_status fault) × SaysMore before after failed (fault_message fault)
+SaysMoreOf before after failed fault status = ReportsMore (fault_status fault) (fault_message fault) before after failed status
 
 -- with one where faults are explained, and else without
 abbrev pub SaysBy : Bool → Option (List ℕ) → Option (List ℕ) → Bool → JobsFault → ℕ → Type 0
@@ -65,8 +65,8 @@ abbrev pub EndsBy : Bool → List ℕ → List ℕ → Option (List ℕ) → Opt
 EndsBy explained name text before after failed (Ok ends) status = (status ≡ 0) × SaysOfEnds explained name text ends before after failed
 EndsBy explained name text before after failed (Err fault) status = SaysBy explained before after failed fault status
 
--- What the command does to its devices, and its status: what is to be printed of the jobs is written, with status 0 at a good end, at which the jobs that came to
--- a fault are explained or nothing is said, and else it is said what went wrong.
+-- What the command does to its devices, and its status: what is to be printed of the jobs is written, with status 0 at a good end, at which the jobs
+-- that came to a fault are explained or nothing is said, and else it is said what went wrong.
 abbrev pub Ends : Bool → List ℕ → List ℕ → Printing → Devices → Option (List ℕ) → Option (List ℕ) → Bool → ℕ → Type 0
 Ends explained name text printing devices before after failed status =
     (ended : Result (List JobEnd) JobsFault) × Does printing devices ended × EndsBy explained name text before after failed ended status

@@ -49,7 +49,7 @@ fn lines_in(alloc: Global, name: &str, text: &str, ends: &[JobEnd]) -> Result<St
     jobs_explained(alloc, &Named { name, text }, jobs.as_slice())
 }
 
-/// The same, or nothing where a growth was refused.
+/// The same, or nothing where an allocation failed.
 fn lines_of_jobs(alloc: Global, name: &str, text: &str, ends: &[JobEnd]) -> String
     ensures { OrNothing (ExplainsJobs name.now text.now (scenario_in text.now) (faulted_jobs 0 ends.now)) (string_bytes result) }
 {
@@ -59,7 +59,7 @@ fn lines_of_jobs(alloc: Global, name: &str, text: &str, ends: &[JobEnd]) -> Stri
     }
 }
 
-/// The explanations of the jobs of a scenario that came to a fault; none where a growth was refused, now or before.
+/// The explanations of the jobs of a scenario that came to a fault; none where an allocation failed, now or before.
 fn jobs_of_input<S>(alloc: Global, input: &Kept<'_, S>, ends: &[JobEnd]) -> String
     ensures { OrNothing (ExplainsJobs input.now.name.now input.now.bytes.items (scenario_in input.now.bytes.items) (faulted_jobs 0 ends.now)) (string_bytes result) }
 {

@@ -33,7 +33,7 @@ use thiserror::Error;
 /// Why a run of a scenario's jobs failed.
 #[derive(Debug, Drop, Error)]
 pub enum JobsFault {
-    /// A growth was refused.
+    /// An allocation failed.
     #[error("out of memory")]
     OutOfMemory,
     /// The input is no scenario of jobs: its first fault.
@@ -51,6 +51,17 @@ pub enum JobsFault {
     /// The end of this job is not what the hall says.
     #[error("audit {0}")]
     Audit(u64),
+}
+
+impl From<AllocError> for JobsFault {
+    ghost use Rattle.std.specs.Prelude.{◌≡◌};
+    ghost use Rattle.stm_threading.specs.declared.running.JobsFault.TheVariants.{OutOfMemory};
+
+    ghost from_gives = { λ error fault. fault ≡ OutOfMemory };
+
+    fn from(_error: AllocError) -> JobsFault {
+        JobsFault::OutOfMemory
+    }
 }
 
 /// What is printed of jobs, and how they ended where it is of one run.
@@ -87,7 +98,7 @@ fn fault_of(cause: FaultCause) -> JobsFault
     }
 }
 
-/// The fault of a run that was broken off: its cause. Its hall is let go.
+/// The fault of a run that was broken off: its cause. Its hall is dropped.
 fn fault_of_run(broken: RunFault) -> JobsFault
     ensures { result ≡ fault_reported broken.cause }
 {
@@ -96,7 +107,7 @@ fn fault_of_run(broken: RunFault) -> JobsFault
     fault_of(cause)
 }
 
-/// What is to be shown of a run of so many jobs.
+/// What is to be shown of a run of this many jobs.
 fn shown_of(
     alloc: Global,
     jobs: usize,
@@ -114,7 +125,7 @@ fn shown_of(
     }
 }
 
-/// How the jobs of a run ended. What else it came to is let go.
+/// How the jobs of a run ended. What else it came to is dropped.
 fn ends_of(alloc: Global, gathered: Gathered) -> Sequence<JobEnd>
     ensures { result ≡ gathered.ends.items }
 {
@@ -124,7 +135,7 @@ fn ends_of(alloc: Global, gathered: Gathered) -> Sequence<JobEnd>
     Sequence::of(ends)
 }
 
-/// What is to be shown of a run of so many jobs, and how they ended. What else it came to is let go.
+/// What is to be shown of a run of this many jobs, and how they ended. What else it came to is dropped.
 fn text_of_run(
     alloc: Global,
     jobs: usize,
@@ -180,10 +191,8 @@ fn run_once<R: Threads + Wait + Sync>(
     ensures shows { IfOk result (λ p. IsOfRun shown (as_setup opening) calls.now jobs.now p.ends (string_bytes p.text)) }
     ensures fault { IfErr result (IsBrokenOff (as_setup opening) calls.now jobs.now) }
 {
-    match open_store(alloc, opening, calls) {
-        Ok(store) => text_on(rt, alloc, store, jobs, workers, shown),
-        Err(_) => Err(JobsFault::OutOfMemory),
-    }
+    let store = open_store(alloc, opening, calls)?;
+    text_on(rt, alloc, store, jobs, workers, shown)
 }
 
 /// Makes one more run of these jobs, and counts what it came to. So many were made before.
@@ -203,17 +212,12 @@ fn count_run<R: Threads + Wait + Sync>(
     ensures counted { OnOk result (HasCounted (as_setup opening) calls.now jobs.now tally.old.entries tally.new.entries) }
     ensures fault { IfErr result (IsBrokenOff (as_setup opening) calls.now jobs.now) }
 {
-    let front = match run_once(rt, alloc, opening, calls, jobs, workers, Shown::Outcome) {
-        Ok(printed) => printed.text,
-        Err(fault) => return Err(fault),
-    };
-    match count_one(tally, Text::new(front), made) {
-        Ok(()) => Ok(()),
-        Err(_) => Err(JobsFault::OutOfMemory),
-    }
+    let printed = run_once(rt, alloc, opening, calls, jobs, workers, Shown::Outcome)?;
+    count_one(tally, Text::new(printed.text), made)?;
+    Ok(())
 }
 
-/// Makes so many runs of these jobs, and counts what they came to.
+/// Makes this many runs of these jobs, and counts what they came to.
 fn count_runs<R: Threads + Wait + Sync>(
     rt: &R,
     alloc: Global,
@@ -230,15 +234,12 @@ fn count_runs<R: Threads + Wait + Sync>(
 {
     let mut tally = BTreeMap::new(alloc);
     for made in 0..runs {
-        match count_run(rt, alloc, opening, calls, jobs, workers, &mut tally, made) {
-            Ok(()) => {}
-            Err(fault) => return Err(fault),
-        }
+        count_run(rt, alloc, opening, calls, jobs, workers, &mut tally, made)?;
     }
     Ok(tally)
 }
 
-/// What is printed of so many runs of these jobs.
+/// What is printed of this many runs of these jobs.
 fn run_often<R: Threads + Wait + Sync>(
     rt: &R,
     alloc: Global,
@@ -253,17 +254,12 @@ fn run_often<R: Threads + Wait + Sync>(
     ensures printed { IfOk result (λ p. IsPrintedOfJobs (OfRuns runs) (as_setup opening) calls.now jobs.now p.ends (string_bytes p.text)) }
     ensures fault { IfErr result (IsBrokenOff (as_setup opening) calls.now jobs.now) }
 {
-    let tally = match count_runs(rt, alloc, opening, calls, jobs, workers, runs) {
-        Ok(tally) => tally,
-        Err(fault) => return Err(fault),
-    };
-    match tally_text(alloc, &tally, runs) {
-        Ok(text) => Ok(Printed {
-            text,
-            ends: Sequence::new(alloc),
-        }),
-        Err(_) => Err(JobsFault::OutOfMemory),
-    }
+    let tally = count_runs(rt, alloc, opening, calls, jobs, workers, runs)?;
+    let text = tally_text(alloc, &tally, runs)?;
+    Ok(Printed {
+        text,
+        ends: Sequence::new(alloc),
+    })
 }
 
 /// What is printed of these jobs, each run of which is made on an empty store that opens with this, once these calls of it were made.
@@ -328,7 +324,7 @@ fn text_of_bytes<R: Threads + Wait + Sync>(
     text_of_scenario(rt, alloc, scenario, workers, printing)
 }
 
-/// Writes what is printed of the jobs of the scenario that bytes spell, once it is whole, and tells how they ended.
+/// Writes what is printed of the jobs of the scenario that bytes spell, once it is whole, and returns how they ended.
 fn write_text<R: Threads + Wait + Sync, W: Sink>(
     rt: &R,
     alloc: Global,
@@ -341,24 +337,21 @@ fn write_text<R: Threads + Wait + Sync, W: Sink>(
     requires sink_works { W.failed sink.old ≡ false }
     ensures { Writes printing bytes.now (W.held sink.old) (W.held sink.new) (W.failed sink.new) result }
 {
-    let printed = match text_of_bytes(rt, alloc, bytes, workers, printing) {
-        Ok(printed) => printed,
-        Err(fault) => return Err(fault),
-    };
+    let printed = text_of_bytes(rt, alloc, bytes, workers, printing)?;
     match write_all(sink, printed.text.as_str().as_bytes()) {
         Ok(()) => Ok(printed.ends),
         Err(_) => Err(JobsFault::Write),
     }
 }
 
-/// Reads a scenario of jobs from a source to its end, runs the jobs by so many threads, and writes to a sink what is to be printed of the run, or of so
-/// many runs, one after another, each of them on a store of its own. Tells the end of each job, at its place, of one run, and none of more.
+/// Reads a scenario of jobs from a source to its end, runs the jobs by `workers` threads, and writes to a sink what is to be printed of the run, or
+/// of several runs, one after another, each of them on a store of its own. Returns the end of each job, at its place, of one run, and none of more.
 ///
-/// The scenario is read whole, and then judged as one of jobs, before anything runs. Nothing is written before the last run has ended.
-/// Neither device has failed before. It fails as `Bad` with the first fault, as `OutOfMemory` where a growth was refused, as `Read` where the
-/// source has failed, as `Spawn` where a thread could not be started, and as `Audit` where the end of a job does not stand: then nothing was
-/// written. A run that was broken off is told by its cause, and none is made after it. It fails as `Write` where the sink has failed: then a front
-/// of the lines was written. The source is read at most 16777217 times. Nothing is said of whether it returns.
+/// The scenario is read whole, and then judged as one of jobs, before anything runs. Nothing is written before the last run has ended. Neither device
+/// has failed before. It fails as `Bad` with the first fault, as `OutOfMemory` where an allocation failed, as `Read` where the source has failed, as
+/// `Spawn` where a thread could not be started, and as `Audit` where the end of a job does not stand: then nothing was written. A run that was broken
+/// off is reported by its cause, and none is made after it. It fails as `Write` where the sink has failed: then a front of the lines was written. The
+/// source is read at most 16777217 times. Nothing is said of whether it returns.
 pub fn run_jobs<R: Threads + Wait + Sync, S: Source, W: Sink>(
     rt: &R,
     alloc: Global,

@@ -18,6 +18,6 @@ pub enum Printing {
     Values,
     /// The same, with a line for the end of each job.
     Ends,
-    /// What so many runs come to, each on a store of its own, and how often.
+    /// What this many runs come to, each on a store of its own, and how often.
     Outcomes(u32),
 }

@@ -6,7 +6,7 @@ ghost use Rattle.stm_threading.specs.declared.shown.Printing.TheVariants.{Values
 ghost use Rattle.stm_threading.specs.Threading.{Ends};
 
 use crate::faults::report_ends;
-use crate::messages::{report, report_by};
+use crate::messages::{report_by, report_fault};
 use crate::running::run_jobs;
 use crate::shown::Printing;
 use std::alloc::Global;
@@ -26,12 +26,12 @@ pub struct ThreadsOptions {
     pub explain: bool,
 }
 
-/// Runs the starts of the scenario of `input` as jobs, by so many threads behind one lock, from 1 to `MOST_WORKERS`. Its txn, grant, keep, revoke and
-/// advance events are applied to the store first, in their order. To `out` go the number of jobs, how many committed, the value of each key
-/// that is present, and the revision, whole or not at all but for a failed `out`.
+/// Runs the starts of the scenario of `input` as jobs, by `workers` threads under one lock, from 1 to `MOST_WORKERS`. Its txn, grant, keep, revoke
+/// and advance events are applied to the store first, in their order. To `out` go the number of jobs, how many committed, the value of each key that
+/// is present, and the revision, whole or not at all but for a failed `out`.
 ///
-/// Gives the status: 0 where they were written, 2 where the input is no scenario or has another event or a limit of 0, 3 where a growth or
-/// a thread was refused, `input` or `out` failed, or the end of a job does not stand. On `err` it says what went wrong, and takes no memory
+/// Gives the status: 0 where they were written, 2 where the input is no scenario or has another event or a limit of 0, 3 where memory ran out or
+/// a thread could not be started, `input` or `out` failed, or the end of a job does not stand. On `err` it says what went wrong, and takes no memory
 /// for it: `stmrun: bad scenario at PLACE: CAUSE`, `stmrun: out of memory`, `stmrun: device fault`, `stmrun: no thread` or
 /// `stmrun: audit JOB`, whole where `err` then has not failed. That `err` fails changes no status. None of the devices has failed before.
 /// `input` is read at most 16777217 times. Nothing is said of whether it returns.
@@ -58,16 +58,17 @@ pub fn threads_to<R: Threads + Wait + Sync, S: Source, W: Sink, E: Sink>(
 {
     match run_jobs(rt, alloc, input, workers, Printing::Values, out) {
         Ok(_) => 0,
-        Err(fault) => report(err, &fault),
+        Err(fault) => report_fault(err, &fault),
     }
 }
 
-/// Does what `threads_to` does, and prints what the options say: of one run these lines, with a line for the end of each job behind the number of commits
-/// or without, or of so many runs, each on a store of its own, a line for each outcome, once, with how often it came, and behind them their number. One run
-/// that is broken off breaks off all.
+/// Does what `threads_to` does, and prints what the options say: of one run these lines, with a line for the end of each job after the number of
+/// commits or without, or of several runs, each on a store of its own, a line for each outcome, once, with how often it came, and after them their
+/// number. One run that is broken off breaks off all.
 ///
-/// Where the options say so there stands behind what is said of a bad scenario its explanation, as a line `NAME:LINE:COLUMN: WORDS`, and of one run a line
-/// for each job that came to a fault, in their order, `NAME:LINE:COLUMN: job JOB: FAULT at PLACE: REASON`; or nothing where a growth was refused for these.
+/// Where the options say so there stands after what is said of a bad scenario its explanation, as a line `NAME:LINE:COLUMN: WORDS`, and of one run a
+/// line for each job that came to a fault, in their order, `NAME:LINE:COLUMN: job JOB: FAULT at PLACE: REASON`; or nothing where an allocation failed
+/// for these.
 pub fn threads_as_to<R: Threads + Wait + Sync, S: Source, W: Sink, E: Sink>(
     rt: &R,
     alloc: Global,

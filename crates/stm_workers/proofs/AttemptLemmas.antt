@@ -33,7 +33,7 @@ one_fetched handed job before between after so_far fetch = (suc so_far.0, (betwe
 
 -- ---- an attempt that goes no further
 
--- what holds of a stop that is told holds of the one that was made of it
+-- what holds of a stop that is returned holds of the one that was made of it
 pub reported_out : {A : Type 0} (result : Result A Stop) (P : Stop → Type 0) (made given : Stop) → result ≡ Err made → made ≡ given → P given → IfErr result P
 reported_out {A} result P made given is same holds = subst (λ (r : Result A Stop). IfErr r P) (sym is) (subst P (sym same) holds)
 
@@ -155,7 +155,7 @@ pub stops_at : (handed : JournalState) (job : Job) (seen number after : ℕ) (la
 stops_at handed job seen number after last stop lost within stopped =
     comes_to handed job seen number last (λ at. HasStopped handed job at stop after) lost within stopped
 
--- which is the job's end, unless it was for want of memory
+-- which is the job's end, unless memory ran out
 stop_ends : (handed : JournalState) (job : Job) (end : JobEnd) (after : ℕ) (last : JobState) (stop : Stop) → job_end_reported stop ≡ Some end →
     HasStopped handed job last stop after →
     EndsByStop handed job end after last

@@ -37,7 +37,7 @@ is_named index (Faulted fault reads) is = absurd (cc)
 is_named index (Refused cause) is = absurd (cc)
 is_named index (GaveUp key) is = absurd (cc)
 
--- ---- one of so many ends names it
+-- ---- one of the first n ends names it
 
 either_parts : (a b : Bool) → (a || b) ≡ false → (a ≡ false) × (b ≡ false)
 either_parts true b is = absurd (cc)
@@ -249,7 +249,7 @@ second_of_two_fails A B not = ((λ yes. absurd (cc)), (λ both. absurd (not both
 pub second_of_two_decides : (b : Bool) (A B : Type 0) → A → (b ≡ true) ↔ B → (b ≡ true) ↔ (A × B)
 second_of_two_decides b A B first test = ((λ yes. (first, test.0 yes)), (λ both. test.1 both.1))
 
--- no commit stands behind the last entry
+-- no commit stands after the last entry
 pub nothing_behind : (job : Job) (revision : ℕ) (entries : List Entry) (index : ℕ) → length entries ≤ index →
     IsCommitOf job revision (slice_get entries index) → ⊥
 nothing_behind job revision entries index behind commit =

@@ -108,7 +108,7 @@ both_hold : (a b : Bool) → a ≡ true → b ≡ true → (a && b) ≡ true
 both_hold true b left right = right
 both_hold false b left right = absurd (cc)
 
--- what stands behind the entries of a hall after a verdict on an attempt of one of the jobs: its commit, or nothing
+-- what a hall adds to its entries by a verdict on an attempt of one of the jobs: its commit, or nothing
 abbrev Adds : List Job → JournalState → JournalState → Type 0
 Adds jobs hall after = (more : List Entry) × (after.entries ≡ hall.entries ++ more) × (are_of_jobs jobs more ≡ true)
 
@@ -119,7 +119,7 @@ verdict_puts jobs hall after ready verdict of is =
     (λ done. (entry_of ready (now done.history) ∷ [], refl, ap (λ (b : Bool). b && true) of)) (λ failed. ([], sym (append-nil hall.entries), refl))
     (record { answer = verdict; next = after }) is
 
--- ---- entries behind others
+-- ---- entries after others
 
 all_of_both : (jobs : List Job) (xs ys : List Entry) → are_of_jobs jobs xs ≡ true → are_of_jobs jobs ys ≡ true → are_of_jobs jobs (xs ++ ys) ≡ true
 all_of_both jobs [] ys left right = right

@@ -113,7 +113,7 @@ pub all_clear : (begun : StartPoint) (hall : JournalState) (jobs : List Job) (sh
     AllStand begun hall jobs ends
 all_clear begun hall jobs shown ends same clear = subst (λ (es : List JobEnd). AllStand begun hall jobs es) same clear
 
--- it tells a job that is at fault, of the ends that are handed back
+-- it names a job that is at fault, of the ends that are handed back
 reported_of : (begun : StartPoint) (hall : JournalState) (jobs : List Job) (ends : List JobEnd) (cause : FaultCause) → length ends ≡ length jobs →
     OnAudit cause (λ (job : ℕ). (job < length jobs) × (StandsAt begun hall jobs ends job → ⊥)) →
     OnAudit cause (λ (job : ℕ). (job < length jobs) × (length ends ≡ length jobs) × (StandsAt begun hall jobs ends job → ⊥))
@@ -138,7 +138,7 @@ at_fault begun hall jobs shown ends given cause reported same are is places faul
 pub at_ok : {A E : Type 0} (P : A → Type 0) (outcome : Result A E) (made : A) → outcome ≡ Ok made → IfOk outcome P → P made
 at_ok {A} {E} P outcome made is holds = subst (λ (r : Result A E). IfOk r P) is holds
 
--- the same run, told by the hall, the ends and the attempts that were gathered
+-- the same run, by the hall, the ends and the attempts that were gathered
 pub ran_on : (before after reported : JournalState) (jobs : List Job) (ends given : List JobEnd) (attempts made : List ℕ) (committed : ℕ) → reported ≡ after →
     given ≡ ends → made ≡ attempts → RanTo before jobs ends attempts committed after → RanTo before jobs given made committed reported
 ran_on before after reported jobs ends given attempts made committed same are were ran =

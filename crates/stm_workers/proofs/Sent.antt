@@ -1,4 +1,5 @@
--- `Send` and `Sync` of what the threads of a run are given, type by type: from the expressions of a program up to what is locked and the jobs. A search that goes down from there by itself gives up at the first type that holds itself.
+-- `Send` and `Sync` of what the threads of a run are given, type by type: from the expressions of a program up to what is locked and the jobs. A
+-- search that goes down from there by itself gives up at the first type that holds itself.
 use denote.RattleType.{RattleType}
 use Rattle.std.proofs.sync.ledger.Book.TheSendSync as book
 use denote.Param.Send.{IsSend, IsSync, struct_send, recorded_send, sendable}
@@ -115,7 +116,7 @@ ruleset held = (
 pub entry_send : IsSend Entry.the_row
 entry_send = search held depth 12
 
--- ---- the hall, which stands behind a lock, and the jobs, which are read by all
+-- ---- the hall, which is kept under a lock, and the jobs, which are read by all
 
 pub journal_send : IsSend Journal.the_row
 journal_send = let entries = Vec-send Entry.the_row entry_send in search (store.the_send, sendable) depth 12

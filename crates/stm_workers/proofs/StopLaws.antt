@@ -57,7 +57,7 @@ run_alone h r program reads run shown is =
     (answers_of_one_revision h r reads program.statements (all_true h r reads shown)
     (All-from_recursion (λ (a : ReadAnswer). a.of_rev ≡ r) reads (all_show h r reads shown)))
 
--- ---- the run that a stop tells
+-- ---- the run that a stop reports
 
 -- a run comes to an end
 abbrev RunsTo : Answered → End → Type 0
@@ -70,7 +70,7 @@ some_of {A} x y is = ap (value_or x) is
     value_or other None = other
     value_or other (Some a) = a
 
--- what tells an end tells no refusal
+-- what reports an end reports no refusal
 no_fetch : (stop : Stop) (end : End) (cause : FetchRefusal) → end_reported stop ≡ Some end → fetch_refusal_reported stop ≡ Some cause → ⊥
 no_fetch OutOfMemory end cause reports reported = absurd (cc)
 no_fetch (Aborted text reads) end cause reports reported = absurd (cc)
@@ -95,9 +95,9 @@ by_stop handed job at stop reads end reports on (inr (inl (inl refused))) = absu
 by_stop handed job at stop reads end reports on (inr (inl (inr refused))) = absurd (no_fetch stop end refused.refused.cause reports refused.refused.reported)
 by_stop handed job at stop reads end reports on (inr (inr refused)) = absurd (no_commit stop end refused.refused.cause reports refused.refused.reported)
 
--- ---- the run that an end of a job tells
+-- ---- the run that an end of a job reports
 
--- what an end tells of a run
+-- what an end reports of a run
 abbrev reported_end : JobEnd → Option End
 reported_end (CommittedJob index revision) = None
 reported_end (AbortedJob text reads) = Some (AbortedEnd text)
@@ -112,12 +112,12 @@ reported_reads (FaultedJob fault reads) = Some reads
 reported_reads (RefusedJob cause) = None
 reported_reads (GaveUp key) = None
 
--- a verdict tells none
+-- a verdict reports none
 not_by_verdict : (verdict : Verdict) (end : End) → reported_end (end_after verdict) ≡ Some end → ⊥
 not_by_verdict (Committed index revision) end reported = absurd (cc)
 not_by_verdict (Failed key seen modified answers) end reported = absurd (cc)
 
--- a stop tells what its end does
+-- a stop reports what its end does
 same_reported : (stop : Stop) (job_end : JobEnd) → job_end_reported stop ≡ Some job_end → (end_reported stop ≡ reported_end job_end) × (reads_reported stop ≡ reported_reads job_end)
 same_reported OutOfMemory job_end reported = absurd (cc)
 same_reported (Aborted text reads) job_end reported =

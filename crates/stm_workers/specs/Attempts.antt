@@ -1,9 +1,10 @@
--- What a worker does for a job, from its first attempt to its end: between its calls of the hall, of which each is made in some hall, since others come to it
--- in between. That hall has the store of the one that was handed in, `handed`, but for its history: its limit of operations and its floor are the same.
+-- What a worker does for a job, from its first attempt to its end: between its calls of the hall, of which each is made in some hall, since others
+-- come to it in between. That hall has the store of the one that was handed in, `handed`, but for its history: its limit of operations and its floor
+-- are the same.
 --
--- The documentation of the Go package `clientv3/concurrency`, "STM": a transaction whose commit fails is run again, on what was read again then. That a fetch
--- says what its worker has seen, how many commits a job may send, and what its end tells, is our own.
-use Rattle.std.specs.Prelude.{◌≡◌, ◌⊎◌, ℕ, zero, suc, ◌+◌, ◌≤◌, Bool, true, false, List, [], ◌∷◌, if◌then◌else◌, Option, None, Some, Ok, Err}
+-- The documentation of the Go package `clientv3/concurrency`, "STM": a transaction whose commit fails is run again, on what was read again then. That
+-- a fetch says what its worker has seen, how many commits a job may send, and what its end reports, is our own.
+use Rattle.std.specs.Prelude.{◌≡◌, ◌⊎◌, ℕ, zero, suc, ◌+◌, ◌≤◌, Bool, true, false, List, [], ◌∷◌, Option, None, Some, Ok, Err}
 use Rattle.stm_history.specs.declared.key_state.ReadAnswer.{ReadAnswer}
 use Rattle.stm_steps.specs.declared.run.End.{End}
 use Rattle.stm_steps.specs.declared.run.End.TheVariants.{Aborted as AbortedEnd, Faulted as FaultedEnd}
@@ -12,9 +13,8 @@ use Rattle.stm_steps.specs.declared.run.Answered.TheVariants.{Ended as EndedRun}
 use Rattle.stm_outcome.specs.declared.answer.OpAnswer.TheVariants.{Get as GetAnswer}
 use Rattle.stm_outcome.specs.declared.answer.TxnAnswer.{TxnAnswer}
 use Rattle.stm_outcome.specs.declared.refusal.Refusal.TheVariants.{OutOfMemory as Want}
-use Rattle.stm_program.specs.Levels.{is_serializable}
 use Rattle.stm_attempt.specs.declared.next.Next.TheVariants.{FetchAll, Fetch, Ready}
-use Rattle.stm_attempt.specs.AttemptState.{AttemptState, begun, advanced, supplied, supplied_all}
+use Rattle.stm_attempt.specs.AttemptState.{AttemptState, begun, begun_after, advanced, supplied, supplied_all}
 use Rattle.stm_attempt.specs.Next.{next_of}
 use Rattle.stm_attempt.specs.ReadyRun.{ReadyRun}
 use Rattle.stm_attempt.specs.Settled.{run_on}
@@ -37,7 +37,7 @@ use Rattle.stm_workers.specs.declared.stop.Stop.{Stop}
 use Rattle.stm_workers.specs.declared.stop.Stop.TheVariants.{OutOfMemory, Aborted, Faulted, Refused}
 use Rattle.stm_workers.specs.Calls.{AnswersInSomeHall, JudgedInSomeHall, committed_by, seen_after}
 
--- ---- what a stop tells
+-- ---- what a stop reports
 
 -- the end of a run
 abbrev pub end_reported : Stop → Option End
@@ -71,7 +71,7 @@ commit_refusal_reported (Refused (Unvouched key)) = Some (CommitUnvouched key)
 commit_refusal_reported (Aborted text reads) = None
 commit_refusal_reported (Faulted fault reads) = None
 
--- the end of a job, which want of memory is not
+-- the end of a job, which out of memory is not
 abbrev pub job_end_reported : Stop → Option JobEnd
 job_end_reported OutOfMemory = None
 job_end_reported (Aborted text reads) = Some (AbortedJob text reads)
@@ -99,7 +99,7 @@ pub record IsAnswered (handed : JournalState) (seen : ℕ) (key : List ℕ) (at 
   pub by_hall : AnswersInSomeHall handed seen (fetch_of key at) (Ok reported)
   pub is_read : reported.answers ≡ GetAnswer answer ∷ []
 
--- it refused, as the stop tells
+-- it refused, as the stop reports
 pub record IsUnanswered (handed : JournalState) (seen : ℕ) (key : List ℕ) (at : ℕ) (stop : Stop) : Type 0 where
   pub cause : FetchRefusal
   pub by_hall : AnswersInSomeHall handed seen (fetch_of key at) (Err cause)
@@ -112,20 +112,20 @@ pub record AreAnswered (handed : JournalState) (seen : ℕ) (keys : List (List �
   pub are_read : answers ≡ reads_in reported.answers
   pub carries : revision ≡ reported.revision
 
--- it refused, as the stop tells
+-- it refused, as the stop reports
 pub record AreUnanswered (handed : JournalState) (seen : ℕ) (keys : List (List ℕ)) (stop : Stop) : Type 0 where
   pub cause : FetchRefusal
   pub by_hall : AnswersInSomeHall handed seen (fetch_all_of keys) (Err cause)
   pub reported : fetch_refusal_reported stop ≡ Some cause
 
--- a hall refused the commit of a ready attempt, as the stop tells
+-- a hall refused the commit of a ready attempt, as the stop reports
 pub record IsTurnedAway (handed : JournalState) (ready : ReadyRun) (stop : Stop) : Type 0 where
   pub cause : CommitRefusal
   pub by_hall : JudgedInSomeHall handed ready (Err cause)
   pub reported : commit_refusal_reported stop ≡ Some cause
 
--- A fetch of a key: the attempt wants a key at a revision; that is asked for, with exactly what was seen; and the attempt goes on with the answer, whose revision is
--- what was seen then.
+-- A fetch of a key: the attempt wants a key at a revision; that is asked for, with exactly what was seen; and the attempt goes on with the answer,
+-- whose revision is what was seen then.
 pub record IsKeyFetch (handed : JournalState) (job : Job) (before after : JobState) : Type 0 where
   pub key : List ℕ
   pub at : ℕ
@@ -147,7 +147,7 @@ pub record IsListFetch (handed : JournalState) (job : Job) (before after : JobSt
 abbrev pub IsFetch : JournalState → Job → JobState → JobState → Type 0
 IsFetch handed job before after = IsKeyFetch handed job before after ⊎ IsListFetch handed job before after
 
--- so many fetches, one after the other
+-- this many fetches, one after the other
 abbrev pub AreFetches : JournalState → Job → ℕ → JobState → JobState → Type 0
 AreFetches handed job zero before after = after ≡ before
 AreFetches handed job (suc n) before after = (between : JobState) × AreFetches handed job n before between × IsFetch handed job between after
@@ -223,13 +223,10 @@ HasStopped handed job before stop seen = (stop ≡ OutOfMemory) ⊎ StopsAt hand
 
 -- ---- a job
 
--- the attempt after a commit that failed with these answers: at the two serializable levels they are prefetched for it
-abbrev pub next_attempt : Job → List ReadAnswer → AttemptState
-next_attempt job answers = begun job.level (if is_serializable job.level then answers else [])
-
+-- the attempt after a commit that failed
 abbrev pub IsNextAttempt : Job → Verdict → AttemptState → Type 0
 IsNextAttempt job (Committed index revision) next = ⊥
-IsNextAttempt job (Failed key seen modified answers) next = next ≡ next_attempt job answers
+IsNextAttempt job (Failed key seen modified answers) next = next ≡ begun_after job.level answers
 
 -- an attempt whose commit failed, and where the next one begins
 pub record HasFailed (handed : JournalState) (job : Job) (before after : JobState) : Type 0 where
@@ -237,7 +234,7 @@ pub record HasFailed (handed : JournalState) (job : Job) (before after : JobStat
   pub tried : HasTried handed job before verdict after.seen
   pub next : IsNextAttempt job verdict after.attempt
 
--- so many, one after the other
+-- this many, one after the other
 abbrev pub HaveFailed : JournalState → Job → ℕ → JobState → JobState → Type 0
 HaveFailed handed job zero before after = after ≡ before
 HaveFailed handed job (suc n) before after = (between : JobState) × HaveFailed handed job n before between × HasFailed handed job between after
@@ -249,8 +246,8 @@ pub record HasEnded (handed : JournalState) (job : Job) (before : JobState) (is_
   pub reported : end ≡ end_after verdict
   pub last : committed_by verdict ≡ 0 → is_last ≡ true
 
--- A job has come to an attempt with this number, from 1 on, of which this is so: that is one more than the commits of it that failed before, and at most the
--- commits that it may send. The first attempt begins with nothing prefetched.
+-- A job has come to an attempt with this number, from 1 on, of which this is so: that is one more than the commits of it that failed before, and at
+-- most the commits that it may send. The first attempt begins with nothing prefetched.
 pub record ComesTo (handed : JournalState) (job : Job) (seen attempts : ℕ) (Then : JobState → Type 0) : Type 0 where
   pub failed : ℕ
   pub counted : attempts ≡ failed + 1
@@ -272,8 +269,8 @@ pub record EndsByStop (handed : JournalState) (job : Job) (end : JobEnd) (seen :
   pub stopped : StopsAt handed job before stop seen
   pub reported : job_end_reported stop ≡ Some end
 
--- A job that was begun by who had seen the one revision has come to this end after so many attempts, and the other was seen then. It has sent at most as many
--- commits as it may; and it gave up only where it has sent exactly so many, which all failed.
+-- A job that was begun by a worker which had seen the one revision has come to this end after `attempts` attempts, and the other was seen then. It
+-- has sent at most as many commits as it may; and it gave up only where it has sent exactly that many, which all failed.
 abbrev pub HasCome : JournalState → Job → ℕ → JobEnd → ℕ → ℕ → Type 0
 HasCome handed job seen end after attempts =
     ComesTo handed job seen attempts (EndsByVerdict handed job end after attempts) ⊎ ComesTo handed job seen attempts (EndsByStop handed job end after)

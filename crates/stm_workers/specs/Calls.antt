@@ -32,8 +32,8 @@ HasGoneOn before after =
     (take (length before.entries) after.entries ≡ before.entries) × (after.start ≡ before.start) × ((opening_of after).history ≡ (opening_of before).history)
     × ((id : ℕ) → (opening_of after).is_live id ≡ (opening_of before).is_live id)
 
--- the store of a hall is as another's but for its history: the floor, the limit of operations, the leases with their terms, the moment and the watchers are the
--- same
+-- the store of a hall is as another's but for its history: the floor, the limit of operations, the leases with their terms, the moment and the
+-- watchers are the same
 abbrev pub HasKeptStore : JournalState → JournalState → Type 0
 HasKeptStore before after = after ≡ journal_of (with_history before.standing after.standing.history) after.entries after.start
 

@@ -1,4 +1,4 @@
--- What is told of threads that were given up.
+-- Why threads were given up.
 use Rattle.stm_job.specs.declared.gathered.FaultCause.{FaultCause}
 use Rattle.stm_job.specs.declared.gathered.FaultCause.TheVariants.{OutOfMemory, Spawn}
 use Rattle.stm_workers.specs.declared.thread_fault.ThreadFault.{ThreadFault}

@@ -1,7 +1,7 @@
 -- What the end of a job says of a hall, and when the hall bears it out.
 --
 -- The documentation of the Go package `clientv3/concurrency`, "STM": a transaction whose commit fails is run again. That a job sends
--- so many commits at most, and then tells the key over which the last one failed, is our own; so is the look at all ends once the
+-- at most `limit` commits, and then reports the key over which the last one failed, is our own; so is the look at all ends once the
 -- threads have ended.
 use Rattle.std.specs.Prelude.{◌≡◌, ℕ, ◌+◌, ◌<◌, ◌≤◌, ◌==◌, Bool, true, false, List, length, Option, None, Some, option_and_then, slice_get}
 use Rattle.stm_history.specs.declared.key_state.ReadAnswer.{ReadAnswer}
@@ -55,8 +55,8 @@ abbrev pub IsGivenUp : StartPoint → JournalState → Job → List ℕ → Type
 IsGivenUp begun hall job key =
     (is_comparing job.level ≡ true) × IsChangedAbove hall.standing.history begun.revision key × (begun.revision + job.limit ≤ now hall.standing.history)
 
--- What was read is of one state of the hall's history: at this revision, which is not before the one at which the hall was handed in. Where nothing was
--- read, any state serves.
+-- What was read is of one state of the hall's history: at this revision, which is not before the one at which the hall was handed in. Where nothing
+-- was read, any state serves.
 pub record AreOfOneState (begun : StartPoint) (hall : JournalState) (reads : List ReadAnswer) : Type 0 where
   pub revision : ℕ
   pub begins : begun.revision ≤ revision
@@ -67,8 +67,8 @@ pub record AreOfOneState (begun : StartPoint) (hall : JournalState) (reads : Lis
 abbrev pub MayHaveStopped : StartPoint → JournalState → Job → List ReadAnswer → Type 0
 MayHaveStopped begun hall job reads = is_serializable job.level ≡ true → AreOfOneState begun hall reads
 
--- What an end says is so: a commit is an entry made since the hall was handed in, who gave up could, and so could who aborted or came to a fault. Of a
--- refusal nothing is said.
+-- What an end says is so: a commit is an entry made since the hall was handed in, who gave up could, and so could who aborted or came to a fault. Of
+-- a refusal nothing is said.
 abbrev pub IsBorneOut : StartPoint → JournalState → Job → JobEnd → Type 0
 IsBorneOut begun hall job (Committed index revision) = (begun.entries ≤ index) × IsCommitOf job revision (slice_get hall.entries index)
 IsBorneOut begun hall job (GaveUp key) = IsGivenUp begun hall job key

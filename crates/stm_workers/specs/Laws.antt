@@ -16,13 +16,13 @@ IfGaveUp (Faulted fault reads) fact = Unit {0}
 IfGaveUp (Refused cause) fact = Unit {0}
 IfGaveUp (GaveUp key) fact = fact
 
--- so many attempts may end so
+-- this many attempts may end so
 pub record AreAttemptsOf (job : Job) (end : JobEnd) (attempts : ℕ) : Type 0 where
   pub some : 1 ≤ attempts
   pub within : attempts ≤ job.limit
   pub all : IfGaveUp end (attempts ≡ job.limit)
 
--- Of each job that was run at least one attempt was made, and at most as many as it may send commits; of one that gave up it was exactly so many.
+-- Of each job that was run at least one attempt was made, and at most as many as it may send commits; of one that gave up it was exactly that many.
 abbrev pub AttemptsAreCounted : Type 0
 AttemptsAreCounted =
     (before : JournalState) (jobs : List Job) (ends : List JobEnd) (attempts : List ℕ) (committed : ℕ) (after : JournalState)

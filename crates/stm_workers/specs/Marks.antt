@@ -1,10 +1,11 @@
--- How an audit finds entries that two ends name: it marks each entry that an end names, from the first end on. And at which revision it looks at reads.
+-- How an audit finds entries that two ends name: it marks each entry that an end names, from the first end on. And at which revision it looks at
+-- reads.
 use Rattle.std.specs.Prelude.{◌≡◌, ℕ, zero, suc, ◌<◌, ◌||◌, Bool, false, List, [], ◌∷◌, Option, None, Some, get_or, option_and_then, slice_get}
 use Rattle.stm_history.specs.declared.key_state.ReadAnswer.{ReadAnswer}
 use Rattle.stm_job.specs.declared.job_end.JobEnd.{JobEnd}
 use Rattle.stm_workers.specs.Ends.{entry_named, names_entry, IsNew}
 
--- each entry that an end names is among so many
+-- each entry that an end names is among the first `entries`
 abbrev pub NamesWithin : List JobEnd → ℕ → Type 0
 NamesWithin ends entries = (place index : ℕ) → option_and_then entry_named (slice_get ends place) ≡ Some index → index < entries
 
@@ -17,7 +18,7 @@ abbrev pub is_marked : List Bool → Option ℕ → Bool
 is_marked marks None = false
 is_marked marks (Some index) = get_or marks index false
 
--- one of so many ends, from the first on, names the entry
+-- one of the first ends, this many of them, names the entry
 abbrev pub is_named_before : ℕ → ℕ → List JobEnd → Bool
 is_named_before index zero ends = false
 is_named_before index (suc n) [] = false

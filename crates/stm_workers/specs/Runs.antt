@@ -6,7 +6,7 @@ use Rattle.stm_job.specs.declared.job_end.JobEnd.{JobEnd}
 use Rattle.stm_workers.specs.Attempts.{HasCome, HasSomeRun}
 use Rattle.stm_workers.specs.declared.worker.EndOf.{EndOf}
 
--- a worker that had seen so much, and these ends, has brought the job at a place to its end
+-- a worker that had seen this revision, and these ends, has brought the job at a place to its end
 pub record BringsToEnd (handed : JournalState) (jobs : List Job) (place seen : ℕ) (before : List EndOf) (seen_then : ℕ) (after : List EndOf) : Type 0 where
   pub end : JobEnd
   pub attempts : ℕ
@@ -17,7 +17,7 @@ pub record BringsToEnd (handed : JournalState) (jobs : List Job) (place seen : �
 abbrev pub HasItsRun : JournalState → List Job → EndOf → Type 0
 HasItsRun handed jobs ended = (job : Job) → slice_get jobs ended.job ≡ Some job → HasSomeRun handed job ended.end ended.attempts
 
--- each job has come to the end at its place, after so many attempts as stand there
+-- each job has come to the end at its place, after the number of attempts at that place
 abbrev pub HaveTheirRuns : JournalState → List Job → List JobEnd → List ℕ → Type 0
 HaveTheirRuns handed jobs ends attempts =
     (place : ℕ) (job : Job) (end : JobEnd) (made : ℕ) → slice_get jobs place ≡ Some job → slice_get ends place ≡ Some end

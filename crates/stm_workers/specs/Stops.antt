@@ -1,7 +1,7 @@
--- The ends of jobs that are no commit, told by what their programs do alone.
+-- The ends of jobs that are no commit, by what their programs do alone.
 --
--- The documentation of the Go package `clientv3/concurrency`, "Isolation": what an attempt at a serializable level reads is of one revision, so that no abort
--- and no fault comes of reads that never held together.
+-- The documentation of the Go package `clientv3/concurrency`, "Isolation": what an attempt at a serializable level reads is of one revision, so that
+-- no abort and no fault comes of reads that never held together.
 use Rattle.std.specs.Prelude.{◌≡◌, ℕ, ◌≤◌, true, List, Some, slice_get}
 use Rattle.stm_history.specs.History.{now}
 use Rattle.stm_steps.specs.declared.run.End.{End}
@@ -19,8 +19,8 @@ use Rattle.stm_job.specs.declared.job_end.JobEnd.TheVariants.{Committed, Aborted
 use Rattle.stm_workers.specs.Ends.{start_point}
 use Rattle.stm_workers.specs.Gathered.{RanTo}
 
--- The job's program, run alone on the state at some revision of the hall's history, comes to this end. The revision is not before the one at which the hall was
--- handed in.
+-- The job's program, run alone on the state at some revision of the hall's history, comes to this end. The revision is not before the one at which
+-- the hall was handed in.
 pub record IsEndAlone (begun : StartPoint) (hall : JournalState) (job : Job) (end : End) : Type 0 where
   pub revision : ℕ
   pub begins : begun.revision ≤ revision
@@ -37,8 +37,8 @@ OnStop (Faulted error reads) fact = fact (FaultedEnd error)
 OnStop (Refused cause) fact = Unit {0}
 OnStop (GaveUp key) fact = Unit {0}
 
--- Of a job at a serializable level that aborted or came to a fault, there is a state of the hall's history since it was handed in on which its program, run alone,
--- ends so: also where its commit would have failed.
+-- Of a job at a serializable level that aborted or came to a fault, there is a state of the hall's history since it was handed in on which its
+-- program, run alone, ends so: also where its commit would have failed.
 abbrev pub StopsAreOfOneState : Type 0
 StopsAreOfOneState =
     (before : JournalState) (jobs : List Job) (ends : List JobEnd) (attempts : List ℕ) (committed : ℕ) (after : JournalState)

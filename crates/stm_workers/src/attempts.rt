@@ -1,10 +1,10 @@
 //! One job of a worker, from its first attempt to its end.
 ghost use Rattle.std.specs.Prelude.{◌≡◌, ◌⊎◌, ℕ, ◌+◌, ◌<◌, ◌≤◌, true, false, [], None, IfOk, IfErr, IfSome, OnOk, OnErr};
-ghost use Rattle.stm_attempt.specs.AttemptState.{begun};
+ghost use Rattle.stm_attempt.specs.AttemptState.{begun, begun_after};
 ghost use Rattle.stm_journal.specs.Prefetch.{MayBePrefetched};
 ghost use Rattle.stm_journal.specs.Verdicts.{CanGoOn};
 ghost use Rattle.stm_workers.specs.declared.stop.Stop.TheVariants.{OutOfMemory};
-ghost use Rattle.stm_workers.specs.Attempts.{state_of, next_attempt, end_after, IsFetch, IsReadyAt, IsEvaluated, IsStop, IsNextAttempt};
+ghost use Rattle.stm_workers.specs.Attempts.{state_of, end_after, IsFetch, IsReadyAt, IsEvaluated, IsStop, IsNextAttempt};
 ghost use Rattle.stm_workers.specs.Attempts.{HasTried, HasStopped, HasFailed, HasEnded, HasCome, ComesTo, EndsByVerdict};
 ghost use Rattle.stm_workers.specs.AttemptOutcomes.{IfEnded, IfAgain};
 ghost use Rattle.stm_workers.specs.Calls.{committed_by, counted_end, greatest_carried, seen_after, is_run_of_some, IsOfJob, IsRunOfJob};
@@ -19,7 +19,6 @@ use std::sync::ledger::Share;
 use stm_attempt::{Attempt, Next, ReadAnswer, Ready, Sequence};
 use stm_hall::Verdict;
 use stm_job::{Job, JobEnd};
-use stm_program::Level;
 
 /// What an attempt came to.
 #[derive(Drop)]
@@ -61,23 +60,17 @@ fn first_attempt(alloc: Global, job: &Job) -> Attempt
     Attempt::new(alloc, job.level)
 }
 
-/// The next attempt of a job after a commit that failed: with the answers that came with it at the two serializable levels.
+/// The next attempt of a job after a commit that failed with these answers.
 fn next_attempt(
     alloc: Global,
     job: &Job,
     answers: Sequence<ReadAnswer>,
 ) -> Result<Attempt, AllocError>
     requires { MayBePrefetched answers }
-    ensures begun { IfOk result (λ attempt. attempt ≡ next_attempt job.now answers) }
+    ensures begun { IfOk result (λ attempt. attempt ≡ begun_after job.now.level answers) }
     ensures is_its { IfOk result (IsOfJob job.now) }
 {
-    match job.level {
-        Level::SerializableSnapshot | Level::Serializable => {
-            let attempt = Attempt::from_prefetch(alloc, job.level, answers)?;
-            Ok(attempt)
-        }
-        Level::RepeatableReads | Level::ReadCommitted => Ok(Attempt::new(alloc, job.level)),
-    }
+    Attempt::after_conflict(alloc, job.level, answers)
 }
 
 /// What comes after the verdict on an attempt, the last one or not: the job's end, or its next attempt.
@@ -257,7 +250,7 @@ impl<'a, R: RunOfJobs, W: Wait, G: Gate> Executor<'a, R, W, G> {
         outcome
     }
 
-    /// Attempts a job until it ends, and counts its attempts. The last one that it may make is the one behind the loop.
+    /// Attempts a job until it ends, and counts its attempts. The last one that it may make is the one after the loop.
     fn attempt(
         &self,
         place: usize,
@@ -290,10 +283,10 @@ impl<'a, R: RunOfJobs, W: Wait, G: Gate> Executor<'a, R, W, G> {
         }
     }
 
-    /// Brings the job at a place to its end, and tells how many attempts of it were made: at least one, and one for each commit that failed before.
+    /// Brings the job at a place to its end, and counts the attempts that were made: at least one, and one for each commit that failed before.
     ///
-    /// The place is handed to the gate. `seen` is the greatest revision that an answer to the worker carried, before the call and after it, and what the
-    /// job committed counts in the share. `AllocError`: a growth was refused, which is no end.
+    /// The place is handed to the gate. `seen` is the greatest revision that an answer to the worker carried, before the call and after it, and what
+    /// the job committed counts in the share. `AllocError`: an allocation failed, which is no end.
     pub fn run_job(
         &self,
         place: usize,

@@ -1,6 +1,5 @@
 //! The look at the ends of jobs, once nobody is at the hall.
 ghost use Rattle.std.specs.Prelude.{◌≡◌, ◌+◌, ◌<◌, ◌≤◌, ◌↔◌, ◌||◌, ℕ, true, false, length, get_or, set, slice_get, IfOk, IfSome, IfNone, IsTrue, Some};
-ghost use Rattle.stm_program.specs.Levels.{is_comparing};
 ghost use Rattle.stm_hall.specs.Showing.{IsShown, AreShownAt};
 ghost use Rattle.stm_workers.specs.Ends.{AreOfOneState, MayHaveStopped};
 ghost use Rattle.stm_workers.specs.Ends.{entry_named, names_entry, IsCommitOf, IsGivenUp, IsBorneOut, BorneOutAt, StandsAt, AllStand};
@@ -11,7 +10,6 @@ use std::alloc::{AllocError, Global};
 use stm_entries::Entry;
 use stm_hall::{Hall, ReadAnswer};
 use stm_job::{Job, JobEnd};
-use stm_program::Level;
 
 /// Whether an entry is a commit of this job after which the store's revision was this.
 fn is_commit_of(entry: &Entry, job: &Job, after: u64) -> bool
@@ -57,19 +55,7 @@ fn has_commit(entries: &[Entry], begun: StartPoint, job: &Job, index: usize, aft
     is_commit_of(entry_at(entries, index), job, after)
 }
 
-/// Whether a commit at this level compares what was read.
-fn is_comparing(level: Level) -> bool
-    ensures { result ≡ is_comparing level }
-{
-    match level {
-        Level::SerializableSnapshot => true,
-        Level::Serializable => true,
-        Level::RepeatableReads => true,
-        Level::ReadCommitted => false,
-    }
-}
-
-/// Whether a counter has grown by at least so many since it was this.
+/// Whether a counter has grown by at least `many` since it was this.
 fn has_grown_by(now: u64, since: u64, many: u32) -> bool
     ensures { IsTrue result ↔ since + many ≤ now }
 {
@@ -83,7 +69,7 @@ fn has_grown_by(now: u64, since: u64, many: u32) -> bool
 fn may_have_given_up(hall: &Hall, begun: StartPoint, job: &Job, key: &str) -> bool
     ensures { IsTrue result ↔ IsGivenUp begun hall.now job.now key.now }
 {
-    if !is_comparing(job.level) {
+    if !job.level.is_comparing() {
         return false;
     }
     if !has_grown_by(hall.revision(), begun.revision, job.limit) {
@@ -150,12 +136,10 @@ fn are_of_one_state(hall: &Hall, begun: StartPoint, reads: &[ReadAnswer]) -> boo
 fn may_have_stopped(hall: &Hall, begun: StartPoint, job: &Job, reads: &[ReadAnswer]) -> bool
     ensures { IsTrue result ↔ MayHaveStopped begun hall.now job.now reads.now }
 {
-    match job.level {
-        Level::SerializableSnapshot => are_of_one_state(hall, begun, reads),
-        Level::Serializable => are_of_one_state(hall, begun, reads),
-        Level::RepeatableReads => true,
-        Level::ReadCommitted => true,
+    if !job.level.is_serializable() {
+        return true;
     }
+    are_of_one_state(hall, begun, reads)
 }
 
 /// Whether what an end says of the hall is so.
@@ -217,7 +201,7 @@ fn find_unborne(jobs: &[Job], ends: &[JobEnd], begun: StartPoint, hall: &Hall) -
     None
 }
 
-/// Marks an entry, and tells whether it was marked before.
+/// Marks an entry, and returns whether it was marked before.
 fn set_mark(marks: &mut Vec<bool>, index: usize) -> bool
     requires { index < length marks.old.items }
     ensures was { result ≡ get_or marks.old.items index false }
@@ -228,7 +212,7 @@ fn set_mark(marks: &mut Vec<bool>, index: usize) -> bool
     was
 }
 
-/// Marks the entry that an end names, and tells whether it was marked before.
+/// Marks the entry that an end names, and returns whether it was marked before.
 fn mark(marks: &mut Vec<bool>, end: &JobEnd) -> bool
     requires { IfSome (entry_named end.now) (λ index. index < length marks.old.items) }
     ensures reported { result ≡ is_marked marks.old.items (entry_named end.now) }
@@ -285,7 +269,7 @@ fn audit_names(
 /// A job whose end the hall does not bear out, or whose entry an earlier job has named: one of the former, or else one of the latter.
 /// `None`: each end stands.
 ///
-/// There are as many ends as jobs. `AllocError`: a growth was refused.
+/// There are as many ends as jobs. `AllocError`: an allocation failed.
 pub fn audit(
     alloc: Global,
     jobs: &[Job],

@@ -14,7 +14,7 @@ pub fn stops_are_of_one_state()
     ensures { StopsAreOfOneState }
 {}
 
-/// Of each job that was run at least one attempt was made, and at most as many as it may send commits; of one that gave up it was exactly so many.
+/// Of each job that was run at least one attempt was made, and at most as many as it may send commits; of one that gave up it was exactly that many.
 pub fn attempts_are_counted()
     ensures { AttemptsAreCounted }
 {}

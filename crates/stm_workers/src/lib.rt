@@ -1,8 +1,8 @@
-//! Programs run as jobs by several threads on one store behind one lock.
+//! Programs run as jobs by several threads on one store under one lock.
 //!
-//! The store is a `Hall` behind one lock, beside a count of the commits that it took. Each worker draws a job and brings it to its end. It evaluates the job
-//! without the lock, and holds the lock for one fetch or one commit at a time. After a commit that failed the job is attempted again, until it has sent as
-//! many commits as it may. Each job is drawn once. What nobody can know before all threads have ended is looked at then, by the audit.
+//! The store is a `Hall` under one lock, beside a count of the commits that it took. Each worker draws a job and brings it to its end. It evaluates
+//! the job without the lock, and holds the lock for one fetch or one commit at a time. After a commit that failed the job is attempted again, until
+//! it has sent as many commits as it may. Each job is drawn once. What nobody can know before all threads have ended is looked at then, by the audit.
 #![tactic(auto)]
 
 mod attempts;

@@ -105,7 +105,7 @@ fn broken_off(alloc: Global, cause: FaultCause, hall: Hall) -> RunFault
     }
 }
 
-/// Why a run is broken off, all jobs of which have these ends: the audit tells a job, or there is no memory for it.
+/// Why a run is broken off, all jobs of which have these ends: the audit names a job, or there is no memory for it.
 fn find_cause(
     alloc: Global,
     jobs: &[Job],
@@ -184,23 +184,24 @@ fn start_of(hall: &Hall) -> StartPoint
     }
 }
 
-/// Runs jobs on a hall by so many threads, from 1 to `MOST_WORKERS`.
+/// Runs jobs on a hall by `workers` threads, from 1 to `MOST_WORKERS`.
 ///
 /// A worker draws a job, evaluates it without the lock, and holds the lock for one fetch or one commit at a time. After a commit that failed a job is
 /// attempted again, until it has sent as many commits as it may.
 ///
-/// At `Ok` each job was drawn once and none is left out, as the seat that is handed back knows. Each job has its end at its place, to which it has come
-/// as it should: each fetch was asked for with what its worker had seen, a program's list before anything else; it sent at most as many commits as it
-/// may, and it gave up only where so many failed; what refused a call of it was a store with the limit of operations of the one that was handed in
-/// (`HasCome` of the specs). The number of its attempts, at least one and at most that limit, is one more than the commits that failed before the last
-/// of them (`laws::attempts_are_counted`). Each end stands in the hall, and the hall has the entries that it had, with one commit for each job that
-/// committed, and nothing else; of its store the history alone has changed: floor, limit, leases, their terms, the moment and the watchers are as they
-/// were. What a job at a serializable level had read when it aborted or came to a fault is of one state of the hall's history since it was handed in,
-/// and its program, run alone on that state, ends so (`laws::stops_are_of_one_state`).
+/// At `Ok` each job was drawn once and none is left out, as the seat that is handed back knows. Each job has its end at its place, to which it has
+/// come as it should: each fetch was asked for with what its worker had seen, a program's list before anything else; it sent at most as many commits
+/// as it may, and it gave up only where that many failed; what refused a call of it was a store with the limit of operations of the one that was
+/// handed in (`HasCome` of the specs). The number of its attempts, at least one and at most that limit, is one more than the commits that failed
+/// before the last of them (`laws::attempts_are_counted`). Each end stands in the hall, and the hall has the entries that it had, with one commit for
+/// each job that committed, and nothing else; of its store the history alone has changed: floor, limit, leases, their terms, the moment and the
+/// watchers are as they were. What a job at a serializable level had read when it aborted or came to a fault is of one state of the hall's history
+/// since it was handed in, and its program, run alone on that state, ends so (`laws::stops_are_of_one_state`).
 ///
-/// `OutOfMemory`: a growth was refused, in a worker, in the hall, or here. `Spawn`: a thread could not be started. At the first of these the workers
+/// `OutOfMemory`: an allocation failed, in a worker, in the hall, or here. `Spawn`: a thread could not be started. At the first of these the workers
 /// draw no other job. `Audit`: of the ends that are handed back with it, that of this job does not stand. At each of these all threads have ended and
-/// were joined, and the hall has what was committed until then, all of it of these jobs. Nothing is said of which job goes first, nor that it returns.
+/// were joined, and the hall has what was committed until then, all of it of these jobs. Nothing is said of which job goes first, nor that it
+/// returns.
 pub fn run_workers<W: Threads + Wait + Sync, G: Gate + Sync>(
     rt: &W,
     alloc: Global,

@@ -121,8 +121,8 @@ impl<'a, R: RunOfJobs, W: Wait, G: Gate> Shared<'a, R, W, G> {
         }
     }
 
-    /// What a worker does next: it draws a job and brings it to its end, or finds none left. `AllocError`: a growth was refused, or the run was given up
-    /// for another fault, of which this one is not told.
+    /// What a worker does next: it draws a job and brings it to its end, or finds none left. `AllocError`: an allocation failed, or the run was given
+    /// up for another fault; this one is not reported then.
     pub fn next(&self, worker: Worker<R>) -> Result<WorkerStep<R>, AllocError> {
         if self.is_given_up() {
             return Err(AllocError);

@@ -17,7 +17,7 @@ use stm_txn::Refusal;
 /// A job that goes no further without a commit.
 #[derive(Drop)]
 pub enum Stop {
-    /// A growth was refused, which is no end.
+    /// An allocation failed, which is no end.
     OutOfMemory,
     /// The program ended by `abort`, on these reads.
     Aborted {
@@ -43,7 +43,7 @@ impl From<AllocError> for Stop {
     }
 }
 
-/// Whether a call was refused for want of memory.
+/// Whether a call was refused because memory ran out.
 fn is_want(cause: Refusal) -> bool
     ensures { IsTrue result ↔ cause ≡ Want }
 {
@@ -53,7 +53,7 @@ fn is_want(cause: Refusal) -> bool
 impl Stop {
     ghost use Rattle.stm_workers.specs.declared.stop.Stop.TheVariants.{OutOfMemory};
 
-    /// A call that the store refused: want of memory is told as such, and each other cause as itself.
+    /// A call that the store refused: out of memory is itself, and so is each other cause.
     fn of_store(cause: Refusal) -> Stop
         ensures fetch { fetch_refusal_reported result ≡ Some (FetchRefused cause) }
         ensures commit { commit_refusal_reported result ≡ Some (CommitRefused cause) }
@@ -106,7 +106,7 @@ impl Stop {
         Stop::of_end(run.end, reads)
     }
 
-    /// The job's end, where it is one: want of memory is none.
+    /// The job's end, where it is one: out of memory is none.
     pub(crate) fn end(self) -> Result<JobEnd, AllocError>
         ensures end { IfOk result (λ end. is_committed end ≡ false) }
         ensures reported { IfOk result (λ end. job_end_reported self ≡ Some end) }

@@ -24,7 +24,7 @@ impl From<AllocError> for ThreadFault {
 }
 
 impl ThreadFault {
-    /// The cause that is told of it. It is no audit.
+    /// The cause that is reported of it. It is no audit.
     pub fn cause(self) -> FaultCause
         ensures { result ≡ cause_of self }
     {

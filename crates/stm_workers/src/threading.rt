@@ -29,7 +29,7 @@ fn draw_all<R: RunOfJobs, W: Wait, G: Gate>(
     unreachable!()
 }
 
-/// What one worker does: it draws jobs until there are none left. Where a growth is refused, it gives the run up.
+/// What one worker does: it draws jobs until there are none left. Where an allocation fails, it gives the run up.
 fn work<R: RunOfJobs, W: Wait, G: Gate>(
     shared: &Shared<'_, R, W, G>,
     worker: Worker<R>,
@@ -41,7 +41,7 @@ fn work<R: RunOfJobs, W: Wait, G: Gate>(
     worked
 }
 
-/// Starts a worker. What goes to its thread may: the hall behind the lock, the programs of the jobs, and what the worker has.
+/// Starts a worker. What goes to its thread may: the hall under the lock, the programs of the jobs, and what the worker has.
 fn start<'s, 'a: 's, E, R: RunOfJobs + Send + Sync, W: Wait + Sync, G: Gate + Sync>(
     scope: &Scope<'s, E>,
     shared: &'s Shared<'a, R, W, G>,
@@ -91,7 +91,7 @@ fn give_up<R: RunOfJobs, W: Threads + Wait, G: Gate>(
     }
 }
 
-/// Joins a worker, and takes in what it hands back. `AllocError`: a growth was refused, in the worker or here.
+/// Joins a worker, and takes in what it hands back. `AllocError`: an allocation failed, in the worker or here.
 fn join_one<R: RunOfJobs, W: Threads + Wait>(
     rt: &W,
     table: &JobTable,
@@ -107,7 +107,7 @@ fn join_one<R: RunOfJobs, W: Threads + Wait>(
 }
 
 /// Joins the workers, and takes in what they hand back. At the first fault the others draw no other job, and are joined too. `OutOfMemory` is the
-/// only one: a growth was refused, in a worker or here.
+/// only one: an allocation failed, in a worker or here.
 fn join_all<R: RunOfJobs, W: Threads + Wait, G: Gate>(
     shared: &Shared<'_, R, W, G>,
     started: Vec<JoinHandle<Result<RetiredWorker<R>, AllocError>>>,
@@ -131,8 +131,8 @@ fn join_all<R: RunOfJobs, W: Threads + Wait, G: Gate>(
     Ok(Collected::of(coordinator))
 }
 
-/// Starts the workers, and joins them. All threads have ended when it returns, and each was joined. Room for their handles is made before the first of
-/// them starts.
+/// Starts the workers, and joins them. All threads have ended when it returns, and each was joined. Room for their handles is made before the first
+/// of them starts.
 pub(crate) fn employ<R: RunOfJobs + Send + Sync, W: Threads + Wait + Sync, G: Gate + Sync>(
     shared: &Shared<'_, R, W, G>,
     workers: usize,

@@ -136,7 +136,7 @@ impl<R: RunOfJobs> Coordinator<R> {
         Worker::at_work(seat, share, 0, Vec::new(alloc))
     }
 
-    /// Takes in what a worker hands back. `AllocError`: a growth was refused, and it is as it was; what the worker had is lost.
+    /// Takes in what a worker hands back. `AllocError`: an allocation failed, and it is as it was; what the worker had is lost.
     pub fn take_in(&mut self, table: &JobTable, retired: RetiredWorker<R>) -> Result<(), AllocError>
         requires { (table_id table.now ≡ R.table) × (table_size table.now ≡ R.size) }
         ensures past { OnOk result ((seat_view self.new.seat).past ≡ (seat_view self.old.seat).past + 1) }

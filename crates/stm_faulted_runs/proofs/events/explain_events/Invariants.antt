@@ -6,7 +6,7 @@ use Rattle.stm_faulted_runs.specs.Origins.{origin_in}
 use Rattle.stm_faulted_runs.proofs.LineLemmas.{HasSaid}
 use Rattle.stm_faulted_runs.proofs.events.explain_events.Given as goal
 
--- with lines for what the events that are left tell behind what was said so far, there are lines for all
+-- with lines for what the events that are left report after what was said so far, there are lines for all
 abbrev pub invariant-loop-index : goal.invariant-loop-index
 invariant-loop-index l =
     HasSaid (origin_in l.explained) (faults_from l.fn.world l.events) (string_bytes l.fn.out) (string_bytes l.out)

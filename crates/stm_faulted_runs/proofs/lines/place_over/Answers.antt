@@ -5,7 +5,7 @@ use Rattle.stm_faulted_runs.specs.Places.{IsMoreOf}
 use Rattle.stm_faulted_runs.specs.Origins.{origin_in}
 use Rattle.stm_faulted_runs.proofs.lines.place_over.Goals as goal
 
--- it is told over this look-up, so over some
+-- it is given over this look-up, so over some
 pub returns : goal.returns
 returns g c =
     let look = g.L.Lookup.answers c.args.lookup.now in

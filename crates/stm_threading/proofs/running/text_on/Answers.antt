@@ -22,7 +22,7 @@ pub returns-in-Ok-clause-fault : goal.returns-in-Ok-clause-fault
 returns-in-Ok-clause-fault g c =
     IfErr-weaker c.text_of_run.result _ _ (λ fault reported start calls stands. no_room start calls c.args.jobs.now fault reported) c.text_of_run.ensures.fault
 
--- its cause is told
+-- its cause is reported
 pub returns-in-Err-clause-fault : goal.returns-in-Err-clause-fault
 returns-in-Err-clause-fault g c = λ start calls stands.
     broken_off start calls c.args.jobs.now c.fault_of_run.result c.in-Err.broken.cause c.args.store.standing c.in-Err.broken.ends.items c.new.result c.in-Err.broken.hall stands

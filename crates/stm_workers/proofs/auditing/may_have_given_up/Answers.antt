@@ -6,7 +6,7 @@ use Rattle.stm_workers.proofs.auditing.may_have_given_up.Goals as goal
 pub returns-then-not-is_comparing : goal.returns-then-not-is_comparing
 returns-then-not-is_comparing c = level_fails _ _ _ _ c.is_comparing.ensures c.if-not-is_comparing.true
 
--- the counter has not grown by so many
+-- the counter has not grown by that many
 pub returns-then-not-has_grown_by : goal.returns-then-not-has_grown_by
 returns-then-not-has_grown_by c = third_fails _ _ _ _ (rw c.revision.ensures at c.has_grown_by.ensures) c.if-not-has_grown_by.true
 

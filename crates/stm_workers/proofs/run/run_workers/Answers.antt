@@ -36,7 +36,7 @@ returns-in-Ok-gather-clause-drawn g c =
     seat_handed _ placed.seat c.in-Ok-gather.gathered.seat c.in-Ok-gather.ensures.seat
     (at_ok (λ p. HasDrawnAll (size_of (length c.args.jobs.now) (c.args.workers + 1)) p.seat) run.result.0 placed c.in-Ok-placed.is run.ensures.drawn)
 
--- one does not stand, or there is no memory to tell
+-- one does not stand, or there is no memory to find out
 pub returns-in-Ok-placed-clause-fault : goal.returns-in-Ok-placed-clause-fault
 returns-in-Ok-placed-clause-fault g c =
     let run = c.run_on-placed in

@@ -9,7 +9,7 @@ use Rattle.stm_compile.specs.Places.{AreRead}
 use Rattle.stm_compile.proofs.AnswerLemmas.{read_searched}
 use Rattle.stm_compile.proofs.read_set.ReadSet.add_searched.Goals as goal
 
--- no answer stands behind those that are searched, before and after
+-- no answer stands after those that are searched, before and after
 pub invariant_of-self-2 : goal.invariant_of-self-2
 invariant_of-self-2 c =
     let answers : List ReadAnswer = c.self.inside.answers.items in

@@ -19,7 +19,7 @@ returns-in-Ok-clause-answered g c = record {
   is_read = refl;
 }
 
--- the hall's refusal is told
+-- the hall's refusal is returned
 pub returns-in-Err-clause-refused : goal.returns-in-Err-clause-refused
 returns-in-Err-clause-refused g c = inr (record {
   cause = c.in-Err.refusal;

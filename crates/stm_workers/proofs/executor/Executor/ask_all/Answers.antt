@@ -32,7 +32,7 @@ returns-in_ok-answers-in-Ok-clause-answered g c = record {
   carries = refl;
 }
 
--- the hall's refusal is told
+-- the hall's refusal is returned
 pub returns-in-Err-clause-refused : goal.returns-in-Err-clause-refused
 returns-in-Err-clause-refused g c = inr (record {
   cause = c.in-Err.refusal;

@@ -21,7 +21,7 @@ returns-in-Ok-clause-judged g c =
     judged_so g.R.RunOfJobs.before c.args.ready c.commit-verdict.result (Ok c.in-Ok.verdict) c.in-Ok.is
     (subst (λ (r : ReadyRun). JudgedInSomeHall g.R.RunOfJobs.before r c.commit-verdict.result) c.in_ok-prepared.ensures c.commit-verdict.ensures.judged)
 
--- the hall's refusal is told
+-- the hall's refusal is returned
 pub returns-in-Err-clause-refused : goal.returns-in-Err-clause-refused
 returns-in-Err-clause-refused g c = inr (record {
   cause = c.in-Err.refusal;

@@ -9,7 +9,7 @@ pub send-requires-clause-of_a_job : goal.send-requires-clause-of_a_job
 send-requires-clause-of_a_job g c =
     ready_of_some g.R.RunOfJobs.jobs c.args.job.now c.in_ok-ready.ready c.in_ok-ready.ensures.ready c.requires.of_a_job
 
--- the verdict was seen, after what the fetches told
+-- the verdict was seen, after what the fetches answered
 pub returns-clause-carried : goal.returns-clause-carried
 returns-clause-carried g c = (c.evaluate.new.seen, c.evaluate.ensures.never_falls, c.greatest_of.ensures.greatest)
 

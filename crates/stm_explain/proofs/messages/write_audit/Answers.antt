@@ -2,7 +2,7 @@ use Rattle.std.proofs.Common.{◌++◌, List, ℕ, codes, decimal}
 use Rattle.std.proofs.KnownBytes.{Appends-trans}
 use Rattle.std.proofs.lemmas.Result.{err_from_is_err_and}
 use Rattle.stm_explain.proofs.PieceLemmas.{longer, behind}
-use Rattle.stm_threading.proofs.messages.write_audit.Goals as goal
+use Rattle.stm_explain.proofs.messages.write_audit.Goals as goal
 
 abbrev begin : List ℕ
 begin = codes "stmrun: audit "

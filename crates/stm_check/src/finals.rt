@@ -13,9 +13,9 @@ use crate::cause::WrongCause;
 use crate::walk::Walk;
 use std::alloc::{AllocError, Global};
 use std::collections::BTreeMap;
-use stm_journal::present_keys;
 use stm_entries::LiveLease;
 use stm_history::Text;
+use stm_journal::present_keys;
 use stm_keys::Keys;
 use stm_reports::{ReportLine, is_end, is_key, is_lease};
 

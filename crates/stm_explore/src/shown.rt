@@ -5,8 +5,8 @@ ghost use Rattle.stm_schedules.specs.Outcomes.{state_shown, shown};
 
 use crate::ends::known_ends;
 use std::alloc::{AllocError, Global};
-use stm_journal::present_keys;
 use stm_history::{Sequence, Text};
+use stm_journal::present_keys;
 use stm_keys::Keys;
 use stm_retry::World;
 use stm_schedules::{KeyValue, Outcome, RunnerEnd};

@@ -11,8 +11,8 @@ use crate::printed::{Printed, Verdict};
 use crate::reading::ExploreFault;
 use std::alloc::Global;
 use stm_devices::{Sink, Source};
-use stm_explore::{Budget, Observer};
 use stm_explain::{Message, write_text};
+use stm_explore::{Budget, Observer};
 use stm_program::Level;
 
 /// The status of what a search came to.

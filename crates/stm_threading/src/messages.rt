@@ -6,8 +6,7 @@ ghost use Rattle.stm_threading.specs.Threading.{fault_status, fault_message, Say
 use crate::running::JobsFault;
 use std::alloc::Global;
 use stm_devices::Sink;
-use stm_explain::{Input, Kept};
-use stm_explain::Message;
+use stm_explain::{Input, Kept, Message};
 
 /// What is said of a fault.
 fn message(fault: &JobsFault) -> Message<'_>

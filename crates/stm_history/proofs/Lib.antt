@@ -1,5 +1,4 @@
 pub mod CutLaws
 pub mod HistoryLaws
 pub mod StatesLaws
-pub mod Walking
 pub mod WorkedExamples

@@ -3,4 +3,3 @@ pub mod History
 pub mod Laws
 pub mod Opening
 pub mod Texts
-pub mod Walk

@@ -1,4 +1,4 @@
-//! The history of a key-value store: texts, key states, changes, and the plain list of revisions.
+//! The history of a key-value store: texts, key states and changes.
 //!
 //! `specs/` has the definitions that every crate above speaks of: a history, the key at a revision,
 //! the state at a revision, and the laws about them.
@@ -7,14 +7,12 @@
 mod change;
 mod key_state;
 pub mod laws;
-mod revision;
 mod revisions;
 mod sequence;
 mod text;
 
 pub use change::{Change, find_change};
 pub use key_state::{KeyState, ReadAnswer, mod_rev_of, value_of};
-pub use revision::Revision;
-pub use revisions::{HIGHEST_NUMBER, HIGHEST_REVISION, Revisions};
+pub use revisions::{HIGHEST_NUMBER, HIGHEST_REVISION};
 pub use sequence::Sequence;
 pub use text::Text;

@@ -3,10 +3,9 @@ use Rattle.std.proofs.Common.{ℕ, ◌+◌, ◌<◌, ◌≤◌, true, false, con
 use Rattle.std.proofs.lemmas.List.{length-map}
 use Rattle.stm_history.specs.declared.key_state.KeyState.{KeyState}
 use Rattle.stm_history.specs.declared.revisions.TheConstants.{HIGHEST_REVISION}
-use Rattle.stm_history.specs.History.{History, now, key_at, key_now}
+use Rattle.stm_history.specs.History.{History, now, key_at, key_now, version_of}
 use Rattle.stm_history.specs.Laws.{AreSmallIn}
 use Rattle.stm_history.specs.Opening.{Opening}
-use Rattle.stm_history.specs.Walk.{version_of}
 use Rattle.stm_history.proofs.HistoryLaws.{numbers_stay_small, last_revision_is_now}
 use Rattle.stm_keys.specs.declared.event.Event.{Event}
 use Rattle.stm_keys.specs.Events.{change_of_event}

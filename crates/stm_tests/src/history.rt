@@ -1,126 +1,181 @@
-//! A worked example of the plain list, with ample memory. What is expected comes from the rules of a history,
-//! and never from a run.
-use std::alloc::{AllocError, Global};
-use std::test::Fail;
-use stm_history::{Change, HIGHEST_REVISION, KeyState, Revision, Revisions, Text};
+//! The key store beside the plain list of what was done to a key: both show the same of the key at every revision. What is expected comes from
+//! the rules of a history, and never from a run.
+ghost use Rattle.std.specs.Prelude.{[], ◌∷◌};
+ghost use Rattle.stm_keys.specs.Keys.{DeletePresent};
 
-/// A put of "a" with a value, or with "-" its deletion.
-fn change_of(alloc: Global, value: &str) -> Result<Change, AllocError> {
-    let key = Text::copy_of(alloc, "a")?;
+use std::alloc::Global;
+use std::test::Fail;
+use stm_history::{Change, KeyState, Text};
+use stm_keys::Keys;
+
+/// The revision at which the store opens, without a key.
+const OPENING: u64 = 41;
+
+/// What was done to "a", each in a revision of its own, the oldest first: a put of this value, or with "-" its deletion.
+type Revisions = &'static [&'static str];
+
+/// What the plain list shows of "a".
+#[derive(Debug, Clone, Copy, PartialEq)]
+struct Shown {
+    value: &'static str,
+    create_rev: u64,
+    mod_rev: u64,
+    version: u64,
+}
+
+/// "a" after one more revision, which has this number.
+fn after(before: Option<Shown>, number: u64, value: &'static str) -> Option<Shown> {
     if value == "-" {
-        return Ok(Change::Del { key });
+        return None;
     }
-    let value = Text::copy_of(alloc, value)?;
-    Ok(Change::Put {
-        key,
+    let (create_rev, version) = match before {
+        None => (number, 1),
+        Some(shown) => (shown.create_rev, shown.version.saturating_add(1)),
+    };
+    Some(Shown {
         value,
-        lease: 0,
+        create_rev,
+        mod_rev: number,
+        version,
     })
 }
 
-/// Adds a revision of one change.
-fn add_change(alloc: Global, history: &mut Revisions, value: &str) -> Result<(), AllocError> {
-    if history.now() < HIGHEST_REVISION {
-        let change = change_of(alloc, value)?;
-        let changes = vec![in alloc; change]?;
-        let _number = history.add(Revision::of(changes))?;
+/// "a" at a revision, by the plain list.
+fn shown_at(revisions: Revisions, revision: u64) -> Option<Shown> {
+    let mut shown = None;
+    let mut number = OPENING;
+    for value in revisions {
+        number = number.saturating_add(1);
+        if number <= revision {
+            shown = after(shown, number, value);
+        }
+    }
+    shown
+}
+
+/// Whether the key store shows what the plain list does.
+fn is_shown(state: Option<&KeyState>, shown: Option<Shown>) -> bool {
+    match (state, shown) {
+        (None, None) => true,
+        (Some(state), Some(shown)) => {
+            state.value.as_str() == shown.value
+                && state.create_rev == shown.create_rev
+                && state.mod_rev == shown.mod_rev
+                && state.version == shown.version
+                && state.lease == 0
+        }
+        _ => false,
+    }
+}
+
+fn apply(alloc: Global, keys: &mut Keys, change: Change) -> Result<(), Fail>
+    requires { DeletePresent keys.old.history (change ∷ []) }
+{
+    let changes = vec![in alloc; change]?;
+    match keys.apply(changes) {
+        Ok(_number) => Ok(()),
+        Err(refusal) => Err(Fail::from(refusal.name())),
+    }
+}
+
+fn put(alloc: Global, keys: &mut Keys, value: &str) -> Result<(), Fail> {
+    let key = Text::copy_of(alloc, "a")?;
+    let value = Text::copy_of(alloc, value)?;
+    apply(
+        alloc,
+        keys,
+        Change::Put {
+            key,
+            value,
+            lease: 0,
+        },
+    )
+}
+
+fn delete(alloc: Global, keys: &mut Keys) -> Result<(), Fail> {
+    let key = Text::copy_of(alloc, "a")?;
+    if keys.get(key.as_str()).is_none() {
+        drop(key);
+        return Err(Fail::from("an absent key is deleted"));
+    }
+    apply(alloc, keys, Change::Del { key })
+}
+
+/// Does all of it to the key store.
+fn make(alloc: Global, keys: &mut Keys, revisions: Revisions) -> Result<(), Fail> {
+    for value in revisions {
+        if *value == "-" {
+            delete(alloc, keys)?;
+        } else {
+            put(alloc, keys, value)?;
+        }
     }
     Ok(())
 }
 
-/// A state's value, create and modification revision, version and lease; "-" for an absent key.
-fn report_state(reported: &mut String, state: Option<&KeyState>) -> Result<(), AllocError> {
-    match state {
-        None => reported.push_str("-"),
-        Some(s) => write!(
-            reported,
-            "{}/{}/{}/{}/{}",
-            s.value, s.create_rev, s.mod_rev, s.version, s.lease
-        ),
+/// The first revision, from the opening to the last one, at which the two differ.
+fn first_unlike(keys: &Keys, revisions: Revisions) -> Option<u64> {
+    for revision in OPENING..=keys.revision() {
+        match keys.get_at("a", revision) {
+            Ok(state) if is_shown(state, shown_at(revisions, revision)) => {}
+            _ => return Some(revision),
+        }
     }
+    None
 }
 
-/// What "a" is at these revisions.
-fn report_key(
-    reported: &mut String,
-    history: &Revisions,
-    revisions: &[u64],
-) -> Result<(), AllocError> {
-    for revision in revisions {
-        let state = history.key_at("a", *revision)?;
-        report_state(reported, state.as_ref())?;
-        reported.push_str(" ")?;
-    }
-    Ok(())
-}
-
-/// The number of changes of the last revision.
-fn last_changes(history: &Revisions) -> usize {
-    match history.as_slice().last() {
-        None => 0,
-        Some(revision) => revision.changes().len(),
-    }
-}
-
-/// What a history says of itself: opening, counter, the number of its revisions, the number of changes of the last one, and what
-/// "a" is now and whether it is there.
-fn report_history(reported: &mut String, history: &Revisions) -> Result<(), AllocError> {
-    write!(
-        reported,
-        "{} {} {} {} ",
-        history.opening(),
-        history.now(),
-        history.as_slice().len(),
-        last_changes(history)
-    )?;
-    let state = history.key_now("a")?;
-    report_state(reported, state.as_ref())?;
-    write!(reported, " {}", history.is_present("a"))
-}
-
-/// Adds a revision of its own for each change of "a", and shows what the history then is, and what "a" is at these revisions.
-fn play(
-    alloc: Global,
-    reported: &mut String,
-    history: &mut Revisions,
-    values: &[&str],
-    revisions: &[u64],
-) -> Result<(), AllocError> {
-    for value in values {
-        add_change(alloc, history, value)?;
-    }
-    report_history(reported, history)?;
-    reported.push_str(": ")?;
-    report_key(reported, history, revisions)
-}
-
-/// The same with a history that opens at 41.
-fn reported_of(alloc: Global, values: &[&str], revisions: &[u64]) -> Result<String, AllocError> {
-    let mut reported = String::new(alloc);
-    let mut history = Revisions::new(alloc, 41);
-    let done = play(alloc, &mut reported, &mut history, values, revisions);
-    drop(history);
+/// What the key store comes to: its last revision, and the first one at which it differs from the plain list.
+fn made(alloc: Global, revisions: Revisions) -> Result<(u64, Option<u64>), Fail> {
+    let mut keys = Keys::with_revision(alloc, OPENING);
+    let done = make(alloc, &mut keys, revisions);
+    let found = (keys.revision(), first_unlike(&keys, revisions));
+    drop(keys);
     done?;
-    Ok(reported)
+    Ok(found)
 }
 
-/// Changes of "a" in a history that opens at 41, and the revisions at which "a" is looked at.
-const EXAMPLES: [(&[&str], &[u64], &str); 2] = [
-    // A key is put twice, deleted and put.
-    (
-        &["x", "y", "-", "z"],
-        &[41, 42, 43, 44, 45, 46],
-        "41 45 4 1 z/45/45/1/0 true: - x/42/42/1/0 y/42/43/2/0 - z/45/45/1/0 z/45/45/1/0 ",
-    ),
-    // A history shows what it is now.
-    (&["x", "y"], &[], "41 43 2 1 y/42/43/2/0 true: "),
+/// What was done to "a", and the last revision.
+const EXAMPLES: [(Revisions, u64); 4] = [
+    (&[], 41),
+    (&["x", "y"], 43),
+    // It is put twice, deleted and put.
+    (&["x", "y", "-", "z"], 45),
+    (&["x", "-", "y", "y", "y", "-", "x", "z"], 49),
 ];
 
 #[test]
-fn a_history_reports_what_a_key_was(rt: HostRuntime) -> Result<(), Fail> {
-    for (values, revisions, expected) in EXAMPLES {
-        let reported = reported_of(rt.alloc(), values, revisions)?;
-        assert_eq!(rt; reported.as_str(), expected);
+fn the_key_store_shows_what_the_plain_list_does(rt: HostRuntime) -> Result<(), Fail> {
+    for (revisions, last) in EXAMPLES {
+        let (revision, unlike) = made(rt.alloc(), revisions)?;
+        assert_eq!(rt; revision, last);
+        assert_eq!(rt; unlike, None);
     }
     Ok(())
+}
+
+/// The revisions at which the plain list shows "a", which is put twice, deleted and put: its value, create and modification revision, version.
+const PRESENT: [(u64, &str, u64, u64, u64); 3] = [
+    (42, "x", 42, 42, 1),
+    (43, "y", 42, 43, 2),
+    (45, "z", 45, 45, 1),
+];
+
+/// Those at which it is absent.
+const ABSENT: [u64; 2] = [41, 44];
+
+#[test]
+fn the_plain_list_shows_what_a_key_was(rt: HostRuntime) {
+    let revisions: Revisions = &["x", "y", "-", "z"];
+    for (revision, value, create_rev, mod_rev, version) in PRESENT {
+        let expected = Shown {
+            value,
+            create_rev,
+            mod_rev,
+            version,
+        };
+        assert_eq!(rt; shown_at(revisions, revision), Some(expected));
+    }
+    for revision in ABSENT {
+        assert_eq!(rt; shown_at(revisions, revision), None);
+    }
 }

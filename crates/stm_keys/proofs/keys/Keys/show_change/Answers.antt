@@ -1,7 +1,6 @@
 use Rattle.std.proofs.Common.{◌+◌, ◌<◌, ◌∙◌, sym, subst, Option}
 use Rattle.stm_history.specs.declared.key_state.KeyState.{KeyState}
-use Rattle.stm_history.specs.History.{key_now}
-use Rattle.stm_history.specs.Walk.{version_of}
+use Rattle.stm_history.specs.History.{key_now, version_of}
 use Rattle.stm_keys.proofs.Numbers.{next_version}
 use Rattle.stm_keys.proofs.keys.Keys.show_change.Goals as goal
 

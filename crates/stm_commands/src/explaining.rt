@@ -10,7 +10,7 @@ use crate::scripting::report_explained as report_script;
 use crate::whole_checking::{answer as whole_answer, say};
 use std::alloc::Global;
 use stm_check::CheckFault;
-use stm_explain::{Input, Kept, write_text, write_text};
+use stm_explain::{Input, Kept, write_text};
 use stm_faulted_runs::{Named, faults_explained};
 use stm_report::{Format, ScriptFault, Sink, Source, script_as};
 

@@ -50,11 +50,11 @@ text_of (Audit job) = audit_fault job
 
 -- ---- what is said
 
--- the text was written, or a front of it where the sink then has failed: what it held before and holds, and whether it has
+-- the text was written, or a prefix of it where the sink then has failed: what it held before and holds, and whether it has
 abbrev pub Says : Option (List ℕ) → Option (List ℕ) → Bool → List ℕ → Type 0
 Says before after failed text = WritesFront before after text × (failed ≡ false → Appends before after text)
 
--- an explanation of a fault of some text under some name, or nothing; that these are the input's own is left to the body
+-- an explanation of a fault of some text under some name, or nothing; that they are those of the input is the body's matter
 abbrev pub IsExplained : List ℕ → Type 0
 IsExplained more = (name text : List ℕ) × ExplainsOrNothing name text more
 

@@ -1,4 +1,4 @@
-//! What is said of a fault of an input: its place and cause, written piece by piece, which takes no memory, and what explains it to people:
+//! What a command says of a fault, and its status, written piece by piece, which takes no memory; and what explains a fault of an input to people:
 //! where in the file it stands, what was found there, and what is allowed.
 //!
 //! Nothing here decides anything: a reader has refused the input, and its answer stands.

@@ -15,7 +15,7 @@ pub fn write_text<E: Sink>(err: &mut E, text: &str) -> Result<(), DeviceFault>
     write_all(err, text.as_bytes())
 }
 
-/// Writes two texts, one after the other. Where the sink fails, a front of them was written.
+/// Writes two texts, one after the other. Where the sink fails, a prefix of them was written.
 fn write_both<E: Sink>(err: &mut E, first: &str, second: &str) -> Result<(), DeviceFault>
     requires { E.failed err.old ≡ false }
     ensures { HasWritten (E.held err.old) (E.held err.new) (E.failed err.new) result (first.now ++ second.now) }
@@ -25,7 +25,7 @@ fn write_both<E: Sink>(err: &mut E, first: &str, second: &str) -> Result<(), Dev
     Ok(())
 }
 
-/// Writes what is wrong with an input: `begin`, after it `PLACE: CAUSE`, and a line feed. Where the sink fails, a front of that was written.
+/// Writes what is wrong with an input: `begin`, after it `PLACE: CAUSE`, and a line feed. Where the sink fails, a prefix of that was written.
 fn write_bad<E: Sink>(err: &mut E, begin: &str, bad: &BadInput) -> Result<(), DeviceFault>
     requires { E.failed err.old ≡ false }
     ensures { HasWritten (E.held err.old) (E.held err.new) (E.failed err.new) result (bad_input begin.now bad.now) }
@@ -36,7 +36,7 @@ fn write_bad<E: Sink>(err: &mut E, begin: &str, bad: &BadInput) -> Result<(), De
     Ok(())
 }
 
-/// Writes what is wrong with the words of a command line, and the usage. Where the sink fails, a front of that was written.
+/// Writes what is wrong with the words of a command line, and the usage. Where the sink fails, a prefix of that was written.
 fn write_usage<E: Sink>(err: &mut E, wrong: &str, usage: &str) -> Result<(), DeviceFault>
     requires { E.failed err.old ≡ false }
     ensures { HasWritten (E.held err.old) (E.held err.new) (E.failed err.new) result (usage_fault wrong.now usage.now) }
@@ -46,7 +46,7 @@ fn write_usage<E: Sink>(err: &mut E, wrong: &str, usage: &str) -> Result<(), Dev
     Ok(())
 }
 
-/// Writes a number. Where the sink fails, a front of it was written.
+/// Writes a number. Where the sink fails, a prefix of it was written.
 fn write_number<E: Sink>(err: &mut E, number: u64) -> Result<(), DeviceFault>
     requires { E.failed err.old ≡ false }
     ensures { HasWritten (E.held err.old) (E.held err.new) (E.failed err.new) result (decimal number) }
@@ -55,7 +55,7 @@ fn write_number<E: Sink>(err: &mut E, number: u64) -> Result<(), DeviceFault>
     write_text(err, buffer.format(number))
 }
 
-/// Writes which job's end does not stand. Where the sink fails, a front of that was written.
+/// Writes which job's end does not stand. Where the sink fails, a prefix of that was written.
 fn write_audit<E: Sink>(err: &mut E, job: u64) -> Result<(), DeviceFault>
     requires { E.failed err.old ≡ false }
     ensures { HasWritten (E.held err.old) (E.held err.new) (E.failed err.new) result (audit_fault job) }
@@ -95,7 +95,7 @@ impl Message<'_> {
         }
     }
 
-    /// Writes what is said. Where the sink fails, a front of it was written.
+    /// Writes what is said. Where the sink fails, a prefix of it was written.
     fn write<E: Sink>(&self, err: &mut E) -> Result<(), DeviceFault>
         requires { E.failed err.old ≡ false }
         ensures { HasWritten (E.held err.old) (E.held err.new) (E.failed err.new) result (text_of self.now) }
@@ -110,7 +110,7 @@ impl Message<'_> {
         }
     }
 
-    /// Writes what is said, and more after it. Where the sink fails, a front of that was written.
+    /// Writes what is said, and more after it. Where the sink fails, a prefix of that was written.
     fn write_with<E: Sink>(&self, err: &mut E, more: &str) -> Result<(), DeviceFault>
         requires { E.failed err.old ≡ false }
         ensures { HasWritten (E.held err.old) (E.held err.new) (E.failed err.new) result (text_of self.now ++ more.now) }
@@ -120,7 +120,7 @@ impl Message<'_> {
         Ok(())
     }
 
-    /// Says what went wrong to a sink that has not failed, and returns the status. It takes no memory. Where the sink fails, a front was written;
+    /// Says what went wrong to a sink that has not failed, and returns the status. It takes no memory. Where the sink fails, a prefix was written;
     /// that changes no status.
     pub fn report<E: Sink>(&self, err: &mut E) -> u8
         requires { E.failed err.old ≡ false }

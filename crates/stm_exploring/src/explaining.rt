@@ -15,7 +15,7 @@ use crate::printed::{Printed, Verdict};
 use crate::reading::ExploreFault;
 use std::alloc::Global;
 use stm_devices::{Sink, Source};
-use stm_explain::{Input, Kept};
+use stm_explain::{Input, Kept, write_text};
 use stm_explore::{Budget, Observer};
 use stm_faulted_runs::{Named, rule_explained};
 use stm_program::Level;

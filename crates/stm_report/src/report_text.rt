@@ -45,19 +45,31 @@ fn key_line(alloc: Global, form: LineForm, key: &str, state: &KeyState) -> Resul
     ensures no_float { IfOk result (λ v. has_float (view v) ≡ false) }
 {
     match form {
-        LineForm::Array => key_json(alloc, key, state),
+        LineForm::Array => {
+            let line = key_json(alloc, key, state)?;
+            Ok(line)
+        }
         LineForm::Object => key_object(alloc, key, state),
     }
 }
 
 /// The line of a live lease in a form.
-fn lease_line(alloc: Global, form: LineForm, id: u64, lease: LiveLease) -> Result<Json, AllocError>
-    ensures line { IfOk result (λ v. view v ≡ formed form (lines.Lease id lease.ttl lease.renewed)) }
+fn lease_line(
+    alloc: Global,
+    form: LineForm,
+    id: u64,
+    ttl: u64,
+    renewed: u64,
+) -> Result<Json, AllocError>
+    ensures line { IfOk result (λ v. view v ≡ formed form (lines.Lease id ttl renewed)) }
     ensures no_float { IfOk result (λ v. has_float (view v) ≡ false) }
 {
     match form {
-        LineForm::Array => lease_json(alloc, id, lease.ttl, lease.renewed),
-        LineForm::Object => lease_object(alloc, id, lease.ttl, lease.renewed),
+        LineForm::Array => {
+            let line = lease_json(alloc, id, ttl, renewed)?;
+            Ok(line)
+        }
+        LineForm::Object => lease_object(alloc, id, ttl, renewed),
     }
 }
 
@@ -67,7 +79,10 @@ fn end_line(alloc: Global, form: LineForm, revision: u64, entries: u64) -> Resul
     ensures no_float { IfOk result (λ v. has_float (view v) ≡ false) }
 {
     match form {
-        LineForm::Array => end_json(alloc, revision, entries),
+        LineForm::Array => {
+            let line = end_json(alloc, revision, entries)?;
+            Ok(line)
+        }
         LineForm::Object => end_object(alloc, revision, entries),
     }
 }
@@ -136,7 +151,7 @@ fn push_leases(
         → string_bytes text.new ≡ string_bytes text.old ++ formed_text form (lease_lines live)) }
 {
     for (id, lease) in leases {
-        let line = lease_line(alloc, form, *id, *lease)?;
+        let line = lease_line(alloc, form, *id, lease.ttl, lease.renewed)?;
         push_line(alloc, text, &line)?;
     }
     Ok(())

@@ -2,6 +2,7 @@
 ghost use Rattle.std.specs.Prelude.{◌≡◌, IfOk};
 ghost use Rattle.stm_entries.specs.Entered.{answers_kept};
 
+use crate::copying::{copy_answers, copy_output, copy_trace};
 use std::alloc::{AllocError, Global};
 use stm_attempt::Ready;
 use stm_compile::ReadSet;
@@ -20,27 +21,6 @@ pub struct Copies {
     pub answers: Sequence<ReadAnswer>,
 }
 
-/// A copy of a run's output.
-fn copy_output(output: &Sequence<Value>) -> Result<Sequence<Value>, AllocError>
-    ensures { IfOk result (λ copy. copy ≡ output.now) }
-{
-    output.clone()
-}
-
-/// A copy of a run's trace.
-fn copy_trace(trace: &Sequence<TraceItem>) -> Result<Sequence<TraceItem>, AllocError>
-    ensures { IfOk result (λ copy. copy ≡ trace.now) }
-{
-    trace.clone()
-}
-
-/// A copy of what was read.
-fn copy_reads(reads: &ReadSet) -> Result<ReadSet, AllocError>
-    ensures { IfOk result (λ copy. copy ≡ reads.now) }
-{
-    reads.clone()
-}
-
 /// The answers that are kept at a level, copied.
 fn copy_kept(
     alloc: Global,
@@ -54,7 +34,7 @@ fn copy_kept(
         Level::Serializable => Ok(Sequence::new(alloc)),
         Level::RepeatableReads => Ok(Sequence::new(alloc)),
         Level::ReadCommitted => {
-            let copy = copy_reads(reads)?;
+            let copy = copy_answers(reads)?;
             Ok(copy.into_answers())
         }
     }

@@ -71,7 +71,7 @@ use Rattle.stm_world.specs.Sound.{IsSound, after_expiries}
 use Rattle.stm_world.specs.Appended.{HasAppended}
 use Rattle.stm_world.proofs.Wants.{NoOutOfMemory, NeverWants, advanced_never}
 use Rattle.stm_world.proofs.NeverOutOfMemory.{raised_never}
-use Rattle.stm_events.proofs.Calls.{txn_goes_on, at_moment_follows}
+use Rattle.stm_world.proofs.Calls.{txn_goes_on, at_moment_follows}
 use Rattle.stm_world.proofs.Appending.{events_append}
 use Rattle.stm_world.proofs.Sound.{opened_is_sound, step_is_sound, base_is_reached}
 use Rattle.stm_retry.specs.Returns.{IsStep, IsUnchanged, IsCutShort, OutOfMemoryReturns, RefusalReturns, Returns, is_out_of_memory_of_store, is_want}

@@ -43,7 +43,7 @@ use Rattle.stm_world.specs.World.{decided, commit_reported, commit, finish, step
 use Rattle.stm_world.specs.World.{step}
 use Rattle.stm_world.specs.Sound.{IsSound}
 use Rattle.stm_world.proofs.Entered.{EntriesFollow, nothing_follows}
-use Rattle.stm_events.proofs.Calls.{txn_follows, grant_follows, keep_follows, revoke_follows, advance_follows}
+use Rattle.stm_world.proofs.Calls.{txn_follows, grant_follows, keep_follows, revoke_follows, advance_follows}
 use Rattle.stm_world.proofs.WatchCalls.{watch_follows, poll_follows, cancel_follows, compact_follows}
 use Rattle.stm_world.proofs.CommitEntries.{Takes, taken, commit_follows_entry}
 use Rattle.std.proofs.Common.{append_assoc}

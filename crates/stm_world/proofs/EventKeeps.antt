@@ -32,7 +32,7 @@ use Rattle.stm_world.specs.Log.{Line, begun, with_commit, store_after_step, stor
 use Rattle.stm_world.proofs.Truth.{Keeps, keeps_same}
 use Rattle.stm_world.proofs.CommitEntries.{grown_by, kept_by_writes}
 use Rattle.stm_world.proofs.Entered.{floor_stays}
-use Rattle.stm_events.proofs.Calls.{txn_goes_on, grant_follows, keep_follows, revoke_follows, advance_follows}
+use Rattle.stm_world.proofs.Calls.{txn_goes_on, grant_follows, keep_follows, revoke_follows, advance_follows}
 use Rattle.stm_world.proofs.WatchCalls.{watch_follows, poll_follows, cancel_follows, compact_follows}
 
 left_keeps : (r : Replayed) (run : Run) (o : Result Done StoreRefusal) → applied_run r run ≡ o → Keeps r.history (history_left r.history o)

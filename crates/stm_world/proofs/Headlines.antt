@@ -44,7 +44,7 @@ use Rattle.stm_world.proofs.Following.{FollowsAt, FollowsStep, with_line, world_
 use Rattle.stm_world.proofs.RunnerSteps.{CommitLaws, live_follows}
 use Rattle.stm_world.proofs.Entered.{nothing_follows}
 use Rattle.stm_world.proofs.EventKeeps.{store_limit}
-use Rattle.stm_events.proofs.Calls.{txn_follows, grant_follows, keep_follows, revoke_follows, advance_follows}
+use Rattle.stm_world.proofs.Calls.{txn_follows, grant_follows, keep_follows, revoke_follows, advance_follows}
 use Rattle.stm_world.proofs.WatchCalls.{poll_reported, watch_follows, poll_follows, cancel_follows, compact_follows}
 
 -- ---- starts ----

@@ -15,7 +15,7 @@ use Rattle.stm_entries.specs.Entered.{expiries}
 use Rattle.stm_world.specs.Sound.{IsSound, after_expiries, WorldsAreSound}
 use Rattle.stm_world.proofs.Truth as truths
 use Rattle.stm_world.proofs.Entered.{EntriesFollow}
-use Rattle.stm_events.proofs.Calls.{at_moment_follows}
+use Rattle.stm_world.proofs.Calls.{at_moment_follows}
 use Rattle.stm_world.proofs.Slots.{no_runner}
 use Rattle.stm_world.proofs.SoundSteps.{call_sound, event_sound}
 

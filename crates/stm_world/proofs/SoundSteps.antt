@@ -49,7 +49,7 @@ use Rattle.stm_world.specs.World.{step}
 use Rattle.stm_world.specs.Sound.{KnowsTruth, IsSound}
 use Rattle.stm_world.proofs.Truth.{known_stays, prefetch_true, fetch_true, conflict_true}
 use Rattle.stm_world.proofs.Entered.{EntriesFollow, nothing_follows}
-use Rattle.stm_events.proofs.Calls.{txn_follows, grant_follows, keep_follows, revoke_follows, advance_follows}
+use Rattle.stm_world.proofs.Calls.{txn_follows, grant_follows, keep_follows, revoke_follows, advance_follows}
 use Rattle.stm_world.proofs.WatchCalls.{watch_follows, poll_follows, cancel_follows, compact_follows}
 use Rattle.stm_world.proofs.CommitEntries.{Takes, taken, commit_follows_entry}
 use Rattle.stm_world.proofs.Slots.{equal_numbers, differ, runner_there, runner_own, runner_other, runner_new, runner_old}

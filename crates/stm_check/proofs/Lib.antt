@@ -8,6 +8,7 @@ pub mod FinalLemmas
 pub mod Replaying
 pub mod Walking
 pub mod Once
+pub mod Always
 pub mod LegalReported
 pub mod JudgingLemmas
 pub mod WorkedExamples

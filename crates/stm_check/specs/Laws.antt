@@ -15,9 +15,13 @@ use Rattle.stm_check.specs.StoreLines.{final_lines}
 use Rattle.stm_check.specs.Judged.{IsJudged, AreRightEvents}
 use Rattle.stm_check.specs.Wrong.{opens_at, point_after, entries_along, IsReportOf}
 
--- A check has one answer.
+-- A check has one answer for a report.
 abbrev pub JudgedOnce : Type 0
 JudgedOnce = (s : Scenario) (r : Report) (one other : Checked) → IsJudged s r one → IsJudged s r other → one ≡ other
+
+-- And it has one for each report.
+abbrev pub JudgedAlways : Type 0
+JudgedAlways = (s : Scenario) (r : Report) → (c : Checked) × IsJudged s r c
 
 -- The store behind lines is the replay of all the entries that they tell, and these are counted.
 pub record IsReplayOf (p : Point) (entries : List Entry) (behind : Point) : Type 0 where

@@ -1,15 +1,20 @@
 //! The laws of checks. Each function does nothing: its contract is the law.
-ghost use Rattle.stm_check.specs.Laws.{JudgedOnce, StoreIsTheReplay, YesIsTheReplay};
+ghost use Rattle.stm_check.specs.Laws.{JudgedAlways, JudgedOnce, StoreIsTheReplay, YesIsTheReplay};
 
 /// The store behind lines is the replay of all the entries that they tell, and these are counted.
 pub fn store_is_the_replay()
     ensures { StoreIsTheReplay }
 {}
 
-/// A check has one answer: a report that no line of is wrong has no first wrong line, and else there is one, with one
-/// cause.
+/// A check has at most one answer for a report: one of which no line is wrong has no first wrong line, and no report has two first wrong lines,
+/// or one with two causes.
 pub fn judged_once()
     ensures { JudgedOnce }
+{}
+
+/// A check has an answer for each report of each scenario: no line is wrong, or there is a first wrong line, with its cause.
+pub fn judged_always()
+    ensures { JudgedAlways }
 {}
 
 /// What a report tells that no line of is wrong: the entries that its lines tell are legal, each at its point, and the

@@ -2,6 +2,7 @@ pub mod Lists
 pub mod SameLemmas
 pub mod Shallow
 pub mod WordLaws
+pub mod NameLaws
 pub mod PartLaws
 pub mod ArrayLemmas
 pub mod Rows

@@ -11,5 +11,6 @@ pub mod Rests
 pub mod Grammar
 pub mod FirstFault
 pub mod ReadBack
+pub mod RefusalNames
 pub use Rattle.stm_json.specs.Outcome
 pub use Rattle.stm_json.specs.Returns

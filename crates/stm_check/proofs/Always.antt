@@ -1,4 +1,4 @@
--- A check has an answer for each report: whether a line is right can be computed, since what it is compared with can be told apart.
+-- A check has an answer for each report: whether a line is right can be computed, since what it is compared with can be distinguished.
 use Rattle.std.proofs.Common.{◌≡◌, ◌⊎◌, option_map, inl, inr, ℕ, suc, ◌+◌, ◌≤◌, Bool, true, false, List, [], ◌∷◌, Option, Some, None, refl, sym, ◌∙◌, ap, subst, eqb, leb, eqb-true, eq-eqb, leb-true, le-leb}
 use Rattle.std.specs.Prelude.{MatchBool}
 use Rattle.std.specs.Coded.{Coded, coded_ℕ, coded_list, coded_option}
@@ -59,6 +59,12 @@ both (inl p) (inl q) = inl (p, q)
 both (inl p) (inr not) = inr (λ each. not each.1)
 both (inr not) q = inr (λ each. not each.0)
 
+three : {P Q R : Type 0} → Decided P → Decided Q → Decided R → Decided (P × Q × R)
+three (inl p) (inl q) (inl r) = inl (p, q, r)
+three (inl p) (inl q) (inr not) = inr (λ each. not each.2)
+three (inl p) (inr not) r = inr (λ each. not each.1)
+three (inr not) q r = inr (λ each. not each.0)
+
 -- ---- values
 
 equal_numbers : (a b : ℕ) → Decided (a ≡ b)
@@ -111,7 +117,7 @@ truly_by h a (inl all) = inl (record { reached = all.0; value = all.1; modified 
 truly_by h a (inr not) = inr (λ is. not (is.reached, is.value, is.modified))
 
 truly : (h : History) (a : ReportedAnswer) → Decided (IsTrulyReported h a)
-truly h a = truly_by h a (both (at_most a.of_rev (now h)) (both (equal (coded_option (coded_list coded_ℕ)) a.value _) (equal_numbers a.mod_rev _)))
+truly h a = truly_by h a (three (at_most a.of_rev (now h)) (equal (coded_option (coded_list coded_ℕ)) a.value _) (equal_numbers a.mod_rev _))
 
 all_truly : (h : History) (answers : List ReportedAnswer) → Decided (AreTrulyReported h answers)
 all_truly h [] = inl tt
@@ -128,17 +134,17 @@ fit level h reads answers = fit_by (is_comparing level) h reads answers
 -- what a commit is besides the answers
 abbrev IsTaken : Standing → Runner → Run → ℕ → ℕ → List Value → List TraceItem → Type 0
 IsTaken s r run revision attempts output trace =
-    (run.end ≡ DoneEnd) × (run.output ≡ output) × (run.trace ≡ trace) × (revision_reached (applied_run (without_moment s) run) ≡ Some revision)
-    × (attempts ≡ r.conflicts + 1) × (attempts ≤ r.limit)
+    ((run.end ≡ DoneEnd) × (run.output ≡ output) × (run.trace ≡ trace))
+    × ((revision_reached (applied_run (without_moment s) run) ≡ Some revision) × (attempts ≡ r.conflicts + 1) × (attempts ≤ r.limit))
 
 is_taken : (s : Standing) (r : Runner) (run : Run) (revision attempts : ℕ) (output : List Value) (trace : List TraceItem) →
     Decided (IsTaken s r run revision attempts output trace)
 is_taken s r run revision attempts output trace =
-    both (equal ends.the_row.coded run.end DoneEnd)
-    (both (equal (coded_list values.the_row.coded) run.output output)
-    (both (equal (coded_list items.the_row.coded) run.trace trace)
-    (both (equal (coded_option coded_ℕ) (revision_reached (applied_run (without_moment s) run)) (Some revision))
-    (both (equal_numbers attempts (r.conflicts + 1)) (at_most attempts r.limit)))))
+    both
+    (three (equal ends.the_row.coded run.end DoneEnd) (equal (coded_list values.the_row.coded) run.output output)
+    (equal (coded_list items.the_row.coded) run.trace trace))
+    (three (equal (coded_option coded_ℕ) (revision_reached (applied_run (without_moment s) run)) (Some revision))
+    (equal_numbers attempts (r.conflicts + 1)) (at_most attempts r.limit))
 
 -- a commit that is right is one of this run
 is_of_run : (s : Standing) (r : Runner) (run : Run) (revision attempts : ℕ) (output : List Value) (trace : List TraceItem) (answers : List ReportedAnswer) →
@@ -152,7 +158,7 @@ is_of_run s r run revision attempts output trace answers is right =
     let taken : IsTakenAs s r run revision attempts output trace =
     subst (λ (x : Run). IsTakenAs s r x revision attempts output trace) same has.2 in (
       subst (λ (x : Run). AnswersFit r.level s.history (keys_first_read r.program.prefetch x.reads) answers) same has.1.answers_fit,
-      (taken.is_done, taken.emits, taken.sees, taken.reached, taken.attempt, taken.may_be_sent),
+      ((taken.is_done, taken.emits, taken.sees), (taken.reached, taken.attempt, taken.may_be_sent)),
     )
 
 commit_by : (s : Standing) (r : Runner) (run : Run) (revision attempts : ℕ) (output : List Value) (trace : List TraceItem) (answers : List ReportedAnswer) →
@@ -161,12 +167,12 @@ commit_by : (s : Standing) (r : Runner) (run : Run) (revision attempts : ℕ) (o
     Decided (IsRightCommit s r revision attempts output trace answers)
 commit_by s r run revision attempts output trace answers is (inl (fits_level, taken)) =
     inl (right_commit s r run revision attempts output trace answers (record { is_run = is; answers_fit = fits_level }) (record {
-      is_done = taken.0;
-      emits = taken.1;
-      sees = taken.2;
-      reached = taken.3;
-      attempt = taken.4;
-      may_be_sent = taken.5;
+      is_done = taken.0.0;
+      emits = taken.0.1;
+      sees = taken.0.2;
+      reached = taken.1.0;
+      attempt = taken.1.1;
+      may_be_sent = taken.1.2;
     }))
 commit_by s r run revision attempts output trace answers is (inr not) =
     inr (λ right. not (is_of_run s r run revision attempts output trace answers is right))
@@ -189,11 +195,11 @@ commit s (Some r) revision attempts output trace answers =
 -- ---- lines
 
 start : (limit : ℕ) (l : ReportLine) → Decided (StartReplays limit l)
-start limit (Refused n cause expired) = both (equal_numbers limit 0) (both (equal names.the_row.coded cause BadLimit) (is_nothing expired))
+start limit (Refused n cause expired) = three (equal_numbers limit 0) (equal names.the_row.coded cause BadLimit) (is_nothing expired)
 start limit other = inl tt
 
 step : (s : Standing) (o : Option Runner) (l : ReportLine) → Decided (StepReplays s o l)
-step s o (Refused n cause expired) = both (is_absent o) (both (equal names.the_row.coded cause NoRunner) (is_nothing expired))
+step s o (Refused n cause expired) = three (is_absent o) (equal names.the_row.coded cause NoRunner) (is_nothing expired)
 step s o (Committed n id revision attempts output trace answers) = commit s o revision attempts output trace answers
 step s o other = inl tt
 

@@ -50,7 +50,7 @@ pub taken_line : {A : Type 0} (n : ℕ) (report : A → Reply) (r : Result (Step
     r ≡ Ok record { answer = answer; next = next } → line_reported n (reply_to report r) ≡ reply_reported n (report answer)
 taken_line {A} n report r answer next is = ap (λ (o : Result (Step A) Refusal). line_reported n (reply_to report o)) is
 
--- why a call was refused, where it was not for want of memory
+-- why a call was refused, where it did not run out of memory
 pub refused_for : {T : Type 0} (r : Result T Refusal) (cause : Refusal) → IsRefusalOf r cause → cause ≢ OutOfMemory → r ≡ Err cause
 refused_for (Ok done) cause is other = absurd (other is)
 refused_for (Err c) cause is other = ap Err (sym is)
@@ -69,14 +69,14 @@ pub refused_right : (r : Result Bool AllocError) (cause : Refusal) (x y l : Repo
 refused_right (Ok b) cause x y l test other same = tests_same b x y l (same other) test
 refused_right (Err e) cause x y l test other same = tt
 
--- and the store behind it, where its line tells nothing that is entered
+-- and the store after it, where its line reports nothing that is entered
 pub refused_next : (r : Result Bool AllocError) (y l : ReportLine) (entries : ReportLine → List Entry) (s next : Standing) →
     IfOk r (λ b. IsTrue b ↔ y ≡ l) → entries y ≡ [] → next ≡ s → IfOk r (λ b. IsTrue b → next ≡ led_by (entries l) s s.moment)
 refused_next (Ok b) y l entries s next test none same =
     λ t. same ∙ ap (λ (es : List Entry). led_by es s s.moment) (sym none ∙ ap entries (test.0 t))
 refused_next (Err e) y l entries s next test none same = tt
 
--- the line of an advance that was cut short, though not for want of memory
+-- the line of an advance that was cut short, though it did not run out of memory
 pub cut_line : (n : ℕ) (s left : Standing) (moment : ℕ) (expired : List Expired) (cause : Refusal) → IsCutShort (advanced s moment) expired cause left →
     cause ≢ OutOfMemory → advanced s moment ≡ record { expired = expired; leaves = left; cause = Some cause }
 cut_line n s left moment expired cause (inl whole) other = whole
@@ -115,7 +115,7 @@ led s next entries follow rest =
       limit = follow.limit k;
     }
 
--- the store behind a call that was taken, whose one entry is this
+-- the store after a call that was taken, whose one entry is this
 pub taken_led : {A : Type 0} (s : Standing) (r : Result (Step A) Refusal) (answer : A) (next : Standing) (entry : Entry) →
     Enters s (store_after_call s r) (if_taken r entry) → StepKeepsRest s r → r ≡ Ok record { answer = answer; next = next } →
     next ≡ led_by (entry ∷ []) s s.moment
@@ -178,7 +178,7 @@ revoke_led s next id revision is =
 
 -- ---- a transaction
 
--- the answer tells the counter of the history that it leaves
+-- the answer has the counter of the history that it leaves
 abbrev ReturnsCounter : Result Done Refusal → Type 0
 ReturnsCounter (Ok done) = done.answer.revision ≡ now done.history
 ReturnsCounter (Err cause) = Unit {0}
@@ -202,7 +202,7 @@ counter_reported terms txn failed =
     counter_unless (fault_of terms.limit txn) _ (counter_unless (branch_refusal terms ops) _
     (counter_by (is_used_up h (changes_of_branch h ops)) h failed (changes_of_branch h ops) (answers_after h (begun h) ops)))
 
--- what a transaction leaves beside the history, and the counter that it tells
+-- what a transaction leaves beside the history, and the counter in its answer
 pub record IsTransacted (s : Standing) (answer : TxnAnswer) (next : Standing) : Type 0 where
   pub rest : KeepsRest s next
   pub counter : answer.revision ≡ now next.history
@@ -265,7 +265,7 @@ advanced_by s moment false =
     let rest = expiries_rest (finmap.len s.live) (at_moment s moment) in
     record { moment_is = rest.moment; watchers = rest.watchers; floor = rest.floor }
 
--- the store behind an advance, whose entries are its expiries
+-- the store after an advance, whose entries are its expiries
 pub advance_led : (s next : Standing) (moment : ℕ) (expired : List Expired) (cause : Option Refusal) →
     advanced s moment ≡ record { expired = expired; leaves = next; cause = cause } →
     next ≡ led_by (expiries expired) s (moment_after s (AdvanceEvent moment))
@@ -307,14 +307,14 @@ cut_next (Err e) n s next moment expired cause l test other cut = tt
 
 -- ---- a compaction
 
--- the store behind a compaction that was told
+-- the store after a compaction that was reported
 pub compact_led : (b : Bool) (n revision : ℕ) (l : ReportLine) (s next : Standing) → (IsTrue b ↔ Compacted n revision ≡ l) →
     raised s revision ≡ Ok record { answer = tt; next = next } → IsTrue b → next ≡ raised_by (CompactEvent revision) l s
 compact_led b n revision l s next test is t =
     sym (ap (λ (r : Result (Step (Unit {0})) Refusal). store_after_call s r) is)
     ∙ ap (λ (x : ReportLine). raised_by (CompactEvent revision) x s) (test.0 t)
 
--- and behind one that was refused
+-- and after one that was refused
 pub compact_stays : (r : Result Bool AllocError) (n revision : ℕ) (cause : RefusalName) (l : ReportLine) (s next : Standing) →
     IfOk r (λ b. IsTrue b ↔ Refused n cause [] ≡ l) → next ≡ s → IfOk r (λ b. IsTrue b → next ≡ raised_by (CompactEvent revision) l s)
 compact_stays (Ok b) n revision cause l s next test same =

@@ -52,7 +52,7 @@ use Rattle.stm_check.specs.Runs.{run_in, IsRunReported, IsRunOn, IsFound, revisi
 pub only_run : (a : Answered) (run : Run) → a ≡ Ended run → run_in a ≡ Some run
 only_run a run is = ap run_in is
 
-never_wants : (key : List ℕ) (trace : List TraceItem) (run : Run) → Wants key trace ≡ Ended run → ⊥
+pub never_wants : (key : List ℕ) (trace : List TraceItem) (run : Run) → Wants key trace ≡ Ended run → ⊥
 never_wants key trace run is = let no : None ≡ Some run = ap run_in is in absurd (cc)
 
 pub ended_is : (a : Answered) (run : Run) → run_in a ≡ Some run → a ≡ Ended run
@@ -62,13 +62,13 @@ ended_is (Wants key trace) run is = absurd (cc)
 pub never : {A : Type 0} → IsTrue false → A
 never t = absurd (cc)
 
--- at a comparing level answers that are told leave no run
+-- at a comparing level there is no run for reported answers
 pub reported_in_vain : (level : Level) (h : History) (program : ProgramTree) (a : ReportedAnswer) (answers : List ReportedAnswer) → is_comparing level ≡ true →
     IsFound level h program (a ∷ answers) None
 reported_in_vain ReadCommitted h program a answers is = absurd (cc)
 reported_in_vain _ h program a answers is = λ run reported. let no : a ∷ answers ≡ [] = reported.answers_fit in absurd (cc)
 
--- the direct run, where none are told
+-- the direct run, where none are reported
 pub found_now : (level : Level) (h : History) (program : ProgramTree) (answered : Answered) → is_comparing level ≡ true →
     run_over (state_now h) program.statements ≡ answered → IsFound level h program [] (run_in answered)
 found_now ReadCommitted h program answered level is = absurd (cc)
@@ -178,13 +178,13 @@ commit_run s r revision attempts output trace answers right =
       },
     )
 
--- one run is told
+-- at most one run is reported
 pub reported_once : (level : Level) (h : History) (program : ProgramTree) (answers : List ReportedAnswer) (one other : Run) →
     IsRunReported level h program answers one → IsRunReported level h program answers other → one ≡ other
 reported_once level h program answers one other a b =
     let same : Some one ≡ Some other = ap run_in (sym a.is_run ∙ b.is_run) in cc
 
--- ---- the store behind it
+-- ---- the store after it
 
 pub commit_led : (s : Standing) (r : Runner) (run : Run) (revision : ℕ) (output : List Value) (trace : List TraceItem) (answers : List ReportedAnswer) →
     IsRunReported r.level s.history r.program answers run → run.end ≡ DoneEnd →
@@ -225,7 +225,7 @@ other_run b s r run revision attempts output trace answers reported test is = (
       sym is ∙ test.1 (taken.is_done, taken.emits, taken.sees)),
 )
 
--- the commit of the run, where a test looks at all of what the line tells
+-- the commit of the run, where a test looks at all of what the line reports
 pub run_right : (b : Bool) (s : Standing) (r : Runner) (run : Run) (revision attempts : ℕ) (output : List Value) (trace : List TraceItem)
     (answers : List ReportedAnswer) → IsRunReported r.level s.history r.program answers run → (attempts ≡ r.conflicts + 1) × (attempts ≤ r.limit) →
     (IsTrue b ↔ ((run.end ≡ DoneEnd) × (run.output ≡ output) × (run.trace ≡ trace))

@@ -12,7 +12,7 @@ use Rattle.stm_reports.specs.declared.line.ReportedAnswer.{ReportedAnswer}
 use Rattle.stm_check.specs.Replays.{IsTrulyReported, AreTrulyReported}
 use Rattle.stm_check.proofs.Fronts.{left_at}
 
--- an answer is looked for in a front, and then behind it
+-- an answer is looked for in a front, and then after it
 found_in : (b : Bool) (a : ReadAnswer) (front back : Option ReadAnswer) →
     cond b (Some a) (option_or front back) ≡ option_or (cond b (Some a) front) back
 found_in true a front back = refl

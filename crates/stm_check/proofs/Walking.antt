@@ -104,7 +104,7 @@ agreed_one finals lines count final l finals_left lines_left so_far is = record 
       so_far.off n wrong cause (inr (is, subst (λ (m : ℕ). IsOff m finals_left lines_left wrong cause) same o));
 }
 
--- a line that is missing behind those that agree
+-- a line that is missing after those that agree
 head_missing : (finals_left lines_left : List ReportLine) (m wrong : ℕ) → 0 < length finals_left → lines_left ≡ [] → wrong ≡ m →
     IsOff m finals_left lines_left wrong Count
 head_missing [] lines_left m wrong some none is = absurd (omega (arith, some))

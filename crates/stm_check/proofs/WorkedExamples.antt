@@ -66,11 +66,11 @@ last_lines =
     ∷ line.Key (codes "y") (record { value = codes "1"; create_rev = 3; mod_rev = 3; version = 1; lease = 0 })
     ∷ line.End 4 4 ∷ []
 
--- behind the four first lines
+-- after the first four lines
 abbrev started : Point
 started = point_after (beginning (at_revision 1)) skew first_lines
 
--- behind all lines of events
+-- after all lines of events
 abbrev ended : Point
 ended = point_after (beginning (at_revision 1)) skew skew_lines
 
@@ -145,7 +145,7 @@ first_txn = refl
 bad_grant : line_reported 1 (reply_to (λ _. Granted 0) (granted (beginning (at_revision 1)).standing 0 5)) ≡ line.Refused 1 LeaseIdOutOfRange []
 bad_grant = refl
 
--- ---- a compaction behind the four first lines, where the counter is 3
+-- ---- a compaction after the first four lines, where the counter is 3
 
 abbrev compacted : Standing
 compacted = (after started (Compact 3) (line.Compacted 5 3)).standing
@@ -184,6 +184,6 @@ missing = inr (refl, inr (refl, (refl, refl)))
 nothing_there : IsFirstWrong 1 (beginning (at_revision 1)) skew [] 1 Count
 nothing_there = (refl, refl)
 
--- the line of an event behind those of the events
+-- the line of an event after those of the events
 surplus : IsOff 12 last_lines (line.Started 12 3 ∷ last_lines) 12 Final
 surplus = inl (refl, refl, λ same. cc)

@@ -51,31 +51,31 @@ abbrev pub is_number : ℕ → Option ℕ → Bool
 is_number n None = false
 is_number n (Some m) = nat_eq m n
 
--- a start is told by the number of the next runner, or refused; one that may send no commit is not told as started
+-- a start is reported with the number of the next runner, or refused; one that may send no commit is not reported as started
 abbrev pub is_started_next : List Runner → ℕ → ReportLine → Bool
 is_started_next runners limit (line.Refused n cause expired) = true
 is_started_next runners limit (line.Started n runner) = not (nat_eq limit 0) && nat_eq runner (next_runner runners)
 is_started_next runners limit other = false
 
--- a step is told of its own runner, which runs, or refused
+-- a step is reported of its own runner, which runs, or refused
 abbrev pub is_step_of : List Runner → ℕ → ReportLine → Bool
 is_step_of runners id (line.Refused n cause expired) = true
 is_step_of runners id l = is_number id (runner_of l) && is_some (running id runners)
 
--- a watch is told by the number of a watcher, whichever it is, or refused
+-- a watch is reported with the number of a watcher, whichever it is, or refused
 abbrev pub is_watching : ReportLine → Bool
 is_watching (line.Refused n cause expired) = true
 is_watching (line.Watching n watcher) = true
 is_watching other = false
 
--- a poll is told of its own watcher, which may be lost, or refused
+-- a poll is reported of its own watcher, which may be lost, or refused
 abbrev pub is_batch_of : ℕ → ReportLine → Bool
 is_batch_of id (line.Refused n cause expired) = true
 is_batch_of id (line.Batch n watcher up_to events) = nat_eq watcher id
 is_batch_of id (line.Lost n watcher floor) = nat_eq watcher id
 is_batch_of id other = false
 
--- a cancellation is told of its own watcher, or refused
+-- a cancellation is reported of its own watcher, or refused
 abbrev pub is_cancelled_of : ℕ → ReportLine → Bool
 is_cancelled_of id (line.Refused n cause expired) = true
 is_cancelled_of id (line.Cancelled n watcher) = nat_eq watcher id

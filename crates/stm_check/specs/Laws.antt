@@ -13,7 +13,7 @@ use Rattle.stm_check.specs.declared.checking.Checked.{Checked}
 use Rattle.stm_check.specs.Point.{Point}
 use Rattle.stm_check.specs.StoreLines.{final_lines}
 use Rattle.stm_check.specs.Judged.{IsJudged, AreRightEvents}
-use Rattle.stm_check.specs.Wrong.{opens_at, point_after, entries_along, IsReportOf}
+use Rattle.stm_check.specs.Wrong.{opens_at, point_after, entries_along, HasNoWrongLine}
 
 -- A check has one answer for a report.
 abbrev pub JudgedOnce : Type 0
@@ -23,18 +23,18 @@ JudgedOnce = (s : Scenario) (r : Report) (one other : Checked) → IsJudged s r 
 abbrev pub JudgedAlways : Type 0
 JudgedAlways = (s : Scenario) (r : Report) → (c : Checked) × IsJudged s r c
 
--- The store behind lines is the replay of all the entries that they tell, and these are counted.
-pub record IsReplayOf (p : Point) (entries : List Entry) (behind : Point) : Type 0 where
-  pub store : without_moment behind.standing ≡ replay entries (without_moment p.standing)
-  pub count : behind.entries ≡ p.entries + length entries
+-- The store after lines is the replay of all the entries that they report, and these are counted.
+pub record IsReplayOf (p : Point) (entries : List Entry) (next : Point) : Type 0 where
+  pub store : without_moment next.standing ≡ replay entries (without_moment p.standing)
+  pub count : next.entries ≡ p.entries + length entries
 
 abbrev pub StoreIsTheReplay : Type 0
 StoreIsTheReplay =
     (p : Point) (events : List WorldEvent) (lines : List ReportLine) → IsReplayOf p (entries_along p events lines) (point_after p events lines)
 
--- What a report of a scenario tells: entries, each legal at its point, of which a committed line is one by its program run
+-- What a report of a scenario shows: entries, each legal at its point, of which a committed line is one by its program run
 -- alone, over an empty store; the store that they lead to is the one that its last lines show, and they are counted there.
-pub record ReturnsTheReplay (s : Scenario) (r : Report) : Type 0 where
+pub record ShowsTheReplay (s : Scenario) (r : Report) : Type 0 where
   pub last : Point
   pub entries : List Entry
   pub are_reported : entries ≡ entries_along (opens_at s) s.events r.lines
@@ -45,4 +45,4 @@ pub record ReturnsTheReplay (s : Scenario) (r : Report) : Type 0 where
   pub ends : drop (length s.events) r.lines ≡ final_lines last
 
 abbrev pub YesIsTheReplay : Type 0
-YesIsTheReplay = (s : Scenario) (r : Report) → IsReportOf s r → ReturnsTheReplay s r
+YesIsTheReplay = (s : Scenario) (r : Report) → HasNoWrongLine s r → ShowsTheReplay s r

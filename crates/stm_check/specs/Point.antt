@@ -1,7 +1,7 @@
--- What a check knows at a point of a report: the store that the lines before it told, the moment, how many entries there were, and
+-- What a check knows at a point of a report: the store that the lines before it lead to, the moment, how many entries there were, and
 -- the runners.
 --
--- The store is the replay of the entries that the lines told. A moment is no part of a replay, and is kept beside it, in seconds; nor is
+-- The store is the replay of the entries that the lines reported. A moment is no part of a replay, and is kept beside it, in seconds; nor is
 -- the floor, which compactions raise: what they drop in a store stays here, where answers that were given before are looked up. Watchers change
 -- no store, and a check has none.
 use Rattle.std.specs.Prelude.{ℕ, ◌+◌, nat_lt, if◌then◌else◌, List, [], ◌∷◌, map, length, Option, Some, None}
@@ -35,7 +35,7 @@ beginning start = record { standing = opening start; entries = 0; runners = [] }
 
 -- ---- what a right line adds
 
--- an answer that a line tells, as a read of the history gives it
+-- an answer that a line reports, as a read of the history gives it
 abbrev pub read_in : History → ReportedAnswer → ReadAnswer
 read_in h a = record { key = a.key; kv = key_at h a.key a.of_rev; of_rev = a.of_rev; revision = a.of_rev }
 
@@ -74,7 +74,7 @@ advance_entries (line.Advanced n reported expired) = expiries expired
 advance_entries (line.Refused n cause expired) = expiries expired
 advance_entries other = []
 
--- what the line of an event tells as entries: a start, a compaction and what is about watchers are none
+-- what the line of an event reports as entries: a start, a compaction and what is about watchers are none
 abbrev pub entries_reported : Standing → List Runner → WorldEvent → ReportLine → List Entry
 entries_reported s runners (Step id) l = commit_entries s.history l (running id runners)
 entries_reported s runners (Txn txn) l = txn_entries (now s.history) txn l
@@ -97,17 +97,17 @@ with_replayed r moment s = record s { history = r.history; live = r.live; moment
 abbrev pub led_by : List Entry → Standing → ℕ → Standing
 led_by entries s moment = with_replayed (replay entries (without_moment s)) moment s
 
--- a compaction that was told raises the floor, and no other line does
+-- a compaction that was reported raises the floor, and no other line does
 abbrev pub raised_by : WorldEvent → ReportLine → Standing → Standing
 raised_by (Compact revision) (line.Compacted n reported) s = store_after_call s (raised s revision)
 raised_by other l s = s
 
--- the store behind the line of an event
+-- the store after the line of an event
 abbrev pub standing_after : Standing → List Runner → WorldEvent → ReportLine → Standing
 standing_after s runners event l =
     with_replayed (replay (entries_reported s runners event l) (without_moment s)) (moment_after s event) (raised_by event l s)
 
--- the point behind the line of an event
+-- the point after the line of an event
 abbrev pub after : Point → WorldEvent → ReportLine → Point
 after p event l = record {
   standing = standing_after p.standing p.runners event l;

@@ -1,4 +1,4 @@
--- Whether a line that can stand in an event's place tells what the replay gives.
+-- Whether a line that can stand in an event's place reports what the replay gives.
 --
 -- The Go package `concurrency`, "STM": a program that committed did what it does alone at that moment.
 use Rattle.std.specs.Prelude.{◌≡◌, ℕ, ◌+◌, ◌≤◌, MatchBool, List, [], ◌∷◌, map, Option, Some, None, option_map}
@@ -27,7 +27,7 @@ use Rattle.stm_check.specs.Runners.{running}
 
 -- ---- commits
 
--- An answer is true where it tells what the key was at a revision that the history has reached.
+-- An answer is true where it says what the key was at a revision that the history has reached.
 pub record IsTrulyReported (h : History) (a : ReportedAnswer) : Type 0 where
   pub reached : a.of_rev ≤ now h
   pub value : a.value ≡ option_map (λ (s : KeyState). s.value) (key_at h a.key a.of_rev)

@@ -24,7 +24,7 @@ unless_over (Some r) = if r.is_over then None else Some r
 abbrev pub running : ℕ → List Runner → Option Runner
 running id runners = unless_over (started_in id runners)
 
--- ---- what a right line tells of them
+-- ---- what a right line reports of them
 
 -- a run that has sent no commit
 abbrev pub begun : ProgramTree → Level → ℕ → Runner

@@ -34,7 +34,7 @@ AreRight n p (event ∷ events) (l ∷ lines) = IsRight n p event l × AreRight 
 
 -- ---- the first wrong line
 
--- behind the events' lines: a line that is none of the end is Final, one that is missing or too much is Count
+-- after the events' lines: a line that is none of the end is Final, one that is missing or too much is Count
 abbrev pub IsOff : ℕ → List ReportLine → List ReportLine → ℕ → WrongCause → Type 0
 IsOff n [] [] wrong cause = ⊥
 IsOff n [] (l ∷ lines) wrong cause = (wrong ≡ n) × (cause ≡ Count)
@@ -56,22 +56,18 @@ abbrev pub opens_at : Scenario → Point
 opens_at s = beginning (setup_of s.opening)
 
 -- no line of the report is wrong
-abbrev pub IsReportOf : Scenario → Report → Type 0
-IsReportOf s r = AreRight 1 (opens_at s) s.events r.lines
-
--- the report's first wrong line has this number and this cause
-abbrev pub HasWrongLine : Scenario → Report → ℕ → WrongCause → Type 0
-HasWrongLine s r wrong cause = IsFirstWrong 1 (opens_at s) s.events r.lines wrong cause
+abbrev pub HasNoWrongLine : Scenario → Report → Type 0
+HasNoWrongLine s r = AreRight 1 (opens_at s) s.events r.lines
 
 -- ---- the entries of the lines so far
 
--- the point behind the lines of these events
+-- the point after the lines of these events
 abbrev pub point_after : Point → List WorldEvent → List ReportLine → Point
 point_after p [] lines = p
 point_after p (event ∷ events) [] = p
 point_after p (event ∷ events) (l ∷ lines) = point_after (after p event l) events lines
 
--- the entries that the lines of these events tell
+-- the entries that the lines of these events report
 abbrev pub entries_along : Point → List WorldEvent → List ReportLine → List Entry
 entries_along p [] lines = []
 entries_along p (event ∷ events) [] = []

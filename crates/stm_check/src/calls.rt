@@ -1,4 +1,4 @@
-//! Whether a line tells what a call of the store comes to. The call is made.
+//! Whether a line reports what a call of the store comes to. The call is made.
 ghost use Rattle.std.specs.Prelude.{◌≡◌, ◌≢◌, ◌↔◌, IsTrue, IfOk, OnOk};
 ghost use Rattle.stm_check.specs.Point.{led_by, moment_after, txn_entries, grant_entries, keep_entries, revoke_entries, advance_entries, raised_by};
 ghost use Rattle.stm_reports.specs.Lines.{line_reported};
@@ -18,7 +18,7 @@ use stm_reports::{
 };
 use stm_txn::{Expired, Refusal, Store, Txn};
 
-/// Whether a line tells that the store refused a call, where it was not for want of memory.
+/// Whether a line reports that the store refused a call, where it did not run out of memory.
 fn reports_refusal(
     line: &ReportLine,
     number: u64,
@@ -34,7 +34,7 @@ fn reports_refusal(
     Ok(is_refused(line, number, reported_cause(cause), expired))
 }
 
-/// Makes a transaction, and tells whether a line tells it.
+/// Makes a transaction, and returns whether a line reports it.
 pub(crate) fn replay_txn(
     store: &mut Store,
     number: u64,
@@ -51,7 +51,7 @@ pub(crate) fn replay_txn(
     }
 }
 
-/// Grants a lease, and tells whether a line tells it.
+/// Grants a lease, and returns whether a line reports it.
 pub(crate) fn replay_grant(
     store: &mut Store,
     number: u64,
@@ -68,7 +68,7 @@ pub(crate) fn replay_grant(
     }
 }
 
-/// Renews a lease, and tells whether a line tells it.
+/// Renews a lease, and returns whether a line reports it.
 pub(crate) fn replay_keep(
     store: &mut Store,
     number: u64,
@@ -84,7 +84,7 @@ pub(crate) fn replay_keep(
     }
 }
 
-/// Revokes a lease, and tells whether a line tells it.
+/// Revokes a lease, and returns whether a line reports it.
 pub(crate) fn replay_revoke(
     store: &mut Store,
     number: u64,
@@ -100,7 +100,7 @@ pub(crate) fn replay_revoke(
     }
 }
 
-/// Advances the moment, and tells whether a line tells it.
+/// Advances the moment, and returns whether a line reports it.
 pub(crate) fn replay_advance(
     store: &mut Store,
     number: u64,
@@ -116,7 +116,7 @@ pub(crate) fn replay_advance(
     }
 }
 
-/// Raises the floor to a revision, and tells whether a line tells the compaction. Nothing is dropped.
+/// Raises the floor to a revision, and returns whether a line reports the compaction. Nothing is dropped.
 pub(crate) fn replay_compact(
     store: &mut Store,
     number: u64,

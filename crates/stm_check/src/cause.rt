@@ -7,13 +7,13 @@ use std::fmt;
 /// Why a line of a report is the first wrong one.
 #[derive(Clone, Copy, Debug, PartialEq, Eq)]
 pub enum WrongCause {
-    /// It is missing, or stands behind the end line.
+    /// It is missing, or stands after the end line.
     Count,
     /// It stands in an event's place and is no line that this event can have there.
     Event,
-    /// It tells of a change or a refusal something else than the replay gives.
+    /// It reports another change or refusal than the replay gives.
     Replay,
-    /// It stands behind the events' lines and is not the line that the replay's last state has there.
+    /// It stands after the events' lines and is not the line that the replay's last state has there.
     Final,
 }
 

@@ -60,7 +60,7 @@ fn first_wrong_event(
     Ok(None)
 }
 
-/// The first wrong line among those of the end, of which the first stands behind so many lines.
+/// The first wrong line among those of the end, which stand after this number of lines.
 fn first_wrong_final(
     walk: &Walk,
     before: usize,
@@ -80,8 +80,8 @@ fn first_wrong_final(
     }
 }
 
-/// The lines behind so many.
-fn behind(lines: &[ReportLine], count: usize) -> &[ReportLine]
+/// The lines after this number of them.
+fn lines_after(lines: &[ReportLine], count: usize) -> &[ReportLine]
     requires { count ≤ length lines.now }
     ensures { result.now ≡ drop count lines.now }
 {
@@ -99,18 +99,18 @@ fn judge(
 {
     match first_wrong_event(walk, events, lines)? {
         Some(wrong) => Ok(wrong),
-        None => first_wrong_final(walk, events.len(), behind(lines, events.len())),
+        None => first_wrong_final(walk, events.len(), lines_after(lines, events.len())),
     }
 }
 
 /// Whether a report is one of a scenario: `Yes` exactly where no line is wrong, else the first wrong line with its cause.
 ///
 /// A line in an event's place is wrong as `Event` where it is no line that this event can have there, else as `Replay`
-/// where it tells something else than the replay of the entries gives. Behind the events' lines a line is wrong as
+/// where it reports something else than the replay of the entries gives. After the events' lines a line is wrong as
 /// `Final` where it is not the key, lease or end line of the replay's last state, and as `Count` where it is missing or
-/// stands behind the end line.
+/// stands after the end line.
 ///
-/// Want of memory is its only refusal.
+/// It fails only where an allocation does.
 pub fn check(alloc: Global, scenario: &Scenario, report: &Report) -> Result<Checked, AllocError>
     requires { IsOpening scenario.now.opening }
     ensures { IfOk result (IsJudged scenario.now report.now) }

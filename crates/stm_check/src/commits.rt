@@ -1,4 +1,4 @@
-//! Whether a line tells the commit that the replay of a runner's program is.
+//! Whether a line reports the commit that the replay of a runner's program is.
 ghost use Rattle.std.specs.Prelude.{◌≡◌, ◌≢◌, ◌↔◌, ◌+◌, ◌≤◌, [], ◌∷◌, ◌++◌, true, false, map, filter, string_bytes, None, Some, IsTrue, IfOk, OnOk, MatchOption};
 ghost use Rattle.stm_outcome.specs.declared.refusal.Refusal.TheVariants.{OutOfMemory};
 ghost use Rattle.stm_compile.specs.Answers.{look_up};
@@ -25,7 +25,7 @@ use stm_program::{Program, Write, is_listed};
 use stm_reports::{ReportedAnswer, are_same_traces, are_same_values};
 use stm_txn::{Change, Refusal, Store};
 
-/// What the line of a commit tells.
+/// What the line of a commit reports.
 #[derive(Clone, Copy)]
 pub(crate) struct CommitLine<'a> {
     pub(crate) revision: u64,
@@ -74,7 +74,7 @@ fn ended_run(answered: Answered) -> Option<Run>
     }
 }
 
-/// The run on the store as it is now, where no answers are told.
+/// The run on the store as it is now, where no answers are reported.
 fn run_now(
     alloc: Global,
     keys: &Keys,
@@ -102,7 +102,7 @@ fn list_of(alloc: Global, program: &Program) -> Result<Sequence<Text>, AllocErro
     Ok(keys)
 }
 
-/// Adds a key behind others, where a list has it not.
+/// Adds a key after others, where a list has it not.
 fn add_other(keys: &mut Sequence<Text>, listed: &[String], read: &Text) -> Result<(), AllocError>
     ensures { OnOk result (keys.new ≡ keys.old ++ filter (is_other (map string_bytes listed.now)) (read.now ∷ [])) }
 {
@@ -176,7 +176,7 @@ fn run_on_reads(
     }
 }
 
-/// The run on the answers that are told, where they are true and are those that the run looked up.
+/// The run on the answers that are reported, where they are true and are those that the run looked up.
 fn run_on_reported(
     alloc: Global,
     keys: &Keys,
@@ -196,7 +196,7 @@ fn run_on_reported(
     run
 }
 
-/// The run of a runner's program at this point, where the answers that are told are those of its level.
+/// The run of a runner's program at this point, where the answers that are reported are those of its level.
 fn run_reported(
     alloc: Global,
     keys: &Keys,
@@ -254,7 +254,7 @@ fn changes_of(alloc: Global, writes: &WriteBuffer) -> Result<Vec<Change>, AllocE
     Ok(changes)
 }
 
-/// No revision, where the store refused writes, though not for want of memory.
+/// No revision, where the store refused writes, though it did not run out of memory.
 fn refused_writes(cause: Refusal) -> Result<Option<u64>, AllocError>
     ensures none { IfOk result (λ revision. revision ≡ None) }
     ensures memory { OnOk result (cause ≢ OutOfMemory) }
@@ -291,7 +291,7 @@ fn is_reached(reached: Option<u64>, revision: u64) -> bool
     }
 }
 
-/// Applies a run, and tells whether the line of a commit tells it.
+/// Applies a run, and returns whether the line of a commit reports it.
 fn replay_run(
     alloc: Global,
     store: &mut Store,
@@ -309,7 +309,7 @@ fn replay_run(
     Ok(is_reached(reached, reported.revision))
 }
 
-/// Applies the commit of a runner, and tells whether a line tells it.
+/// Applies the commit of a runner, and returns whether a line reports it.
 pub(crate) fn replay_commit(
     alloc: Global,
     store: &mut Store,

@@ -1,4 +1,4 @@
-//! How many entries a line tells.
+//! How many entries a line reports.
 ghost use Rattle.std.specs.Prelude.{◌≡◌, ◌+◌, length, IfOk};
 ghost use Rattle.stm_history.specs.History.{History};
 ghost use Rattle.stm_outcome.specs.declared.txn.Txn.{Txn as StoreTxn};
@@ -11,7 +11,7 @@ use stm_events::WorldEvent;
 use stm_reports::ReportLine;
 use stm_txn::Store;
 
-/// How many entries the line of a transaction tells, made at this revision.
+/// How many entries the line of a transaction reports, made at this revision.
 fn count_txn(before: u64, line: &ReportLine) -> u64
     ensures { (txn : StoreTxn) → result ≡ length (txn_entries before txn line.now) }
 {
@@ -21,7 +21,7 @@ fn count_txn(before: u64, line: &ReportLine) -> u64
     }
 }
 
-/// How many entries the line of an advance tells.
+/// How many entries the line of an advance reports.
 fn count_advance(line: &ReportLine) -> u64
     ensures { result ≡ length (advance_entries line.now) }
 {
@@ -32,7 +32,7 @@ fn count_advance(line: &ReportLine) -> u64
     }
 }
 
-/// How many entries the line of a step tells.
+/// How many entries the line of a step reports.
 fn count_step(runners: &[Runner], id: u64, line: &ReportLine) -> u64
     ensures { (h : History) → result ≡ length (commit_entries h line.now (running id runners.now)) }
 {
@@ -42,7 +42,7 @@ fn count_step(runners: &[Runner], id: u64, line: &ReportLine) -> u64
     }
 }
 
-/// How many entries the line of an event tells, before the store has made the event's call.
+/// How many entries the line of an event reports, before the store has made the event's call.
 pub(crate) fn count_reported(
     store: &Store,
     runners: &[Runner],
@@ -71,7 +71,7 @@ pub(crate) fn count_reported(
     }
 }
 
-/// The number of entries with those that a line tells. A number beyond 64 bits is told as want of memory.
+/// The number of entries with those that a line reports. A number beyond 64 bits is returned as a failed allocation.
 pub(crate) fn add_count(entries: u64, more: u64) -> Result<u64, AllocError>
     ensures { IfOk result (λ count. count ≡ entries + more) }
 {

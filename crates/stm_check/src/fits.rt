@@ -55,7 +55,7 @@ fn runner_of(line: &ReportLine) -> Option<u64>
     }
 }
 
-/// Whether a number that a line may tell is this one.
+/// Whether a number that a line may have is this one.
 fn is_number(number: u64, reported: Option<u64>) -> bool
     ensures { result ≡ is_number number reported }
 {
@@ -65,7 +65,7 @@ fn is_number(number: u64, reported: Option<u64>) -> bool
     }
 }
 
-/// Whether a line tells the start of the next runner, by a start that may send a commit.
+/// Whether a line reports the start of the next runner, by a start that may send a commit.
 fn is_started_next(runners: &[Runner], limit: u32, line: &ReportLine) -> bool
     ensures { result ≡ is_started_next runners.now limit line.now }
 {
@@ -76,7 +76,7 @@ fn is_started_next(runners: &[Runner], limit: u32, line: &ReportLine) -> bool
     }
 }
 
-/// Whether a line tells a step of this runner, which runs.
+/// Whether a line reports a step of this runner, which runs.
 fn is_step_of(runners: &[Runner], id: u64, line: &ReportLine) -> bool
     ensures { result ≡ is_step_of runners.now id line.now }
 {
@@ -86,7 +86,7 @@ fn is_step_of(runners: &[Runner], id: u64, line: &ReportLine) -> bool
     }
 }
 
-/// Whether a line tells a watch.
+/// Whether a line reports a watch.
 fn is_watching(line: &ReportLine) -> bool
     ensures { result ≡ is_watching line.now }
 {
@@ -97,7 +97,7 @@ fn is_watching(line: &ReportLine) -> bool
     }
 }
 
-/// Whether a line tells a poll of this watcher, or that it is lost.
+/// Whether a line reports a poll of this watcher, or that it is lost.
 fn is_batch_of(watcher: u64, line: &ReportLine) -> bool
     ensures { result ≡ is_batch_of watcher line.now }
 {
@@ -109,7 +109,7 @@ fn is_batch_of(watcher: u64, line: &ReportLine) -> bool
     }
 }
 
-/// Whether a line tells that this watcher was given up.
+/// Whether a line reports that this watcher was given up.
 fn is_cancelled_of(watcher: u64, line: &ReportLine) -> bool
     ensures { result ≡ is_cancelled_of watcher line.now }
 {

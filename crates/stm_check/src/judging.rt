@@ -80,7 +80,7 @@ fn report_of<S: Source>(alloc: Global, source: &mut S) -> Result<Report, CheckFa
 ///
 /// Neither source has failed before. It fails as `BadScenario` with the scenario's first fault, and then the report is
 /// not read; as `BadReport` with the report's first fault; as `OutOfMemory` where a growth was refused; and as `Device`
-/// exactly where a source has failed. At most 16777217 bytes of each are read, in at most so many reads of each.
+/// exactly where a source has failed. At most 16777217 bytes of each are read, in at most as many reads.
 pub fn check_sources<S: Source, R: Source>(
     alloc: Global,
     scenario: &mut S,

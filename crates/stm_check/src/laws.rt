@@ -1,7 +1,7 @@
 //! The laws of checks. Each function does nothing: its contract is the law.
 ghost use Rattle.stm_check.specs.Laws.{JudgedAlways, JudgedOnce, StoreIsTheReplay, YesIsTheReplay};
 
-/// The store behind lines is the replay of all the entries that they tell, and these are counted.
+/// The store after lines is the replay of all the entries that they report, and these are counted.
 pub fn store_is_the_replay()
     ensures { StoreIsTheReplay }
 {}
@@ -17,7 +17,7 @@ pub fn judged_always()
     ensures { JudgedAlways }
 {}
 
-/// What a report tells that no line of is wrong: the entries that its lines tell are legal, each at its point, and the
+/// What a report shows of which no line is wrong: the entries that its lines report are legal, each at its point, and the
 /// store that they lead to from an empty one is what its key, lease and end lines show.
 pub fn yes_is_the_replay()
     ensures { YesIsTheReplay }

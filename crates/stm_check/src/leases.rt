@@ -1,4 +1,4 @@
-//! The live leases, as the lines of a report tell them.
+//! The live leases, as the lines of a report say.
 ghost use Rattle.std.specs.Prelude.{◌≡◌, List, OnOk};
 ghost use Rattle.stm_txn.specs.Standing.{Standing};
 ghost use Rattle.stm_entries.specs.Replayed.{Replayed, without_moment};
@@ -24,7 +24,7 @@ fn expire(leases: &mut BTreeMap<u64, LiveLease>, expired: &[Expired])
     }
 }
 
-/// What the line of an advance tells of the live leases.
+/// Takes over what the line of an advance reports of the live leases.
 fn note_advance(leases: &mut BTreeMap<u64, LiveLease>, line: &ReportLine)
     ensures { (r : Replayed) → HasLeases leases.old r.live → HasLeases leases.new (replay (advance_entries line.now) r).live }
 {
@@ -35,7 +35,7 @@ fn note_advance(leases: &mut BTreeMap<u64, LiveLease>, line: &ReportLine)
     }
 }
 
-/// What the line of an event tells of the live leases, before which the moment was this.
+/// Takes over what the line of an event reports of the live leases; the moment before it was this.
 pub(crate) fn note_leases(
     leases: &mut BTreeMap<u64, LiveLease>,
     moment: u64,

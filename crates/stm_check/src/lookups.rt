@@ -41,7 +41,7 @@ impl Lookup for KeysNow<'_> {
     }
 }
 
-/// Whether a value is told as a key had it, and as none where the key was absent.
+/// Whether a value is reported as a key had it, and as none where the key was absent.
 fn has_value(reported: &Option<Text>, state: Option<&KeyState>) -> bool
     ensures { IsTrue result ↔ reported.now ≡ option_map (λ (s : State). s.value) (option_copied state.entry) }
 {
@@ -64,7 +64,7 @@ fn mod_rev_of(state: Option<&KeyState>) -> u64
     }
 }
 
-/// Whether an answer tells what a key was at a revision that the store has reached.
+/// Whether an answer says what a key was at a revision that the store has reached.
 fn is_truly_reported(keys: &Keys, answer: &ReportedAnswer) -> bool
     ensures { IsTrue result ↔ IsTrulyReported keys.now.history answer.now }
 {
@@ -75,7 +75,7 @@ fn is_truly_reported(keys: &Keys, answer: &ReportedAnswer) -> bool
     has_value(&answer.value, state) && answer.mod_rev == mod_rev_of(state)
 }
 
-/// Whether answers tell what their keys were.
+/// Whether answers say what their keys were.
 pub(crate) fn are_truly_reported(keys: &Keys, answers: &[ReportedAnswer]) -> bool
     ensures { IsTrue result ↔ AreTrulyReported keys.now.history answers.now }
 {

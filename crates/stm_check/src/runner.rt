@@ -1,4 +1,4 @@
-//! The runs of runners, as the lines of a report tell them.
+//! The runs of runners, as the lines of a report say.
 ghost use Rattle.std.specs.Prelude.{◌≡◌, ◌++◌, ◌∷◌, [], is_some, option_copied, OnOk};
 ghost use Rattle.stm_check.specs.Runners.{next_runner, started_in, running, with_conflict, ended, with_runner, begun, after_step, runners_after};
 
@@ -7,7 +7,7 @@ use stm_events::WorldEvent;
 use stm_program::{Level, Program};
 use stm_reports::ReportLine;
 
-/// A run of a runner: its program and level, how many commits it may send, how many conflicts its lines told, and whether
+/// A run of a runner: its program and level, how many commits it may send, how many conflicts its lines reported, and whether
 /// one of them ended it.
 #[derive(Debug, Drop)]
 pub struct Runner {
@@ -17,14 +17,14 @@ pub struct Runner {
     pub level: Level,
     /// How many commits the run may send.
     pub limit: u32,
-    /// How many conflicts its lines told.
+    /// How many conflicts its lines reported.
     pub conflicts: u64,
     /// Whether one of its lines ended it.
     pub is_over: bool,
 }
 
 impl Runner {
-    /// Counts a conflict. A count beyond 64 bits is told as want of memory.
+    /// Counts a conflict. A count beyond 64 bits is returned as a failed allocation.
     fn count_conflict(&mut self) -> Result<(), AllocError>
         ensures { OnOk result (self.new ≡ with_conflict self.old) }
     {
@@ -120,7 +120,7 @@ fn end_run_of(runners: &mut Vec<Runner>, id: u64)
     runners[(id - 1) as usize].end();
 }
 
-/// What the line of a step tells of its runner.
+/// Takes over what the line of a step reports of its runner.
 fn note_step(runners: &mut Vec<Runner>, id: u64, line: &ReportLine) -> Result<(), AllocError>
     ensures { OnOk result (runners.new.items ≡ after_step id line.now runners.old.items) }
 {
@@ -135,7 +135,7 @@ fn note_step(runners: &mut Vec<Runner>, id: u64, line: &ReportLine) -> Result<()
     }
 }
 
-/// What the line of an event tells of the runners.
+/// Takes over what the line of an event reports of the runners.
 pub(crate) fn note(
     runners: &mut Vec<Runner>,
     event: &WorldEvent,

@@ -24,7 +24,7 @@ use stm_reports::{RefusalName, ReportLine};
 use stm_texts::Opening;
 use stm_txn::Store;
 
-/// The store that the lines so far told, the number of entries, the runners, and the live leases with their terms.
+/// The store that the lines so far lead to, the number of entries, the runners, and the live leases with their terms.
 #[derive(Drop)]
 pub(crate) struct Walk {
     pub(crate) alloc: Global,
@@ -129,7 +129,7 @@ impl Walk {
         })
     }
 
-    /// Takes the line of an event, and tells why it is wrong, if it is.
+    /// Takes the line of an event, and returns why it is wrong, if it is.
     pub(crate) fn take(
         &mut self,
         number: u64,

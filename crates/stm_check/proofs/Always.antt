@@ -41,7 +41,7 @@ use Rattle.stm_check.specs.Laws.{JudgedAlways}
 use Rattle.stm_check.specs.Point.{Point, after, reads_in}
 use Rattle.stm_check.specs.Replays.{IsTrulyReported, AreTrulyReported, AnswersFit, keys_reported, IsRightCommit, IsCommitOf, StartReplays, StepReplays, Replays}
 use Rattle.stm_check.specs.Runners.{running}
-use Rattle.stm_check.specs.Runs.{run_in, IsRunReported, revision_reached}
+use Rattle.stm_check.specs.Runs.{run_in, revision_reached}
 use Rattle.stm_check.specs.StoreLines.{final_lines}
 use Rattle.stm_check.specs.Wrong.{IsRight, IsWrong, IsOff, opens_at}
 use Rattle.stm_check.proofs.CommitLemmas.{IsTakenAs, never_wants, right_commit, commit_run}

@@ -9,4 +9,4 @@ pub count_run-requires-clause-made : goal.count_run-requires-clause-made
 count_run-requires-clause-made g c κs within = all_made _ _ _ _ _ c.loop-made.invariant
 
 pub loop-made-preserved : goal.loop-made-preserved
-loop-made-preserved g c = one_made _ _ _ _ _ _ c.loop-made.invariant c.in-Ok.ensures.counted
+loop-made-preserved g c = one_made _ _ _ _ _ _ c.loop-made.invariant c.in_ok-count_run.ensures.counted

@@ -1,4 +1,4 @@
 use Rattle.stm_threading.proofs.running.run_often.Goals as goal
 
-pub returns-in-Ok-tally_text-clause-printed : goal.returns-in-Ok-tally_text-clause-printed
-returns-in-Ok-tally_text-clause-printed g c = (c.new.ensures, c.in-Ok.tally.entries, c.in-Ok.ensures.counted, c.in-Ok-tally_text.ensures)
+pub returns-clause-printed : goal.returns-clause-printed
+returns-clause-printed g c = (c.new.ensures, c.in_ok-tally.tally.entries, c.in_ok-tally.ensures.counted, c.in_ok-text.ensures)

@@ -2,10 +2,10 @@ use Rattle.std.proofs.lemmas.Result.{IfOk-weaker, IfErr-weaker}
 use Rattle.stm_texts.specs.Opens.{as_setup}
 use Rattle.stm_threading.proofs.running.run_once.Goals as goal
 
-pub returns-in-Ok-clause-shows : goal.returns-in-Ok-clause-shows
-returns-in-Ok-clause-shows g c =
-    IfOk-weaker c.text_on.result _ _ (λ text printed. printed (as_setup c.args.opening) c.args.calls.now c.in-Ok.ensures) c.text_on.ensures.shows
+pub returns-clause-shows : goal.returns-clause-shows
+returns-clause-shows g c =
+    IfOk-weaker c.text_on.result _ _ (λ text printed. printed (as_setup c.args.opening) c.args.calls.now c.in_ok-store.ensures) c.text_on.ensures.shows
 
-pub returns-in-Ok-clause-fault : goal.returns-in-Ok-clause-fault
-returns-in-Ok-clause-fault g c =
-    IfErr-weaker c.text_on.result _ _ (λ fault reported. reported (as_setup c.args.opening) c.args.calls.now c.in-Ok.ensures) c.text_on.ensures.fault
+pub returns-clause-fault : goal.returns-clause-fault
+returns-clause-fault g c =
+    IfErr-weaker c.text_on.result _ _ (λ fault reported. reported (as_setup c.args.opening) c.args.calls.now c.in_ok-store.ensures) c.text_on.ensures.fault

@@ -6,19 +6,19 @@ use Rattle.stm_exploring.specs.Exploring.{program_in}
 use Rattle.stm_exploring.proofs.ReadingLemmas.{program_reported}
 use Rattle.stm_exploring.proofs.reading.program_of.Goals as goal
 
-pub returns-in-Ok-program_in_bytes-clause-program : goal.returns-in-Ok-program_in_bytes-clause-program
-returns-in-Ok-program_in_bytes-clause-program g c = (
-  c.in-Ok.ensures.bytes.0,
-  program_reported c.as_slice.result.now (g.S.Source.left c.args.source.now) (Ok c.in-Ok-program_in_bytes.program)
+pub returns-in-Ok-clause-program : goal.returns-in-Ok-clause-program
+returns-in-Ok-clause-program g c = (
+  c.in_ok-bytes.ensures.bytes.0,
+  program_reported c.as_slice.result.now (g.S.Source.left c.args.source.now) (Ok c.in-Ok.program)
       (subst (λ (bytes : List ℕ). IfSome (g.S.Source.left c.args.source.now) (λ all. bytes ≡ take MOST_READ all)) (sym c.as_slice.ensures.value)
-      c.in-Ok.ensures.bytes.1) c.in-Ok-program_in_bytes.ensures,
+      c.in_ok-bytes.ensures.bytes.1) c.in-Ok.ensures,
 )
 
 pub returns-clause-program : goal.returns-clause-program
 returns-clause-program g c = (
-  c.in-Ok.ensures.bytes.0,
+  c.in_ok-bytes.ensures.bytes.0,
   program_reported c.as_slice.result.now (g.S.Source.left c.args.source.now) (Err c.in-Err-Bad.fault)
       (subst (λ (bytes : List ℕ). IfSome (g.S.Source.left c.args.source.now) (λ all. bytes ≡ take MOST_READ all)) (sym c.as_slice.ensures.value)
-      c.in-Ok.ensures.bytes.1)
+      c.in_ok-bytes.ensures.bytes.1)
       (subst (λ (e : ReadError). ReturnsFault e (program_in c.as_slice.result.now)) c.in-Err-Bad.field-0-is c.in-Err-Bad.ensures),
 )

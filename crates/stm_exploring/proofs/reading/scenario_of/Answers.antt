@@ -6,20 +6,20 @@ use Rattle.stm_exploring.specs.Exploring.{asked_in}
 use Rattle.stm_exploring.proofs.ReadingLemmas.{scenario_reported}
 use Rattle.stm_exploring.proofs.reading.scenario_of.Goals as goal
 
-pub returns-in-Ok-scenario_in_bytes-clause-scenario : goal.returns-in-Ok-scenario_in_bytes-clause-scenario
-returns-in-Ok-scenario_in_bytes-clause-scenario g c = (
-  c.in-Ok.ensures.bytes.0,
-  scenario_reported c.args.level c.as_slice.result.now (g.S.Source.left c.args.source.now) (Ok c.in-Ok-scenario_in_bytes.scenario)
+pub returns-in-Ok-clause-scenario : goal.returns-in-Ok-clause-scenario
+returns-in-Ok-clause-scenario g c = (
+  c.in_ok-bytes.ensures.bytes.0,
+  scenario_reported c.args.level c.as_slice.result.now (g.S.Source.left c.args.source.now) (Ok c.in-Ok.scenario)
       (subst (λ (bytes : List ℕ). IfSome (g.S.Source.left c.args.source.now) (λ all. bytes ≡ take MOST_READ all)) (sym c.as_slice.ensures.value)
-      c.in-Ok.ensures.bytes.1) c.in-Ok-scenario_in_bytes.ensures.scenario,
-  c.in-Ok-scenario_in_bytes.ensures.opening,
+      c.in_ok-bytes.ensures.bytes.1) c.in-Ok.ensures.scenario,
+  c.in-Ok.ensures.opening,
 )
 
 pub returns-clause-scenario : goal.returns-clause-scenario
 returns-clause-scenario g c = (
-  c.in-Ok.ensures.bytes.0,
+  c.in_ok-bytes.ensures.bytes.0,
   scenario_reported c.args.level c.as_slice.result.now (g.S.Source.left c.args.source.now) (Err c.in-Err-Bad.fault)
       (subst (λ (bytes : List ℕ). IfSome (g.S.Source.left c.args.source.now) (λ all. bytes ≡ take MOST_READ all)) (sym c.as_slice.ensures.value)
-      c.in-Ok.ensures.bytes.1)
+      c.in_ok-bytes.ensures.bytes.1)
       (subst (λ (e : ReadError). ReturnsFault e (asked_in c.args.level c.as_slice.result.now)) c.in-Err-Bad.field-0-is c.in-Err-Bad.ensures.scenario),
 )

@@ -58,7 +58,7 @@ run_is_checked s text written =
     let start : Setup = setup_of s.opening in
     record {
       report = report_of (world_after s.events (opened start)) (replies_to s.events (opened start));
-      written = written;
+      written = written.0;
       yes = checks_say_yes s (replies_to s.events (opened start)) (world_after s.events (opened start)) (headline laws start s.events);
     }
 

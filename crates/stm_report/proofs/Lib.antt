@@ -9,8 +9,17 @@ pub mod CallsReported
 pub mod CommitsReported
 pub mod LinesRight
 pub mod Checks
+pub mod SmallRuns
+pub mod SmallStores
+pub mod SmallReplies
+pub mod SmallSteps
+pub mod SmallCalls
+pub mod SmallWorlds
+pub mod SmallEvents
 pub mod Written
 pub mod ReadBack
+pub mod SmallLines
+pub mod ScriptsRead
 pub mod Joining
 pub mod FormatFronts
 pub mod FormatRowLemmas

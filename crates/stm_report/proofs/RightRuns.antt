@@ -15,7 +15,7 @@ unfolding IsRunText
 run_is_right s text report = record {
   replies = replies_to s.events (opened (setup_of s.opening));
   world = world_after s.events (opened (setup_of s.opening));
-  report = report;
+  report = report.0;
   holds = headline (record { run_now = commit_is_the_run_now; conflicts = failed_compares_conflict }) (setup_of s.opening) s.events;
 }
 

@@ -40,7 +40,7 @@ scenario_or (Err fault) other = other
 
 one_of_scenario : (s : Scenario) (a b : List ℕ) → IsRunReport s a → IsRunReport s b → a ≡ b
 unfolding IsRunText
-one_of_scenario s a b first second = first ∙ sym second
+one_of_scenario s a b first second = first.0 ∙ sym second.0
 
 one_of_reading : (reading : Outcome Scenario) (a b : List ℕ) → IsReportOf reading a → IsReportOf reading b → a ≡ b
 one_of_reading reading a b (s, reads, first) (other, reads_other, second) =

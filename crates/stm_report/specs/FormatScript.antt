@@ -1,5 +1,5 @@
 -- What a script does in a format: from the bytes of a source to the report in a sink.
-use Rattle.std.specs.Prelude.{◌≡◌, ℕ, List, Bool, true, false, Option, Result, Ok, Err, IfSome}
+use Rattle.std.specs.Prelude.{◌≡◌, ℕ, List, Bool, true, false, Option, Result, Ok, Err, IfSome, IsUtf8}
 use Rattle.std.specs.Io.KnownBytes.{Appends, Keeps}
 use Rattle.stm_events.specs.declared.event.WorldEvent.{WorldEvent}
 use Rattle.stm_events.specs.declared.reply.Reply.{Reply}
@@ -24,9 +24,9 @@ use Rattle.stm_report.specs.FormatSvg.{svg_of}
 
 -- ---- the report of a run in a format
 
--- the text is the report of these events, of their replies and of the world that they left
+-- the text is the report of these events, of their replies and of the world that they left; one of lines is in UTF-8
 abbrev pub IsTextOf : Format → World → List WorldEvent → List (Result Reply Denied) → List ℕ → Type 0
-IsTextOf Lines w events replies text = IsReport w replies text
+IsTextOf Lines w events replies text = IsReport w replies text × IsUtf8 text
 IsTextOf Json w events replies text = text ≡ json_text w replies
 IsTextOf Text w events replies text = text ≡ text_of (rows_of 1 events replies) (notes_of w replies)
 IsTextOf Svg w events replies text = text ≡ svg_of (rows_of 1 events replies) (notes_of w replies)

@@ -15,7 +15,7 @@ abbrev pub AlikeIsEqual : Type 0
 AlikeIsEqual = (expected given : List ℕ) → (compared expected given ≡ Yes) ↔ (expected ≡ given)
 
 -- the texts were judged: no memory ran out, and no device failed
-abbrev pub IsSettled : Result WholeChecked CheckFault → Type 0
+abbrev pub IsSettled : {A : Type 0} → Result A CheckFault → Type 0
 IsSettled (Ok checked) = Unit {0}
 IsSettled (Err OutOfMemory) = ⊥
 IsSettled (Err (BadScenario fault)) = Unit {0}

@@ -1,5 +1,6 @@
 //! Laws of reports. Each function does nothing: its contract is the law.
-ghost use Rattle.stm_report.specs.Laws.{ChecksSayYes, OneReport, ReportsAreOfRightRuns, ScriptsPassChecks};
+ghost use Rattle.stm_report.specs.Laws.{ChecksSayYes, NeverNoToAScript, OneReport, ReportsAreOfRightRuns};
+ghost use Rattle.stm_report.specs.Laws.{ScriptsAreReadAsRight, ScriptsPassChecks, YesToAScript};
 ghost use Rattle.stm_report.specs.ReadBack.{ReportsAreReadBack};
 
 /// A world and its replies have one report.
@@ -23,7 +24,7 @@ pub fn checks_say_yes()
 {}
 
 /// What `script` writes of the scenario that the bytes of its input spell is the text of a report that a check says yes
-/// to. Where this text is not too long, it is read as this report (`reports_are_read_back`).
+/// to. That this text is read as such a report is `scripts_are_read_as_right`.
 pub fn scripts_pass_checks()
     ensures { ScriptsPassChecks }
 {}
@@ -32,4 +33,21 @@ pub fn scripts_pass_checks()
 /// 64 bits with a sign, and no deletion of one key deletes more than one.
 pub fn reports_are_read_back()
     ensures { ReportsAreReadBack }
+{}
+
+/// What `script` writes of the scenario that the bytes of its input spell, where it is at most 16777216 bytes long, is read as
+/// a report that a check says yes to. What is longer is no report: it is too long.
+pub fn scripts_are_read_as_right()
+    ensures { ScriptsAreReadAsRight }
+{}
+
+/// Where what `script` writes of a scenario is read as a report, a check says yes to it. So it never says no to it.
+pub fn never_no_to_a_script()
+    ensures { NeverNoToAScript }
+{}
+
+/// A check of a scenario and of what `script` writes of it, where that is at most 16777216 bytes long, says yes, unless an
+/// allocation or a device failed.
+pub fn yes_to_a_script()
+    ensures { YesToAScript }
 {}

@@ -9,5 +9,5 @@ returns-clause-judged g c =
       report = g.R.Source.left c.args.report.now;
       scenario_failed = g.S.Source.failed c.expected_of.new.scenario;
       report_failed = g.R.Source.failed c.bytes_of.new.source;
-    }) c.in-Ok.expected.items c.in-Ok-bytes_of.given.items c.judge_text.result (c.in-Ok.ensures.report.0, c.in-Ok-bytes_of.ensures.bytes.0)
-    c.in-Ok.ensures.report.1 c.in-Ok-bytes_of.ensures.bytes.1 reported
+    }) c.in_ok-expected.expected.items c.in_ok-given.given.items c.judge_text.result
+    (c.in_ok-expected.ensures.report.0, c.in_ok-given.ensures.bytes.0) c.in_ok-expected.ensures.report.1 c.in_ok-given.ensures.bytes.1 reported

@@ -1,8 +1,7 @@
 -- What a script writes is read as its report, which a check says yes to.
-use Rattle.std.proofs.Common.{◌≡◌, ℕ, zero, suc, ◌+◌, ◌≤◌, List, [], ◌∷◌, ◌++◌, length, Option, Some, Ok, Err, IfSome, IsUtf8, refl, sym, ap, subst, ◌∙◌, arith}
+use Rattle.std.proofs.Common.{◌≡◌, ℕ, suc, ◌+◌, ◌≤◌, List, [], ◌∷◌, length, Option, Some, Ok, Err, IfSome, IsUtf8, refl, sym, ap, subst, ◌∙◌, arith}
 use Rattle.std.specs.Prelude.{Result}
 use Rattle.std.specs.FinMap as finmap
-use Rattle.stm_history.specs.declared.revisions.TheConstants.{HIGHEST_NUMBER}
 use Rattle.stm_json.specs.declared.limits.TheConstants.{MOST_BYTES}
 use Rattle.stm_json.specs.declared.read_error.BadInput.{BadInput}
 use Rattle.stm_json.specs.Outcome.{Outcome}
@@ -20,21 +19,18 @@ use Rattle.stm_reports.specs.Reading.{report_in}
 use Rattle.stm_reports.proofs.ReportLaws.{report_means}
 use Rattle.stm_check.specs.declared.checking.Checked.{Checked}
 use Rattle.stm_check.specs.declared.checking.Checked.TheVariants.{Yes}
-use Rattle.stm_check.specs.declared.judging.CheckFault.{CheckFault}
 use Rattle.stm_check.specs.declared.judging.CheckFault.TheVariants.{OutOfMemory, BadScenario, BadReport, Device}
 use Rattle.stm_check.specs.Judged.{IsJudged}
-use Rattle.stm_check.specs.Judging.{Sources, Judges}
 use Rattle.stm_check.specs.StoreLines.{end_lines}
 use Rattle.stm_check.proofs.Once.{judged_once}
 use Rattle.stm_compile.proofs.AgreeLemmas.{commit_is_the_run_now}
 use Rattle.stm_compile.proofs.ConflictLemmas.{failed_compares_conflict}
 use Rattle.stm_world.proofs.Headlines.{headline}
 use Rattle.stm_report.specs.Report.{event_lines, report_of}
-use Rattle.stm_report.specs.Script.{IsRunReport, IsReportOf}
+use Rattle.stm_report.specs.Script.{IsRunReport}
 use Rattle.stm_report.specs.FormatScript.{IsRunText}
 use Rattle.stm_report.specs.ReadBack.{AreReadable}
 use Rattle.stm_report.specs.Laws.{IsReadAsRight, ScriptsAreReadAsRight, NeverNoToAScript, YesToAScript}
-use Rattle.stm_report.specs.WholeLaws.{IsSettled}
 use Rattle.stm_report.proofs.Checks.{checks_say_yes}
 use Rattle.stm_report.proofs.ReadBack.{reports_are_read_back}
 use Rattle.stm_report.proofs.SmallWorlds.{RunFits, run_fits_from, opened_fits}

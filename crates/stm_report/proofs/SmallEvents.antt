@@ -1,12 +1,11 @@
 -- The numbers that a scenario asks for are within 64 bits, and it has not too many events.
-use Rattle.std.proofs.Common.{◌≡◌, ℕ, ◌≤◌, List, [], ◌∷◌, length, Option, Some, None, Ok, refl, arith, inl, inr}
+use Rattle.std.proofs.Common.{◌≡◌, ℕ, ◌≤◌, List, [], ◌∷◌, length, Option, Some, None, Ok, arith, inl, inr}
 use Rattle.serde_json.specs.Data.{Data, Items}
-use Rattle.stm_history.specs.declared.revisions.TheConstants.{HIGHEST_REVISION, HIGHEST_NUMBER}
+use Rattle.stm_history.specs.declared.revisions.TheConstants.{HIGHEST_REVISION}
 use Rattle.stm_program.specs.Syntax.{Block}
-use Rattle.stm_program.specs.Limits.{BlockInRange, BlockFits, fits_with, Fits}
+use Rattle.stm_program.specs.Limits.{BlockInRange, BlockFits, fits_with}
 use Rattle.stm_program.specs.declared.limits.TheConstants.{MAX_DEPTH, MAX_NODES}
 use Rattle.stm_json.specs.Parts.{SpellsEach}
-use Rattle.stm_txn.specs.Standing.{Setup}
 use Rattle.stm_events.specs.declared.event.WorldEvent.{WorldEvent}
 use Rattle.stm_events.specs.declared.event.WorldEvent.TheVariants.{Start, Step, Txn, Grant, Keep, Revoke, Advance, Compact, WatchKey, WatchRange, Poll, Cancel}
 use Rattle.stm_texts.specs.declared.scenario.Opening.{Opening}

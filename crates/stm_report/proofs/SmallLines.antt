@@ -1,5 +1,5 @@
 -- The lines of a run whose numbers are within 64 bits are read as they were written.
-use Rattle.std.proofs.Common.{◌≡◌, ℕ, zero, suc, ◌+◌, ◌^◌, ◌<◌, ◌≤◌, Bool, true, false, cond, List, [], ◌∷◌, ◌++◌, length, map, refl, sym, ap, ◌∙◌, subst, arith}
+use Rattle.std.proofs.Common.{◌≡◌, ℕ, suc, ◌+◌, ◌^◌, ◌≤◌, Bool, true, false, cond, List, [], ◌∷◌, ◌++◌, length, map, refl, sym, ap, ◌∙◌, subst, arith}
 use Rattle.std.proofs.Common.{Option, Some, None, Ok, Err, IfSome, ℤ, pos, negsuc, lt-ltb}
 use Rattle.std.proofs.lemmas.Bool.{leb-true}
 use Rattle.std.specs.Prelude.{Result, T, nat_le, nat_eq, option_map, ◌&&◌}
@@ -13,8 +13,6 @@ use Rattle.stm_leases.proofs.Tables.{test_number}
 use Rattle.stm_world.proofs.Slots.{same_number, equal_numbers}
 use Rattle.stm_history.proofs.HistoryLaws.{last_revision_is_now}
 use Rattle.stm_leases.specs.declared.bounds.TheConstants.{HIGHEST_TTL}
-use Rattle.serde_json.specs.Data.{Data, null, boolean, number, string, array, object, Items, no_items, item, unsigned}
-use Rattle.serde_json.specs.Find.{of_integer}
 use Rattle.serde_json.specs.View.{items_of}
 use Rattle.stm_history.specs.declared.key_state.KeyState.{KeyState}
 use Rattle.stm_history.specs.declared.key_state.ReadAnswer.{ReadAnswer}
@@ -27,7 +25,6 @@ use Rattle.stm_steps.specs.declared.trace_item.TraceItem.{TraceItem}
 use Rattle.stm_steps.specs.declared.trace_item.TraceItem.TheVariants as trace
 use Rattle.stm_steps.specs.Values.{is_in_range}
 use Rattle.stm_leases.specs.LeaseLog.{Term}
-use Rattle.stm_leases.specs.Live.{Live, is_id, is_ttl, AreInRange}
 use Rattle.stm_keys.specs.declared.event.Event.{Event}
 use Rattle.stm_keys.specs.declared.event.Event.TheVariants as event
 use Rattle.stm_outcome.specs.declared.advance.Expired.{Expired}
@@ -43,17 +40,16 @@ use Rattle.stm_events.specs.declared.reply.Reply.TheVariants.{Txn, Granted, Kept
 use Rattle.stm_events.specs.declared.reply.KeyRead.{KeyRead}
 use Rattle.stm_events.specs.declared.refusal.Denied.{Denied}
 use Rattle.stm_reports.specs.declared.line.ReportLine.{ReportLine}
-use Rattle.stm_reports.specs.declared.line.ReportLine.TheVariants.{Key, Lease, End}
-use Rattle.stm_reports.specs.declared.line.ReportedOp.{ReportedOp}
+use Rattle.stm_reports.specs.declared.line.ReportLine.TheVariants.{End}
 use Rattle.stm_reports.specs.Grammar.{AllCountsFit}
-use Rattle.stm_reports.specs.LineData.{whole, value_data, trace_data, text_or_null, answer_data, state_data, state_or_null, op_data, read_data, expired_data, event_data, line_data}
+use Rattle.stm_reports.specs.LineData.{whole, value_data, trace_data, text_or_null, answer_data, state_data, state_or_null, op_data, read_data, expired_data, event_data}
 use Rattle.stm_reports.specs.Lines.{answer_reported, op_reported, line_reported}
 use Rattle.stm_check.specs.StoreLines.{key_lines_of, key_lines, lease_line, lease_lines, end_lines}
-use Rattle.stm_report.specs.Report.{event_lines, report_of}
+use Rattle.stm_report.specs.Report.{event_lines}
 use Rattle.stm_report.specs.ReadBack.{IsPlain, ArePlain, AreReadable}
-use Rattle.stm_report.proofs.SmallRuns.{ValueFits, ValuesFit, ItemFits, ItemsFit}
-use Rattle.stm_report.proofs.SmallStores.{IsSmall, HistoryFits, IsRenewed}
-use Rattle.stm_report.proofs.SmallReplies.{KeyReadsFit, AnswersFit, ReplyFits, AnswerToFits, RepliesFit}
+use Rattle.stm_report.proofs.SmallRuns.{ValueFits, ValuesFit, ItemsFit}
+use Rattle.stm_report.proofs.SmallStores.{IsSmall, HistoryFits}
+use Rattle.stm_report.proofs.SmallReplies.{KeyReadsFit, AnswersFit, AnswerToFits, RepliesFit}
 
 abbrev Few : ℕ → Type 0
 Few n = n ≤ HIGHEST_NUMBER

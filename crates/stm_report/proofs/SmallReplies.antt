@@ -34,7 +34,6 @@ use Rattle.stm_events.specs.declared.refusal.Denied.{Denied}
 use Rattle.stm_events.specs.Replies.{denied}
 use Rattle.stm_world.specs.Task.{modified_now}
 use Rattle.stm_world.specs.World.{World, Runner, Slot, Stepped, runner_at}
-use Rattle.stm_world.specs.World.{commit}
 use Rattle.stm_world.specs.Sound.{IsSound}
 use Rattle.stm_report.proofs.SmallRuns.{ValuesFit, ItemsFit}
 use Rattle.stm_report.proofs.SmallStores.{IsSmall, HistoryFits}

@@ -1,8 +1,7 @@
 -- The numbers of a run: what a program emits, what it sees and what it writes is within 64 bits where its literals and its answers are.
-use Rattle.std.proofs.Common.{◌≡◌, ℕ, zero, suc, ◌+◌, ◌^◌, ◌<◌, ◌≤◌, Bool, true, false, cond, not, List, [], ◌∷◌, ◌++◌, ℤ, pos, negsuc, refl, sym, ap, ◌∙◌}
+use Rattle.std.proofs.Common.{◌≡◌, ℕ, zero, suc, ◌+◌, ◌^◌, ◌<◌, ◌≤◌, Bool, true, false, cond, not, List, [], ◌∷◌, ◌++◌, ℤ, pos, negsuc, refl}
 use Rattle.std.proofs.Common.{subst, arith, length, Option, Some, None, Result, Ok, Err, lt-ltb}
 use Rattle.std.proofs.lemmas.Bool.{ltb-true, leb-true}
-use Rattle.std.proofs.lemmas.Bool.Decides.{nat_tests}
 use Rattle.std.proofs.lemmas.Int.{rem_below}
 use Rattle.std.specs.Prelude.{nat_eq, nat_lt, nat_le, slice_set, slice_index_or, neg_ℤ, ◌+ℤ◌, ◌-ℤ◌, ◌*ℤ◌, int_rem, int_div}
 use Rattle.std.specs.Prelude.{unsigned_abs}
@@ -13,7 +12,7 @@ use Rattle.stm_program.specs.declared.operator.Operator.TheVariants.{Add, Sub, M
 use Rattle.stm_program.specs.Syntax.{Expression, Condition, Statement, Block, Text, Number, Variable, Get, Rev, Arithmetic, Cat, TextOf, NumOf, Equal}
 use Rattle.stm_program.specs.Syntax.{Less, Not, And, Or, Set, Put, Del, If, For, Emit, Abort, End, Then}
 use Rattle.stm_program.specs.Limits.{ExpressionInRange, ConditionInRange, StatementInRange, BlockInRange}
-use Rattle.stm_program.specs.declared.limits.TheConstants.{MAX_TURNS, MAX_LEASE}
+use Rattle.stm_program.specs.declared.limits.TheConstants.{MAX_TURNS}
 use Rattle.stm_program.specs.declared.write.Write.{Write}
 use Rattle.stm_program.specs.declared.write.Write.TheVariants.{Put as PutWrite, Del as DelWrite}
 use Rattle.stm_steps.specs.declared.value.Value.{Value}
@@ -22,7 +21,6 @@ use Rattle.stm_steps.specs.declared.trace_item.TraceItem.{TraceItem}
 use Rattle.stm_steps.specs.declared.trace_item.TraceItem.TheVariants.{Get as GetItem, Rev as RevItem}
 use Rattle.stm_steps.specs.declared.fault.Fault.{Fault}
 use Rattle.stm_steps.specs.declared.fault.Fault.TheVariants.{TurnLimit, Overflow, ZeroDivisor, NotANumber, TextTooLong, LoopTooLong}
-use Rattle.stm_steps.specs.declared.stop.Stop.{Stop}
 use Rattle.stm_steps.specs.declared.stop.Stop.TheVariants.{Aborted, Faulted, Wants}
 use Rattle.stm_steps.specs.declared.run.End.TheVariants.{Done, Aborted as EndAborted, Faulted as EndFaulted}
 use Rattle.stm_steps.specs.declared.run.Run.{Run}
@@ -30,7 +28,7 @@ use Rattle.stm_steps.specs.declared.run.Answered.TheVariants.{Ended}
 use Rattle.stm_steps.specs.Answer.{Answer, Lookup}
 use Rattle.stm_steps.specs.Values.{text_in, key_in, is_in_range, number_or, is_zero, computed, as_number, arithmetic, longest_text, concatenated}
 use Rattle.stm_steps.specs.Values.{text_of, is_numeral, signed_number, written_number, num_of, equal, less, put_of, del_of, turns_of}
-use Rattle.stm_steps.specs.Session.{Session, fresh, variable_in, with_variable, with_output, with_write, with_turn, with_item, with_read}
+use Rattle.stm_steps.specs.Session.{Session, fresh, with_variable, with_output, with_write, with_turn}
 use Rattle.stm_steps.specs.Outcome.{Outcome, Gives, Stops, and_then, given, turn_limit, begin_turn}
 use Rattle.stm_steps.specs.Meaning.{get_answered, rev_answered, get_of, get_key, rev_key, evaluate, unless_false, unless_true, holds, branch}
 use Rattle.stm_steps.specs.Meaning.{repeat, aborts, run_statement, run_block, run_of, answered, run_over}

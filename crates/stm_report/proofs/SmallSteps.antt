@@ -38,7 +38,7 @@ use Rattle.stm_events.specs.declared.refusal.Refusal.TheVariants.{BadLimit}
 use Rattle.stm_world.specs.Task.{Task, answer_at, modified_now, after_list, after_fetch, after_conflict}
 use Rattle.stm_world.specs.World.{World, Runner, Slot, Over, Live as LiveSlot, Stepped, live_in, runner_at, with_slot, refused, replied, begin, start_runner}
 use Rattle.stm_world.specs.World.{fetch, fetch_list, entry_of, take_commit, decided, commit_reported, commit, finish, step_on, step_live}
-use Rattle.stm_world.specs.World.{step_runner, step}
+use Rattle.stm_world.specs.World.{step_runner}
 use Rattle.stm_world.specs.Sound.{IsSound}
 use Rattle.stm_world.proofs.Sound.{worlds_are_sound}
 use Rattle.stm_world.proofs.CommitCases.{fails, Fails}

@@ -1,6 +1,6 @@
 -- What is written for plain data is read as these data.
-use Rattle.std.proofs.Common.{◌≡◌, ℕ, suc, ◌^◌, ◌<◌, ◌≤◌, max, Bool, true, false, cond, List, [], ◌∷◌, ◌++◌, Option, Some, None, option_map, option_and_then}
-use Rattle.std.proofs.Common.{ℤ, pos, negsuc, decimal, IsUtf8, refl, sym, ◌∙◌, ap, subst, arith, append-nil}
+use Rattle.std.proofs.Common.{◌≡◌, ℕ, suc, ◌^◌, ◌<◌, ◌≤◌, max, Bool, true, cond, List, [], Option, Some, None, option_map, option_and_then}
+use Rattle.std.proofs.Common.{ℤ, pos, negsuc, IsUtf8, refl, sym, ◌∙◌, ap, subst, arith, append-nil}
 use Rattle.std.proofs.lemmas.Bool.{ltb-true}
 use Rattle.std.proofs.lemmas.Str.{is_utf8-from_IsUtf8}
 use Rattle.json.specs.Token.{Token}

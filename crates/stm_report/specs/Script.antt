@@ -7,7 +7,7 @@ use Rattle.stm_report.specs.declared.run_script.ScriptFault.{ScriptFault}
 use Rattle.stm_report.specs.declared.format.Format.TheVariants.{Lines}
 use Rattle.stm_report.specs.FormatScript.{IsRunText, IsOutputOf, DoesAs}
 
--- the text is the report of a scenario's run, over an empty store at its opening revision
+-- the text is the report of a scenario's run, over an empty store at its opening revision, and in UTF-8
 abbrev pub IsRunReport : Scenario → List ℕ → Type 0
 IsRunReport s text = IsRunText Lines s text
 

@@ -27,7 +27,7 @@ pub enum ScriptFault {
     Write,
 }
 
-/// Reads a scenario from a source to its end, runs it over an empty store, and writes the report of the run to a
+/// Reads a scenario from a source to its end, runs it over an empty store, and writes the report of the run, in UTF-8, to a
 /// sink. Nothing is written before the report is whole.
 ///
 /// Neither device has failed before. It fails as `Bad` with the scenario's first fault, as `OutOfMemory` where a

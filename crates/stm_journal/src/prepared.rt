@@ -52,7 +52,7 @@ impl Model for Prepared {
 impl Prepared {
     /// Why a store turns its commit down before anything is written, as it is now. It takes no memory.
     ///
-    /// The attempt's type tells that it is a run on its answers.
+    /// The attempt's type says that it is a run on its answers.
     pub(crate) fn find_cause(&self, store: &Store) -> Option<Cause>
         ensures cause { result ≡ cause_of store.now.standing self.now }
         ensures run { IsRunOnItsAnswers self.now }
@@ -134,7 +134,7 @@ pub(crate) fn prepare_copy(alloc: Global, ready: &Ready) -> Result<Prepared, All
     ensures prepared { IfOk result (λ prepared. prepared ≡ ready.now) }
     ensures run { IsRunOnItsAnswers ready.now }
 {
-    // (the attempt's type tells that it is a run on its answers)
+    // (the attempt's type says that it is a run on its answers)
     let _is_run = ready.answers.as_slice();
     let copy = copy_of(alloc, ready)?;
     prepare(alloc, copy)

@@ -1,4 +1,4 @@
-//! What is told of the keys of a store.
+//! What is reported of the keys of a store.
 use crate::transactions::put_of;
 use std::alloc::{AllocError, Global};
 use stm_history::KeyState;

@@ -66,7 +66,7 @@ abbrev pub ran_out : Result Reply Denied → Bool
 ran_out (Ok reply) = false
 ran_out (Err denied) = is_want denied.cause
 
--- the leases that had expired by a refusal
+-- the leases that had expired before a refusal
 abbrev pub expired_of : Result Reply Denied → List Expired
 expired_of (Ok reply) = []
 expired_of (Err denied) = denied.expired

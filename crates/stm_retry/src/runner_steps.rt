@@ -378,8 +378,8 @@ impl Parts {
 
     /// Makes one step of a runner. One that is not there is refused before any memory is taken.
     ///
-    /// The runner is taken from its place for the step, and put back, or the end of its run noted, after it. Want
-    /// of memory leaves the world as it was.
+    /// The runner is taken from its place for the step, and put back, or the end of its run noted, after it. Where
+    /// memory runs out the world is as it was.
     pub(crate) fn step_runner(
         &mut self,
         alloc: Global,

@@ -93,7 +93,7 @@ fn is_out_of_memory(reply: &Result<Reply, Denied>) -> bool
     }
 }
 
-/// The leases that had expired by a refusal.
+/// The leases that had expired before a refusal.
 fn expired_of(alloc: Global, reply: Result<Reply, Denied>) -> Sequence<Expired>
     ensures { result ≡ expired_of reply }
 {
@@ -141,7 +141,7 @@ impl World {
 
     /// Starts a run of a program, which may send at most `limit` commits, and returns the runner's number.
     ///
-    /// It is refused as `BadLimit` where the limit is 0, and as `OutOfMemory` where a growth was refused.
+    /// It is refused as `BadLimit` where the limit is 0, and as `OutOfMemory` where an allocation failed.
     /// A refused start takes no number and leaves the world as it was; the program is dropped.
     pub fn start(&mut self, program: Program, level: Level, limit: u32) -> Result<u64, Refusal>
         ensures number { IfOk result (λ id. (start_runner (record { program = program; level = level; limit = limit }) self.old).reply ≡ Ok (Started id)) }
@@ -177,10 +177,10 @@ impl World {
     /// expired before stay expired, are reported and are entries, and the rest stays due.
     ///
     /// `OutOfMemory` is returned only for an event that is taken where memory suffices, and for an advance that
-    /// does not go back. Such an advance leaves the world as it was, or it was cut short so. A compaction takes no memory.
+    /// does not go back. Such an advance leaves the world as it was, or was cut short in that way. A compaction takes no memory.
     ///
     /// A commit at a level that compares, of which no compare fails, has read what the store has just before it, each
-    /// value too; so also one that the store refuses.
+    /// value too; the same is true of one that the store refuses.
     ///
     /// Where the headline holds of what the world was asked and has replied so far, it holds with this event and its reply
     /// added, unless that reply is `OutOfMemory`.
@@ -284,7 +284,7 @@ impl World {
         self.parts.journal.store()
     }
 
-    /// The store, once the world has served. Its watchers and leases stay in it.
+    /// Ends the world, and returns its store. The watchers and leases stay in it.
     pub fn into_store(self) -> Store
         ensures { result.standing ≡ kept self.standing }
     {
@@ -308,7 +308,7 @@ impl World {
 }
 
 impl World {
-    /// A world of its own that is equal to this one: what is done to one of them changes nothing of the other.
+    /// A separate world that is equal to this one: what is done to one of them changes nothing of the other.
     ///
     /// No event is taken again. It takes a step for each revision, lease, watcher, runner and entry; runners, the inner blocks of
     /// programs and the texts of keys are shared, a runner until one of the worlds makes a step of it. Out of memory is its only

@@ -90,7 +90,7 @@ due_by : (many : ℕ) (s : Standing) (o : Option ℕ) → first_due s.live s.mom
 due_by many s None due goes = nothing_follows s
 due_by many s (Some id) due goes = ended_by many s id (ended s id) refl (due_lives s.live s.moment id due) goes
 
--- so many expiries at most
+-- at most `many` expiries
 expiries_follow : (many : ℕ) (s : Standing) → Follows s (expire_up_to many s).leaves (expiries (expire_up_to many s).expired)
 expiries_follow zero s = nothing_follows s
 expiries_follow (suc many) s = due_by many s (first_due s.live s.moment) refl (λ next. expiries_follow many next)

@@ -138,7 +138,7 @@ pub stopped_keeps : (before after : JournalState) (moment : ℕ) (expired : List
 stopped_keeps before after moment expired cause locked (inl a) = advanced_keeps before after moment expired (Some cause) locked a
 stopped_keeps before after moment expired cause locked (inr want) = want_keeps before after moment expired locked want.left
 
--- as the code tells it
+-- as the code reports it
 pub advance_keeps : {X : Type 0} (items : X → List Expired) (before after : JournalState) (moment : ℕ) (result : Result X AdvanceRefused) → IsLocked before →
     IfOk result (λ (x : X). IsAdvanced before moment (items x) None after) →
     IfErr result (λ (stopped : AdvanceRefused). HasStopped before moment stopped.expired stopped.cause after) → Keeps before after

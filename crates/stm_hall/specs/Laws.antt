@@ -19,7 +19,7 @@ use Rattle.stm_hall.specs.Locked.{IsCommitThere, IsLocked, opening_of}
 use Rattle.stm_entries.specs.Entered.{answers_kept}
 use Rattle.stm_journal.specs.Verdicts.{entry_of, first_unvouched}
 
--- a hall goes on: its entries are those before with more behind them, and its opening state stays
+-- a hall goes on: its entries are those before with more after them, and its opening state stays
 pub record GoesOn (before after : JournalState) : Type 0 where
   pub more : List Entry
   pub entries : after.entries ≡ before.entries ++ more

@@ -103,7 +103,7 @@ impl Hall {
     /// Commits an attempt that is ready, by one transaction.
     ///
     /// `Committed` says that no compare failed and the writes are applied; the attempt is an entry, whose place is returned.
-    /// The store changes as the program changes it that runs alone at this moment, at `ReadCommitted` on the answers that
+    /// The store changes as its program changes it when run alone at this moment, at `ReadCommitted` on the answers that
     /// the attempt read. `Failed` says that a compare failed, and the hall is as it was. Its answers may be prefetched for
     /// the next attempt.
     ///
@@ -121,7 +121,7 @@ impl Hall {
         self.journal.commit(self.alloc, ready)
     }
 
-    /// Commits an attempt as `commit` does, that was prepared for it, so that less is done while the hall is locked: its changes are moved into the store,
+    /// Commits an attempt that was prepared, as `commit` does, so that less is done while the hall is locked: its changes are moved into the store,
     /// and the attempt into its entry.
     pub fn commit_prepared(&mut self, prepared: Prepared) -> Result<Verdict, CommitRefusal>
         ensures verdict { CommitReturns (verdict_of self.old prepared) self.old result self.new }
@@ -134,7 +134,7 @@ impl Hall {
 
     /// Makes a transaction of another client, which is an entry where it changed something.
     ///
-    /// It is refused as the store's `txn` refuses it, and then the hall is as it was. `OutOfMemory` is returned only of a
+    /// It is refused as the store's `txn` refuses it, and then the hall is as it was. `OutOfMemory` is returned only for a
     /// transaction that the store takes.
     pub fn foreign(&mut self, txn: &Txn) -> Result<TxnAnswer, Refusal>
         ensures made { JournalReturns (made self.old txn.now) self.old result self.new }
@@ -147,7 +147,7 @@ impl Hall {
     /// entry.
     ///
     /// `TimeGoesBack` changes nothing. On `RevisionsUsedUp` the leases that expired stay expired, are returned and are
-    /// entries, the rest stays due, and the moment is set. `OutOfMemory` leaves the hall so, or as it was.
+    /// entries, the rest stays due, and the moment is set. `OutOfMemory` leaves the hall in that state, or as it was.
     pub fn advance(&mut self, moment: u64) -> Result<Vec<Expired>, AdvanceRefused>
         ensures ok { IfOk result (λ expired. IsAdvanced self.old moment expired.items None self.new) }
         ensures refused { IfErr result (λ stopped. HasStopped self.old moment stopped.expired stopped.cause self.new) }

@@ -1,4 +1,4 @@
--- What the transaction of a commit comes to is told as the verdict.
+-- What the transaction of a commit comes to is reported as the verdict.
 use Rattle.std.proofs.Common.{◌≡◌, ℕ, ◌<◌, List, length, Option, Some, None, Result, Ok, Err, refl, ◌∙◌, ap, subst}
 use Rattle.std.proofs.Common.{arith}
 use Rattle.stm_history.specs.declared.key_state.ReadAnswer.{ReadAnswer}
@@ -74,7 +74,7 @@ is_answered s after txn answer step =
     let a = answered_by s after answer (outcome (terms_of s) txn) step in
     record { done = a.0; came = a.1; answered = a.2; left = a.3 }
 
--- the revision that it tells is the store's after it
+-- the revision that it reports is the store's after it
 pub answer_revision : (s after : Standing) (txn : Txn) (answer : TxnAnswer) (a : IsAnswered s after txn answer) → now a.done.history ≡ answer.revision
 answer_revision s after txn answer a =
     let made = (is_done (terms_of s) txn a.done a.came).made in

@@ -35,7 +35,7 @@ abbrev pub cause_compared : History → ReadyRun → Option Cause
 cause_compared h ready =
     cause_failed (first_failed (key_now h) 0 (txn_of ready).compares) (cause_unvouched (first_unvouched h ready.level ready.answers))
 
--- a key has still the modification revision and the value that an answer says
+-- a key still has the modification revision and the value that an answer says
 pub record IsStill (h : History) (a : ReadAnswer) : Type 0 where
   pub modified : mod_of (key_now h a.key) ≡ mod_of a.kv
   pub value : value_of (key_now h a.key) ≡ value_of a.kv

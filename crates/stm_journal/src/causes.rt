@@ -50,7 +50,7 @@ fn find_failure(keys: &Keys, ready: &Ready) -> Option<Cause>
     }
 }
 
-/// Why a store turns down the commit of an attempt as it is now, where this is whether that names an empty key. It takes no memory.
+/// Why a store, as it is now, turns down the commit of an attempt; `has_empty` says whether that names an empty key. It takes no memory.
 pub(crate) fn find_cause(store: &Store, has_empty: bool, ready: &Ready) -> Option<Cause>
     requires { has_empty ≡ has_empty_key (txn_of ready.now) }
     ensures { result ≡ cause_of store.now.standing ready.now }

@@ -38,7 +38,7 @@ fn revision_seen(reads: &ReadSet, writes: &WriteBuffer, place: usize) -> u64
     }
 }
 
-/// The verdict on an attempt of which this compare failed, where its keys were read again with these answers. That memory runs out is its only refusal.
+/// The verdict on an attempt of which this compare failed, where its keys were read again with these answers. Out of memory is its only refusal.
 fn report(
     alloc: Global,
     ready: &Ready,

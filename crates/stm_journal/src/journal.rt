@@ -86,7 +86,7 @@ impl Journal {
         &self.store
     }
 
-    /// The store, without what changed it.
+    /// Ends the journal, and returns its store. The entries are dropped.
     pub fn into_store(self) -> Store
         ensures { result.standing ≡ self.standing }
     {
@@ -98,14 +98,14 @@ impl Journal {
         store
     }
 
-    /// What changed the store since the journal was made, the first first.
+    /// What changed the store since the journal was made, oldest first.
     pub fn entries(&self) -> &[Entry]
         ensures { result.now ≡ self.now.entries }
     {
         self.entries.as_slice()
     }
 
-    /// A copy of the store and of the entries. That memory runs out is the only refusal.
+    /// A copy of the store and of the entries. Out of memory is the only refusal.
     pub fn copy(&self) -> Result<Journal, AllocError>
         ensures { IfOk result (λ copy. copy ≡ self.now) }
     {
@@ -256,7 +256,7 @@ impl Journal {
         calls::keep_alive(&mut self.store, &mut self.entries, id)
     }
 
-    /// Revokes a lease, with its keys, enters that, and gives the revision after it.
+    /// Revokes a lease, with its keys, enters that, and returns the revision after it.
     ///
     /// It is refused as the store's `revoke` refuses it. `OutOfMemory` is reported only of a revocation that the store takes.
     pub fn revoke(&mut self, id: u64) -> Result<u64, Refusal>
@@ -268,7 +268,7 @@ impl Journal {
     /// Sets the moment, and ends the leases that are due, each with its keys, as the store's `advance` does. Each is an entry.
     ///
     /// `TimeGoesBack` changes nothing. On `RevisionsUsedUp` the leases that expired stay expired, are reported and are entries, the rest stays due, and the
-    /// moment is set. `OutOfMemory` leaves the journal so, or as it was.
+    /// moment is set. `OutOfMemory` leaves the journal in that state, or as it was.
     pub fn advance(&mut self, alloc: Global, moment: u64) -> Result<Vec<Expired>, AdvanceRefused>
         ensures ok { IfOk result (λ expired. IsAdvanced self.old moment expired.items None self.new) }
         ensures refused { IfErr result (λ stopped. HasStopped self.old moment stopped.expired stopped.cause self.new) }
@@ -298,7 +298,7 @@ impl Journal {
         self.store.watch_range(first, end, from)
     }
 
-    /// Gives what is pending for a watcher, of at most `most` revisions, as the store's `poll` does. A watcher that is lost is cancelled.
+    /// Returns what is pending for a watcher, of at most `most` revisions, as the store's `poll` does. A watcher that is lost is cancelled.
     pub fn poll(&mut self, id: u64, most: u64) -> Result<Batch, Refusal>
         ensures step { Returns (polled self.old.standing id most) result self.new.standing }
         ensures same { self.new ≡ with_store self.old self.new.standing }

@@ -50,9 +50,9 @@ impl Model for Prepared {
 }
 
 impl Prepared {
-    /// Why a store turns its commit down before anything is written, as it is now. It takes no memory.
+    /// Why a store, as it is now, turns its commit down before anything is written. It takes no memory.
     ///
-    /// The attempt's type tells that it is a run on its answers.
+    /// The attempt's type says that it is a run on its answers.
     pub(crate) fn find_cause(&self, store: &Store) -> Option<Cause>
         ensures cause { result ≡ cause_of store.now.standing self.now }
         ensures run { IsRunOnItsAnswers self.now }
@@ -113,7 +113,7 @@ pub(crate) fn changes_of(alloc: Global, writes: &WriteBuffer) -> Result<Vec<Chan
     Ok(changes)
 }
 
-/// Prepares the commit of an attempt. That memory runs out is the only refusal.
+/// Prepares the commit of an attempt. Out of memory is the only refusal.
 pub fn prepare(alloc: Global, ready: Ready) -> Result<Prepared, AllocError>
     ensures { IfOk result (λ prepared. prepared ≡ ready) }
 {
@@ -129,12 +129,12 @@ pub fn prepare(alloc: Global, ready: Ready) -> Result<Prepared, AllocError>
     })
 }
 
-/// Prepares the commit of a copy of an attempt. That memory runs out is the only refusal.
+/// Prepares the commit of a copy of an attempt. Out of memory is the only refusal.
 pub(crate) fn prepare_copy(alloc: Global, ready: &Ready) -> Result<Prepared, AllocError>
     ensures prepared { IfOk result (λ prepared. prepared ≡ ready.now) }
     ensures run { IsRunOnItsAnswers ready.now }
 {
-    // (the attempt's type tells that it is a run on its answers)
+    // (the attempt's type says that it is a run on its answers)
     let _is_run = ready.answers.as_slice();
     let copy = copy_of(alloc, ready)?;
     prepare(alloc, copy)

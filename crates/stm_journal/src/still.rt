@@ -15,7 +15,7 @@ fn are_alike(now: &KeyState, read: &KeyState) -> bool
     now.mod_rev == read.mod_rev && now.value == read.value
 }
 
-/// Whether a key has still the modification revision and the value that an answer says.
+/// Whether a key still has the modification revision and the value that an answer says.
 fn is_still(keys: &Keys, answer: &ReadAnswer) -> bool
     ensures { result ≡ true → IsStill keys.now.history answer.now }
 {
@@ -35,7 +35,7 @@ fn are_still(keys: &Keys, answers: &[ReadAnswer]) -> bool
     answers.iter().all(|answer| is_still(keys, answer))
 }
 
-/// Whether every key that an attempt read has still the modification revision and the value that it read.
+/// Whether every key that an attempt read still has the modification revision and the value that it read.
 fn reads_stand(keys: &Keys, answers: &ReadSet) -> bool
     ensures { result ≡ true → All (IsStill keys.now.history) answers.now }
 {

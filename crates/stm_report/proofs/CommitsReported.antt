@@ -1,4 +1,4 @@
--- The line of a commit: a check finds its program's run on what the line tells, and the store that it leads to.
+-- The line of a commit: a check finds its program's run on what the line reports, and the store that it leads to.
 use Rattle.std.proofs.Common.{◌≡◌, ℕ, ◌+◌, ◌≤◌, Bool, true, false, cond, List, [], ◌∷◌, map, Option, Some, option_map, bytes_eq, refl, sym, ◌∙◌}
 use Rattle.std.proofs.Common.{ap}
 use Rattle.std.specs.Prelude.{MatchBool}
@@ -32,7 +32,7 @@ use Rattle.stm_check.proofs.CommitLemmas.{right_commit, commit_led}
 use Rattle.stm_report.proofs.RunsReported.{run_with}
 use Rattle.stm_report.proofs.CallsReported.{unwatched}
 
--- ---- answers that are true are told so, and looked up alike
+-- ---- answers that are true are reported so, and looked up alike
 
 found_alike : (b : Bool) (h : History) (a : ReadAnswer) (reported rest : Option ReadAnswer) → key_at h a.key a.of_rev ≡ a.kv →
     option_map said reported ≡ option_map said rest →

@@ -2,7 +2,7 @@
 use Rattle.std.proofs.Common.{◌≡◌, ℕ, zero, suc, ◌+◌, ◌<◌, ◌≤◌, Bool, true, false, cond, List, [], ◌∷◌, ◌++◌, length, take, drop, get_or, refl, sym, ap, ◌∙◌, arith}
 use Rattle.stm_report.specs.FormatShown.{front, is_continuation}
 
--- so many bytes of it, and those behind that go on
+-- n bytes of it, and the continuation bytes after them
 pub front_from : (n : ℕ) (bs : List ℕ) → n ≤ length bs → front n bs ≡ take n bs ++ front 0 (drop n bs)
 front_from zero bs within = refl
 front_from (suc n) [] within = absurd (omega arith)

@@ -1,4 +1,4 @@
--- No line of the report of a right run is wrong: what a check knows at a point is what the log so far tells.
+-- No line of the report of a right run is wrong: what a check knows at a point is what the log so far says.
 use Rattle.std.proofs.Common.{◌≡◌, ◌≢◌, ℕ, ◌+◌, suc, Bool, true, false, cond, not, List, [], ◌∷◌, ◌++◌, length, length-append, map}
 use Rattle.std.proofs.Common.{Option, Some, None, is_some, Ok, Err, refl, sym, ◌∙◌, ap, subst, arith}
 use Rattle.std.specs.Prelude.{Result, nat_eq, ◌&&◌}
@@ -57,7 +57,7 @@ use Rattle.stm_report.proofs.CommitsReported.{IsEntered, commit_right, commit_st
 abbrev pub point_at : Setup → List Line → List Runner → Point
 point_at start log rs = record { standing = unwatched (store start log); entries = length (entries_reported start log); runners = rs }
 
--- The line of the next event is right, and the point behind it is that of the longer log.
+-- The line of the next event is right, and the point after it is that of the longer log.
 record GoesOn (start : Setup) (n : ℕ) (log : List Line) (rs : List Runner) (event : WorldEvent) (reply : Result Reply Denied) : Type 0 where
   is_right : IsRightLine n (point_at start log rs) event (line_reported n reply)
   store_is : standing_after (unwatched (store start log)) rs event (line_reported n reply) ≡ unwatched (store start (with_line event reply log))
@@ -129,7 +129,7 @@ start_goes start n log rs task (Err refusal) reported fresh right =
 
 -- ---- steps
 
--- a line that is no commit tells no entry
+-- a line that is no commit reports no entry
 no_entry : (h : History) (l : ReportLine) (o : Option Runner) → ((r : Runner) → committed_entry h l r ≡ []) → commit_entries h l o ≡ []
 no_entry h l None none = refl
 no_entry h l (Some r) none = none r
@@ -157,7 +157,7 @@ step_can log rs id runner task own goes =
     ap (λ k. nat_eq k id && is_some (running_in id rs)) own ∙ ap (λ (b : Bool). b && is_some (running_in id rs)) (same_number id)
     ∙ ap (λ (o : Option Runner). is_some o) goes.found
 
--- a step that tells no entry
+-- a step that reports no entry
 record StepsOn (start : Setup) (n : ℕ) (log : List Line) (rs : List Runner) (id : ℕ) (reply : Reply) : Type 0 where
   can : can_have rs (Step id) (line_reported n (Ok reply)) ≡ true
   replays : StepReplays (unwatched (store start log)) (running_in id rs) (line_reported n (Ok reply))
@@ -179,7 +179,7 @@ steps_on start n log rs id reply on =
       runs = on.runs_on;
     }
 
--- the task that a running log tells was begun
+-- the task that a log names as running was begun
 begun_by : (over : Bool) (o : Option Task) (task : Task) → cond over None o ≡ Some task → o ≡ Some task
 begun_by true o task is = absurd (cc)
 begun_by false o task is = is

@@ -1,4 +1,4 @@
--- The headline holds of the run that a report tells of.
+-- The headline holds of the run that a report describes.
 use Rattle.std.proofs.Common.{List, ℕ}
 use Rattle.stm_compile.proofs.AgreeLemmas.{commit_is_the_run_now}
 use Rattle.stm_compile.proofs.ConflictLemmas.{failed_compares_conflict}

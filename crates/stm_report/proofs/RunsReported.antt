@@ -1,4 +1,4 @@
--- What a check knows of the runners is what the log so far tells of them, whatever the next line is about.
+-- What a check knows of the runners is what the log so far says of them, whatever the next line is about.
 use Rattle.std.proofs.Common.{◌≡◌, ℕ, ◌+◌, List, [], ◌∷◌, ◌++◌, length, Option, Some, None, Ok, Err, Bool, true, false, cond, refl, sym, ◌∙◌}
 use Rattle.std.proofs.Common.{ap, subst}
 use Rattle.std.specs.Prelude.{nat_eq, option_map, Result, ◌||◌}
@@ -21,14 +21,14 @@ use Rattle.stm_check.specs.declared.runner.Runner.{Runner}
 use Rattle.stm_check.specs.Runners.{running as running_in, begun as begun_run, unless_over, ended, with_conflict, with_runner}
 use Rattle.stm_report.proofs.RunLists.{changed_own, changed_other, changed_count, added_own, added_other, added_count}
 
--- a run with this task that was told of so many conflicts
+-- a run of this task with that many conflicts
 abbrev pub run_with : ℕ → Task → Runner
 run_with conflicts task = record { program = task.program; level = task.level; limit = task.limit; conflicts = conflicts; is_over = false }
 
 abbrev pub runs_with : ℕ → Option Task → Option Runner
 runs_with conflicts o = option_map (run_with conflicts) o
 
--- a check knows of each runner what the log tells
+-- a check knows of each runner what the log says
 pub record RunsAreReported (log : List Line) (rs : List Runner) : Type 0 where
   pub count : length rs ≡ started log
   pub runs : (id : ℕ) → running_in id rs ≡ runs_with (failures id log) (running id log)
@@ -43,7 +43,7 @@ none_by false = refl
 pub none_are_reported : RunsAreReported [] []
 none_are_reported = record { count = refl; runs = λ id. none_by (nat_eq id 0) }
 
--- which runner a reply begins, ends, or tells of a conflict
+-- which runner a reply begins, ends, or reports a conflict of
 pub record SaysOfRuns (reply : Result Reply Denied) (begins ends fails : Option ℕ) : Type 0 where
   pub begins_is : runner_started reply ≡ begins
   pub ends_is : runner_ended reply ≡ ends
@@ -61,7 +61,7 @@ pub advance_says_nothing : (moment : ℕ) (expired : List Expired) (cause : Opti
 advance_says_nothing moment expired None = record { begins_is = refl; ends_is = refl; fails_is = refl }
 advance_says_nothing moment expired (Some cause) = record { begins_is = refl; ends_is = refl; fails_is = refl }
 
--- what a log tells of a runner, by what its last line says
+-- what a log says of a runner, by what its last line says
 reported_by : (line : Line) (log : List Line) (begins ends fails : Option ℕ) → SaysOfRuns line.reply begins ends fails → (id : ℕ) →
     runs_with (failures id (line ∷ log)) (running id (line ∷ log))
     ≡ runs_with (cond (is_id id fails) (failures id log + 1) (failures id log))
@@ -88,7 +88,7 @@ same_runs line log rs says reported = record {
   runs = λ id. reported.runs id ∙ sym (reported_by line log None None None says id);
 }
 
--- a run that goes on, and the task that the log tells of it
+-- a run that goes on, and its task as the log has it
 pub record Goes (log : List Line) (rs : List Runner) (id : ℕ) (task : Task) : Type 0 where
   pub runs : running id log ≡ Some task
   pub found : running_in id rs ≡ Some (run_with (failures id log) task)

@@ -111,7 +111,7 @@ pub record RunnerFits (r : Runner) : Type 0 where
 abbrev pub RunnersFit : List Slot → Type 0
 RunnersFit slots = (id : ℕ) (r : Runner) → runner_at id slots ≡ Some r → RunnerFits r
 
--- a world after so many events
+-- a world after n events
 pub record WorldFits (n : ℕ) (w : World) : Type 0 where
   pub sound : IsSound w
   pub small : IsSmall w.standing

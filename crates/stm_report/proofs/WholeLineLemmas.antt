@@ -5,7 +5,7 @@ use Rattle.std.proofs.Math.Seq.{drop-cons}
 use Rattle.std.proofs.lemmas.Slice.Eq.{bytes_eq-Decides}
 use Rattle.stm_report.specs.WholeLines.{is_line_feed, line_end, onto_line, lines_in, first_unlike}
 
--- ---- the first line, and what stands behind it
+-- ---- the first line, and what comes after it
 
 abbrev Starts : List ℕ → Type 0
 Starts [] = lines_in [] ≡ []
@@ -57,7 +57,7 @@ some_line : (is : Bool) (m b : ℕ) (bs : List ℕ) → bytes_eq (take (cond is 
 some_line true m b bs h = true≢false (sym h)
 some_line false m b bs h = true≢false (sym h)
 
--- two lines are alike: the texts go on behind them
+-- two lines are alike: the texts go on after them
 pub goes_on : (n : ℕ) (ls gs : List ℕ) → 0 < length ls → bytes_eq (take (line_end ls) ls) (take (line_end gs) gs) ≡ true
     → first_unlike n (lines_in ls) (lines_in gs) ≡ first_unlike (suc n) (lines_in (drop (line_end ls) ls)) (lines_in (drop (line_end gs) gs))
 goes_on n [] gs some same = absurd (omega (arith, some))

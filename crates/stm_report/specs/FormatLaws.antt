@@ -29,7 +29,7 @@ abbrev pub count : ℕ → List ℕ → ℕ
 count b [] = 0
 count b (x ∷ xs) = if nat_eq x b then count b xs + 1 else count b xs
 
--- Rows have so many line feeds as there are rows: the words of a row have none.
+-- Rows have as many line feeds as there are rows: the words of a row have none.
 abbrev pub OneLineARow : Type 0
 OneLineARow = (w n : ℕ) (events : List WorldEvent) (replies : List (Result Reply Denied)) →
     count 10 (rows_text w (rows_of n events replies)) ≡ length (rows_of n events replies)

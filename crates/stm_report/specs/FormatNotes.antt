@@ -1,4 +1,4 @@
--- What stands behind the rows: the keys that are present, the revision, and the runners that are unfinished.
+-- What comes after the rows: the keys that are present, the revision, and the runners that are unfinished.
 use Rattle.std.specs.Prelude.{ℕ, ◌-◌, suc, List, [], ◌∷◌, ◌++◌, length, Bool, true, false, Option, Some, None, Result, Ok, Err, codes, decimal, slice_set}
 use Rattle.stm_history.specs.declared.key_state.KeyState.{KeyState}
 use Rattle.stm_history.specs.History.{History, now, key_now}

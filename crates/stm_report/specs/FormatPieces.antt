@@ -8,7 +8,7 @@ use Rattle.stm_report.specs.declared.format_pieces.Piece.TheVariants.{Say, Shown
 use Rattle.stm_report.specs.FormatShown.{shown}
 use Rattle.stm_report.specs.FormatEscaped.{escaped}
 
--- one text behind the other
+-- one text after the other
 abbrev pub joined : List (List ℕ) → List ℕ
 joined [] = []
 joined (t ∷ ts) = t ++ joined ts

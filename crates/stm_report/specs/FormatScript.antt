@@ -64,7 +64,7 @@ Writes format bytes before after failed (Err Write) =
 -- ---- the script
 
 -- What a script did, by its answer. At the end of a good one exactly the report of the input in its format was written; at a bad scenario,
--- want of memory and a failed source nothing was; at a failed sink a front of it was. Each fault of a device is answered exactly where the
+-- an allocation failure or a failed source nothing was; at a failed sink a front of it was. Each fault of a device is answered exactly where the
 -- device has failed.
 abbrev pub DoesAs : {A : Type 0} → Format → Devices → Result A ScriptFault → Type 0
 DoesAs format d (Ok u) =

@@ -7,7 +7,7 @@ use Rattle.stm_report.specs.declared.format_pieces.TheConstants.{MOST_SHOWN, KEP
 abbrev pub is_continuation : ℕ → Bool
 is_continuation b = nat_le 128 b && nat_lt b 192
 
--- so many bytes, and those behind them that belong to the last character
+-- that many bytes, and those after them that belong to the last character
 abbrev pub front : ℕ → List ℕ → List ℕ
 front n [] = []
 front zero (b ∷ bs) = if is_continuation b then b ∷ front zero bs else []

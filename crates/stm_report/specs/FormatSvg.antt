@@ -25,7 +25,7 @@ colour Committed = codes "#1a7f37"
 colour Failed = codes "#cf222e"
 colour Plain = codes "#24292f"
 
--- ---- a column, with so many rows
+-- ---- a column, with that many rows
 
 unfoldable pub column_svg : ℕ → ℕ → ℕ → List ℕ
 column_svg w rows c =
@@ -75,7 +75,7 @@ at_most n = min n (2 ^ 64 - 1)
 abbrev pub lines_of : List Row → List (List ℕ) → ℕ
 lines_of rows notes = at_most (at_most (length rows + length notes) + 1)
 
--- the picture's frame, of such a width and so many lines
+-- the picture's frame, of that width and that many lines
 unfoldable pub frame_svg : ℕ → ℕ → List ℕ
 frame_svg across lines =
     joined (codes "<svg xmlns=\"http://www.w3.org/2000/svg\" viewBox=\"0 -700 " ∷ decimal across ∷ codes " " ∷ decimal lines

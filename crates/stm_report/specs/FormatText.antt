@@ -1,4 +1,4 @@
--- A report as text: a header with the titles of the columns, a row for each event, and behind an empty line what is left.
+-- A report as text: a header with the titles of the columns, a row for each event, and after an empty line what is left.
 use Rattle.std.specs.Prelude.{ℕ, ◌+◌, ◌-◌, ◌*◌, zero, suc, List, [], ◌∷◌, ◌++◌, map, nat_eq, if◌then◌else◌, codes, replicate}
 use Rattle.stm_report.specs.declared.format_row.Row.{Row}
 use Rattle.stm_report.specs.FormatPieces.{joined, padded, title, tag_text}
@@ -7,11 +7,11 @@ use Rattle.stm_report.specs.FormatColumns.{column, last_column, width}
 abbrev pub spaces : ℕ → List ℕ
 spaces n = replicate n 32
 
--- the title of a runner's column, behind the spaces that are left of the column before it
+-- the title of a runner's column, after the spaces that are left of the column before it
 abbrev pub heading : ℕ → ℕ → List ℕ
 heading w k = joined (spaces (w - (if nat_eq k 1 then 3 else 6)) ∷ title k ∷ [])
 
--- those of the columns 1 to k, one behind the other
+-- those of the columns 1 to k, one after the other
 abbrev pub headings : ℕ → ℕ → List ℕ
 headings w zero = []
 headings w (suc k) = headings w k ++ heading w (suc k)

@@ -1,4 +1,4 @@
--- What a row tells of an event and its reply. A revision stands behind `@`, 0 where the key is absent.
+-- What a row says of an event and its reply. A revision comes after `@`, 0 where the key is absent.
 use Rattle.std.specs.Prelude.{ℕ, List, [], ◌∷◌, length, Bool, if◌then◌else◌, Result, Ok, Err, codes, decimal}
 use Rattle.stm_meaning.specs.Faults.{fault_name}
 use Rattle.stm_outcome.specs.Names.{refusal_name as store_refusal_name}

@@ -16,7 +16,7 @@ abbrev pub IsReportOf : Outcome Scenario → List ℕ → Type 0
 IsReportOf reading text = IsOutputOf Lines reading text
 
 -- What a script did, by its answer. At the end of a good one exactly the report of the input was written; at a bad
--- scenario, want of memory and a failed source nothing was; at a failed sink a front of the report was. Each fault of a
+-- scenario, an allocation failure or a failed source nothing was; at a failed sink a front of the report was. Each fault of a
 -- device is answered exactly where the device has failed.
 abbrev pub Does : {A : Type 0} → Devices → Result A ScriptFault → Type 0
 Does d result = DoesAs Lines d result

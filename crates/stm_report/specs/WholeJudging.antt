@@ -27,7 +27,7 @@ abbrev pub IsFormed : List ℕ → WholeChecked → Type 0
 IsFormed given Yes = Unit {0}
 IsFormed given (No line expected) = (r : Report) × (report_in given ≡ Ok r)
 
--- The answer is the comparison of a text that is not too long. A text of which a fault is told is no report in its format, and is not the
+-- The answer is the comparison of a text that is not too long. A text that is answered with a fault is no report in its format, and is not the
 -- expected one, unless it is too long.
 abbrev pub JudgesText : List ℕ → List ℕ → Result WholeChecked CheckFault → Type 0
 JudgesText expected given (Ok checked) = (checked ≡ compared expected given) × (length given ≤ MOST_BYTES) × IsFormed given checked

@@ -14,7 +14,7 @@ abbrev pub onto_line : ℕ → List (List ℕ) → List (List ℕ)
 onto_line b [] = (b ∷ []) ∷ []
 onto_line b (l ∷ ls) = (b ∷ l) ∷ ls
 
--- the lines of a text, each with its line feed; what stands behind the last line feed is a line too
+-- the lines of a text, each with its line feed; what comes after the last line feed is a line too
 abbrev pub lines_in : List ℕ → List (List ℕ)
 lines_in [] = []
 lines_in (b ∷ bs) = if is_line_feed b then (b ∷ []) ∷ lines_in bs else onto_line b (lines_in bs)

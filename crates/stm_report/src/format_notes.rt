@@ -1,4 +1,4 @@
-//! What stands behind the rows of a report.
+//! What comes after the rows of a report.
 ghost use Rattle.std.specs.Prelude.{◌≡◌, ◌++◌, ◌-◌, [], ◌∷◌, true, map, slice_set, string_bytes, IfOk, OnOk};
 ghost use Rattle.stm_history.specs.History.{key_now};
 ghost use Rattle.stm_report.specs.FormatNotes.{key_note, notes_of_key, key_notes, ended_by, ended_after, unfinished_notes};
@@ -147,7 +147,7 @@ fn end_note(alloc: Global, revision: u64, entries: u64) -> Result<Sequence<u8>, 
     said(alloc, &pieces)
 }
 
-/// What stands behind the rows of a world's replies: a note for each key that is present, ascending by bytes, the store's revision
+/// What comes after the rows of a world's replies: a note for each key that is present, ascending by bytes, the store's revision
 /// and the number of entries, and a note for each runner whose run has not ended. It fails where a growth was refused.
 pub(crate) fn notes_of(
     alloc: Global,

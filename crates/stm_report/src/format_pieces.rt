@@ -27,7 +27,7 @@ pub(crate) enum Piece<'a> {
     Shown(&'a str),
     /// A number in decimal.
     Number(u64),
-    /// A number in decimal, behind spaces that make it six characters where it has fewer.
+    /// A number in decimal, after spaces that make it six characters where it has fewer.
     Padded(u64),
     /// So many spaces.
     Spaces(u64),
@@ -55,7 +55,7 @@ fn plain(byte: u8) -> u8
     if byte < 32 || byte == 127 { b'?' } else { byte }
 }
 
-/// Where the front of so many bytes ends, with the rest of its last character.
+/// Where the front of that many bytes ends, with the rest of its last character.
 fn end_of_front(bytes: &[u8], kept: usize) -> usize
     requires { kept ≤ length bytes.now }
     ensures within { result ≤ length bytes.now }
@@ -109,7 +109,7 @@ fn push_padded(out: &mut Vec<u8>, number: u64) -> Result<(), AllocError>
     out.extend_from_slice(digits.as_bytes())
 }
 
-/// Adds so many spaces.
+/// Adds that many spaces.
 fn push_spaces(out: &mut Vec<u8>, count: u64) -> Result<(), AllocError>
     ensures { OnOk result (out.new.items ≡ out.old.items ++ replicate count 32) }
 {
@@ -194,7 +194,7 @@ fn push_piece(out: &mut Vec<u8>, piece: Piece<'_>) -> Result<(), AllocError>
     }
 }
 
-/// Adds pieces, one behind the other.
+/// Adds pieces, one after the other.
 pub(crate) fn push_pieces(out: &mut Vec<u8>, pieces: &[Piece<'_>]) -> Result<(), AllocError>
     ensures { OnOk result (out.new.items ≡ out.old.items ++ joined (map piece_text pieces.now)) }
 {

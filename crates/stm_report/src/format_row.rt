@@ -1,4 +1,4 @@
-//! What a row of a report tells.
+//! What a row of a report says.
 use stm_history::Sequence;
 
 /// The column of a row.
@@ -30,6 +30,6 @@ pub struct Row {
     pub lane: Lane,
     /// What came of it.
     pub mark: Mark,
-    /// What it tells, as UTF-8 without control characters.
+    /// What it says, as UTF-8 without control characters.
     pub words: Sequence<u8>,
 }

@@ -168,7 +168,7 @@ fn push_frame(out: &mut Vec<u8>, across: u64, lines: u64) -> Result<(), AllocErr
     push_pieces(out, &pieces)
 }
 
-/// Adds the beginning of the group below so many rows.
+/// Adds the beginning of the group below that many rows.
 #[tactic(auto, unfolding(crate::specs::FormatSvg::under_svg))]
 fn push_under(out: &mut Vec<u8>, rows: u64) -> Result<(), AllocError>
     ensures { OnOk result (out.new.items ≡ out.old.items ++ under_svg rows) }

@@ -1,4 +1,4 @@
-//! What a row tells of an event and its reply.
+//! What a row says of an event and its reply.
 ghost use Rattle.std.specs.Prelude.{◌≡◌, codes, IfOk};
 ghost use Rattle.stm_texts.specs.Grammar.{level_text};
 ghost use Rattle.stm_reports.specs.Lines.{IsOfRunner};
@@ -285,7 +285,7 @@ fn refused(alloc: Global, event: &WorldEvent, cause: Refusal) -> Result<Sequence
     said(alloc, &pieces)
 }
 
-/// What a row tells of an event and its reply. It fails where a growth was refused.
+/// What a row says of an event and its reply. It fails where a growth was refused.
 pub(crate) fn words_of(
     alloc: Global,
     event: &WorldEvent,

@@ -12,7 +12,7 @@ pub fn one_report()
 /// of a world of which the headline holds.
 ///
 /// So each event of the scenario has its reply in it, and nothing else has; each reply is right after the lines
-/// before it, by what the events and replies alone tell; its key and lease lines are those of the store that
+/// before it, by what the events and replies alone say; its key and lease lines are those of the store that
 /// they lead to; and the entries that it counts replay to that store, each legal at its point.
 pub fn reports_are_of_right_runs()
     ensures { ReportsAreOfRightRuns }

@@ -6,8 +6,8 @@
 //! name of its field (`specs/FormatFields.antt`).
 //!
 //! The files `whole_*` compare a text with the report that a script writes of its scenario, line by line. `stm_check` judges a report by the
-//! replay of what it tells; here it is compared with the report itself, so that also what was fetched, what failed, what ended a program and
-//! what a watcher was given have to be as a script tells them.
+//! replay of what it says; here it is compared with the report itself, so that also what was fetched, what failed, what ended a program and
+//! what a watcher was given have to be as a script reports them.
 #![tactic(auto)]
 
 mod format;

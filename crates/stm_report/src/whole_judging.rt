@@ -75,7 +75,7 @@ fn expected_of<S: Source>(alloc: Global, scenario: &mut S) -> Result<Vec<u8>, Ch
 /// It answers `Yes` exactly where the text is that report, byte by byte, and else the first line that is not alike, where the text is a
 /// report in its format. Neither source has failed before. It fails as `BadScenario` with the scenario's first fault, and then the text is
 /// not read; as `BadReport` with the text's first fault; as `OutOfMemory` where a growth was refused; and as `Device` exactly where a source
-/// has failed. A text of more than 16777216 bytes is a bad report. At most 16777217 bytes of each are read, in at most so many reads of each.
+/// has failed. A text of more than 16777216 bytes is a bad report. At most 16777217 bytes of each are read, in at most that many reads of each.
 pub fn check_whole<S: Source, R: Source>(
     alloc: Global,
     scenario: &mut S,

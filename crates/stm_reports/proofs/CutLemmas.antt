@@ -26,7 +26,7 @@ pub parts_start : (bs : List ℕ) → HasPart (parts_of bs)
 parts_start [] = ([], [], refl)
 parts_start (b ∷ bs) = start_by b bs (is_line_feed b) refl (parts_start bs)
 
--- ---- the first part, and what is behind it
+-- ---- the first part, and what comes after it
 
 abbrev pub Cut : List ℕ → Option (List ℕ × List ℕ) → Type 0
 Cut bs None = parts_of bs ≡ bs ∷ []

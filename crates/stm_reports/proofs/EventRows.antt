@@ -1,4 +1,4 @@
--- The lines of events: the parts behind each word, and what is made of them. Their faults are those that reading answers, what was read is
+-- The lines of events: the parts after each word, and what is made of them. Their faults are those that reading answers, what was read is
 -- spelled, and what is spelled is read.
 use Rattle.std.proofs.Common.{◌≡◌, ℕ, List, map, Bool, cond, Some, Ok, Err, refl, sym, subst, ap, ◌∙◌, codes}
 use Rattle.serde_json.specs.Data.{Data, boolean, Items}
@@ -83,7 +83,7 @@ ops_part = record {
   reads = ops_reads;
 }
 
--- ---- the parts behind each word, and the line that is made of them and of the event's number
+-- ---- the parts after each word, and the line that is made of them and of the event's number
 
 pub record EventRow : Type 1 where
   pub Parts : Type 0

@@ -29,7 +29,7 @@ part_reported : (p part : List ℕ) → first_of (json_faults p (data_of part)) 
 unfolding line_in
 part_reported p part = json_reported p (data_of part)
 
--- what stands behind the last line feed
+-- what comes after the last line feed
 rest_reported : (index : ℕ) (rest : List ℕ) → first_of (rest_faults (step index) rest) ≡ fault_of [] (within index (rest_of rest))
 rest_reported index [] = refl
 rest_reported index (b ∷ bs) = wrong_is {A = List ReportLine} (step index) Shape (bad Shape) refl

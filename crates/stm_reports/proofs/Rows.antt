@@ -1,4 +1,4 @@
--- Rows of parts, one behind the other. That their faults are those that reading answers, that what was read is spelled, and that what is
+-- Rows of parts, one after the other. That their faults are those that reading answers, that what was read is spelled, and that what is
 -- spelled is read, is proved once, whatever the parts are.
 use Rattle.std.proofs.Common.{◌≡◌, ℕ, suc, List, [], ◌∷◌, Bool, true, false, cond, Option, Some, None, Ok, option_map, refl, sym, ap, subst, ◌∙◌, map}
 use Rattle.serde_json.specs.Data.{Data, array, Items, no_items, item}
@@ -50,7 +50,7 @@ list_part faults read spell reported means reads =
     part (λ d. list_of read (as_array d)) (λ xs. list (map spell xs)) (By (list_faults faults)) (λ p d. list_reported faults read reported p d)
     (λ d xs h. list_means read spell means d xs h) (λ d xs s. list_reads read spell reads d xs s)
 
--- Parts one behind the other, whose values are an X, and what is made of them. Reading begins at an index of the array.
+-- Parts one after the other, whose values are an X, and what is made of them. Reading begins at an index of the array.
 pub record Row (X : Type 0) : Type 1 where
   pub sorts : List Sort
   pub spell : X → List Data
@@ -178,7 +178,7 @@ module _ {X Y : Type 0} (R : Row X) (i : ℕ) (make : X → Y) (f : Items → Ou
       let r = R.reads Y i make ds x s fits in
       is ds ∙ ap (λ (b : Bool). cond b (R.read Y i make ds) (bad Shape)) r.0 ∙ r.1
 
--- an array of such parts alone, or behind a word
+-- an array of such parts alone, or after a word
 module _ {X Y : Type 0} (R : Row X) (make : X → Y) (f : Items → Outcome Y) where
   pub plain_reported : ((ds : Items) → f ds ≡ read_row R 0 make ds) → (p : List ℕ) (ds : Items)
       → first_of (plain_faults R.sorts p (array ds)) ≡ fault_of p (f ds)
@@ -204,7 +204,7 @@ module _ {X Y : Type 0} (R : Row X) (make : X → Y) (f : Items → Outcome Y) w
       subst (λ (z : Y). Spells (worded_array w ds) (spell z) × Fits z) m.1
       (subst (λ (e : Data). Spells (worded_array w ds) e) (sym (spelled m.0)) s, fits m.0 m.3)
 
--- ---- reading by the elements, where there are so many, is such reading
+-- ---- reading by the elements, where there are exactly that many, is such reading
 
 pub one_counted : {Y : Type 0} (body : Items → Outcome Y) (s : Sort) (f : Option Data → Outcome Y) → f None ≡ bad Shape
     → ((a : Data) → f (Some a) ≡ body (items_of (a ∷ []))) → (ds : Items) → f (one_of ds) ≡ counted (s ∷ []) body ds

@@ -53,7 +53,7 @@ pub name_reported : {W : Type 0} (p : List ℕ) (rows : List (List ℕ × W)) (o
 name_reported p rows (Some w) = word_reported p rows w
 name_reported {W} p rows None = wrong_is {A = W} p Shape (bad Shape) refl
 
--- the sorts behind a word, in a table that has them for each word of a list
+-- the sorts after a word, in a table that has them for each word of a list
 sorts_tested : {W : Type 0} (sorts : W → List Sort) (b : Bool) (x : W) (o : Option W) (rest : Option (List Sort)) → rest ≡ option_map sorts o
     → cond b (Some (sorts x)) rest ≡ option_map sorts (cond b (Some x) o)
 sorts_tested sorts true x o rest h = refl

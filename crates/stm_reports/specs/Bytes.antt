@@ -14,7 +14,7 @@ abbrev pub line_length : List ℕ → ℕ
 line_length [] = 0
 line_length (b ∷ bs) = if is_line_feed b then 0 else suc (line_length bs)
 
--- what stands before the first line feed, and what stands behind it
+-- what comes before the first line feed, and what comes after it
 abbrev pub split_behind : List ℕ → List ℕ → Option (List ℕ × List ℕ)
 split_behind front [] = None
 split_behind front (b ∷ behind) = Some (front, behind)

@@ -1,4 +1,4 @@
--- The elements of longer arrays, where there are so many.
+-- The elements of longer arrays, where there are exactly that many.
 use Rattle.std.specs.Prelude.{Option, None, option_map}
 use Rattle.serde_json.specs.Data.{Data, Items, no_items, item}
 use Rattle.stm_json.specs.Elements.{four_of}

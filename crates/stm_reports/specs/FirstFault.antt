@@ -1,5 +1,5 @@
--- The first fault of bytes in a report's place, apart from reading: a table says what stands behind each word, the faults of all
--- lines are listed in the order of reading, none left out behind another, and then the first is taken.
+-- The first fault of bytes in a report's place, apart from reading: a table says what comes after each word, the faults of all
+-- lines are listed in the order of reading, none left out because another comes first, and then the first is taken.
 use Rattle.std.specs.Prelude.{ℕ, suc, ℤ, List, [], ◌∷◌, ◌++◌, length, map, Option, Some, None, if◌then◌else◌, nat_lt, codes, option_and_then}
 use Rattle.serde_json.specs.Data.{Data, null, boolean, string, array, Items, no_items, item}
 use Rattle.serde_json.specs.Find.{as_number, as_integer}
@@ -89,7 +89,7 @@ expired_list = By (list_of (plain_faults expired_sorts))
 
 -- ---- lines
 
--- the words of events' lines, each with what stands behind it
+-- the words of events' lines, each with what comes after it
 abbrev pub event_table : Table
 event_table =
     (codes "started", any_number ∷ [])

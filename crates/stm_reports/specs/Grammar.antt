@@ -46,7 +46,7 @@ CountsFit other = Unit {0}
 abbrev pub SpellsLine : Data → ReportLine → Type 0
 SpellsLine d l = Spells d (line_data l) × CountsFit l
 
--- the parts that bytes are cut into by line feeds: one for each line, which is the JSON of the line's data, and nothing behind
+-- the parts that bytes are cut into by line feeds: one for each line, which is the JSON of the line's data, and nothing after
 abbrev pub SpellsParts : List (List ℕ) → List ReportLine → Type 0
 SpellsParts parts [] = parts ≡ [] ∷ []
 SpellsParts parts (l ∷ ls) = (part : List ℕ) × (rest : List (List ℕ)) × (parts ≡ part ∷ rest)

@@ -1,6 +1,6 @@
 -- The lines of a report, as JSON data: one definition for what is written, what is read and what is checked.
 --
--- The words are those of docs/FORMATS.md, "Reports"; what a transaction's line tells is what etcd's API reference, "Transaction",
+-- The words are those of docs/FORMATS.md, "Reports"; what a transaction's line includes is what etcd's API reference, "Transaction",
 -- has in a `TxnResponse`: whether it succeeded, the header's revision, and a response for each operation.
 use Rattle.std.specs.Prelude.{ℕ, List, [], ◌∷◌, map, Option, Some, None, codes}
 use Rattle.serde_json.specs.Data.{Data, null, boolean, number, string, array, unsigned}
@@ -81,7 +81,7 @@ event_data (event.Delete key revision) = list (word (codes "DELETE") ∷ string 
 
 -- ---- lines
 
--- the number of an event, the word, and what it tells
+-- the number of an event, the word, and what it reports
 abbrev pub numbered : ℕ → List ℕ → List Data → Data
 numbered n w parts = list (whole n ∷ word w ∷ parts)
 

@@ -124,7 +124,7 @@ end_line revision entries = line_data (line.End revision entries)
 
 -- ---- kinds of replies
 
--- the reply tells of a runner
+-- the reply is about a runner
 abbrev pub IsOfRunner : Reply → Type 0
 IsOfRunner (Started runner) = Unit {0}
 IsOfRunner (Prefetched runner revision reads) = Unit {0}
@@ -137,7 +137,7 @@ IsOfRunner (Faulted runner fault) = Unit {0}
 IsOfRunner (Ended runner cause) = Unit {0}
 IsOfRunner other = ⊥
 
--- the reply tells of a commit that the store took
+-- the reply reports a commit that the store took
 abbrev pub IsOfCommit : Reply → Type 0
 IsOfCommit (Committed runner revision attempts output trace answers) = Unit {0}
 IsOfCommit (Conflict runner key seen now) = Unit {0}

@@ -70,7 +70,7 @@ state_array (Some ds) = state_parts (five_of ds)
 unfoldable pub state_of : Data → Outcome KeyState
 state_of d = state_array (as_array d)
 
--- a key and what it had, behind a word
+-- a key and what it had, after a word
 abbrev pub keyed_of : Option (Data × Data × Data × Data × Data × Data) → Outcome (List ℕ × KeyState)
 keyed_of None = bad Shape
 keyed_of (Some p) =

@@ -53,7 +53,7 @@ expireds_of d = list_of expired_of (as_array d)
 abbrev pub events_of : Data → Outcome (List Event)
 events_of d = list_of event_of (as_array d)
 
--- ---- lines of events: the number, and the elements behind the word
+-- ---- lines of events: the number, and the elements after the word
 
 abbrev pub named_of : Data → Option Data → Outcome (ℕ × ℕ)
 named_of n None = bad Shape
@@ -177,7 +177,7 @@ event_line_of event.Batch n ds = batch_of n (three_of ds)
 event_line_of event.Lost n ds = lost_of n (two_of ds)
 event_line_of event.Refused n ds = refused_of n (two_of ds)
 
--- ---- lines of what is left at the end: the elements behind the word
+-- ---- lines of what is left at the end: the elements after the word
 
 abbrev pub key_of : Option (Data × Data × Data × Data × Data × Data) → Outcome ReportLine
 key_of o = keyed_of o >>= λ p. Ok (Key p.0 p.1)
@@ -233,7 +233,7 @@ line_in bytes = line_read (data_of bytes)
 
 -- ---- reports
 
--- nothing may stand behind the last line feed
+-- nothing may come after the last line feed
 abbrev pub rest_of : List ℕ → Outcome (List ReportLine)
 rest_of [] = Ok []
 rest_of (b ∷ bs) = bad Shape

@@ -8,7 +8,7 @@ use crate::line::ReportLine;
 use crate::same::{are_ops, are_same_expired};
 use stm_outcome::{Expired, Refusal, TxnAnswer};
 
-/// The name under which a line tells a refusal of the store.
+/// The name under which a line reports a refusal of the store.
 pub fn reported_cause(cause: Refusal) -> RefusalName
     ensures { result ≡ cause_reported cause }
 {

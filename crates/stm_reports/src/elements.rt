@@ -7,7 +7,7 @@ ghost use Rattle.stm_reports.specs.Elements.{five_of, six_of};
 use serde_json::Value as Json;
 use stm_json::four;
 
-/// The first of some elements, where it is a word, and the elements behind it.
+/// The first of some elements, where it is a word, and the elements after it.
 pub(crate) fn front_word(elements: &[Json]) -> Option<(&str, &[Json])>
     ensures { option_map (λ p. (p.0.now, items_view p.1.now)) result ≡ first_word (items_view elements.now) }
 {

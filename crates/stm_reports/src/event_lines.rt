@@ -1,4 +1,4 @@
-//! Reading the lines of events: the number, the word, and the elements behind it.
+//! Reading the lines of events: the number, the word, and the elements after it.
 ghost use Rattle.serde_json.specs.View.{view, items_view};
 ghost use Rattle.stm_json.specs.Elements.{one_of, two_of, three_of, four_of};
 ghost use Rattle.stm_json.specs.Returns.{Returns};
@@ -17,7 +17,7 @@ use serde_json::Value as Json;
 use std::alloc::Global;
 use stm_json::{Cause, ReadError, fault, four, number_part, one, text_part, three, two};
 
-/// The number of an event, and the one number behind the word.
+/// The number of an event, and the one number after the word.
 fn named(alloc: Global, number: &Json, elements: &[Json]) -> Result<(u64, u64), ReadError>
     ensures { Returns (λ p. p) result (named_of (view number.now) (one_of (items_view elements.now))) }
 {
@@ -379,7 +379,7 @@ fn refused(alloc: Global, number: &Json, elements: &[Json]) -> Result<ReportLine
     })
 }
 
-/// The line of an event, by its word, its number and the elements behind the word.
+/// The line of an event, by its word, its number and the elements after the word.
 pub(crate) fn event_line(
     alloc: Global,
     word: EventWord,

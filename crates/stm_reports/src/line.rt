@@ -3,7 +3,7 @@ use crate::causes::RefusalName;
 use stm_events::{Event, Expired, Fault, KeyRead, TraceItem, Value};
 use stm_history::{KeyState, Sequence, Text};
 
-/// An answer that a commit at ReadCommitted was made on, as its line tells it.
+/// An answer that a commit at ReadCommitted was made on, as its line reports it.
 #[derive(Debug, Drop)]
 pub struct ReportedAnswer {
     /// The key that was read.
@@ -16,7 +16,7 @@ pub struct ReportedAnswer {
     pub of_rev: u64,
 }
 
-/// The answer to one operation of a transaction, as the transaction's line tells it.
+/// The answer to one operation of a transaction, as the transaction's line reports it.
 #[derive(Debug, Drop)]
 pub enum ReportedOp {
     /// What a read showed, and the revision that its answer carries.

@@ -45,7 +45,7 @@ fn end(alloc: Global, elements: &[Json]) -> Result<ReportLine, ReadError>
     Ok(ReportLine::End { revision, entries })
 }
 
-/// A line of what is left at the end, by its first element and the elements behind it.
+/// A line of what is left at the end, by its first element and the elements after it.
 fn standing_line(alloc: Global, word: &str, elements: &[Json]) -> Result<ReportLine, ReadError>
     ensures { Returns (λ l. l) result (standing_named (named standing_words word.now) (items_view elements.now)) }
 {
@@ -59,7 +59,7 @@ fn standing_line(alloc: Global, word: &str, elements: &[Json]) -> Result<ReportL
     }
 }
 
-/// The line of an event, by its first element and the elements behind it.
+/// The line of an event, by its first element and the elements after it.
 fn numbered_line(alloc: Global, number: &Json, rest: &[Json]) -> Result<ReportLine, ReadError>
     ensures { Returns (λ l. l) result (event_worded (view number.now) (first_word (items_view rest.now))) }
 {
@@ -72,7 +72,7 @@ fn numbered_line(alloc: Global, number: &Json, rest: &[Json]) -> Result<ReportLi
     }
 }
 
-/// A line. Its kind is told by its first word, which is the first element or else the second.
+/// A line. Its first word, which is the first element or else the second, says what kind it is.
 #[tactic(auto, unfolding(crate::specs::Reading::line_of))]
 pub(crate) fn line(alloc: Global, value: &Json) -> Result<ReportLine, ReadError>
     ensures { Returns (λ l. l) result (line_of (view value.now)) }

@@ -118,7 +118,7 @@ fn state(alloc: Global, value: &Json) -> Result<KeyState, ReadError>
     }
 }
 
-/// A key and what it had, from the six elements behind a word.
+/// A key and what it had, from the six elements after a word.
 pub(crate) fn keyed(alloc: Global, elements: &[Json]) -> Result<(Text, KeyState), ReadError>
     ensures { Returns (λ p. p) result (keyed_of (six_of (items_view elements.now))) }
 {
@@ -236,7 +236,7 @@ impl Element for Value {
     }
 }
 
-/// What a `get` gave, from the elements behind its word.
+/// What a `get` gave, from the elements after its word.
 fn trace_get(alloc: Global, elements: &[Json]) -> Result<TraceItem, ReadError>
     ensures { Returns (λ t. t) result (trace_get_of (two_of (items_view elements.now))) }
 {
@@ -248,7 +248,7 @@ fn trace_get(alloc: Global, elements: &[Json]) -> Result<TraceItem, ReadError>
     Ok(TraceItem::Get { key, value })
 }
 
-/// What a `rev` gave, from the elements behind its word.
+/// What a `rev` gave, from the elements after its word.
 fn trace_rev(alloc: Global, elements: &[Json]) -> Result<TraceItem, ReadError>
     ensures { Returns (λ t. t) result (trace_rev_of (two_of (items_view elements.now))) }
 {
@@ -309,7 +309,7 @@ impl Element for ReportedAnswer {
     }
 }
 
-/// What a read answered, from the elements behind its word.
+/// What a read answered, from the elements after its word.
 fn op_get(alloc: Global, elements: &[Json]) -> Result<ReportedOp, ReadError>
     ensures { Returns (λ o. o) result (op_get_of (two_of (items_view elements.now))) }
 {
@@ -321,7 +321,7 @@ fn op_get(alloc: Global, elements: &[Json]) -> Result<ReportedOp, ReadError>
     Ok(ReportedOp::Get { revision, kv })
 }
 
-/// What a put answered: there are no elements behind its word.
+/// What a put answered: there are no elements after its word.
 fn op_put(alloc: Global, elements: &[Json]) -> Result<ReportedOp, ReadError>
     ensures { Returns (λ o. o) result (op_put_of (items_view elements.now)) }
 {
@@ -331,7 +331,7 @@ fn op_put(alloc: Global, elements: &[Json]) -> Result<ReportedOp, ReadError>
     }
 }
 
-/// What a delete answered, from the elements behind its word.
+/// What a delete answered, from the elements after its word.
 fn op_del(alloc: Global, elements: &[Json]) -> Result<ReportedOp, ReadError>
     ensures { Returns (λ o. o) result (op_del_of (one_of (items_view elements.now))) }
 {
@@ -410,7 +410,7 @@ impl Element for Expired {
     }
 }
 
-/// A put, from the elements behind its word.
+/// A put, from the elements after its word.
 fn event_put(alloc: Global, elements: &[Json]) -> Result<Event, ReadError>
     ensures { Returns (λ e. e) result (event_put_of (six_of (items_view elements.now))) }
 {
@@ -419,7 +419,7 @@ fn event_put(alloc: Global, elements: &[Json]) -> Result<Event, ReadError>
     Ok(Event::Put { key, state })
 }
 
-/// A deletion, from the elements behind its word.
+/// A deletion, from the elements after its word.
 fn event_delete(alloc: Global, elements: &[Json]) -> Result<Event, ReadError>
     ensures { Returns (λ e. e) result (event_delete_of (two_of (items_view elements.now))) }
 {

@@ -59,7 +59,7 @@ fn line_length(bytes: &[u8]) -> usize
     bytes.len()
 }
 
-/// What stands before the first line feed, and what stands behind it.
+/// What comes before the first line feed, and what comes after it.
 fn first_part(bytes: &[u8]) -> Option<(&[u8], &[u8])>
     ensures { option_map (λ p. (p.0.now, p.1.now)) result ≡ first_cut bytes.now }
 {
@@ -68,7 +68,7 @@ fn first_part(bytes: &[u8]) -> Option<(&[u8], &[u8])>
     Some((front, behind))
 }
 
-/// Nothing may stand behind the last line feed. A fault's place is that of a line there.
+/// Nothing may come after the last line feed. A fault's place is that of a line there.
 fn rest_at(alloc: Global, index: usize, rest: &[u8]) -> Result<(), ReadError>
     ensures { Returns (λ _. []) result (within_list index (rest_of rest.now)) }
 {
@@ -109,7 +109,7 @@ fn report_of_bytes(alloc: Global, bytes: &[u8]) -> Result<Report, ReadError>
 /// The report that bytes spell: lines of JSON in UTF-8, each ended by a line feed.
 ///
 /// It fails by the first fault of the text, with its place and cause: more than 16777216 bytes are too long,
-/// whatever they are, and the place is then empty. Then the lines are looked at in order, and what stands behind
+/// whatever they are, and the place is then empty. Then the lines are looked at in order, and what comes after
 /// the last line feed is a `Shape`; such places begin with the number of the line, from 0. A line is looked at as
 /// JSON first, then its word and its length, and then its elements in order. Or it fails as `OutOfMemory`, where a
 /// growth was refused.

@@ -2,7 +2,7 @@
 use crate::line::ReportLine;
 use stm_history::Sequence;
 
-/// What a report tells, line by line.
+/// What a report says, line by line.
 #[derive(Debug, Drop)]
 pub struct Report {
     /// The lines in order.

@@ -31,7 +31,7 @@ pub(crate) fn is_same_state(left: &Option<KeyState>, right: &Option<KeyState>) -
     }
 }
 
-/// Whether this tells the answer to an operation.
+/// Whether this reports the answer to an operation.
 fn is_op(reported: &ReportedOp, answer: &OpAnswer) -> bool
     ensures { IsTrue result ↔ reported.now ≡ op_reported answer.now }
 {
@@ -53,7 +53,7 @@ fn is_op(reported: &ReportedOp, answer: &OpAnswer) -> bool
     }
 }
 
-/// Whether these tell the answers to the operations of a branch, in their order.
+/// Whether these report the answers to the operations of a branch, in their order.
 pub(crate) fn are_ops(reported: &[ReportedOp], answers: &[OpAnswer]) -> bool
     ensures { IsTrue result ↔ reported.now ≡ map op_reported answers.now }
 {

@@ -1,11 +1,11 @@
-//! The words that lines are told apart by, and the names of faults and refusals.
+//! The words that distinguish the lines, and the names of faults and refusals.
 ghost use Rattle.std.specs.Prelude.{◌≡◌, map};
 ghost use Rattle.stm_reports.specs.Words.{named, event_words, standing_words, fault_words, refusal_words};
 
 use crate::causes::RefusalName;
 use stm_meaning::Fault;
 
-/// The word of an event's line, which stands behind the number.
+/// The word of an event's line, which comes after the number.
 #[derive(Clone, Copy, Debug, PartialEq, Eq)]
 pub enum EventWord {
     /// `started`

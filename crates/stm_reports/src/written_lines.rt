@@ -28,7 +28,7 @@ fn named_json(alloc: Global, number: u64, word: &str, id: u64) -> Result<Json, A
     Ok(Parts::numbered(alloc, number, word)?.whole(id)?.array())
 }
 
-/// The line of a runner's end, with what tells why.
+/// The line of a runner's end, with the text that says why.
 fn reported_json(
     alloc: Global,
     number: u64,
@@ -202,7 +202,7 @@ fn reply_json(alloc: Global, number: u64, reply: &Reply) -> Result<Json, AllocEr
     }
 }
 
-/// The name under which a line tells why an event was refused.
+/// The name under which a line reports why an event was refused.
 fn reported_refusal(cause: Refusal) -> RefusalName
     ensures { result ≡ refusal_reported cause }
 {

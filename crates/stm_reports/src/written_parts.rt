@@ -9,7 +9,7 @@ use serde_json::Value as Json;
 use std::alloc::{AllocError, Global};
 use stm_history::KeyState;
 
-/// The parts of an array so far. Each step takes them and gives them back with more behind, or fails where a growth
+/// The parts of an array so far. Each step takes them and gives them back with more at the end, or fails where a growth
 /// was refused.
 #[derive(Drop)]
 pub(crate) struct Parts {

@@ -341,9 +341,9 @@ step_kept (Compact revision) w k =
     (compacted_kept s k revision)
     ∙ quiet_kept (λ _. Compacted revision) (raised s revision) w
 
--- ---- what is told of the whole world
+-- ---- what is reported of the whole world
 
--- what an event told and left over what is kept, it tells and leaves of the whole world, too
+-- what an event reported and left over what is kept, it reports and leaves of the whole world, too
 pub record Lifted (event : WorldEvent) (reply : Result Reply Denied) (w next : World) : Type 0 where
   pub after : World
   pub reports : Returns event reply w after
@@ -376,7 +376,7 @@ stepped_lifts event reply w next same is = (
   sym is.next_is ∙ ap (λ (x : Stepped). x.next) same,
 )
 
--- want of memory
+-- where memory runs out
 abbrev WantLifts : WorldEvent → List Expired → World → World → Type 0
 WantLifts event expired w next = (after : World) × OutOfMemoryReturns event expired w after × (next ≡ kept_world after)
 

@@ -135,7 +135,7 @@ named_of answers keys is named =
     by [] all = All-nil IsNamed
     by (a ∷ l) all = All-cons IsNamed a l all.0 (by l all.1)
 
--- the answers to the list are what the runner has read, before what serves behind them
+-- the answers to the list are what the runner has read, before what serves after them
 pub listed_runner : (task : Task) (failures : ℕ) (attempt : AttemptState) (answers : List ReadAnswer) →
     (view_of task failures (supplied_all answers attempt)).runner ≡ with_answers answers (view_of task failures attempt).runner
 listed_runner task failures attempt answers = refl

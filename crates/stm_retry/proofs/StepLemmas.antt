@@ -61,7 +61,7 @@ use Rattle.stm_retry.proofs.SlotLemmas.{put_back, put_there}
 
 -- ---- whether the list is due ----
 
--- the list is not due, and this is next behind it
+-- the list is not due, and this is what comes next after it
 pub record IsBehind (r : Runner) (next : Next) : Type 0 where
   pub has_list : is_due r.task.program.prefetch r.known.reads ≡ false
   pub is_next : next_after r.task.program r.task.level r.known.reads (run_on r.task.program r.known.reads) ≡ next
@@ -202,7 +202,7 @@ show_one h (key ∷ keys) = show_now h keys
 pub listed_show_one : (s : Standing) (keys : List (List ℕ)) (answers : List ReadAnswer) → fetch_all_reported s keys ≡ Ok answers → ShowOneRevision answers
 listed_show_one s keys answers is = subst ShowOneRevision (are_answers s keys answers is).are_now (show_one s.history keys)
 
--- what a fetch of a list that the store answered tells and leaves, where a growth was refused too
+-- what a fetch of a list that the store answered reports and leaves, also where an allocation failed
 pub list_answers : (s : Standing) (id revision : ℕ) (keys : List (List ℕ)) (answers : List ReadAnswer) (outcome : Result StepOutcome AllocError) →
     revision ≡ now s.history → fetch_all_reported s keys ≡ Ok answers →
     IfOk outcome (λ reported. reported ≡ GoesOn (Prefetched id revision (map key_read answers))) →
@@ -309,7 +309,7 @@ fetch_leaves id r q j after key at reported x reported_is runner_is journal_is s
     ∙ step_fetches id r key at w
     ∙ fetched_leaves id r q j after slots key (fetch_reported j.standing key at) reported reported_is runner_is journal_is
 
--- what a fetch that the store answered tells and leaves, where a growth was refused too
+-- what a fetch that the store answered reports and leaves, also where an allocation failed
 answered_key : (s : Standing) (key : List ℕ) (at : ℕ) (a : ReadAnswer) (below : Bool) →
     cond below (Err Compacted) (Ok (fetched s.history key at)) ≡ Ok a → key ≡ a.key
 answered_key s key at a true is = absurd (cc)

@@ -1,4 +1,4 @@
--- A run that want of memory stopped goes on alike behind the stop.
+-- A run that was stopped because memory ran out goes on alike after the stop.
 use Rattle.std.proofs.Common.{◌≡◌, ◌≢◌, ◌≤◌, ◌∙◌, ◌⊎◌, inl, inr, ℕ, zero, suc, cond, List, [], ◌∷◌, ◌++◌, length, length-append, take, drop}
 use Rattle.std.proofs.Common.{Option, Some, None, Result, Ok, Err, refl, sym, ap, subst, arith, append_assoc}
 use Rattle.std.specs.Prelude.{slice_get, IfErr}
@@ -83,7 +83,7 @@ first_by_due start left e es None due come rest =
     let never : [] ≡ e ∷ es = ap (λ (a : StoreAdvance). a.expired) come in absurd (cc)
 first_by_due start left e es (Some id) due come rest = first_by_end start left id e es (ended start id) due refl come rest
 
--- whatever expired first, what is left expires behind it
+-- whatever expired first, what is left expires after it
 rest_expires : (expired : List Expired) (start left : Standing) → HasCome start expired left → expire_all start ≡ after expired (expire_all left)
 rest_expires [] start left come = ap (λ (a : StoreAdvance). expire_all a.leaves) come
 rest_expires (e ∷ es) start left come =
@@ -230,13 +230,13 @@ all_runs_go_on (s ∷ stops) events w are =
 pub stops_go_on : StopsGoOn
 stops_go_on = record { advances = advances_go_on; events = events_repeat; runs = runs_go_on; all_runs = all_runs_go_on }
 
--- ---- ways to go on that are none ----
+-- ---- wrong accounts of how a run goes on ----
 
 reported_length : (moment : ℕ) (expired : List Expired) (cause : Option Refusal) → length (expired_reported (advance_reply moment expired cause)) ≡ length expired
 reported_length moment expired None = refl
 reported_length moment expired (Some cause) = refl
 
--- an advance does not tell what is left as though nothing had expired before
+-- an advance does not report what is left as though nothing had expired before
 twice_reported : (moment : ℕ) (expired rest : List Expired) (cause : Option Refusal) → expired ≢ [] →
     with_expired expired (advance_reply moment rest cause) ≡ advance_reply moment rest cause → ⊥
 twice_reported moment [] rest cause some same = some refl

@@ -1,4 +1,4 @@
--- What the events about watchers tell and leave.
+-- What the events about watchers report and leave.
 use Rattle.std.proofs.Common.{◌≡◌, ◌≢◌, ◌∙◌, ℕ, ◌-◌, Bool, true, false, cond, List, [], Option, Some, None, Result, Ok, Err, refl, sym, ap, subst, slice_set}
 use Rattle.std.specs.Prelude.{IsOk}
 use Rattle.stm_watch.specs.Watching.{Watching}
@@ -25,14 +25,14 @@ use Rattle.stm_world.proofs.Wants.{NeverWants}
 use Rattle.stm_journal.specs.JournalState.{JournalState, with_store}
 use Rattle.stm_retry.proofs.CallLemmas.{refusal_reports, world_with, QuietReturns, quiet_returns}
 
--- ---- what is told ----
+-- ---- what is reported ----
 
 -- the world's step at an event is this call of the store, which is no entry
 abbrev pub IsWatchCall : {A : Type 0} → WorldEvent → (A → Reply) → Standing → Result (StoreStep A) StoreRefusal → Type 0
 IsWatchCall event report s o =
     (runners : List Slot) (es : List Entry) → step event (world_with runners s es) ≡ quietly_called (reply_to report o) (store_after_call s o) (world_with runners s es)
 
--- want of memory is told of the event where the step takes it
+-- the event may be refused as out of memory where the step takes it
 abbrev pub MayWant : WorldEvent → Standing → Type 0
 MayWant event s = (runners : List Slot) (es : List Entry) → IsOk (step event (world_with runners s es)).reply →
     OutOfMemoryReturns event [] (world_with runners s es) (world_with runners s es)
@@ -106,7 +106,7 @@ lost_reports s id most is es runners =
     let one : step (Poll id most) (world_with runners s es) ≡ poll_stepped s id (Err Compacted) runners es = stepped_as s id most (Err Compacted) is runners es in
     record { reply_is = ap (λ (x : Stepped). x.reply) one; next_is = ap (λ (x : Stepped). x.next) one }
 
--- memory was wanting
+-- an allocation failed
 out_of_memory_reports : (s : Standing) (id most : ℕ) (done : StoreStep Batch) → polled s id most ≡ Ok done →
     QuietReturns (Poll id most) (denied (Store OutOfMemory)) s s
 out_of_memory_reports s id most done is es runners =

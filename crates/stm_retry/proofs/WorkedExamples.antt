@@ -1,4 +1,4 @@
--- Worked examples of an advance that want of memory cut short, and of what is run behind it.
+-- Worked examples of an advance that was cut short because memory ran out, and of what is run after it.
 use Rattle.std.proofs.Common.{◌≡◌, ◌≤◌, ◌∙◌, inr, ℕ, Bool, true, false, cond, List, [], ◌∷◌, length, map, Option, Some, None, Ok, refl, sym, ap, subst, arith}
 use Rattle.std.specs.Prelude.{codes, option_map}
 use Rattle.std.specs.Ordering.{nat_cmp, eq_by_cmp, is_eq}
@@ -52,7 +52,7 @@ due_in : (live : Live) (now : ℕ) (es : List (ℕ × Term)) → entries live �
 due_in live now es is =
     ap (option_map (λ (d : DueLease). d.id)) (listed live now (keys live)) ∙ ap (λ (l : List (ℕ × Term)). due_of l now) is
 
--- ---- two leases, which are due at moment 5: key a hangs on lease 1, and key b on lease 2
+-- ---- two leases, which are due at moment 5: key a is attached to lease 1, and key b to lease 2
 
 abbrev term : Term
 term = record { ttl = 5; renewed = 0 }
@@ -187,7 +187,7 @@ is_stop = inr (
   },
 )
 
--- what is told where memory suffices
+-- what is reported where memory suffices
 both_are_reported : replies_to advance world ≡ Ok (Advanced 9 (first_expired ∷ second_expired ∷ [])) ∷ []
 both_are_reported = ap (λ (a : StoreAdvance). advance_reply 9 a.expired a.cause ∷ []) both_expire
 
@@ -201,7 +201,7 @@ each_is_entered_once = ap (λ (a : StoreAdvance). Expire 1 ∷ expiries a.expire
 goes_on : GoesOnAlike advance 0 (first_expired ∷ []) world cut
 goes_on = stops_go_on.runs advance 0 (first_expired ∷ []) world cut is_stop
 
--- it does not tell both again
+-- it does not report both again
 not_both_again : replies_to advance cut ≡ Ok (Advanced 9 (first_expired ∷ second_expired ∷ [])) ∷ [] → ⊥
 not_both_again again =
     wrong_stops.list_reported_again advance 0 (first_expired ∷ []) world cut is_stop (λ is. absurd (cc)) (both_are_reported ∙ sym again)

@@ -1,4 +1,4 @@
--- What the calls of a world keep and tell.
+-- What the calls of a world keep and report.
 use Rattle.std.proofs.Common.{◌≡◌, ◌<◌, ◌∙◌, ◌⊎◌, inl, inr, ℕ, ◌+◌, List, [], ◌∷◌, ◌++◌, length, Option, Some, None, Result, Ok, Err, Bool}
 use Rattle.std.proofs.Common.{true, false, cond}
 use Rattle.std.proofs.Common.{refl, sym, ap, subst, get_or, drop, take, append_assoc, OnOk, OnErr}
@@ -130,7 +130,7 @@ start_plain : (task : Task) (w : World) → PlainOnly (start_runner task w).repl
 unfolding start_runner
 start_plain task w = start_by (nat_eq task.limit 0) w _ tt
 
--- ---- what is told of them ----
+-- ---- what is reported of them ----
 
 plain_reports : (event : WorldEvent) (d : Denied) (cause : Refusal) (old new : World) → IsPlain cause → IsStep (step event old) (Err d) new →
     RefusalReturns cause event d old new
@@ -138,7 +138,7 @@ plain_reports event d (Store cause) old new plain is = elim plain [ ]
 plain_reports event d BadLimit old new plain is = is
 plain_reports event d NoRunner old new plain is = is
 
--- an event of a runner: what the call of the machine makes is what is told
+-- an event of a runner: what the call of the machine makes is what is reported
 runner_reports : (event : WorldEvent) (outcome : Result (Result Reply Denied) AllocError) (old new : World) → PlainOnly (step event old).reply →
     (new ≡ old → IsOk (step event old).reply → OutOfMemoryReturns event [] old new) → StepReturns outcome old new (step event old) →
     Returns event (as_reply outcome) old new
@@ -190,7 +190,7 @@ want_sound (Compact revision) expired old new sound want = absurd want
 is_step_sound : (event : WorldEvent) (reply : Result Reply Denied) (old new : World) → IsSound old → IsStep (step event old) reply new → IsSound new
 is_step_sound event reply old new sound is = subst IsSound is.next_is (step_is_sound event old sound)
 
--- what is told of a refusal, by whether it is want of memory
+-- what is reported of a refusal, by whether memory ran out
 store_cases : (cause : StoreRefusal) (event : WorldEvent) (d : Denied) (old new : World) → StoreRefusalReturns cause event d old new →
     ((is_out_of_memory_of_store cause ≡ true) × OutOfMemoryReturns event d.expired old new) ⊎ ((is_out_of_memory_of_store cause ≡ false) × IsStep (step event old) (Err d) new)
 store_cases OutOfMemory event d old new reported = inl (refl, reported)
@@ -218,7 +218,7 @@ refused_sound : (event : WorldEvent) (d : Denied) (old new : World) → IsSound 
 refused_sound event d old new sound (inl want) = want_sound event d.expired old new sound want.1
 refused_sound event d old new sound (inr is) = is_step_sound event (Err d) old new sound is.1
 
--- whatever is told of an event, the world stays sound
+-- whatever is reported of an event, the world stays sound
 pub reports_sound : (event : WorldEvent) (reply : Result Reply Denied) (old new : World) → IsSound old → Returns event reply old new → IsSound new
 reports_sound event (Ok reply) old new sound reported = is_step_sound event (Ok reply) old new sound reported
 reports_sound event (Err d) old new sound reported = refused_sound event d old new sound (refusal_cases d.cause event d old new reported)

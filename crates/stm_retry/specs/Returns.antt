@@ -1,6 +1,6 @@
--- What a call that takes events tells and leaves, also where memory runs out.
+-- What a call that takes events reports and leaves, also where memory runs out.
 --
--- The step of the world says what each event comes to. That want of memory is told of an event that the step takes, and what
+-- The step of the world says what each event comes to. That an event which the step takes may be refused as out of memory, and what
 -- it leaves, is our own.
 use Rattle.std.specs.Prelude.{◌≡◌, ◌⊎◌, ℕ, ◌≤◌, List, [], take, Bool, true, false, Option, None, Some, Result, Ok, Err, IsOk, slice_get}
 use Rattle.stm_outcome.specs.declared.advance.Expired.{Expired}
@@ -25,14 +25,14 @@ pub record IsStep (s : Stepped) (reply : Result Reply Denied) (new : World) : Ty
 abbrev pub IsUnchanged : List Expired → World → World → Type 0
 IsUnchanged expired old new = (expired ≡ []) × (new ≡ old)
 
--- An advance that want of memory cut short: the moment is set, these leases expired in their order and are entries, and the
+-- An advance that was cut short because memory ran out: the moment is set, these leases expired in their order and are entries, and the
 -- rest, of which the first could end, stays due.
 pub record IsCutShort (moment : ℕ) (expired : List Expired) (old new : World) : Type 0 where
   pub come : HasCome (at_moment old.standing moment) expired new.standing
   pub stopped : IsStopped (advanced old.standing moment) expired new.standing
   pub rest : new ≡ after_expiries old new.standing expired
 
--- Want of memory is told only of an event that the step takes, and of an advance that does not go back; and never of a compaction, which
+-- Out of memory is reported only of an event that the step takes, and of an advance that does not go back; and never of a compaction, which
 -- takes none. The world is as it was, or the advance was cut short.
 abbrev pub OutOfMemoryReturns : WorldEvent → List Expired → World → World → Type 0
 OutOfMemoryReturns (Advance moment) expired old new =
@@ -61,22 +61,22 @@ abbrev pub is_want : Refusal → Bool
 is_want (Store cause) = is_out_of_memory_of_store cause
 is_want other = false
 
--- an event was refused for want of memory
+-- an event was refused as out of memory
 abbrev pub ran_out : Result Reply Denied → Bool
 ran_out (Ok reply) = false
 ran_out (Err denied) = is_want denied.cause
 
--- the leases that had expired by a refusal
+-- the leases that had expired before a refusal
 abbrev pub expired_of : Result Reply Denied → List Expired
 expired_of (Ok reply) = []
 expired_of (Err denied) = denied.expired
 
--- what want of memory tells and leaves at an event of a run
+-- what an event of a run reports and leaves where memory runs out
 abbrev pub OutOfMemoryReturnsAt : Option WorldEvent → List Expired → World → World → Type 0
 OutOfMemoryReturnsAt None expired before new = ⊥
 OutOfMemoryReturnsAt (Some event) expired before new = OutOfMemoryReturns event expired before new
 
--- A run of events that want of memory stopped after so many of them: before the first one, where there was no room for the
+-- A run of events that ran out of memory after `taken` of them: before the first one, where there was no room for the
 -- replies, or at the next one.
 abbrev pub IsRunStop : List WorldEvent → ℕ → List Expired → World → World → Type 0
 IsRunStop events taken expired old new =

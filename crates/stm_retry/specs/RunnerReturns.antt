@@ -1,4 +1,4 @@
--- What a step of a runner tells, and what it leaves of the journal and the runner.
+-- What a step of a runner reports, and what it leaves of the journal and the runner.
 use Rattle.std.specs.Prelude.{◌≡◌, ℕ, ◌+◌, nat_lt, Bool, false, if◌then◌else◌, List, map, Result, Ok, Err}
 use Rattle.stm_history.specs.declared.key_state.ReadAnswer.{ReadAnswer}
 use Rattle.stm_history.specs.History.{mod_of}
@@ -53,7 +53,7 @@ abbrev pub slot_left : Result StepOutcome AllocError → Runner → Slot
 slot_left (Ok reported) r = slot_after reported r
 slot_left (Err e) r = Live r
 
--- The step's reply is told, and its next world is left, whatever stands at the places of the runners; or memory ran out, and
+-- The step's reply is reported, and its next world is left, whatever stands at the places of the runners; or memory ran out, and
 -- all is as it was.
 abbrev pub Leaves : ℕ → Result StepOutcome AllocError → Workplace → Workplace → (World → Stepped) → Type 0
 Leaves id (Ok reported) before after step =
@@ -61,7 +61,7 @@ Leaves id (Ok reported) before after step =
     ≡ record { reply = Ok (reply_in reported); next = world_around after (with_slot id (slot_after reported after.runner) slots) }
 Leaves id (Err e) before after step = after ≡ before
 
--- what a fetch of a key tells, by what it comes to: one that the store refuses ends the run
+-- what a fetch of a key reports, by what it comes to: one that the store refuses ends the run
 abbrev pub reported_of_fetch : ℕ → List ℕ → Result ReadAnswer StoreRefusal → StepOutcome
 reported_of_fetch id key (Ok a) = GoesOn (Fetched id key (mod_of a.kv) a.of_rev a.revision)
 reported_of_fetch id key (Err cause) = Ends (Ended id cause)
@@ -71,11 +71,11 @@ abbrev pub after_reported_fetch : Result ReadAnswer StoreRefusal → Runner → 
 after_reported_fetch (Ok a) r = with_answer a r
 after_reported_fetch (Err cause) r = r
 
--- what is told of an answer to a key of a list
+-- what is reported of an answer to a key of a list
 abbrev pub key_read : ReadAnswer → KeyRead
 key_read a = record { key = a.key; mod_rev = mod_of a.kv }
 
--- what a fetch of a list tells where this is the store's revision: one that the store refuses ends the run
+-- what a fetch of a list reports where this is the store's revision: one that the store refuses ends the run
 abbrev pub reported_of_list : ℕ → ℕ → Result (List ReadAnswer) StoreRefusal → StepOutcome
 reported_of_list id revision (Ok answers) = GoesOn (Prefetched id revision (map key_read answers))
 reported_of_list id revision (Err cause) = Ends (Ended id cause)
@@ -102,7 +102,7 @@ pub record IsReady (r : Runner) (run : Run) (ready : ReadyRun) : Type 0 where
 abbrev pub may_go_on : Runner → Bool
 may_go_on r = nat_lt (r.failures + 1) r.task.limit
 
--- what a commit that failed tells
+-- what a commit that failed reports
 abbrev pub reported_of_failure : ℕ → Runner → List ℕ → ℕ → ℕ → StepOutcome
 reported_of_failure id r key seen modified =
     if may_go_on r then GoesOn (Conflict id key seen modified) else Ends (GaveUp id (r.failures + 1) key seen modified)

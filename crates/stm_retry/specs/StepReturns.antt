@@ -1,4 +1,4 @@
--- What a call that makes a step of a runner tells and leaves.
+-- What a call that makes a step of a runner reports and leaves.
 use Rattle.std.specs.Prelude.{◌≡◌, Result, Ok, Err, IsOk}
 use Rattle.std.specs.declared.alloc.AllocError.{AllocError}
 use Rattle.stm_events.specs.declared.reply.Reply.{Reply}
@@ -14,7 +14,7 @@ abbrev pub Returns : Result (Result Reply Denied) AllocError → World → World
 Returns (Ok reply) old new s = (s.reply ≡ reply) × (s.next ≡ new)
 Returns (Err e) old new s = (new ≡ old) × IsOk s.reply
 
--- the reply of such a call to the world's caller: want of memory is a refusal, too
+-- the reply of such a call to the world's caller: out of memory is a refusal, too
 abbrev pub as_reply : Result (Result Reply Denied) AllocError → Result Reply Denied
 as_reply (Ok reply) = reply
 as_reply (Err e) = denied (Store OutOfMemory)

@@ -1,4 +1,4 @@
--- What a run of events that want of memory stopped comes to, once the rest of the events is run from the world that it left.
+-- What a run of events that ran out of memory comes to, once the rest of the events is run from the world that it left.
 --
 -- What each event comes to is the step of the world. That a list of events can be taken up where a run of it stopped is our own.
 use Rattle.std.specs.Prelude.{◌≡◌, ◌≢◌, ℕ, ◌≤◌, List, [], ◌∷◌, ◌++◌, take, drop, Result, Ok, Err}
@@ -11,7 +11,7 @@ use Rattle.stm_events.specs.declared.refusal.Denied.{Denied}
 use Rattle.stm_world.specs.World.{World, step, world_after, replies_to}
 use Rattle.stm_retry.specs.Returns.{IsStep, OutOfMemoryReturns, IsRunStop}
 
--- a reply with leases in front that had expired before: an advance tells them first, also where it is refused
+-- a reply with leases in front that had expired before: an advance reports them first, also where it is refused
 abbrev pub with_expired : List Expired → Result Reply Denied → Result Reply Denied
 with_expired before (Ok (Advanced moment expired)) = Ok (Advanced moment (before ++ expired))
 with_expired before (Ok other) = Ok other
@@ -22,8 +22,8 @@ abbrev pub first_with_expired : List Expired → List (Result Reply Denied) → 
 first_with_expired before [] = []
 first_with_expired before (reply ∷ replies) = with_expired before reply ∷ replies
 
--- An event is taken again where want of memory left this world. It gets the reply that it would have got at first, but that an
--- advance tells only what had not expired by then; and it leads to the same world.
+-- An event that ran out of memory is taken again from the world that it left. It gets the reply that it would have got at first, but that an
+-- advance reports only what had not expired by then; and it leads to the same world.
 abbrev pub RepeatsAlike : WorldEvent → List Expired → World → World → Type 0
 RepeatsAlike event expired old new = IsStep (step event old) (with_expired expired (step event new).reply) (step event new).next
 
@@ -48,7 +48,7 @@ abbrev pub AreStops : List Stop → List WorldEvent → World → Type 0
 AreStops [] events w = Unit {0}
 AreStops (s ∷ stops) events w = IsRunStop events s.done s.expired w s.left × AreStops stops (drop s.done events) s.left
 
--- the events that are left behind the last stop, and the world that it left
+-- the events that are left after the last stop, and the world that it left
 abbrev pub events_left : List Stop → List WorldEvent → List WorldEvent
 events_left [] events = events
 events_left (s ∷ stops) events = events_left stops (drop s.done events)
@@ -57,20 +57,20 @@ abbrev pub world_left : List Stop → World → World
 world_left [] w = w
 world_left (s ∷ stops) w = world_left stops s.left
 
--- the replies to all events, where those behind the last stop are run to the end
+-- the replies to all events, where those after the last stop are run to the end
 abbrev pub reported_in_all : List Stop → List WorldEvent → World → List (Result Reply Denied)
 reported_in_all [] events w = replies_to events w
 reported_in_all (s ∷ stops) events w =
     replies_to (take s.done events) w ++ first_with_expired s.expired (reported_in_all stops (drop s.done events) s.left)
 
--- Behind all these stops the replies are those of a run that was never stopped, and so is the world after it.
+-- After all these stops the replies are those of a run that was never stopped, and so is the world after it.
 pub record ComeToTheWhole (stops : List Stop) (events : List WorldEvent) (w : World) : Type 0 where
   pub replies : replies_to events w ≡ reported_in_all stops events w
   pub world : world_after events w ≡ world_after (events_left stops events) (world_left stops w)
 
 -- ---- the laws ----
 
--- What want of memory stopped goes on alike, wherever and however often it is stopped.
+-- An advance, an event or a run that ran out of memory goes on alike, wherever and however often it is stopped.
 pub record StopsGoOn : Type 0 where
   -- an advance that was cut after any of its expiries: the same advance expires the rest, and comes to the same store and cause
   pub advances : (s left : Standing) (moment : ℕ) (expired : List Expired) → s.moment ≤ moment → HasCome (at_moment s moment) expired left
@@ -81,9 +81,9 @@ pub record StopsGoOn : Type 0 where
       → GoesOnAlike events taken expired old new
   pub all_runs : (stops : List Stop) (events : List WorldEvent) (w : World) → AreStops stops events w → ComeToTheWhole stops events w
 
--- Ways to go on behind an advance that had expired some leases when it was stopped, which are none.
+-- Wrong accounts of how a run goes on after an advance that had expired some leases when it was stopped: none of them holds.
 pub record WrongStops : Type 0 where
-  -- the advance tells its whole list again
+  -- the advance reports its whole list again
   pub list_reported_again : (events : List WorldEvent) (taken : ℕ) (expired : List Expired) (old new : World) → IsRunStop events taken expired old new
       → expired ≢ [] → replies_to events old ≡ replies_to (take taken events) old ++ replies_to (drop taken events) new → ⊥
   -- the world is as it was before the advance

@@ -77,7 +77,7 @@ fn replace_attempt(place: &mut Attempt, next: Attempt)
 }
 
 impl Runner {
-    /// A runner whose run has sent no commit, and may send so many. It takes no memory.
+    /// A runner whose run has sent no commit, and may send at most `limit`. It takes no memory.
     pub(crate) fn new(alloc: Global, program: Program, level: Level, limit: u32) -> Runner
         requires { limit ≢ 0 }
         ensures { result.runner ≡ begin (task_of program level limit) }
@@ -93,7 +93,7 @@ impl Runner {
 
     /// Goes on with the program as far as the answers take it. The runner knew before what it knows then.
     ///
-    /// Want of memory is the only refusal, and leaves the runner as it was.
+    /// Out of memory is the only refusal, and leaves the runner as it was.
     pub(crate) fn advance(&mut self) -> Result<Next, AllocError>
         ensures same { self.new.runner ≡ self.old.runner }
         ensures next { IfOk result (λ next. next ≡ next_for self.old.runner) }
@@ -109,7 +109,7 @@ impl Runner {
 
     /// Takes the answer that the runner waits for.
     ///
-    /// Want of memory is the only refusal, and leaves the runner as it was.
+    /// Out of memory is the only refusal, and leaves the runner as it was.
     pub(crate) fn supply(&mut self, answer: ReadAnswer) -> Result<(), AllocError>
         requires asked { self.old.awaits ≡ Some answer.key }
         requires in_range { ReadFits answer }
@@ -121,7 +121,7 @@ impl Runner {
 
     /// Takes the answers to the list that the runner waits for, in its order. All show one revision.
     ///
-    /// Want of memory is the only refusal, and leaves the runner as it was.
+    /// Out of memory is the only refusal, and leaves the runner as it was.
     pub(crate) fn supply_all(&mut self, answers: Vec<ReadAnswer>) -> Result<(), AllocError>
         requires asked { self.old.awaits_list ≡ Some (map (λ (a : Answer). a.key) answers.items) }
         requires in_range { All ReadFits answers.items }
@@ -152,7 +152,7 @@ impl Runner {
 
     /// Begins the next attempt, for which a failed commit has read these answers.
     ///
-    /// Want of memory is the only refusal, and leaves the runner as it was.
+    /// Out of memory is the only refusal, and leaves the runner as it was.
     pub(crate) fn begin_again(
         &mut self,
         alloc: Global,

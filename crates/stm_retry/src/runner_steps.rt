@@ -81,7 +81,7 @@ fn fetch(
     }
 }
 
-/// What is told of the answer to a key of a list.
+/// What is reported of the answer to a key of a list.
 fn read_reported(answer: &ReadAnswer) -> Result<KeyRead, AllocError>
     ensures { IfOk result (λ read. read ≡ key_read answer.now) }
 {
@@ -90,7 +90,7 @@ fn read_reported(answer: &ReadAnswer) -> Result<KeyRead, AllocError>
     Ok(KeyRead { key, mod_rev })
 }
 
-/// What is told of the answers to a list, in their order.
+/// What is reported of the answers to a list, in their order.
 fn reads_reported(alloc: Global, answers: &[ReadAnswer]) -> Result<Sequence<KeyRead>, AllocError>
     ensures { IfOk result (λ reads. reads ≡ map key_read answers.now) }
 {
@@ -315,7 +315,7 @@ fn slot_after(reported: &Result<StepOutcome, AllocError>, runner: SharedRunner) 
     }
 }
 
-/// The reply that was told.
+/// The reply that was reported.
 fn reply_in(reported: StepOutcome) -> Reply
     ensures { result ≡ reply_in reported }
 {
@@ -336,9 +336,9 @@ fn reply_of(outcome: Result<StepOutcome, AllocError>) -> Result<Result<Reply, De
 }
 
 impl Parts {
-    /// Adds a runner, whose run may send so many commits, and gives its number.
+    /// Adds a runner, whose run may send at most `limit` commits, and returns its number.
     ///
-    /// Want of memory is the only refusal, and leaves the world as it was.
+    /// Out of memory is the only refusal, and leaves the world as it was.
     pub(crate) fn add_runner(
         &mut self,
         alloc: Global,
@@ -357,8 +357,8 @@ impl Parts {
         Ok(self.runners.len() as u64)
     }
 
-    /// Starts a run of a program, which may send so many commits. A limit of 0 is refused before any memory is
-    /// taken; want of memory leaves the world as it was.
+    /// Starts a run of a program, which may send at most `limit` commits. A limit of 0 is refused before any memory is
+    /// taken; an allocation failure leaves the world as it was.
     pub(crate) fn start(
         &mut self,
         alloc: Global,
@@ -378,8 +378,8 @@ impl Parts {
 
     /// Makes one step of a runner. One that is not there is refused before any memory is taken.
     ///
-    /// The runner is taken from its place for the step, and put back, or the end of its run noted, after it. Want
-    /// of memory leaves the world as it was.
+    /// The runner is taken from its place for the step, and put back, or the end of its run noted, after it. Where
+    /// memory runs out the world is as it was.
     pub(crate) fn step_runner(
         &mut self,
         alloc: Global,

@@ -13,7 +13,7 @@ use std::marker::Model;
 use std::sync::Arc;
 use stm_journal::Journal;
 
-/// A runner that stands once for a world and its copies, until one of them makes a step of it.
+/// One runner for a world and its copies, until one of them makes a step of it.
 ///
 /// Contracts see the runner.
 #[derive(Drop)]

@@ -1,4 +1,4 @@
-//! What a step of a runner tells.
+//! What a step of a runner reports.
 use stm_world::Reply;
 
 /// The reply to a step of a runner.

@@ -47,7 +47,7 @@ pub(crate) fn watch_range(
     }
 }
 
-/// The reply to a poll that the store refused: a watcher that is lost is told so, with the floor of the store.
+/// The reply to a poll that the store refused: `Lost`, with the floor of the store, for a watcher that is lost.
 fn refuse_poll(
     alloc: Global,
     watcher: u64,
@@ -63,7 +63,7 @@ fn refuse_poll(
     refuse(alloc, cause)
 }
 
-/// Gives what is pending for a watcher, of at most so many revisions. One that is lost is told so, and given up.
+/// Returns what is pending for a watcher, of at most `most` revisions. A poll of one that is lost returns `Lost`, and gives it up.
 pub(crate) fn poll(
     alloc: Global,
     journal: &mut Journal,

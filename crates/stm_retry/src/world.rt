@@ -74,7 +74,7 @@ impl Model for World {
     ghost invariant = { λ w. IsKeptBy w.parts.standing (whole_world w.opened w.parts) };
 }
 
-/// A run of events that want of memory stopped.
+/// Where a run of events stopped because memory ran out.
 #[derive(Debug, Drop)]
 pub struct RunStop {
     /// How many events were taken before.
@@ -83,7 +83,7 @@ pub struct RunStop {
     pub expired: Sequence<Expired>,
 }
 
-/// Whether an event was refused for want of memory.
+/// Whether an event was refused as out of memory.
 fn is_out_of_memory(reply: &Result<Reply, Denied>) -> bool
     ensures { result ≡ ran_out reply.now }
 {
@@ -93,7 +93,7 @@ fn is_out_of_memory(reply: &Result<Reply, Denied>) -> bool
     }
 }
 
-/// The leases that had expired by a refusal.
+/// The leases that had expired before a refusal.
 fn expired_of(alloc: Global, reply: Result<Reply, Denied>) -> Sequence<Expired>
     ensures { result ≡ expired_of reply }
 {
@@ -107,7 +107,7 @@ fn expired_of(alloc: Global, reply: Result<Reply, Denied>) -> Sequence<Expired>
 }
 
 impl World {
-    /// A world with an empty store at revision 1 and moment 0, which takes up to `MOST_OPERATIONS` operations. Want of memory is its only
+    /// A world with an empty store at revision 1 and moment 0, which takes up to `MOST_OPERATIONS` operations. Out of memory is its only
     /// refusal.
     pub fn new(alloc: Global) -> Result<World, AllocError>
         ensures { IfOk result (λ w. w ≡ opened (at_revision 1)) }
@@ -115,7 +115,7 @@ impl World {
         World::with_revision(alloc, 1)
     }
 
-    /// A world with an empty store at this revision and moment 0, which takes up to `MOST_OPERATIONS` operations. Want of memory is its only
+    /// A world with an empty store at this revision and moment 0, which takes up to `MOST_OPERATIONS` operations. Out of memory is its only
     /// refusal.
     pub fn with_revision(alloc: Global, start: u64) -> Result<World, AllocError>
         requires { (1 ≤ start) × (start ≤ HIGHEST_REVISION) }
@@ -125,7 +125,7 @@ impl World {
     }
 
     /// A world with an empty store at this revision and moment 0, which takes at most `operations` elements in each of a transaction's three
-    /// lists: a fetch, a commit or another client's transaction with more is refused as `TooManyOps`. Want of memory is its only refusal.
+    /// lists: a fetch, a commit or another client's transaction with more is refused as `TooManyOps`. Out of memory is its only refusal.
     pub fn with_limits(alloc: Global, start: u64, operations: usize) -> Result<World, AllocError>
         requires revision { (1 ≤ start) × (start ≤ HIGHEST_REVISION) }
         requires operations { (1 ≤ operations) × (operations ≤ most_operations) }
@@ -139,9 +139,9 @@ impl World {
         })
     }
 
-    /// Starts a run of a program, which may send so many commits, and gives the runner's number.
+    /// Starts a run of a program, which may send at most `limit` commits, and returns the runner's number.
     ///
-    /// It is refused as `BadLimit` where the limit is 0, and as `OutOfMemory` where a growth was refused.
+    /// It is refused as `BadLimit` where the limit is 0, and as `OutOfMemory` where an allocation failed.
     /// A refused start takes no number and leaves the world as it was; the program is dropped.
     pub fn start(&mut self, program: Program, level: Level, limit: u32) -> Result<u64, Refusal>
         ensures number { IfOk result (λ id. (start_runner (record { program = program; level = level; limit = limit }) self.old).reply ≡ Ok (Started id)) }
@@ -159,7 +159,7 @@ impl World {
         }
     }
 
-    /// Takes one event, and tells its reply.
+    /// Takes one event, and returns its reply.
     ///
     /// A runner's step evaluates its program on the answers that it has recorded and on the prefetched ones that
     /// serve. Then it makes at most one transaction of the store: the fetch of the key that the program wants,
@@ -168,22 +168,22 @@ impl World {
     /// the run where it may send no more. Every other event is one call of the store.
     ///
     /// An event about a watcher is no entry, and leaves history, leases and moment as they are. So does a compaction:
-    /// below its revision nothing can be read any more, and watchers that were still to be told of something there are
-    /// lost. A poll of a lost watcher is told so, and the watcher is given up.
+    /// below its revision nothing can be read any more, and watchers that were still to be notified of something there are
+    /// lost. A poll of a lost watcher returns `Lost`, and the watcher is given up.
     ///
     /// An event is refused as `BadLimit` (a start with limit 0), as `NoRunner` (a step of a runner that is not
     /// there or has ended), or for the store's cause. A refused event leaves the world as it was, but for an
     /// advance that stopped on its way (`RevisionsUsedUp`, `OutOfMemory`): the moment is set, the leases that
-    /// expired before stay expired, are told and are entries, and the rest stays due.
+    /// expired before stay expired, are reported and are entries, and the rest stays due.
     ///
-    /// Want of memory (`OutOfMemory`) is told only where the event is taken otherwise, and of an advance that
-    /// does not go back. Such an advance leaves the world as it was, or it was cut short so. A compaction takes no memory.
+    /// `OutOfMemory` is returned only for an event that is taken where memory suffices, and for an advance that
+    /// does not go back. Such an advance leaves the world as it was, or was cut short in that way. A compaction takes no memory.
     ///
     /// A commit at a level that compares, of which no compare fails, has read what the store has just before it, each
-    /// value too; so also one that the store refuses.
+    /// value too; the same is true of one that the store refuses.
     ///
     /// Where the headline holds of what the world was asked and has replied so far, it holds with this event and its reply
-    /// behind, unless that is want of memory.
+    /// added, unless that reply is `OutOfMemory`.
     pub fn step(&mut self, event: &WorldEvent) -> Result<Reply, Denied>
         ensures reported { Returns event.now result self.old self.new }
         ensures reads { ReadsAreNow event.now self.old }
@@ -193,7 +193,7 @@ impl World {
         self.parts.step(self.alloc, event)
     }
 
-    /// Takes these events in their order, and tells their replies.
+    /// Takes these events in their order, and returns their replies.
     fn take_all(&mut self, events: &[WorldEvent]) -> Result<Vec<Result<Reply, Denied>>, RunStop>
         ensures replies { IfOk result (λ replies. replies.items ≡ replies_to events.now self.old) }
         ensures ok { OnOk result (self.new ≡ world_after events.now self.old) }
@@ -227,22 +227,22 @@ impl World {
         let _parts = &self.parts;
     }
 
-    /// Takes these events in their order, and tells their replies.
+    /// Takes these events in their order, and returns their replies.
     ///
     /// Room for all replies is made first. The run stops at the first event that is refused as `OutOfMemory`,
     /// before the first one where that room was refused: `done` events were taken, and the world is as it was
     /// before the stopped event, or that is an advance that was cut short after the leases in `expired`.
     ///
     /// The replies to those `done` events are dropped. The events from `done` on can be run from the world as it is then. They are
-    /// told what a run of all events would have told them, but that an advance which was cut short tells only the leases that had
+    /// answered as a run of all events would have answered them, but that an advance which was cut short reports only the leases that had
     /// not expired by then; and the world after is the same.
     ///
     /// Where the headline holds of what the world was asked and has replied so far, and the run is not stopped, it holds with these
-    /// events and their replies behind. It holds of a new world, with no events and no replies (`stm_world::laws::headline`). After an
+    /// events and their replies added. It holds of a new world, with no events and no replies (`stm_world::laws::headline`). After an
     /// advance that was cut short no list of events leads to the world, unless that advance is made again next: the headline says
     /// nothing of it then, but its replies are still those of the step, and its entries replay.
     ///
-    /// In any world a run that is not stopped only adds entries behind those that are there: they are legal, each at its
+    /// In any world a run that is not stopped only adds entries after those that are there: they are legal, each at its
     /// point, from the store as it was, and replay to the store as it is.
     pub fn run(&mut self, events: &[WorldEvent]) -> Result<Vec<Result<Reply, Denied>>, RunStop>
         ensures replies { IfOk result (λ replies. replies.items ≡ replies_to events.now self.old) }
@@ -284,7 +284,7 @@ impl World {
         self.parts.journal.store()
     }
 
-    /// The store, once the world has served. Its watchers and leases stay in it.
+    /// Ends the world, and returns its store. The watchers and leases stay in it.
     pub fn into_store(self) -> Store
         ensures { result.standing ≡ kept self.standing }
     {
@@ -299,7 +299,7 @@ impl World {
 
     /// The state of the store now: the present keys with their values and modification revisions.
     ///
-    /// Want of memory is its only refusal.
+    /// Out of memory is its only refusal.
     pub fn state(&self) -> Result<State, AllocError>
         ensures { IfOk result (λ state. IsStateOf self.now.standing.history state) }
     {
@@ -308,10 +308,10 @@ impl World {
 }
 
 impl World {
-    /// A world of its own that is equal to this one: what is done to one of them changes nothing of the other.
+    /// A separate world that is equal to this one: what is done to one of them changes nothing of the other.
     ///
     /// No event is taken again. It takes a step for each revision, lease, watcher, runner and entry; runners, the inner blocks of
-    /// programs and the texts of keys are shared, a runner until one of the worlds makes a step of it. Want of memory is its only
+    /// programs and the texts of keys are shared, a runner until one of the worlds makes a step of it. Out of memory is its only
     /// refusal.
     pub fn copy(&self) -> Result<World, AllocError>
         ensures { IfOk result (λ copy. copy ≡ self.now) }

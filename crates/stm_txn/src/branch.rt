@@ -1,8 +1,8 @@
 //! One branch of a transaction.
-ghost use Rattle.std.specs.Prelude.{◌≡◌, ◌+◌, ◌≤◌, ◌++◌, ◌∷◌, IfOk, OnOk, IsTrue, [], option_copied, is_some, Some, None};
-ghost use Rattle.stm_history.specs.History.{now, key_now};
+ghost use Rattle.std.specs.Prelude.{◌≡◌, ◌+◌, ◌≤◌, ◌++◌, ◌∷◌, IfOk, OnOk, IsTrue, [], option_copied, is_some, Some};
+ghost use Rattle.stm_history.specs.History.{now};
 ghost use Rattle.stm_history.specs.declared.change.Change.TheVariants.{Put, Del};
-ghost use Rattle.stm_outcome.specs.Branches.{carried, count_of, is_readable, are_readable, has_changes};
+ghost use Rattle.stm_outcome.specs.Branches.{carried, is_readable, are_readable, has_changes};
 ghost use Rattle.stm_outcome.specs.Outcome.{is_used_up, chosen, would_change};
 ghost use Rattle.stm_outcome.specs.LookUps.{copy, read_copied, change_copied, with_copied, answer_copied, changes_copied, answers_copied};
 

@@ -1,27 +1,14 @@
 //! The calls of a store about its leases.
-ghost use Rattle.std.specs.Prelude.{◌≡◌, ◌+◌, ◌<◌, ◌≤◌, ℕ, Option, List, [], ◌∷◌, ◌++◌, length, if◌then◌else◌, IfOk, IfErr, IfSome, OnOk, OnErr, IsOkUnless};
-ghost use Rattle.std.specs.Prelude.{map, string_bytes, Ok, Err, None, Some, true, false};
-ghost use Rattle.std.specs.FinMap as finmap;
-ghost use Rattle.stm_history.specs.declared.revisions.TheConstants.{HIGHEST_REVISION, HIGHEST_NUMBER};
+ghost use Rattle.std.specs.Prelude.{◌≡◌, ◌+◌, ◌≤◌, List, [], ◌∷◌, ◌++◌, IfOk, IfErr, OnOk, OnErr, IsOkUnless};
+ghost use Rattle.std.specs.Prelude.{map, string_bytes, Ok, None, true};
+ghost use Rattle.stm_history.specs.declared.revisions.TheConstants.{HIGHEST_NUMBER};
 ghost use Rattle.stm_history.specs.declared.change.Change.{Change};
-ghost use Rattle.stm_history.specs.History.{History, now, add_revision, IsRevision, HasDistinctKeys};
-ghost use Rattle.stm_keys.specs.Keys.{DeletePresent};
-ghost use Rattle.stm_watch.specs.Places.{no_watchers, watchings};
-ghost use Rattle.stm_watch.specs.Calls.{StandFor};
 ghost use Rattle.stm_leases.specs.LeaseLog.{LogItem, Grant, Renew, Revoke};
 ghost use Rattle.stm_leases.specs.Leases.{StandsFor};
-ghost use Rattle.stm_leases.specs.Live.{is_live_in, AreInRange};
+ghost use Rattle.stm_leases.specs.Live.{is_live_in};
 ghost use Rattle.stm_leases.specs.DueFirst.{first_due};
-ghost use Rattle.stm_outcome.specs.Branches.{branch_refusal};
-ghost use Rattle.stm_outcome.specs.declared.answer.FailedCompare.{FailedCompare as AFailedCompare};
-ghost use Rattle.stm_outcome.specs.Terms.{most_operations};
-ghost use Rattle.stm_outcome.specs.LookUps.{changes_copied, answers_copied, outcome_copied};
-ghost use Rattle.stm_outcome.specs.Outcome.{is_used_up, chosen, would_change};
-ghost use Rattle.stm_txn.specs.ChangesHeld.{changes_held};
-ghost use Rattle.stm_history.specs.declared.change.Change.TheVariants.{Put as PutChange};
-ghost use Rattle.stm_outcome.specs.declared.answer.OpAnswer.TheVariants.{Put as PutAnswer};
+ghost use Rattle.stm_outcome.specs.Outcome.{is_used_up};
 ghost use Rattle.stm_txn.specs.Grants.{grant_refusal_of, grant_reported};
-ghost use Rattle.stm_txn.specs.WatchReported.{watch_reported, poll_reported};
 
 use crate::store::Store;
 use std::alloc::{AllocError, Global};
@@ -65,16 +52,10 @@ fn deletions(alloc: Global, keys: Vec<String>) -> Result<Vec<Change>, AllocError
 }
 
 impl Store {
-    ghost use Rattle.stm_outcome.specs.Checks.{has_clash, fault_of};
-    ghost use Rattle.stm_txn.specs.Leasing.{attached_of, AttachedToLive, lease_now};
     ghost use Rattle.stm_txn.specs.LeaseKeys.{deletions_of};
-    ghost use Rattle.stm_outcome.specs.Outcome.{with_changes, answer_of};
-    ghost use Rattle.stm_outcome.specs.Numbers.{AnswerFits, StatesFit, ExpiredFits, AllExpiredFit, EventsFit};
-    ghost use Rattle.stm_txn.specs.Standing.{opening, at_revision, IsRefusalOf, Returns, refusal_of, transacted, made, written, granted, kept_alive, reported, ended, revoked};
-    ghost use Rattle.stm_txn.specs.Standing.{terms_of, watched, polled, poll_refused, cancelled, raised, compacted};
-    ghost use Rattle.stm_watch.specs.declared.watched.Watched.TheVariants.{Key, Range};
-    ghost use Rattle.stm_watch.specs.Calls.{IsNextPending};
-    ghost use Rattle.stm_txn.specs.Standing.{after, expired_in, expire_all, at_moment, advanced, HasCome, IsStopped, IsCutShort, with_expiries};
+    ghost use Rattle.stm_outcome.specs.Numbers.{ExpiredFits, AllExpiredFit};
+    ghost use Rattle.stm_txn.specs.Standing.{IsRefusalOf, Returns, refusal_of, granted, kept_alive, reported, ended, revoked};
+    ghost use Rattle.stm_txn.specs.Standing.{expired_in, expire_all, at_moment, advanced, HasCome, IsCutShort, with_expiries};
 
     /// Grants a lease of the caller's id, for `ttl` seconds from the store's moment on.
     ///

@@ -3,7 +3,7 @@ ghost use Rattle.std.specs.Prelude.{◌≡◌, ℕ, Option, None, [], false};
 ghost use Rattle.stm_outcome.specs.Branches.{branch_refusal};
 ghost use Rattle.stm_outcome.specs.Terms.{terms_at, terms_above};
 ghost use Rattle.stm_outcome.specs.declared.answer.FailedCompare.{FailedCompare as AFailedCompare};
-ghost use Rattle.stm_outcome.specs.Checks.{fault_of, has_clash};
+ghost use Rattle.stm_outcome.specs.Checks.{fault_of};
 ghost use Rattle.stm_outcome.specs.LookUps.{changes_copied, outcome_copied};
 ghost use Rattle.stm_outcome.specs.Outcome.{outcome, is_used_up};
 ghost use Rattle.stm_txn.specs.Standing.{refusal_of};

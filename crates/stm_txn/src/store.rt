@@ -1,27 +1,23 @@
 //! The store.
-ghost use Rattle.std.specs.Prelude.{◌≡◌, ◌+◌, ◌<◌, ◌≤◌, ℕ, Option, List, [], ◌∷◌, ◌++◌, length, if◌then◌else◌, IfOk, IfErr, IfSome, OnOk, OnErr, IsOkUnless};
-ghost use Rattle.std.specs.Prelude.{map, string_bytes, Ok, Err, None, Some, true, false};
+ghost use Rattle.std.specs.Prelude.{◌≡◌, ◌+◌, ◌<◌, ◌≤◌, ℕ, Option, List, [], ◌∷◌, length, if◌then◌else◌, IfOk, IfErr, IfSome, OnOk, OnErr, IsOkUnless};
+ghost use Rattle.std.specs.Prelude.{Ok, None, Some, true, false};
 ghost use Rattle.std.specs.FinMap as finmap;
-ghost use Rattle.stm_history.specs.declared.revisions.TheConstants.{HIGHEST_REVISION, HIGHEST_NUMBER};
+ghost use Rattle.stm_history.specs.declared.revisions.TheConstants.{HIGHEST_REVISION};
 ghost use Rattle.stm_history.specs.declared.change.Change.{Change};
 ghost use Rattle.stm_history.specs.History.{History, now, add_revision, IsRevision, HasDistinctKeys};
 ghost use Rattle.stm_keys.specs.Keys.{DeletePresent};
 ghost use Rattle.stm_watch.specs.Places.{no_watchers, watchings};
 ghost use Rattle.stm_watch.specs.Calls.{StandFor};
-ghost use Rattle.stm_leases.specs.LeaseLog.{LogItem, Grant, Renew, Revoke};
 ghost use Rattle.stm_leases.specs.Leases.{StandsFor};
 ghost use Rattle.stm_leases.specs.Live.{is_live_in, AreInRange};
-ghost use Rattle.stm_leases.specs.DueFirst.{first_due};
 ghost use Rattle.stm_outcome.specs.Branches.{branch_refusal};
 ghost use Rattle.stm_outcome.specs.declared.answer.FailedCompare.{FailedCompare as AFailedCompare};
 ghost use Rattle.stm_outcome.specs.Terms.{most_operations};
 ghost use Rattle.stm_outcome.specs.LookUps.{changes_copied, answers_copied, outcome_copied};
-ghost use Rattle.stm_outcome.specs.Outcome.{is_used_up, chosen, would_change};
+ghost use Rattle.stm_outcome.specs.Outcome.{is_used_up, would_change};
 ghost use Rattle.stm_txn.specs.ChangesHeld.{changes_held};
 ghost use Rattle.stm_history.specs.declared.change.Change.TheVariants.{Put as PutChange};
 ghost use Rattle.stm_outcome.specs.declared.answer.OpAnswer.TheVariants.{Put as PutAnswer};
-ghost use Rattle.stm_txn.specs.Grants.{grant_refusal_of, grant_reported};
-ghost use Rattle.stm_txn.specs.WatchReported.{watch_reported, poll_reported};
 
 use crate::attach::{move_keys, prepare_attaches};
 use crate::branch::{choose, put_of, run_branch, would_change};
@@ -30,14 +26,14 @@ use crate::refused::{find_run_refusal, find_txn_refusal};
 use crate::writes::{any_names_dead_lease, are_used_up, only_effective};
 use std::alloc::{AllocError, Global};
 use std::marker::Model;
-use stm_history::{Change, Sequence, Text};
-use stm_keys::{ApplyRefusal, HIGHEST_REVISION, Keys, ReadRefusal};
-use stm_leases::{GrantError, KeysError, Leases};
+use stm_history::{Change, Text};
+use stm_keys::{ApplyRefusal, Keys, ReadRefusal};
+use stm_leases::Leases;
 use stm_outcome::{
-    AdvanceRefused, Expired, FailedCompare, Op, OpAnswer, OperationLimit, Refusal, ShortList, Txn,
-    TxnAnswer, find_failed, find_fault,
+    FailedCompare, Op, OpAnswer, OperationLimit, Refusal, ShortList, Txn, TxnAnswer, find_failed,
+    find_fault,
 };
-use stm_watch::{Batch, PollRefusal, WatchRefusal, Watchers};
+use stm_watch::Watchers;
 
 /// A store: its keys at every revision that is kept, its leases, its moment in whole seconds, its watchers, and the most operations that it
 /// takes in each list of a transaction.
@@ -111,14 +107,10 @@ fn notify_watchers(watchers: &mut Watchers, keys: &Keys)
 impl Store {
     ghost use Rattle.stm_outcome.specs.Checks.{has_clash, fault_of};
     ghost use Rattle.stm_txn.specs.Leasing.{attached_of, AttachedToLive, lease_now};
-    ghost use Rattle.stm_txn.specs.LeaseKeys.{deletions_of};
     ghost use Rattle.stm_outcome.specs.Outcome.{with_changes, answer_of};
-    ghost use Rattle.stm_outcome.specs.Numbers.{AnswerFits, StatesFit, ExpiredFits, AllExpiredFit, EventsFit};
-    ghost use Rattle.stm_txn.specs.Standing.{opening, at_revision, IsRefusalOf, Returns, refusal_of, transacted, made, written, granted, kept_alive, reported, ended, revoked};
-    ghost use Rattle.stm_txn.specs.Standing.{terms_of, watched, polled, poll_refused, cancelled, raised, compacted};
-    ghost use Rattle.stm_watch.specs.declared.watched.Watched.TheVariants.{Key, Range};
-    ghost use Rattle.stm_watch.specs.Calls.{IsNextPending};
-    ghost use Rattle.stm_txn.specs.Standing.{after, expired_in, expire_all, at_moment, advanced, HasCome, IsStopped, IsCutShort, with_expiries};
+    ghost use Rattle.stm_outcome.specs.Numbers.{AnswerFits, StatesFit};
+    ghost use Rattle.stm_txn.specs.Standing.{opening, at_revision, IsRefusalOf, Returns, refusal_of, transacted, made, written, reported};
+    ghost use Rattle.stm_txn.specs.Standing.{terms_of, raised, compacted};
 
     /// An empty store at revision 1 and moment 0, which takes up to `MOST_OPERATIONS` operations. A failed allocation is its only refusal.
     pub fn new(alloc: Global) -> Result<Store, AllocError>

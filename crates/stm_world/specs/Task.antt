@@ -1,7 +1,7 @@
 -- What a runner has to do, what it knows, and how its attempts go on.
 --
 -- The Go package `concurrency`, "STM": a program is run at a level, and again after a failed commit, whose answers the next
--- attempt may use; and `WithPrefetch`: the keys of a list are read at the start of each attempt. That a run may send so many commits is
+-- attempt may use; and `WithPrefetch`: the keys of a list are read at the start of each attempt. That a run may send at most `limit` commits is
 -- our own.
 use Rattle.std.specs.Prelude.{ℕ, List, [], ◌∷◌, ◌++◌, map}
 use Rattle.stm_history.specs.declared.key_state.ReadAnswer.{ReadAnswer}
@@ -28,7 +28,7 @@ nothing_known = record { reads = []; prefetched = [] }
 abbrev pub answer_at : History → List ℕ → ℕ → ReadAnswer
 answer_at h key r = record { key = key; kv = key_at h key r; of_rev = r; revision = now h }
 
--- what is told of the read of a key as it is now: its modification revision
+-- what is reported of the read of a key as it is now: its modification revision
 abbrev pub modified_now : History → List ℕ → KeyRead
 modified_now h key = record { key = key; mod_rev = mod_of (key_now h key) }
 

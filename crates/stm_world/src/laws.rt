@@ -25,7 +25,7 @@ pub fn headline()
 {}
 
 /// The headline of a world that has run before: where it holds of what the world was asked and has replied so far, it
-/// holds with these events and their replies after that. Of a world that opens it holds, with no events and no replies (`headline`).
+/// holds with these events and their replies added. It holds of a world that opens, with no events and no replies (`headline`).
 pub fn headline_goes_on()
     ensures { HeadlineGoesOn }
 {}
@@ -70,12 +70,12 @@ pub fn stops_are_of_one_state()
     ensures { StopsAreOfOneState }
 {}
 
-/// No attempt reads a key twice, at any level, where its program's list has no key twice, as that of every program that fits.
+/// No attempt reads a key twice, at any level, where its program's list has no key twice, which is so of every program that fits.
 pub fn keys_are_read_once()
     ensures { ReadOnce }
 {}
 
-/// These wrong logs are rejected: an event has no reply, or a reply no event, as of a world that answers nothing or stops at
+/// These wrong logs are rejected: an event has no reply, or a reply no event, as in a world that answers nothing or stops at
 /// some event; a step of a runner that runs is refused, or a start that may send a commit; a
 /// number is given twice; a runner's step is answered with another runner's reply; a program that is done is
 /// reported to have aborted; a commit is one more than the run may send, or a run goes on after the conflict of its last one; a commit leads to
@@ -99,7 +99,7 @@ pub fn out_of_memory_is_never_right()
 /// than revisions since the run's start; an abort or a fault of a runner that does not run, or, at a serializable level, on a torn read.
 ///
 /// Rejected, too, are a failed commit over a key that is present, whose modification revision now is not above what was seen of it, and an
-/// end at a serializable level to which the program alone on the state at its one revision does not come.
+/// end at a serializable level that the program, run alone on the state at its one revision, does not come to.
 pub fn wrong_failures_are_none()
     ensures { WrongFailures }
 {}

@@ -28,7 +28,7 @@ struct Racing {
     fetching: AtomicBool,
     /// Job 1's commit was answered.
     answered: AtomicBool,
-    /// It was, before job 0's commit was sent.
+    /// Job 1's commit was answered before job 0's was sent.
     answered_first: AtomicBool,
 }
 

@@ -12,7 +12,7 @@ const A_AT_TWO: Opening = Opening::Filled(&[Change::Put("a", 0)]);
 const EXAMPLES: [(&[Step], &str); 8] = [
     // A hall is behind what was seen elsewhere.
     (&[Step::Fetch("a", 3)], "Behind 3 2; "),
-    // A hall answers who has seen its counter.
+    // A hall answers a caller that has seen its counter.
     (&[Step::Fetch("a", 2)], "2: a 1@2 at 2 of 2; "),
     // A key is shown at the revision that is named, 0 for the store's own. What is wrong with a fetch is reported in this order: the
     // hall is behind, the key is empty, the revision is above the store's.

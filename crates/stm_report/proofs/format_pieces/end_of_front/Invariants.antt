@@ -2,7 +2,7 @@ use Rattle.std.proofs.Common.{◌≡◌, ◌≤◌, ◌++◌, length, take, drop
 use Rattle.stm_report.specs.FormatShown.{front}
 use Rattle.stm_report.proofs.format_pieces.end_of_front.Given as goal
 
--- the bytes so far belong to the front, and so do those of the same character behind them
+-- the bytes so far belong to the front, and so do those of the same character after them
 abbrev pub invariant-loop-end : goal.invariant-loop-end
 invariant-loop-end l = record {
   within : l.end ≤ length l.bytes;

@@ -60,13 +60,7 @@ fn next_attempt(
     requires only_serializable { is_serializable level ≡ false → answers ≡ [] }
     ensures { IfOk result (λ attempt. attempt ≡ begun level answers) }
 {
-    match level {
-        Level::SerializableSnapshot | Level::Serializable => {
-            let attempt = Attempt::from_prefetch(alloc, level, answers)?;
-            Ok(attempt)
-        }
-        Level::RepeatableReads | Level::ReadCommitted => Ok(Attempt::new(alloc, level)),
-    }
+    Attempt::after_conflict(alloc, level, answers)
 }
 
 /// Puts the next attempt in the place of one that is over, which is dropped.

@@ -4,7 +4,7 @@ use anyhow::{Result, bail};
 use serde_json::Value as Json;
 use std::alloc::{AllocError, Global};
 use stm_history::Sequence;
-use stm_reports::event_json;
+use stm_report_lines::event_json;
 use stm_txn::{Refusal as StoreRefusal, Store, Txn, TxnAnswer};
 use stm_world::{Denied, Refusal, Reply, WorldEvent};
 

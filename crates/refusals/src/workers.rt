@@ -5,7 +5,7 @@ use anyhow::{Result, bail};
 use std::alloc::{AllocError, Global};
 use std::sync::Wait;
 use std::thread::Threads;
-use stm_jobs::{JobScenario, accept, open_store};
+use stm_job_texts::{JobScenario, accept, open_store};
 use stm_meaning::State;
 use stm_texts::opens_with;
 use stm_txn::Store;

@@ -24,12 +24,12 @@ use Rattle.stm_events.specs.FirstReads.{keys_first_read}
 use Rattle.stm_events.specs.declared.event.WorldEvent.{WorldEvent}
 use Rattle.stm_events.specs.declared.event.WorldEvent.TheVariants.{Start, Step, Txn, Grant, Keep, Revoke, Advance, Compact}
 use Rattle.stm_events.specs.declared.event.WorldEvent.TheVariants.{WatchKey, WatchRange, Poll, Cancel}
-use Rattle.stm_reports.specs.contracts.causes.RefusalName as names
-use Rattle.stm_reports.specs.contracts.line.ReportLine as reports
-use Rattle.stm_reports.specs.declared.causes.RefusalName.TheVariants.{BadLimit, NoRunner}
-use Rattle.stm_reports.specs.declared.line.ReportLine.{ReportLine}
-use Rattle.stm_reports.specs.declared.line.ReportLine.TheVariants.{Committed, Refused}
-use Rattle.stm_reports.specs.declared.line.ReportedAnswer.{ReportedAnswer}
+use Rattle.stm_report_lines.specs.contracts.causes.RefusalName as names
+use Rattle.stm_report_lines.specs.contracts.line.ReportLine as reports
+use Rattle.stm_report_lines.specs.declared.causes.RefusalName.TheVariants.{BadLimit, NoRunner}
+use Rattle.stm_report_lines.specs.declared.line.ReportLine.{ReportLine}
+use Rattle.stm_report_lines.specs.declared.line.ReportLine.TheVariants.{Committed, Refused}
+use Rattle.stm_report_lines.specs.declared.line.ReportedAnswer.{ReportedAnswer}
 use Rattle.stm_check.specs.declared.cause.WrongCause.{WrongCause}
 use Rattle.stm_check.specs.declared.cause.WrongCause.TheVariants.{Count, Event, Replay, Final}
 use Rattle.stm_check.specs.declared.checking.Checked.{Checked}

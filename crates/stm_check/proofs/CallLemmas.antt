@@ -27,21 +27,21 @@ use Rattle.stm_txn.specs.Standing.{with_lease, without_lease, with_revision, exp
 use Rattle.stm_outcome.specs.Terms.{Terms}
 use Rattle.stm_outcome.specs.Terms.{most_operations}
 use Rattle.stm_txn.specs.Standing.{terms_of, compaction_refusal, with_floor, floor_step, raised}
-use Rattle.stm_reports.specs.declared.line.ReportLine.{ReportLine}
-use Rattle.stm_reports.specs.declared.line.ReportLine.TheVariants.{Refused, Compacted}
-use Rattle.stm_reports.specs.declared.causes.RefusalName.{RefusalName}
+use Rattle.stm_report_lines.specs.declared.line.ReportLine.{ReportLine}
+use Rattle.stm_report_lines.specs.declared.line.ReportLine.TheVariants.{Refused, Compacted}
+use Rattle.stm_report_lines.specs.declared.causes.RefusalName.{RefusalName}
 use Rattle.stm_entries.specs.declared.entry.Entry.{Entry}
 use Rattle.stm_entries.specs.Replayed.{without_moment}
 use Rattle.stm_entries.specs.declared.entry.Entry.TheVariants.{Foreign, Grant as GrantEntry, Renew, Revoke as RevokeEntry}
 use Rattle.stm_entries.specs.Entered.{if_taken, if_changed, expiries}
-use Rattle.stm_reports.specs.Lines.{cause_reported, txn_line}
+use Rattle.stm_report_lines.specs.Lines.{cause_reported, txn_line}
 use Rattle.stm_events.specs.declared.event.WorldEvent.TheVariants.{Advance as AdvanceEvent, Compact as CompactEvent}
 use Rattle.stm_events.specs.declared.reply.Reply.{Reply}
 use Rattle.stm_events.specs.Replies.{reply_to, store_after_call, advance_reply}
 use Rattle.stm_events.proofs.Entered.{Enters}
 use Rattle.stm_events.proofs.Calls.{txn_enters, grant_enters, keep_enters, revoke_enters, expiry_cases, advance_enters}
 use Rattle.stm_check.specs.Point.{led_by, moment_after, with_replayed, txn_entries, advance_entries, raised_by}
-use Rattle.stm_reports.specs.Lines.{reply_reported, line_reported}
+use Rattle.stm_report_lines.specs.Lines.{reply_reported, line_reported}
 
 -- ---- lines
 

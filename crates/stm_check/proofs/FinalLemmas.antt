@@ -8,8 +8,8 @@ use Rattle.stm_history.specs.History.{History, now, key_now}
 use Rattle.stm_leases.specs.LeaseLog.{Term}
 use Rattle.stm_txn.specs.PresentKeys.{keys_present}
 use Rattle.stm_txn.specs.LeaseKeys.{keys_named}
-use Rattle.stm_reports.specs.declared.line.ReportLine.{ReportLine}
-use Rattle.stm_reports.specs.declared.line.ReportLine.TheVariants.{End}
+use Rattle.stm_report_lines.specs.declared.line.ReportLine.{ReportLine}
+use Rattle.stm_report_lines.specs.declared.line.ReportLine.TheVariants.{End}
 use Rattle.stm_check.proofs.Fronts.{left_at}
 use Rattle.stm_check.specs.Finals.{AreFinal}
 use Rattle.stm_check.specs.Point.{Point}

@@ -16,13 +16,13 @@ use Rattle.stm_entries.specs.Replayed.{without_moment}
 use Rattle.stm_entries.specs.Legal.{AreLegal}
 use Rattle.stm_entries.proofs.Replaying.{all_legal}
 use Rattle.stm_entries.specs.Entered.{if_taken, if_changed, expiries}
-use Rattle.stm_reports.specs.declared.line.ReportLine.{ReportLine}
-use Rattle.stm_reports.specs.declared.line.ReportLine.TheVariants as line
+use Rattle.stm_report_lines.specs.declared.line.ReportLine.{ReportLine}
+use Rattle.stm_report_lines.specs.declared.line.ReportLine.TheVariants as line
 use Rattle.stm_events.specs.declared.event.WorldEvent.{WorldEvent}
 use Rattle.stm_events.specs.declared.event.WorldEvent.TheVariants as event
 use Rattle.stm_events.specs.declared.reply.Reply.TheVariants as reply
 use Rattle.stm_events.specs.Replies.{reply_to, store_after_call, advance_reply}
-use Rattle.stm_reports.specs.Lines.{line_reported}
+use Rattle.stm_report_lines.specs.Lines.{line_reported}
 use Rattle.stm_events.proofs.Calls.{never_higher, txn_enters, grant_enters, keep_enters, revoke_enters, advance_enters}
 use Rattle.stm_texts.specs.Opens.{setup_of}
 use Rattle.stm_check.specs.declared.runner.Runner.{Runner}

@@ -8,7 +8,7 @@ use Rattle.std.specs.Option.{option_or}
 use Rattle.stm_history.specs.declared.key_state.ReadAnswer.{ReadAnswer}
 use Rattle.stm_history.specs.History.{History}
 use Rattle.stm_compile.specs.Answers.{answer_in, look_up, said}
-use Rattle.stm_reports.specs.declared.line.ReportedAnswer.{ReportedAnswer}
+use Rattle.stm_report_lines.specs.declared.line.ReportedAnswer.{ReportedAnswer}
 use Rattle.stm_check.specs.Replays.{IsTrulyReported, AreTrulyReported}
 use Rattle.stm_check.proofs.Fronts.{left_at}
 

@@ -1,7 +1,7 @@
 -- A check has one answer.
 use Rattle.std.proofs.Common.{◌≡◌, inl, inr, ℕ, suc, Bool, true, false, List, [], ◌∷◌, refl, sym, ◌∙◌, subst}
 use Rattle.stm_events.specs.declared.event.WorldEvent.{WorldEvent}
-use Rattle.stm_reports.specs.declared.line.ReportLine.{ReportLine}
+use Rattle.stm_report_lines.specs.declared.line.ReportLine.{ReportLine}
 use Rattle.stm_check.specs.declared.cause.WrongCause.{WrongCause}
 use Rattle.stm_check.specs.declared.cause.WrongCause.TheVariants.{Count, Event, Replay, Final}
 use Rattle.stm_check.specs.declared.checking.Checked.{Checked}

@@ -4,7 +4,7 @@ use Rattle.stm_entries.specs.declared.entry.Entry.{Entry}
 use Rattle.stm_entries.specs.Replayed.{without_moment}
 use Rattle.stm_entries.proofs.Replaying.{replay_goes_on}
 use Rattle.stm_events.specs.declared.event.WorldEvent.{WorldEvent}
-use Rattle.stm_reports.specs.declared.line.ReportLine.{ReportLine}
+use Rattle.stm_report_lines.specs.declared.line.ReportLine.{ReportLine}
 use Rattle.stm_check.specs.Point.{Point, entries_reported, after}
 use Rattle.stm_check.specs.Wrong.{point_after, entries_along}
 use Rattle.stm_check.specs.Laws.{IsReplayOf}

@@ -11,17 +11,17 @@ use Rattle.stm_outcome.specs.declared.txn.Op.{Op}
 use Rattle.stm_outcome.specs.declared.txn.Op.TheVariants.{Put, Get as GetOperation}
 use Rattle.stm_events.specs.declared.event.WorldEvent.{WorldEvent}
 use Rattle.stm_events.specs.declared.event.WorldEvent.TheVariants.{Start, Step, Txn, Compact, Poll, Cancel, WatchKey}
-use Rattle.stm_reports.specs.declared.causes.RefusalName.TheVariants.{NoWatcher, LeaseIdOutOfRange, FutureRevision, Compacted as BelowTheFloor}
-use Rattle.stm_reports.specs.declared.line.ReportLine.{ReportLine}
-use Rattle.stm_reports.specs.declared.line.ReportLine.TheVariants as line
-use Rattle.stm_reports.specs.declared.line.ReportedOp.TheVariants as reported
+use Rattle.stm_report_lines.specs.declared.causes.RefusalName.TheVariants.{NoWatcher, LeaseIdOutOfRange, FutureRevision, Compacted as BelowTheFloor}
+use Rattle.stm_report_lines.specs.declared.line.ReportLine.{ReportLine}
+use Rattle.stm_report_lines.specs.declared.line.ReportLine.TheVariants as line
+use Rattle.stm_report_lines.specs.declared.line.ReportedOp.TheVariants as reported
 use Rattle.stm_check.specs.declared.cause.WrongCause.TheVariants.{Count, Final}
 use Rattle.stm_check.specs.Point.{Point, beginning, after}
 use Rattle.stm_check.specs.Fits.{fits}
 use Rattle.stm_txn.specs.Standing.{Standing, at_revision, transacted, granted, raised}
 use Rattle.stm_events.specs.declared.reply.Reply.TheVariants.{Txn as TxnDone, Granted, Compacted}
 use Rattle.stm_events.specs.Replies.{reply_to}
-use Rattle.stm_reports.specs.Lines.{line_reported}
+use Rattle.stm_report_lines.specs.Lines.{line_reported}
 use Rattle.stm_check.specs.Wrong.{IsOff, IsFirstWrong, point_after}
 
 -- ---- the scenario

@@ -17,9 +17,9 @@ use Rattle.stm_entries.specs.Replay.{replay}
 use Rattle.stm_events.specs.declared.event.WorldEvent.{WorldEvent}
 use Rattle.stm_events.specs.declared.event.WorldEvent.TheVariants.{Step, Txn, Grant, Keep, Revoke, Advance, Compact}
 use Rattle.stm_events.specs.Replies.{store_after_call}
-use Rattle.stm_reports.specs.declared.line.ReportLine.{ReportLine}
-use Rattle.stm_reports.specs.declared.line.ReportLine.TheVariants as line
-use Rattle.stm_reports.specs.declared.line.ReportedAnswer.{ReportedAnswer}
+use Rattle.stm_report_lines.specs.declared.line.ReportLine.{ReportLine}
+use Rattle.stm_report_lines.specs.declared.line.ReportLine.TheVariants as line
+use Rattle.stm_report_lines.specs.declared.line.ReportedAnswer.{ReportedAnswer}
 use Rattle.stm_check.specs.declared.runner.Runner.{Runner}
 use Rattle.stm_check.specs.Runners.{running, runners_after}
 

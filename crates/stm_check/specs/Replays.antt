@@ -16,11 +16,11 @@ use Rattle.stm_events.specs.declared.event.WorldEvent.TheVariants.{Start, Step, 
 use Rattle.stm_events.specs.declared.reply.Reply.TheVariants.{Txn as TxnDone, Granted, Kept, Revoked, Compacted}
 use Rattle.stm_events.specs.Replies.{reply_to, advance_reply}
 use Rattle.stm_events.specs.FirstReads.{keys_first_read}
-use Rattle.stm_reports.specs.Lines.{line_reported}
-use Rattle.stm_reports.specs.declared.causes.RefusalName.TheVariants.{BadLimit, NoRunner}
-use Rattle.stm_reports.specs.declared.line.ReportLine.{ReportLine}
-use Rattle.stm_reports.specs.declared.line.ReportLine.TheVariants.{Committed, Refused}
-use Rattle.stm_reports.specs.declared.line.ReportedAnswer.{ReportedAnswer}
+use Rattle.stm_report_lines.specs.Lines.{line_reported}
+use Rattle.stm_report_lines.specs.declared.causes.RefusalName.TheVariants.{BadLimit, NoRunner}
+use Rattle.stm_report_lines.specs.declared.line.ReportLine.{ReportLine}
+use Rattle.stm_report_lines.specs.declared.line.ReportLine.TheVariants.{Committed, Refused}
+use Rattle.stm_report_lines.specs.declared.line.ReportedAnswer.{ReportedAnswer}
 use Rattle.stm_check.specs.Point.{reads_in}
 use Rattle.stm_check.specs.declared.runner.Runner.{Runner}
 use Rattle.stm_check.specs.Runners.{running}

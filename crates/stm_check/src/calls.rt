@@ -1,10 +1,10 @@
 //! Whether a line reports what a call of the store comes to. The call is made.
 ghost use Rattle.std.specs.Prelude.{◌≡◌, ◌≢◌, ◌↔◌, IsTrue, IfOk, OnOk};
 ghost use Rattle.stm_check.specs.Point.{led_by, moment_after, txn_entries, grant_entries, keep_entries, revoke_entries, advance_entries, raised_by};
-ghost use Rattle.stm_reports.specs.Lines.{line_reported};
+ghost use Rattle.stm_report_lines.specs.Lines.{line_reported};
 ghost use Rattle.stm_history.specs.History.{now};
-ghost use Rattle.stm_reports.specs.Lines.{cause_reported};
-ghost use Rattle.stm_reports.specs.declared.line.ReportLine.TheVariants.{Refused};
+ghost use Rattle.stm_report_lines.specs.Lines.{cause_reported};
+ghost use Rattle.stm_report_lines.specs.declared.line.ReportLine.TheVariants.{Refused};
 ghost use Rattle.stm_txn.specs.Standing.{transacted, granted, kept_alive, revoked, advanced, raised};
 ghost use Rattle.stm_outcome.specs.declared.refusal.Refusal.TheVariants.{OutOfMemory};
 ghost use Rattle.stm_events.specs.Replies.{reply_to, advance_reply};
@@ -12,7 +12,7 @@ ghost use Rattle.stm_events.specs.declared.reply.Reply.TheVariants.{Txn as TxnDo
 ghost use Rattle.stm_events.specs.declared.event.WorldEvent.TheVariants.{Advance as AdvanceEvent, Compact as CompactEvent};
 
 use std::alloc::AllocError;
-use stm_reports::{
+use stm_report_lines::{
     ReportLine, is_advanced, is_compacted, is_granted, is_kept, is_refused, is_revoked, is_txn,
     reported_cause,
 };

@@ -22,7 +22,7 @@ use stm_history::{Sequence, Text};
 use stm_keys::Keys;
 use stm_meaning::{Answered, End, Run, TraceItem, Value, run_answered};
 use stm_program::{Program, Write, is_listed};
-use stm_reports::{ReportedAnswer, are_same_traces, are_same_values};
+use stm_report_lines::{ReportedAnswer, are_same_traces, are_same_values};
 use stm_txn::{Change, Refusal, Store};
 
 /// What the line of a commit reports.

@@ -8,7 +8,7 @@ ghost use Rattle.stm_check.specs.Runners.{running};
 use crate::runner::{Runner, is_running};
 use std::alloc::AllocError;
 use stm_events::WorldEvent;
-use stm_reports::ReportLine;
+use stm_report_lines::ReportLine;
 use stm_txn::Store;
 
 /// How many entries the line of a transaction reports, made at this revision.

@@ -17,7 +17,7 @@ use stm_entries::LiveLease;
 use stm_history::Text;
 use stm_journal::present_keys;
 use stm_keys::Keys;
-use stm_reports::{ReportLine, is_end, is_key, is_lease};
+use stm_report_lines::{ReportLine, is_end, is_key, is_lease};
 
 /// Adds the line of a key, if it is present.
 fn add_key(

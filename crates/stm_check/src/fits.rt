@@ -5,7 +5,7 @@ ghost use Rattle.stm_check.specs.Fits.{is_watching, is_batch_of, is_cancelled_of
 
 use crate::runner::{Runner, is_running, next_number};
 use stm_events::WorldEvent;
-use stm_reports::ReportLine;
+use stm_report_lines::ReportLine;
 
 /// The number of the event that a line is of; a line of the end is of none.
 fn number_of(line: &ReportLine) -> Option<u64>

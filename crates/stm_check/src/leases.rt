@@ -12,7 +12,7 @@ use std::alloc::AllocError;
 use std::collections::BTreeMap;
 use stm_entries::{LiveLease, begin_lease, end_lease, renew_lease};
 use stm_events::WorldEvent;
-use stm_reports::ReportLine;
+use stm_report_lines::ReportLine;
 use stm_txn::Expired;
 
 /// Leases expire.

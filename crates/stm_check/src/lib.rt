@@ -22,5 +22,5 @@ pub use cause::WrongCause;
 pub use checking::{Checked, check};
 pub use judging::{CheckFault, bytes_of, check_sources};
 pub use runner::Runner;
-pub use stm_reports::{Report, ReportLine};
+pub use stm_report_lines::{Report, ReportLine};
 pub use stm_texts::Scenario;

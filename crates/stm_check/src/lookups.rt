@@ -13,7 +13,7 @@ use stm_compile::ReadSet;
 use stm_history::{KeyState, ReadAnswer, Text};
 use stm_keys::Keys;
 use stm_meaning::Lookup;
-use stm_reports::ReportedAnswer;
+use stm_report_lines::ReportedAnswer;
 
 /// The keys of a store as they are now.
 #[derive(Clone, Copy)]

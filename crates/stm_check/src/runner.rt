@@ -5,7 +5,7 @@ ghost use Rattle.stm_check.specs.Runners.{next_runner, started_in, running, with
 use std::alloc::AllocError;
 use stm_events::WorldEvent;
 use stm_program::{Level, Program};
-use stm_reports::ReportLine;
+use stm_report_lines::ReportLine;
 
 /// A run of a runner: its program and level, how many commits it may send, how many conflicts its lines reported, and whether
 /// one of them ended it.

@@ -20,7 +20,7 @@ use std::alloc::{AllocError, Global};
 use std::collections::BTreeMap;
 use stm_entries::{LiveLease, no_leases};
 use stm_events::WorldEvent;
-use stm_reports::{RefusalName, ReportLine};
+use stm_report_lines::{RefusalName, ReportLine};
 use stm_texts::Opening;
 use stm_txn::Store;
 

@@ -4,7 +4,7 @@ use Rattle.serde_json.specs.Data.{Data}
 use Rattle.serde_json.specs.Find.{is_float, of_integer}
 use Rattle.serde_json.specs.View.{items_of}
 use Rattle.serde_json.specs.Written.{has_float, items_have_float}
-use Rattle.stm_reports.specs.LineData.{value_data}
+use Rattle.stm_report_lines.specs.LineData.{value_data}
 use Rattle.stm_steps.specs.declared.run.End.{End}
 use Rattle.stm_steps.specs.declared.run.End.TheVariants.{Done, Aborted as ByAbort, Faulted as ByFault}
 use Rattle.stm_steps.specs.declared.value.Value.{Value}

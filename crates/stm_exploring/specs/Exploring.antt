@@ -25,7 +25,7 @@ use Rattle.stm_exploring.specs.declared.printed.Verdict.TheVariants as verdict
 use Rattle.stm_exploring.specs.declared.printed.Printed.{Printed}
 use Rattle.stm_exploring.specs.Asking.{asked, place_of, ends_of}
 use Rattle.stm_exploring.specs.Lines.{count_line, answer_text, outcomes_text}
-use Rattle.stm_reports.specs.Text.{line_text}
+use Rattle.stm_report_lines.specs.Text.{line_text}
 
 -- ---- what bytes spell
 

@@ -1,13 +1,13 @@
 //! The lines of an answer.
 ghost use Rattle.std.specs.Prelude.{◌≡◌, ◌++◌, IfOk, OnOk, string_bytes};
 ghost use Rattle.serde_json.specs.View.{view};
-ghost use Rattle.stm_reports.specs.Text.{line_text};
+ghost use Rattle.stm_report_lines.specs.Text.{line_text};
 ghost use Rattle.stm_exploring.specs.Lines.{count_line, end_data, broken_line};
 
 use serde_json::{Value as Json, json};
 use std::alloc::{AllocError, Global};
 use stm_meaning::End;
-use stm_reports::push_line;
+use stm_report_lines::push_line;
 
 /// The line of a word and a number.
 fn count_json(alloc: Global, word: &str, count: u64) -> Result<Json, AllocError>

@@ -2,7 +2,7 @@
 ghost use Rattle.std.specs.Prelude.{◌≡◌, ◌++◌, map, IfOk, OnOk, string_bytes};
 ghost use Rattle.std.specs.List.{concat};
 ghost use Rattle.serde_json.specs.View.{view};
-ghost use Rattle.stm_reports.specs.LineData.{value_data};
+ghost use Rattle.stm_report_lines.specs.LineData.{value_data};
 ghost use Rattle.stm_schedules.specs.declared.outcome.RunnerEnd.TheVariants.{Committed};
 ghost use Rattle.stm_exploring.specs.Lines.{key_value_data, runner_end_data, outcome_line, outcome_text, each_once, outcomes_text};
 
@@ -13,7 +13,7 @@ use std::alloc::{AllocError, Global};
 use std::collections::BTreeSet;
 use stm_history::Text;
 use stm_meaning::Value;
-use stm_reports::push_line;
+use stm_report_lines::push_line;
 use stm_schedules::{KeyValue, Outcome, RunnerEnd};
 
 impl Written for Value {

@@ -1,7 +1,7 @@
 //! A scenario with the events of a schedule, as a line.
 ghost use Rattle.std.specs.Prelude.{◌≡◌, ◌++◌, [], ◌∷◌, map, IfOk, OnOk, string_bytes};
 ghost use Rattle.serde_json.specs.View.{view};
-ghost use Rattle.stm_reports.specs.Text.{line_text};
+ghost use Rattle.stm_report_lines.specs.Text.{line_text};
 ghost use Rattle.stm_texts.specs.Writing.{written_event, opening_elements, written_scenario};
 ghost use Rattle.stm_schedules.specs.Places.{event_of, left_after};
 ghost use Rattle.stm_schedules.specs.Schedules.{events_along};
@@ -10,7 +10,7 @@ ghost use Rattle.stm_exploring.specs.Asking.{scheduled};
 use crate::setup::setup_and_others;
 use serde_json::Value as Json;
 use std::alloc::{AllocError, Global};
-use stm_reports::push_line;
+use stm_report_lines::push_line;
 use stm_schedules::Move;
 use stm_texts::{Opening, Scenario, WorldEvent, event_json, opening_json};
 

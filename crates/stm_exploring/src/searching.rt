@@ -1,6 +1,6 @@
 //! A search about a scenario and a rule, and what is printed of it.
 ghost use Rattle.std.specs.Prelude.{◌≡◌, [], ◌∷◌, length, IfOk, string_bytes};
-ghost use Rattle.stm_reports.specs.Text.{lines_text};
+ghost use Rattle.stm_report_lines.specs.Text.{lines_text};
 ghost use Rattle.stm_texts.specs.Writing.{written_scenario};
 ghost use Rattle.stm_texts.specs.Opens.{IsOpening};
 ghost use Rattle.stm_world.specs.World.{world_after};

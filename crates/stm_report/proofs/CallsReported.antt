@@ -32,8 +32,8 @@ use Rattle.stm_txn.specs.Standing.{terms_of, compaction_refusal, with_floor, flo
 use Rattle.stm_entries.specs.declared.entry.Entry.{Entry}
 use Rattle.stm_entries.specs.declared.entry.Entry.TheVariants.{Foreign}
 use Rattle.stm_entries.specs.Entered.{if_changed, expiries}
-use Rattle.stm_reports.specs.declared.line.ReportLine.{ReportLine}
-use Rattle.stm_reports.specs.declared.line.ReportLine.TheVariants.{Compacted as CompactedLine}
+use Rattle.stm_report_lines.specs.declared.line.ReportLine.{ReportLine}
+use Rattle.stm_report_lines.specs.declared.line.ReportLine.TheVariants.{Compacted as CompactedLine}
 use Rattle.stm_events.specs.declared.event.WorldEvent.TheVariants.{Txn, Grant, Keep, Revoke, Advance as AdvanceEvent, Compact}
 use Rattle.stm_events.specs.declared.reply.Reply.{Reply}
 use Rattle.stm_events.specs.declared.reply.Reply.TheVariants.{Txn as TxnDone, Granted, Kept, Revoked, Compacted, Lost}
@@ -41,7 +41,7 @@ use Rattle.stm_events.specs.declared.refusal.Denied.{Denied}
 use Rattle.stm_events.specs.declared.refusal.Refusal.TheVariants.{Store}
 use Rattle.stm_events.specs.Replies.{denied, reply_to, store_after_call, store_after_poll, advance_reply, batch_reply, poll_reply}
 use Rattle.stm_world.specs.Log.{if_reported, expired_reported}
-use Rattle.stm_reports.specs.Lines.{line_reported}
+use Rattle.stm_report_lines.specs.Lines.{line_reported}
 use Rattle.stm_check.specs.declared.runner.Runner.{Runner}
 use Rattle.stm_check.specs.Fits.{can_have}
 use Rattle.stm_check.specs.Point.{led_by, moment_after, standing_after, txn_entries, grant_entries, keep_entries, revoke_entries, advance_entries}

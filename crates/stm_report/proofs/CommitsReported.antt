@@ -21,7 +21,7 @@ use Rattle.stm_entries.specs.Replayed.{Replayed, without_moment}
 use Rattle.stm_entries.specs.Alone.{seen_at, left_by, left_by_run}
 use Rattle.stm_entries.specs.declared.entry.Entry.TheVariants.{Program}
 use Rattle.stm_entries.specs.Legal.{IsCommit}
-use Rattle.stm_reports.specs.Lines.{answer_reported}
+use Rattle.stm_report_lines.specs.Lines.{answer_reported}
 use Rattle.stm_events.specs.FirstReads.{keys_first_read}
 use Rattle.stm_world.specs.Asked.{keys_read}
 use Rattle.stm_world.specs.Right.{Situation, IsCommitted}

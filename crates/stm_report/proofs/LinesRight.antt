@@ -16,9 +16,9 @@ use Rattle.stm_entries.specs.Replayed.{opening, without_moment}
 use Rattle.stm_entries.specs.Replay.{replay}
 use Rattle.stm_entries.specs.Legal.{AreLegal}
 use Rattle.stm_entries.proofs.Replaying.{rest_legal}
-use Rattle.stm_reports.specs.declared.causes.RefusalName.TheVariants.{NoRunner as NoRunnerReported}
-use Rattle.stm_reports.specs.declared.line.ReportLine.{ReportLine}
-use Rattle.stm_reports.specs.declared.line.ReportLine.TheVariants.{Refused}
+use Rattle.stm_report_lines.specs.declared.causes.RefusalName.TheVariants.{NoRunner as NoRunnerReported}
+use Rattle.stm_report_lines.specs.declared.line.ReportLine.{ReportLine}
+use Rattle.stm_report_lines.specs.declared.line.ReportLine.TheVariants.{Refused}
 use Rattle.stm_events.specs.declared.event.WorldEvent.{WorldEvent}
 use Rattle.stm_events.specs.declared.event.WorldEvent.TheVariants.{Start, Step, Txn, Grant, Keep, Revoke, Advance, WatchKey, WatchRange, Poll, Cancel, Compact}
 use Rattle.stm_events.specs.declared.reply.Reply.{Reply}
@@ -36,7 +36,7 @@ use Rattle.stm_world.proofs.Headlines.{Follows, step_follows, opened_follows}
 use Rattle.stm_world.proofs.RunnerSteps.{CommitLaws}
 use Rattle.stm_world.proofs.Slots.{same_number, other_number}
 use Rattle.stm_world.proofs.Untouched.{IsFresh}
-use Rattle.stm_reports.specs.Lines.{line_reported, answer_reported}
+use Rattle.stm_report_lines.specs.Lines.{line_reported, answer_reported}
 use Rattle.stm_check.specs.declared.runner.Runner.{Runner}
 use Rattle.stm_check.specs.Fits.{number_of, is_number, can_have, fits}
 use Rattle.stm_check.specs.Point.{Point, committed_entry, commit_entries, entries_reported as reported_entries, led_by, standing_after, after}

@@ -16,14 +16,14 @@ use Rattle.serde_json.specs.Data.{Num, Data, null, boolean, number, string, arra
 use Rattle.serde_json.specs.Find.{as_integer, of_integer}
 use Rattle.serde_json.specs.Written.{number_text, compact_text, items_text, comma_if}
 use Rattle.stm_json.specs.Elements.{is_64_bit}
-use Rattle.stm_reports.specs.declared.line.ReportLine.{ReportLine}
-use Rattle.stm_reports.specs.Bytes.{is_line_feed, parts_of}
-use Rattle.stm_reports.specs.Grammar.{Spells, SpellsItems, SpellsParts}
-use Rattle.stm_reports.specs.LineData.{line_data}
-use Rattle.stm_reports.specs.Text.{text_of}
-use Rattle.stm_reports.proofs.ReportLaws.{report_reads}
+use Rattle.stm_report_lines.specs.declared.line.ReportLine.{ReportLine}
+use Rattle.stm_report_lines.specs.Bytes.{is_line_feed, parts_of}
+use Rattle.stm_report_lines.specs.Grammar.{Spells, SpellsItems, SpellsParts}
+use Rattle.stm_report_lines.specs.LineData.{line_data}
+use Rattle.stm_report_lines.specs.Text.{text_of}
+use Rattle.stm_report_lines.proofs.ReportLaws.{report_reads}
 use Rattle.stm_report.specs.ReadBack.{IsPlain, ArePlain, AreReadable, ReportsAreReadBack}
-use Rattle.stm_reports.proofs.Shallow.{line_is_shallow}
+use Rattle.stm_report_lines.proofs.Shallow.{line_is_shallow}
 use Rattle.stm_report.proofs.Written.{written_is_read}
 
 abbrev HasNoFeed : List ℕ → Type 0

@@ -39,11 +39,11 @@ use Rattle.stm_events.specs.declared.reply.Reply.TheVariants.{Started, Prefetche
 use Rattle.stm_events.specs.declared.reply.Reply.TheVariants.{Txn, Granted, Kept, Revoked, Advanced, Compacted, Watching, Batch, Lost, Cancelled}
 use Rattle.stm_events.specs.declared.reply.KeyRead.{KeyRead}
 use Rattle.stm_events.specs.declared.refusal.Denied.{Denied}
-use Rattle.stm_reports.specs.declared.line.ReportLine.{ReportLine}
-use Rattle.stm_reports.specs.declared.line.ReportLine.TheVariants.{End}
-use Rattle.stm_reports.specs.Grammar.{AllCountsFit}
-use Rattle.stm_reports.specs.LineData.{whole, value_data, trace_data, text_or_null, answer_data, state_data, state_or_null, op_data, read_data, expired_data, event_data}
-use Rattle.stm_reports.specs.Lines.{answer_reported, op_reported, line_reported}
+use Rattle.stm_report_lines.specs.declared.line.ReportLine.{ReportLine}
+use Rattle.stm_report_lines.specs.declared.line.ReportLine.TheVariants.{End}
+use Rattle.stm_report_lines.specs.Grammar.{AllCountsFit}
+use Rattle.stm_report_lines.specs.LineData.{whole, value_data, trace_data, text_or_null, answer_data, state_data, state_or_null, op_data, read_data, expired_data, event_data}
+use Rattle.stm_report_lines.specs.Lines.{answer_reported, op_reported, line_reported}
 use Rattle.stm_check.specs.StoreLines.{key_lines_of, key_lines, lease_line, lease_lines, end_lines}
 use Rattle.stm_report.specs.Report.{event_lines}
 use Rattle.stm_report.specs.ReadBack.{IsPlain, ArePlain, AreReadable}

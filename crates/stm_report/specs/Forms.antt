@@ -4,9 +4,9 @@ use Rattle.serde_json.specs.Data.{Data}
 use Rattle.stm_events.specs.declared.reply.Reply.{Reply}
 use Rattle.stm_events.specs.declared.refusal.Denied.{Denied}
 use Rattle.stm_world.specs.World.{World}
-use Rattle.stm_reports.specs.declared.line.ReportLine.{ReportLine}
-use Rattle.stm_reports.specs.LineData.{line_data}
-use Rattle.stm_reports.specs.Text.{line_text}
+use Rattle.stm_report_lines.specs.declared.line.ReportLine.{ReportLine}
+use Rattle.stm_report_lines.specs.LineData.{line_data}
+use Rattle.stm_report_lines.specs.Text.{line_text}
 use Rattle.stm_report.specs.declared.line_form.LineForm.{LineForm}
 use Rattle.stm_report.specs.declared.line_form.LineForm.TheVariants.{Array, Object}
 use Rattle.stm_report.specs.Report.{report_of}

@@ -7,15 +7,15 @@ use Rattle.stm_world.specs.Headline.{Holds}
 use Rattle.stm_texts.specs.declared.scenario.Scenario.{Scenario}
 use Rattle.stm_texts.specs.Reading.{scenario_in}
 use Rattle.stm_texts.specs.Opens.{setup_of}
-use Rattle.stm_reports.specs.declared.report.Report.{Report}
+use Rattle.stm_report_lines.specs.declared.report.Report.{Report}
 use Rattle.stm_json.specs.declared.limits.TheConstants.{MOST_BYTES}
 use Rattle.stm_check.specs.declared.checking.Checked.{Checked}
 use Rattle.stm_check.specs.declared.checking.Checked.TheVariants.{Yes}
 use Rattle.stm_check.specs.declared.judging.CheckFault.{CheckFault}
 use Rattle.stm_check.specs.Judging.{Sources, Judges}
 use Rattle.stm_check.specs.Judged.{IsJudged}
-use Rattle.stm_reports.specs.Reading.{report_in}
-use Rattle.stm_reports.specs.Text.{text_of}
+use Rattle.stm_report_lines.specs.Reading.{report_in}
+use Rattle.stm_report_lines.specs.Text.{text_of}
 use Rattle.stm_report.specs.Report.{report_of, IsReport}
 use Rattle.stm_report.specs.Script.{IsReportOf}
 use Rattle.stm_report.specs.WholeLaws.{IsSettled}

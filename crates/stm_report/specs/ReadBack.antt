@@ -4,12 +4,12 @@ use Rattle.serde_json.specs.Data.{Data, null, boolean, number, string, array, ob
 use Rattle.serde_json.specs.Find.{of_integer}
 use Rattle.stm_json.specs.Elements.{is_64_bit}
 use Rattle.stm_json.specs.declared.limits.TheConstants.{MOST_BYTES}
-use Rattle.stm_reports.specs.declared.line.ReportLine.{ReportLine}
-use Rattle.stm_reports.specs.declared.report.Report.{Report}
-use Rattle.stm_reports.specs.Grammar.{CountsFit}
-use Rattle.stm_reports.specs.LineData.{line_data}
-use Rattle.stm_reports.specs.Reading.{report_in}
-use Rattle.stm_reports.specs.Text.{text_of}
+use Rattle.stm_report_lines.specs.declared.line.ReportLine.{ReportLine}
+use Rattle.stm_report_lines.specs.declared.report.Report.{Report}
+use Rattle.stm_report_lines.specs.Grammar.{CountsFit}
+use Rattle.stm_report_lines.specs.LineData.{line_data}
+use Rattle.stm_report_lines.specs.Reading.{report_in}
+use Rattle.stm_report_lines.specs.Text.{text_of}
 
 -- each number in the data is whole and of 64 bits with a sign, and there is no object
 abbrev mutual

@@ -1,12 +1,12 @@
 -- The report of a world, and its text.
 use Rattle.std.specs.Prelude.{◌≡◌, ℕ, suc, List, [], ◌∷◌, ◌++◌, length, Result}
-use Rattle.stm_reports.specs.declared.line.ReportLine.{ReportLine}
-use Rattle.stm_reports.specs.declared.report.Report.{Report}
-use Rattle.stm_reports.specs.Text.{text_of}
+use Rattle.stm_report_lines.specs.declared.line.ReportLine.{ReportLine}
+use Rattle.stm_report_lines.specs.declared.report.Report.{Report}
+use Rattle.stm_report_lines.specs.Text.{text_of}
 use Rattle.stm_events.specs.declared.reply.Reply.{Reply}
 use Rattle.stm_events.specs.declared.refusal.Denied.{Denied}
 use Rattle.stm_world.specs.World.{World}
-use Rattle.stm_reports.specs.Lines.{line_reported}
+use Rattle.stm_report_lines.specs.Lines.{line_reported}
 use Rattle.stm_check.specs.StoreLines.{end_lines}
 
 -- a line for each event, numbered from n

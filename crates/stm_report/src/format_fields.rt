@@ -3,14 +3,14 @@ ghost use Rattle.std.specs.Prelude.{◌≡◌, ℕ, false, map, IfOk};
 ghost use Rattle.serde_json.specs.Data.{no_members};
 ghost use Rattle.serde_json.specs.View.{view, items_view, members_view};
 ghost use Rattle.serde_json.specs.Written.{has_float};
-ghost use Rattle.stm_reports.specs.Lines.{IsOfRunner, reply_reported, line_reported};
-ghost use Rattle.stm_reports.specs.declared.line.ReportLine.TheVariants as lines;
+ghost use Rattle.stm_report_lines.specs.Lines.{IsOfRunner, reply_reported, line_reported};
+ghost use Rattle.stm_report_lines.specs.declared.line.ReportLine.TheVariants as lines;
 ghost use Rattle.stm_report.specs.FormatFields.{members_named, object_of, line_fields, line_object};
 
 use serde_json::{Map, Value as Json};
 use std::alloc::{AllocError, Global};
 use stm_history::KeyState;
-use stm_reports::{end_json, event_json, key_json, lease_json};
+use stm_report_lines::{end_json, event_json, key_json, lease_json};
 use stm_retry::{Denied, Reply};
 
 /// The members that have these values under these names.

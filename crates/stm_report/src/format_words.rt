@@ -1,7 +1,7 @@
 //! What a row says of an event and its reply.
 ghost use Rattle.std.specs.Prelude.{◌≡◌, codes, IfOk};
 ghost use Rattle.stm_texts.specs.Grammar.{level_text};
-ghost use Rattle.stm_reports.specs.Lines.{IsOfRunner};
+ghost use Rattle.stm_report_lines.specs.Lines.{IsOfRunner};
 ghost use Rattle.stm_report.specs.FormatWords.{named_words, reported_words, changed_words, start_words, listed_words, fetched_words, commit_words, compared_words};
 ghost use Rattle.stm_report.specs.FormatWords.{txn_words, revoked_words, advanced_words, batch_words, lost_words, reply_words, asked_word, refused_words, words_of};
 

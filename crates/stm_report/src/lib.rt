@@ -47,7 +47,7 @@ pub use run_script::{ScriptFault, script};
 pub use stm_check::{CheckFault, Checked, WrongCause, check};
 pub use stm_devices::{DeviceFault, Sink, Source, Std, write_all};
 pub use stm_history::{Sequence, Text};
-pub use stm_reports::{Report, ReportLine, read_report};
+pub use stm_report_lines::{Report, ReportLine, read_report};
 pub use stm_retry::{Denied, Reply, World};
 pub use stm_texts::{BadInput, Cause, ReadError, Scenario, WorldEvent, read_scenario};
 pub use whole_comparing::WholeChecked;

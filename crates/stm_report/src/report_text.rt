@@ -6,8 +6,8 @@ ghost use Rattle.stm_history.specs.History.{key_now};
 ghost use Rattle.stm_leases.specs.Live.{Live};
 ghost use Rattle.stm_entries.specs.LiveLeases.{HasLeases};
 ghost use Rattle.stm_check.specs.StoreLines.{key_lines_of, key_lines, lease_lines};
-ghost use Rattle.stm_reports.specs.Lines.{line_reported};
-ghost use Rattle.stm_reports.specs.declared.line.ReportLine.TheVariants as lines;
+ghost use Rattle.stm_report_lines.specs.Lines.{line_reported};
+ghost use Rattle.stm_report_lines.specs.declared.line.ReportLine.TheVariants as lines;
 ghost use Rattle.stm_report.specs.Forms.{formed, formed_text, json_text};
 ghost use Rattle.stm_report.specs.Report.{event_lines, report_of, IsReport};
 
@@ -20,7 +20,7 @@ use std::collections::BTreeMap;
 use stm_entries::LiveLease;
 use stm_history::KeyState;
 use stm_journal::present_keys;
-use stm_reports::{end_json, event_json, key_json, lease_json, push_line};
+use stm_report_lines::{end_json, event_json, key_json, lease_json, push_line};
 use stm_retry::{Denied, Reply, Store, World};
 
 /// The line of an event in a form.

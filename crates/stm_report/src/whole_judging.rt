@@ -11,7 +11,7 @@ use std::alloc::Global;
 use stm_check::{CheckFault, bytes_of};
 use stm_devices::{Source, Std};
 use stm_json::{MOST_BYTES, ReadError};
-use stm_reports::read_report;
+use stm_report_lines::read_report;
 
 /// The answer, where the text is a report in its format, and else its first fault.
 fn judge_form(

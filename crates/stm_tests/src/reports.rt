@@ -3,7 +3,7 @@
 use std::alloc::{AllocError, Global};
 use std::process::Abort;
 use std::test::Fail;
-use stm_reports::{BadInput, ReadError, ReportLine, ReportedOp, read_report};
+use stm_report_lines::{BadInput, ReadError, ReportLine, ReportedOp, read_report};
 
 /// The word of a line.
 fn word(line: &ReportLine) -> &'static str {

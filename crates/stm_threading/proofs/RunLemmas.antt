@@ -22,8 +22,8 @@ use Rattle.stm_workers.specs.Gathered.{RanTo, BrokeOff}
 use Rattle.stm_threading.specs.declared.running.JobsFault.{JobsFault}
 use Rattle.stm_threading.specs.declared.running.Printed.{Printed}
 use Rattle.stm_threading.specs.declared.running.JobsFault.TheVariants.{OutOfMemory, Bad, Read, Write, Spawn, Audit}
-use Rattle.stm_jobs.specs.Accepting.{Sorted, task_of, accepted, opening_of}
-use Rattle.stm_jobs.specs.StoreAfter.{store_after}
+use Rattle.stm_job_texts.specs.Accepting.{Sorted, task_of, accepted, opening_of}
+use Rattle.stm_job_texts.specs.StoreAfter.{store_after}
 use Rattle.stm_threading.specs.declared.shown.Printing.{Printing}
 use Rattle.stm_threading.specs.declared.shown.Shown.{Shown}
 use Rattle.stm_threading.specs.Running.{IsTextOf, IsOfRun, IsPrintedOfJobs, IsBrokenOffFor, IsBrokenOff, IsBrokenOffOf, IsPrintedOf}

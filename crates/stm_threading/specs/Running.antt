@@ -18,10 +18,10 @@ use Rattle.stm_workers.specs.Gathered.{RanTo, BrokeOff}
 use Rattle.stm_threading.specs.declared.running.JobsFault.{JobsFault}
 use Rattle.stm_threading.specs.declared.running.Printed.{Printed}
 use Rattle.stm_threading.specs.declared.running.JobsFault.TheVariants.{OutOfMemory, Bad, Read, Write, Spawn, Audit}
-use Rattle.stm_jobs.specs.Accepting.{Sorted, task_of, accepted, opening_of}
-use Rattle.stm_jobs.specs.StoreAfter.{store_after}
-use Rattle.stm_jobs.specs.Lines.{AreLinesOf}
-use Rattle.stm_jobs.specs.Outcomes.{IsFrontOf, Tally, Counts, tally_text}
+use Rattle.stm_job_texts.specs.Accepting.{Sorted, task_of, accepted, opening_of}
+use Rattle.stm_job_texts.specs.StoreAfter.{store_after}
+use Rattle.stm_job_texts.specs.Lines.{AreLinesOf}
+use Rattle.stm_job_texts.specs.Outcomes.{IsFrontOf, Tally, Counts, tally_text}
 use Rattle.stm_threading.specs.declared.shown.Shown.{Shown}
 use Rattle.stm_threading.specs.declared.shown.Shown.TheVariants.{Values, Ends, Outcome}
 use Rattle.stm_threading.specs.declared.shown.Printing.{Printing}

@@ -9,7 +9,7 @@ ghost use Rattle.stm_threading.specs.declared.running.JobsFault.TheVariants.{Out
 ghost use Rattle.stm_workers.specs.declared.run.TheConstants.{MOST_WORKERS};
 ghost use Rattle.std.specs.Map.{values_of};
 ghost use Rattle.stm_threading.specs.declared.shown.Printing.TheVariants.{Outcomes as OfRuns};
-ghost use Rattle.stm_jobs.specs.StoreAfter.{store_after};
+ghost use Rattle.stm_job_texts.specs.StoreAfter.{store_after};
 ghost use Rattle.stm_threading.specs.Running.{AreCounted, HasCounted, IsOfRun, IsPrintedOfJobs, IsTextOf, IsBrokenOff, fault_reported, Answers, Writes, Does};
 
 use crate::shown::{Printing, Shown};
@@ -22,7 +22,7 @@ use stm_devices::{ReadFault, Sink, Source, read_all, write_all};
 use stm_hall::Hall;
 use stm_history::{Sequence, Text};
 use stm_job::{FaultCause, Gathered, Job, JobEnd, RunFault};
-use stm_jobs::{accept, count_one, front_of, lines, open_store, tally_text};
+use stm_job_texts::{accept, count_one, front_of, lines, open_store, tally_text};
 use stm_json::{BadInput, ReadError};
 use stm_texts::{Opening, Scenario, opens_with, read_scenario};
 use stm_txn::Store;

@@ -1,12 +1,12 @@
 use Rattle.std.proofs.Common.{◌≡◌, ◌∙◌, List, None, sym, ap, subst}
 use Rattle.stm_outcome.specs.declared.advance.Expired.{Expired}
 use Rattle.stm_txn.specs.Standing.{Standing, IsCutShort, advanced}
-use Rattle.stm_reports.specs.declared.line.ReportLine.TheVariants.{Advanced}
+use Rattle.stm_report_lines.specs.declared.line.ReportLine.TheVariants.{Advanced}
 use Rattle.stm_events.specs.declared.event.WorldEvent.TheVariants.{Advance as AdvanceEvent}
 use Rattle.stm_check.specs.Point.{led_by, moment_after, advance_entries}
 use Rattle.stm_entries.specs.Entered.{expiries}
 use Rattle.stm_events.specs.Replies.{advance_reply}
-use Rattle.stm_reports.specs.Lines.{line_reported}
+use Rattle.stm_report_lines.specs.Lines.{line_reported}
 use Rattle.stm_check.proofs.CallLemmas.{tests_same, cut_right, cut_next, led_where, advance_led, advance_line_is}
 use Rattle.stm_check.proofs.calls.replay_advance.Goals as goal
 

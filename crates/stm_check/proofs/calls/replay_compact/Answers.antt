@@ -3,10 +3,10 @@ use Rattle.std.specs.Prelude.{Result, []}
 use Rattle.stm_outcome.specs.declared.refusal.Refusal.{Refusal as Cause}
 use Rattle.stm_txn.specs.Standing.{Standing, Step, IsRefusalOf, raised}
 use Rattle.stm_txn.specs.Store.{StoreView}
-use Rattle.stm_reports.specs.Lines.{cause_reported}
-use Rattle.stm_reports.specs.declared.line.ReportLine.TheVariants.{Refused, Compacted}
+use Rattle.stm_report_lines.specs.Lines.{cause_reported}
+use Rattle.stm_report_lines.specs.declared.line.ReportLine.TheVariants.{Refused, Compacted}
 use Rattle.stm_events.specs.Replies.{reply_to}
-use Rattle.stm_reports.specs.Lines.{line_reported}
+use Rattle.stm_report_lines.specs.Lines.{line_reported}
 use Rattle.stm_events.specs.declared.reply.Reply.TheVariants as reply
 use Rattle.stm_check.proofs.CallLemmas.{taken_line, refused_line, tests_same, refused_right, compact_led, compact_stays}
 use Rattle.stm_check.proofs.calls.replay_compact.Goals as goal

@@ -3,11 +3,11 @@ use Rattle.std.specs.Prelude.{Result, []}
 use Rattle.stm_outcome.specs.declared.refusal.Refusal.{Refusal as Cause}
 use Rattle.stm_txn.specs.Standing.{Standing, Step, IsRefusalOf, kept_alive}
 use Rattle.stm_txn.specs.Store.{StoreView}
-use Rattle.stm_reports.specs.Lines.{cause_reported}
-use Rattle.stm_reports.specs.declared.line.ReportLine.TheVariants.{Refused, Kept}
+use Rattle.stm_report_lines.specs.Lines.{cause_reported}
+use Rattle.stm_report_lines.specs.declared.line.ReportLine.TheVariants.{Refused, Kept}
 use Rattle.stm_check.specs.Point.{keep_entries}
 use Rattle.stm_events.specs.Replies.{reply_to}
-use Rattle.stm_reports.specs.Lines.{line_reported}
+use Rattle.stm_report_lines.specs.Lines.{line_reported}
 use Rattle.stm_events.specs.declared.reply.Reply.TheVariants as reply
 use Rattle.stm_check.proofs.CallLemmas.{taken_line, refused_line, tests_same, refused_right, refused_next, led_where, keep_led}
 use Rattle.stm_check.proofs.calls.replay_keep.Goals as goal

@@ -2,11 +2,11 @@ use Rattle.std.proofs.Common.{ap, refl}
 use Rattle.std.specs.Prelude.{[]}
 use Rattle.stm_txn.specs.Standing.{Standing, revoked}
 use Rattle.stm_txn.specs.Store.{StoreView}
-use Rattle.stm_reports.specs.Lines.{cause_reported}
-use Rattle.stm_reports.specs.declared.line.ReportLine.TheVariants.{Refused, Revoked}
+use Rattle.stm_report_lines.specs.Lines.{cause_reported}
+use Rattle.stm_report_lines.specs.declared.line.ReportLine.TheVariants.{Refused, Revoked}
 use Rattle.stm_check.specs.Point.{revoke_entries}
 use Rattle.stm_events.specs.Replies.{reply_to}
-use Rattle.stm_reports.specs.Lines.{line_reported}
+use Rattle.stm_report_lines.specs.Lines.{line_reported}
 use Rattle.stm_events.specs.declared.reply.Reply.TheVariants as reply
 use Rattle.stm_check.proofs.CallLemmas.{taken_line, refused_line, tests_same, refused_right, refused_next, led_where, revoke_led}
 use Rattle.stm_check.proofs.calls.replay_revoke.Goals as goal

@@ -3,11 +3,11 @@ use Rattle.std.specs.Prelude.{[]}
 use Rattle.stm_history.specs.History.{now}
 use Rattle.stm_txn.specs.Standing.{Standing, transacted}
 use Rattle.stm_txn.specs.Store.{StoreView}
-use Rattle.stm_reports.specs.Lines.{cause_reported, txn_line}
-use Rattle.stm_reports.specs.declared.line.ReportLine.TheVariants.{Refused}
+use Rattle.stm_report_lines.specs.Lines.{cause_reported, txn_line}
+use Rattle.stm_report_lines.specs.declared.line.ReportLine.TheVariants.{Refused}
 use Rattle.stm_check.specs.Point.{txn_entries}
 use Rattle.stm_events.specs.Replies.{reply_to}
-use Rattle.stm_reports.specs.Lines.{line_reported}
+use Rattle.stm_report_lines.specs.Lines.{line_reported}
 use Rattle.stm_events.specs.declared.reply.Reply.TheVariants.{Txn as TxnDone}
 use Rattle.stm_check.proofs.CallLemmas.{taken_line, refused_line, tests_same, refused_right, refused_next, led_where, txn_led}
 use Rattle.stm_check.proofs.calls.replay_txn.Goals as goal

@@ -1,5 +1,5 @@
 use Rattle.std.proofs.Common.{◌≡◌, ◌∙◌, ◌+◌, ℕ, List, subst, sym, arith}
-use Rattle.stm_reports.specs.declared.line.ReportLine.{ReportLine}
+use Rattle.stm_report_lines.specs.declared.line.ReportLine.{ReportLine}
 use Rattle.stm_check.specs.Finals.{AreFinal}
 use Rattle.stm_check.specs.Walks.{point_of}
 use Rattle.stm_check.specs.Wrong.{IsOff}

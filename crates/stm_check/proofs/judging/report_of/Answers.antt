@@ -2,7 +2,7 @@ use Rattle.std.proofs.Common.{◌≡◌, ℕ, List, take, Ok, Err, IfSome, sym, 
 use Rattle.stm_json.specs.declared.read_error.ReadError.{ReadError}
 use Rattle.stm_json.specs.Returns.{ReturnsFault}
 use Rattle.stm_devices.specs.declared.transfer.TheConstants.{MOST_READ}
-use Rattle.stm_reports.specs.Reading.{report_in}
+use Rattle.stm_report_lines.specs.Reading.{report_in}
 use Rattle.stm_check.proofs.JudgingLemmas.{report_reported}
 use Rattle.stm_check.proofs.judging.report_of.Goals as goal
 

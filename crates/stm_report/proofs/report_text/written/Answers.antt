@@ -11,11 +11,11 @@ use Rattle.stm_entries.specs.declared.entry.Entry.{Entry}
 use Rattle.stm_entries.specs.Replayed.{Replayed, opening}
 use Rattle.stm_entries.specs.Replay.{replay}
 use Rattle.stm_entries.specs.LiveLeases.{HasLeases}
-use Rattle.stm_reports.specs.declared.line.ReportLine.{ReportLine}
-use Rattle.stm_reports.specs.declared.line.ReportLine.TheVariants.{End}
+use Rattle.stm_report_lines.specs.declared.line.ReportLine.{ReportLine}
+use Rattle.stm_report_lines.specs.declared.line.ReportLine.TheVariants.{End}
 use Rattle.stm_check.specs.StoreLines.{key_lines, lease_lines}
 use Rattle.stm_check.proofs.FinalLemmas.{present_lines}
-use Rattle.stm_reports.specs.Text.{line_text}
+use Rattle.stm_report_lines.specs.Text.{line_text}
 use Rattle.stm_report.specs.declared.line_form.LineForm.{LineForm}
 use Rattle.stm_report.specs.Forms.{formed, formed_text}
 use Rattle.stm_report.specs.Report.{event_lines}

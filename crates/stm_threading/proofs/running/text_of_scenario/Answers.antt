@@ -1,7 +1,7 @@
 use Rattle.std.proofs.Common.{Ok, Err, map, ap, ◌∙◌}
 use Rattle.std.proofs.lemmas.Result.{err_from_is_err_and}
 use Rattle.stm_threading.specs.declared.running.JobsFault.{JobsFault}
-use Rattle.stm_jobs.specs.Accepting.{sorted_of, task_of}
+use Rattle.stm_job_texts.specs.Accepting.{sorted_of, task_of}
 use Rattle.stm_threading.proofs.RunLemmas.{answers_of, answers_fault}
 use Rattle.stm_threading.proofs.running.text_of_scenario.Goals as goal
 use Rattle.stm_texts.specs.Opens.{as_setup}

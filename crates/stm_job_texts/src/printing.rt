@@ -1,0 +1,219 @@
+//! What is printed of a run of jobs.
+ghost use Rattle.std.specs.Prelude.{◌≡◌, ◌++◌, false, length, IfOk, OnOk, string_bytes};
+ghost use Rattle.serde_json.specs.Data.{string};
+ghost use Rattle.serde_json.specs.View.{view};
+ghost use Rattle.stm_report_lines.specs.LineData.{whole};
+ghost use Rattle.stm_meaning.specs.States.{IsAscending};
+ghost use Rattle.stm_report_lines.specs.Text.{line_text, lines_text};
+ghost use Rattle.stm_job_texts.specs.Lines.{count_line, value_line, value_lines, job_line, job_refusal_name, end_of_job, lines_of_ends, ends_shown, AreLinesOf};
+
+use serde_json::{Value as Json, json};
+use std::alloc::{AllocError, Global};
+use stm_job::{Gathered, JobEnd, JobRefusal};
+use stm_meaning::State;
+use stm_report_lines::push_line;
+
+/// The line of a count.
+fn count_json(alloc: Global, word: &str, count: u64) -> Result<Json, AllocError>
+    ensures { IfOk result (λ v. view v ≡ count_line word.now count) }
+{
+    json!(in alloc; [word, count])
+}
+
+/// The line of a key that is present.
+fn value_json(alloc: Global, key: &str, value: &str) -> Result<Json, AllocError>
+    ensures { IfOk result (λ v. view v ≡ value_line key.now value.now) }
+{
+    json!(in alloc; ["value", key, value])
+}
+
+/// Adds the line of a count.
+pub(crate) fn push_count(
+    alloc: Global,
+    text: &mut String,
+    word: &str,
+    count: u64,
+) -> Result<(), AllocError>
+    ensures { OnOk result (string_bytes text.new ≡ string_bytes text.old ++ line_text (count_line word.now count)) }
+{
+    let line = count_json(alloc, word, count)?;
+    push_line(alloc, text, &line)
+}
+
+/// Adds the line of a key that is present.
+fn push_value(alloc: Global, text: &mut String, key: &str, value: &str) -> Result<(), AllocError>
+    ensures { OnOk result (string_bytes text.new ≡ string_bytes text.old ++ line_text (value_line key.now value.now)) }
+{
+    let line = value_json(alloc, key, value)?;
+    push_line(alloc, text, &line)
+}
+
+/// The line of a job whose end has a number.
+fn number_json(
+    alloc: Global,
+    job: u64,
+    word: &str,
+    reported: u64,
+    attempts: u32,
+) -> Result<Json, AllocError>
+    ensures { IfOk result (λ v. view v ≡ job_line job word.now (whole reported) attempts) }
+{
+    json!(in alloc; ["job", job, word, reported, attempts])
+}
+
+/// The line of a job whose end has a text.
+fn text_json(
+    alloc: Global,
+    job: u64,
+    word: &str,
+    reported: &str,
+    attempts: u32,
+) -> Result<Json, AllocError>
+    ensures { IfOk result (λ v. view v ≡ job_line job word.now (string reported.now) attempts) }
+{
+    json!(in alloc; ["job", job, word, reported, attempts])
+}
+
+/// Adds the line of a job whose end has a number.
+fn push_number(
+    alloc: Global,
+    text: &mut String,
+    job: u64,
+    word: &str,
+    reported: u64,
+    attempts: u32,
+) -> Result<(), AllocError>
+    ensures { OnOk result (string_bytes text.new ≡ string_bytes text.old ++ line_text (job_line job word.now (whole reported) attempts)) }
+{
+    let line = number_json(alloc, job, word, reported, attempts)?;
+    push_line(alloc, text, &line)
+}
+
+/// Adds the line of a job whose end has a text.
+fn push_text(
+    alloc: Global,
+    text: &mut String,
+    job: u64,
+    word: &str,
+    reported: &str,
+    attempts: u32,
+) -> Result<(), AllocError>
+    ensures { OnOk result (string_bytes text.new ≡ string_bytes text.old ++ line_text (job_line job word.now (string reported.now) attempts)) }
+{
+    let line = text_json(alloc, job, word, reported, attempts)?;
+    push_line(alloc, text, &line)
+}
+
+/// The name of the refusal that ended a job.
+pub(crate) fn refusal_name(refusal: &JobRefusal) -> &'static str
+    ensures { result.now ≡ job_refusal_name refusal.now }
+{
+    match refusal {
+        JobRefusal::Store(refusal) => refusal.cause.name(),
+        JobRefusal::Behind { .. } => "Behind",
+        JobRefusal::Unvouched { .. } => "Unvouched",
+    }
+}
+
+/// Adds the line of the end of a job, to which it came after this many attempts.
+fn push_end(
+    alloc: Global,
+    text: &mut String,
+    job: u64,
+    end: &JobEnd,
+    attempts: u32,
+) -> Result<(), AllocError>
+    ensures { OnOk result (string_bytes text.new ≡ string_bytes text.old ++ line_text (end_of_job job end.now attempts)) }
+{
+    match end {
+        JobEnd::Committed { revision, .. } => {
+            push_number(alloc, text, job, "committed", *revision, attempts)
+        }
+        JobEnd::Aborted { text: reported, .. } => {
+            push_text(alloc, text, job, "aborted", reported.as_str(), attempts)
+        }
+        JobEnd::Faulted { fault, .. } => {
+            push_text(alloc, text, job, "faulted", fault.name(), attempts)
+        }
+        JobEnd::Refused(refusal) => {
+            push_text(alloc, text, job, "ended", refusal_name(refusal), attempts)
+        }
+        JobEnd::GaveUp { key } => push_text(alloc, text, job, "gaveup", key.as_str(), attempts),
+    }
+}
+
+/// Adds a line for the end of each job, numbered from 0, with how many attempts were made of it.
+fn push_ends(
+    alloc: Global,
+    text: &mut String,
+    ends: &[JobEnd],
+    attempts: &[u32],
+) -> Result<(), AllocError>
+    requires { length attempts.now ≡ length ends.now }
+    ensures { OnOk result (string_bytes text.new ≡ string_bytes text.old ++ lines_text (lines_of_ends attempts.now 0 ends.now)) }
+{
+    for (job, end) in ends.iter().enumerate() {
+        push_end(alloc, text, job as u64, end, attempts[job])?;
+    }
+    Ok(())
+}
+
+/// Adds the lines of the ends, where they are to be shown.
+fn push_shown(
+    alloc: Global,
+    text: &mut String,
+    ends: &[JobEnd],
+    attempts: &[u32],
+    with_ends: bool,
+) -> Result<(), AllocError>
+    requires { length attempts.now ≡ length ends.now }
+    ensures { OnOk result (string_bytes text.new ≡ string_bytes text.old ++ lines_text (ends_shown with_ends ends.now attempts.now)) }
+{
+    if with_ends {
+        push_ends(alloc, text, ends, attempts)
+    } else {
+        Ok(())
+    }
+}
+
+/// Adds a line for each key of the state. Its keys ascend.
+fn push_values(alloc: Global, text: &mut String, state: &State) -> Result<(), AllocError>
+    ensures text { OnOk result (string_bytes text.new ≡ string_bytes text.old ++ lines_text (value_lines state.now)) }
+    ensures ascending { OnOk result (IsAscending state.now) }
+{
+    for i in 0..state.len() {
+        let entry = state.at(i);
+        push_value(alloc, text, entry.key.as_str(), entry.value.as_str())?;
+    }
+    Ok(())
+}
+
+/// What is printed of a run of `jobs` jobs: how many there are and how many of them committed, a line for the end of each and its attempts, where
+/// these are to be shown, one for each key that is present with its value, ascending by bytes, and the store's revision.
+///
+/// Each line is a compact JSON array and a line feed. It fails where an allocation failed.
+pub fn lines(
+    alloc: Global,
+    jobs: usize,
+    gathered: &Gathered,
+    with_ends: bool,
+) -> Result<String, AllocError>
+    requires { length gathered.now.attempts.items ≡ length gathered.now.ends.items }
+    ensures { IfOk result (λ text. AreLinesOf with_ends gathered.now.ends.items gathered.now.attempts.items jobs gathered.now.committed
+        gathered.now.hall.standing.history (string_bytes text)) }
+{
+    let state = gathered.hall.state()?;
+    let mut text = String::new(alloc);
+    push_count(alloc, &mut text, "jobs", jobs as u64)?;
+    push_count(alloc, &mut text, "committed", gathered.committed as u64)?;
+    push_shown(
+        alloc,
+        &mut text,
+        gathered.ends.as_slice(),
+        gathered.attempts.as_slice(),
+        with_ends,
+    )?;
+    push_values(alloc, &mut text, &state)?;
+    push_count(alloc, &mut text, "end", gathered.hall.revision())?;
+    Ok(text)
+}

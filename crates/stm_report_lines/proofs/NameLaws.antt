@@ -1,0 +1,47 @@
+-- A refusal and a fault have one name each.
+use Rattle.std.proofs.Common.{◌≡◌, refl}
+use Rattle.stm_steps.specs.declared.fault.Fault.{Fault}
+use Rattle.stm_steps.specs.declared.fault.Fault.TheVariants as fault
+use Rattle.stm_meaning.specs.Faults.{fault_name}
+use Rattle.stm_outcome.specs.declared.refusal.Refusal.{Refusal as StoreRefusal}
+use Rattle.stm_outcome.specs.declared.refusal.Refusal.TheVariants as store
+use Rattle.stm_outcome.specs.Names.{refusal_name as store_refusal_name}
+use Rattle.stm_events.specs.declared.refusal.Refusal.{Refusal}
+use Rattle.stm_events.specs.declared.refusal.Refusal.TheVariants.{Store, BadLimit, NoRunner}
+use Rattle.stm_events.specs.Names.{refusal_name}
+use Rattle.stm_report_lines.specs.declared.causes.RefusalName.{RefusalName}
+use Rattle.stm_report_lines.specs.declared.causes.RefusalName.TheVariants as cause
+use Rattle.stm_report_lines.specs.Names.{refusal_text}
+use Rattle.stm_report_lines.specs.Lines.{cause_reported, refusal_reported}
+use Rattle.stm_report_lines.specs.RefusalNames.{NamesAgree}
+use Rattle.stm_report_lines.proofs.WordLaws.{refusal_named-text, refusal_named-is, fault_named-text, fault_named-is}
+
+causes : (c : StoreRefusal) → refusal_text (cause_reported c) ≡ store_refusal_name c
+causes store.OutOfMemory = refl
+causes _ = refl
+
+refusals : (r : Refusal) → refusal_text (refusal_reported r) ≡ refusal_name r
+refusals (Store c) = causes c
+refusals BadLimit = refl
+refusals NoRunner = refl
+
+faults : (f : Fault) → (c : RefusalName) × (refusal_text c ≡ fault_name f)
+faults fault.Kind = (cause.Kind, refl)
+faults fault.Overflow = (cause.Overflow, refl)
+faults fault.ZeroDivisor = (cause.ZeroDivisor, refl)
+faults fault.NotANumber = (cause.NotANumber, refl)
+faults fault.LoopTooLong = (cause.LoopTooLong, refl)
+faults fault.TurnLimit = (cause.TurnLimit, refl)
+faults fault.TextTooLong = (cause.TextTooLong, refl)
+faults fault.EmptyKey = (cause.EmptyKey, refl)
+
+pub names_agree : NamesAgree
+names_agree = record {
+  refusals = refusals;
+  causes = causes;
+  faults = faults;
+  refusals_read = refusal_named-text;
+  refusals_meant = refusal_named-is;
+  faults_read = fault_named-text;
+  faults_meant = fault_named-is;
+}

@@ -1,0 +1,245 @@
+-- The parts of lines: their faults are those that reading answers, what was read is spelled, and what is spelled is read.
+use Rattle.std.proofs.Common.{◌≡◌, ℕ, suc, ◌^◌, ◌<◌, ◌≤◌, ℤ, pos, negsuc, List, [], ◌∷◌, map, Bool, true, false, cond, Option, Some, None, Ok}
+use Rattle.std.proofs.Common.{refl, sym, ap, subst, ◌∙◌, arith, ltb, ltb-true, lt-ltb}
+use Rattle.serde_json.specs.Data.{unsigned, negative, float, Data, null, boolean, number, string, array, object, Items, no_items, item}
+use Rattle.serde_json.specs.Find.{as_str, as_array, as_integer, of_integer}
+use Rattle.serde_json.specs.View.{items_of}
+use Rattle.stm_history.specs.declared.revisions.TheConstants.{HIGHEST_NUMBER}
+use Rattle.stm_json.specs.declared.cause.Cause.TheVariants.{Shape, Range}
+use Rattle.stm_json.specs.Elements.{SpellsNumber, is_64_bit, in_64_bits, whole_number, number_up_to}
+use Rattle.stm_json.specs.Outcome.{Outcome, bad, ◌>>=◌}
+use Rattle.stm_json.proofs.ElementLemmas.{is_64_bit-fits, whole_number-is, number_up_to-is, whole_number-reads, number_up_to-reads}
+use Rattle.stm_json.proofs.OutcomeLemmas.{bind_ok}
+use Rattle.stm_steps.specs.declared.fault.Fault.{Fault}
+use Rattle.stm_meaning.specs.Faults.{fault_name}
+use Rattle.stm_steps.specs.declared.value.Value.{Value}
+use Rattle.stm_steps.specs.declared.value.Value.TheVariants.{Text, Number}
+use Rattle.stm_json.specs.Faults.{Faults, first_of, wrong, at, AnyText, WordOf, NumberIn, By, faults_by}
+use Rattle.stm_json.specs.Parts.{SpellsEach, text_of, each_from, list_of}
+use Rattle.stm_json.proofs.FaultLemmas.{fault_of, wrong_is, part_then, made, text_faulted, number_up_faulted}
+use Rattle.stm_json.proofs.ListLemmas.{list_sound, each_reads}
+use Rattle.stm_json.proofs.PartLemmas.{text_is, on_text-is, text_of-is}
+use Rattle.stm_report_lines.specs.declared.causes.RefusalName.{RefusalName}
+use Rattle.stm_report_lines.specs.FirstFault.{flag_faults, value_faults, or_null, each_of, list_of as list_faults, fault_names, refusal_names}
+use Rattle.stm_report_lines.specs.Grammar.{Spells, SpellsItems}
+use Rattle.stm_report_lines.specs.LineData.{list, whole, word, value_data, text_or_null}
+use Rattle.stm_report_lines.specs.Names.{refusal_text}
+use Rattle.stm_report_lines.specs.Parts.{if_there, number_of, flag_of, fault_of as fault_part_of, cause_of, value_from, value_of, text_or_null_of}
+use Rattle.stm_report_lines.specs.Words.{named, fault_words, refusal_words}
+use Rattle.stm_report_lines.proofs.WordLaws.{name_reported, fault_named-is, fault_named-text, refusal_named-is, refusal_named-text}
+
+-- ---- numbers
+
+spelled_number : (d : Data) (n : ℕ) → Spells d (whole n) → SpellsNumber d (pos n) × (n < 2 ^ 63)
+spelled_number d n (z, s, is, fits) =
+    let found : Some (pos n) ≡ Some z = is in
+    let e : z ≡ pos n = cc in
+    (subst (λ (y : ℤ). SpellsNumber d y) e s, ltb-true n (2 ^ 63) (subst (λ (y : ℤ). is_64_bit y ≡ true) e fits))
+
+spells_number : (d : Data) (n : ℕ) → SpellsNumber d (pos n) → n < 2 ^ 63 → Spells d (whole n)
+spells_number d n s small = (pos n, s, refl, lt-ltb n (2 ^ 63) small)
+
+pub number_means : (d : Data) (n : ℕ) → number_of d ≡ Ok n → Spells d (whole n)
+number_means d n h =
+    let s = number_up_to-is HIGHEST_NUMBER d n h in
+    spells_number d n s.0 (omega (arith, s.1))
+
+pub number_reads : (d : Data) (n : ℕ) → Spells d (whole n) → number_of d ≡ Ok n
+number_reads d n m =
+    let s = spelled_number d n m in
+    number_up_to-reads HIGHEST_NUMBER d n (omega arith) s.0 (omega (arith, s.1))
+
+-- a number that is 0 or 1
+
+pub count_reported : (p : List ℕ) (d : Data) → first_of (faults_by (NumberIn 0 1) p d) ≡ fault_of p (number_up_to 1 d)
+count_reported p d = number_up_faulted p 1 d (omega arith)
+
+pub count_means : (d : Data) (n : ℕ) → number_up_to 1 d ≡ Ok n → Spells d (whole n) × (n ≤ 1)
+count_means d n h =
+    let s = number_up_to-is 1 d n h in
+    (spells_number d n s.0 (omega (arith, s.1)), s.1)
+
+pub count_reads : (d : Data) (n : ℕ) → Spells d (whole n) → n ≤ 1 → number_up_to 1 d ≡ Ok n
+count_reads d n m few = number_up_to-reads 1 d n (omega arith) (spelled_number d n m).0 few
+
+-- a number is no text
+pub number_no_text : (d : Data) (n : ℕ) → Spells d (whole n) → as_str d ≡ None
+number_no_text d n (z, (m, e, f), is, fits) = rw e refl
+
+-- ---- flags and names
+
+pub flag_reported : (p : List ℕ) (d : Data) → first_of (faults_by (By flag_faults) p d) ≡ fault_of p (flag_of d)
+unfolding flag_of
+flag_reported p (boolean b) = refl
+flag_reported p _ = wrong_is {A = Bool} p Shape (bad Shape) refl
+
+pub flag_means : (d : Data) (b : Bool) → flag_of d ≡ Ok b → Spells d (boolean b)
+unfolding flag_of
+flag_means (boolean c) b h = ap boolean cc
+flag_means null b h = cc
+flag_means _ b h = cc
+
+pub flag_reads : (d : Data) (b : Bool) → Spells d (boolean b) → flag_of d ≡ Ok b
+unfolding flag_of
+flag_reads d b is = rw is refl
+
+there_is : {A : Type 0} (o : Option A) (x : A) → if_there o ≡ Ok x → o ≡ Some x
+there_is (Some y) x h = ap Some cc
+there_is None x h = cc
+
+pub fault_reported : (p : List ℕ) (d : Data) → first_of (faults_by (WordOf fault_names) p d) ≡ fault_of p (fault_part_of d)
+unfolding fault_part_of
+fault_reported p d = name_reported p fault_words (as_str d)
+
+pub fault_means : (d : Data) (f : Fault) → fault_part_of d ≡ Ok f → Spells d (word (fault_name f))
+unfolding fault_part_of
+fault_means d f h =
+    let t = on_text-is (λ (w : List ℕ). if_there (named fault_words w)) d f h in
+    t.1 ∙ ap string (fault_named-is t.0 f (there_is (named fault_words t.0) f t.2))
+
+pub fault_reads : (d : Data) (f : Fault) → Spells d (word (fault_name f)) → fault_part_of d ≡ Ok f
+unfolding fault_part_of
+fault_reads d f is = ap fault_part_of is ∙ ap (λ (o : Option Fault). if_there o) (fault_named-text f)
+
+pub cause_reported : (p : List ℕ) (d : Data) → first_of (faults_by (WordOf refusal_names) p d) ≡ fault_of p (cause_of d)
+unfolding cause_of
+cause_reported p d = name_reported p refusal_words (as_str d)
+
+pub cause_means : (d : Data) (c : RefusalName) → cause_of d ≡ Ok c → Spells d (word (refusal_text c))
+unfolding cause_of
+cause_means d c h =
+    let t = on_text-is (λ (w : List ℕ). if_there (named refusal_words w)) d c h in
+    t.1 ∙ ap string (refusal_named-is t.0 c (there_is (named refusal_words t.0) c t.2))
+
+pub cause_reads : (d : Data) (c : RefusalName) → Spells d (word (refusal_text c)) → cause_of d ≡ Ok c
+unfolding cause_of
+cause_reads d c is = ap cause_of is ∙ ap (λ (o : Option RefusalName). if_there o) (refusal_named-text c)
+
+-- ---- values
+
+of_integer-is : (z : ℤ) → as_integer (of_integer z) ≡ Some z
+of_integer-is (pos n) = refl
+of_integer-is (negsuc n) = refl
+
+value_means_at : (d : Data) (o : Option (List ℕ)) (v : Value) → as_str d ≡ o → value_from d o ≡ Ok v → Spells d (value_data v)
+value_means_at d (Some s) v e h =
+    let is : Text s ≡ v = cc h in
+    subst (λ (x : Value). Spells d (value_data x)) is (text_is d s e)
+value_means_at d None v e h =
+    let q = bind_ok (whole_number d) _ v h in
+    let is : Number q.0 ≡ v = cc q.2 in
+    let w = whole_number-is d q.0 q.1 in
+    subst (λ (x : Value). Spells d (value_data x)) is (q.0, w.0, of_integer-is q.0, w.1)
+
+pub value_means : (d : Data) (v : Value) → value_of d ≡ Ok v → Spells d (value_data v)
+unfolding value_of
+value_means d v h = value_means_at d (as_str d) v refl h
+
+integer_reads : (d : Data) (z : ℤ) → as_str d ≡ None → whole_number d ≡ Ok z → value_of d ≡ Ok (Number z)
+unfolding value_of
+integer_reads d z none e = rw none (rw e refl)
+
+pub value_reads : (d : Data) (v : Value) → Spells d (value_data v) → value_of d ≡ Ok v
+unfolding value_of
+value_reads d (Text s) is = rw is refl
+value_reads d (Number z) (y, (m, e, f), is, fits) =
+    let found : Some z ≡ Some y = sym (of_integer-is z) ∙ is in
+    let same : y ≡ z = cc in
+    let none : as_str d ≡ None = rw e refl in
+    let spelled : SpellsNumber d z = subst (λ (x : ℤ). SpellsNumber d x) same (m, e, f) in
+    let small = is_64_bit-fits z (subst (λ (x : ℤ). is_64_bit x ≡ true) same fits) in
+    integer_reads d z none (whole_number-reads d z spelled small)
+
+value_tested : (p : List ℕ) (b : Bool) (z : ℤ)
+    → first_of (cond b [] (wrong p Range)) ≡ fault_of p (cond b (Ok z) (bad Range) >>= λ y. Ok (Number y))
+value_tested p true z = refl
+value_tested p false z = wrong_is {A = Value} p Range (bad Range) refl
+
+unsigned_tested : (p : List ℕ) (b : Bool) (m : ℕ) → ltb m (2 ^ 63) ≡ b
+    → first_of (cond b [] (wrong p Range)) ≡ fault_of p (in_64_bits (cond b (Some (pos m)) None) true >>= λ y. Ok (Number y))
+unsigned_tested p true m e = rw e refl
+unsigned_tested p false m e = wrong_is {A = Value} p Range (bad Range) refl
+
+pub value_reported : (p : List ℕ) (d : Data) → first_of (value_faults p d) ≡ fault_of p (value_of d)
+unfolding value_of whole_number
+value_reported p (string s) = refl
+value_reported p (number (unsigned m)) = unsigned_tested p (ltb m (2 ^ 63)) m refl
+value_reported p (number (negative z)) = value_tested p (is_64_bit z) z
+value_reported p (number (float x)) = wrong_is {A = Value} p Shape (bad Shape) refl
+value_reported p _ = wrong_is {A = Value} p Shape (bad Shape) refl
+
+-- ---- null for what is absent
+
+some_text-reported : (p : List ℕ) (d : Data) → first_of (faults_by AnyText p d) ≡ fault_of p (text_of d >>= λ s. Ok (Some s))
+some_text-reported p d = made p (text_of d) (λ (s : List ℕ). Some s) (faults_by AnyText p d) (text_faulted p d)
+
+pub text_or_null-reported : (p : List ℕ) (d : Data) → first_of (or_null (faults_by AnyText) p d) ≡ fault_of p (text_or_null_of d)
+unfolding text_or_null_of
+text_or_null-reported p null = refl
+text_or_null-reported p (boolean b) = some_text-reported p (boolean b)
+text_or_null-reported p (number n) = some_text-reported p (number n)
+text_or_null-reported p (string s) = some_text-reported p (string s)
+text_or_null-reported p (array ds) = some_text-reported p (array ds)
+text_or_null-reported p (object ms) = some_text-reported p (object ms)
+
+text_there : (d : Data) (o : Option (List ℕ)) → (text_of d >>= λ s. Ok (Some s)) ≡ Ok o → Spells d (text_or_null o)
+text_there d o h =
+    let q = bind_ok (text_of d) _ o h in
+    let is : Some q.0 ≡ o = cc q.2 in
+    subst (λ (x : Option (List ℕ)). Spells d (text_or_null x)) is (text_of-is d q.0 q.1)
+
+pub text_or_null-means : (d : Data) (o : Option (List ℕ)) → text_or_null_of d ≡ Ok o → Spells d (text_or_null o)
+unfolding text_or_null_of
+text_or_null-means null o h =
+    let is : None ≡ o = cc h in
+    subst (λ (x : Option (List ℕ)). Spells null (text_or_null x)) is refl
+text_or_null-means (boolean b) o h = text_there (boolean b) o h
+text_or_null-means (number n) o h = text_there (number n) o h
+text_or_null-means (string s) o h = text_there (string s) o h
+text_or_null-means (array ds) o h = text_there (array ds) o h
+text_or_null-means (object ms) o h = text_there (object ms) o h
+
+pub text_or_null-reads : (d : Data) (o : Option (List ℕ)) → Spells d (text_or_null o) → text_or_null_of d ≡ Ok o
+unfolding text_or_null_of text_of
+text_or_null-reads d None is = rw is refl
+text_or_null-reads d (Some s) is = rw is refl
+
+-- ---- lists
+
+each_reported : {A : Type 0} (faults : List ℕ → Data → Faults) (read : Data → Outcome A)
+    → ((p : List ℕ) (d : Data) → first_of (faults p d) ≡ fault_of p (read d))
+    → (p : List ℕ) (index : ℕ) (ds : Items) → first_of (each_of faults p index ds) ≡ fault_of p (each_from read index ds)
+unfolding each_from
+each_reported faults read reported p index no_items = refl
+each_reported {A} faults read reported p index (item d ds) =
+    part_then p index (read d) _ (faults (at p index) d) (each_of faults p (suc index) ds) (reported (at p index) d)
+    (λ (x : A). made p (each_from read (suc index) ds) (λ (xs : List A). x ∷ xs) (each_of faults p (suc index) ds)
+    (each_reported faults read reported p (suc index) ds))
+
+pub list_reported : {A : Type 0} (faults : List ℕ → Data → Faults) (read : Data → Outcome A)
+    → ((p : List ℕ) (d : Data) → first_of (faults p d) ≡ fault_of p (read d))
+    → (p : List ℕ) (d : Data) → first_of (faults_by (By (list_faults faults)) p d) ≡ fault_of p (list_of read (as_array d))
+list_reported faults read reported p (array ds) = each_reported faults read reported p 0 ds
+list_reported {A} faults read reported p null = wrong_is {A = List A} p Shape (bad Shape) refl
+list_reported {A} faults read reported p _ = wrong_is {A = List A} p Shape (bad Shape) refl
+
+pub items_spelled : {A : Type 0} (spell : A → Data) (ds : Items) (xs : List A) → SpellsEach (λ (e : Data) (x : A). Spells e (spell x)) ds xs
+    → SpellsItems ds (items_of (map spell xs))
+items_spelled spell ds [] is = is
+items_spelled spell ds (x ∷ xs) (d, rest, is, s, more) = (d, rest, is, s, items_spelled spell rest xs more)
+
+pub each_spelled : {A : Type 0} (spell : A → Data) (ds : Items) (xs : List A) → SpellsItems ds (items_of (map spell xs))
+    → SpellsEach (λ (e : Data) (x : A). Spells e (spell x)) ds xs
+each_spelled spell ds [] is = is
+each_spelled spell ds (x ∷ xs) (d, rest, is, s, more) = (d, rest, is, s, each_spelled spell rest xs more)
+
+pub list_means : {A : Type 0} (read : Data → Outcome A) (spell : A → Data) → ((d : Data) (x : A) → read d ≡ Ok x → Spells d (spell x))
+    → (d : Data) (xs : List A) → list_of read (as_array d) ≡ Ok xs → Spells d (list (map spell xs))
+list_means {A} read spell means d xs h =
+    let s = list_sound read (λ (e : Data) (x : A). Spells e (spell x)) means d xs h in
+    (s.0, s.1, items_spelled spell s.0 xs s.2)
+
+pub list_reads : {A : Type 0} (read : Data → Outcome A) (spell : A → Data) → ((d : Data) (x : A) → Spells d (spell x) → read d ≡ Ok x)
+    → (d : Data) (xs : List A) → Spells d (list (map spell xs)) → list_of read (as_array d) ≡ Ok xs
+list_reads {A} read spell reads d xs (ds, is, m) =
+    rw is (each_reads read (λ (e : Data) (x : A). Spells e (spell x)) reads 0 ds xs (each_spelled spell ds xs m))

@@ -1,0 +1,123 @@
+-- Reports: the first fault is that which reading answers, what was read is spelled, and what is spelled is read.
+use Rattle.std.proofs.Common.{◌≡◌, ℕ, suc, ◌≤◌, List, [], ◌∷◌, ◌++◌, length, Bool, true, false, cond, ltb, Option, Some, None, Ok, refl, sym}
+use Rattle.std.proofs.Common.{ap, subst, ◌∙◌, arith}
+use Rattle.std.proofs.lemmas.Bool.Decides.{nat_tests}
+use Rattle.serde_json.specs.Data.{Data}
+use Rattle.stm_json.specs.declared.cause.Cause.TheVariants.{NotJson, Shape, TooLong}
+use Rattle.stm_json.specs.Outcome.{bad, ◌>>=◌, within, step}
+use Rattle.stm_json.proofs.OutcomeLemmas.{bind_ok, within_ok}
+use Rattle.stm_json.specs.Faults.{first_of, wrong}
+use Rattle.stm_json.proofs.FaultLemmas.{fault_of, wrong_is, part_then, made}
+use Rattle.stm_report_lines.specs.declared.line.ReportLine.{ReportLine}
+use Rattle.stm_json.specs.declared.limits.TheConstants.{MOST_BYTES}
+use Rattle.stm_report_lines.specs.declared.report.Report.{Report}
+use Rattle.stm_json.specs.Bytes.{data_of}
+use Rattle.stm_report_lines.specs.Bytes.{parts_of}
+use Rattle.stm_report_lines.specs.FirstFault.{json_faults, rest_faults, lines_faults, first_fault}
+use Rattle.stm_report_lines.specs.Grammar.{SpellsLine, SpellsParts, SpellsReport}
+use Rattle.stm_report_lines.specs.Reading.{line_read, line_in, rest_of, lines_from, report_with, report_in}
+use Rattle.stm_report_lines.proofs.CutLemmas.{parts_start}
+use Rattle.stm_report_lines.proofs.LineLaws.{line_reported, line_means, line_reads}
+
+-- ---- the first fault
+
+json_reported : (p : List ℕ) (o : Option Data) → first_of (json_faults p o) ≡ fault_of p (line_read o)
+json_reported p None = wrong_is {A = ReportLine} p NotJson (bad NotJson) refl
+json_reported p (Some d) = line_reported p d
+
+part_reported : (p part : List ℕ) → first_of (json_faults p (data_of part)) ≡ fault_of p (line_in part)
+unfolding line_in
+part_reported p part = json_reported p (data_of part)
+
+-- what comes after the last line feed
+rest_reported : (index : ℕ) (rest : List ℕ) → first_of (rest_faults (step index) rest) ≡ fault_of [] (within index (rest_of rest))
+rest_reported index [] = refl
+rest_reported index (b ∷ bs) = wrong_is {A = List ReportLine} (step index) Shape (bad Shape) refl
+
+lines_reported : (index : ℕ) (parts : List (List ℕ)) → first_of (lines_faults index parts) ≡ fault_of [] (lines_from index parts)
+lines_reported index [] = refl
+lines_reported index (rest ∷ []) = rest_reported index rest
+lines_reported index (part ∷ next ∷ more) =
+    part_then [] index (line_in part) _ (json_faults (step index) (data_of part)) (lines_faults (suc index) (next ∷ more)) (part_reported (step index) part)
+    (λ (l : ReportLine). made [] (lines_from (suc index) (next ∷ more)) (λ (ls : List ReportLine). l ∷ ls) (lines_faults (suc index) (next ∷ more))
+    (lines_reported (suc index) (next ∷ more)))
+
+length_tested : (parts : List (List ℕ)) (b : Bool) → first_of (cond b (wrong [] TooLong) [] ++ lines_faults 0 parts)
+    ≡ fault_of [] (cond b (bad TooLong) (lines_from 0 parts >>= λ ls. Ok (report_with ls)))
+length_tested parts true = refl
+length_tested parts false = made [] (lines_from 0 parts) report_with (lines_faults 0 parts) (lines_reported 0 parts)
+
+-- the first fault is that which reading answers, if it does
+pub first_fault-is : (bytes : List ℕ) → first_fault bytes ≡ fault_of [] (report_in bytes)
+unfolding first_fault report_in
+first_fault-is bytes = length_tested (parts_of bytes) (ltb MOST_BYTES (length bytes))
+
+-- ---- what was read is spelled
+
+json_means : (part : List ℕ) (o : Option Data) (l : ReportLine) → data_of part ≡ o → line_read o ≡ Ok l
+    → (d : Data) × (data_of part ≡ Some d) × SpellsLine d l
+json_means part None l e h = cc
+json_means part (Some d) l e h = (d, e, line_means d l h)
+
+part_means : (part : List ℕ) (l : ReportLine) → line_in part ≡ Ok l → (d : Data) × (data_of part ≡ Some d) × SpellsLine d l
+unfolding line_in
+part_means part l h = json_means part (data_of part) l refl h
+
+rest_means : (index : ℕ) (rest : List ℕ) (ls : List ReportLine) → within index (rest_of rest) ≡ Ok ls → SpellsParts (rest ∷ []) ls
+rest_means index [] ls h =
+    let is : [] ≡ ls = cc in
+    subst (λ (xs : List ReportLine). SpellsParts ([] ∷ []) xs) is refl
+rest_means index (b ∷ bs) ls h = cc
+
+lines_means : (index : ℕ) (part : List ℕ) (more : List (List ℕ)) (ls : List ReportLine) → lines_from index (part ∷ more) ≡ Ok ls → SpellsParts (part ∷ more) ls
+lines_means index rest [] ls h = rest_means index rest ls h
+lines_means index part (next ∷ more) ls h =
+    let one = bind_ok (within index (line_in part)) _ ls h in
+    let others = bind_ok (lines_from (suc index) (next ∷ more)) _ ls one.2 in
+    let is : one.0 ∷ others.0 ≡ ls = cc others.2 in
+    subst (λ (xs : List ReportLine). SpellsParts (part ∷ next ∷ more) xs) is
+    (part, next ∷ more, refl, part_means part one.0 (within_ok index _ _ one.1), lines_means (suc index) next more others.0 others.1)
+
+parts_mean : (parts : List (List ℕ)) (ls : List ReportLine) → (p : List ℕ) × (ps : List (List ℕ)) × (parts ≡ p ∷ ps) → lines_from 0 parts ≡ Ok ls
+    → SpellsParts parts ls
+parts_mean parts ls (p, ps, is) h =
+    subst (λ (x : List (List ℕ)). SpellsParts x ls) (sym is) (lines_means 0 p ps ls (sym (ap (lines_from 0) is) ∙ h))
+
+tested : (bytes : List ℕ) (r : Report) (b : Bool) → ltb MOST_BYTES (length bytes) ≡ b
+    → cond b (bad TooLong) (lines_from 0 (parts_of bytes) >>= λ ls. Ok (report_with ls)) ≡ Ok r → SpellsReport bytes r
+tested bytes r true t h = cc
+tested bytes r false t h =
+    let q = bind_ok (lines_from 0 (parts_of bytes)) _ r h in
+    let is : report_with q.0 ≡ r = cc q.2 in
+    let short : length bytes ≤ MOST_BYTES = grind (arith, nat_tests) in
+    subst (λ (x : Report). SpellsReport bytes x) is (short, parts_mean (parts_of bytes) q.0 (parts_start bytes) q.1)
+
+pub report_means : (bytes : List ℕ) (r : Report) → report_in bytes ≡ Ok r → SpellsReport bytes r
+unfolding report_in
+report_means bytes r h = tested bytes r (ltb MOST_BYTES (length bytes)) refl h
+
+-- ---- what is spelled is read
+
+part_reads : (part : List ℕ) (d : Data) (l : ReportLine) → data_of part ≡ Some d → SpellsLine d l → line_in part ≡ Ok l
+unfolding line_in
+part_reads part d l is s = ap line_read is ∙ line_reads d l s
+
+lines_read : (index : ℕ) (parts : List (List ℕ)) (ls : List ReportLine) → SpellsParts parts ls → lines_from index parts ≡ Ok ls
+lines_read index parts [] is = rw is refl
+lines_read index parts (l ∷ []) (part, rest, is, (d, json, s), last) =
+    let one = part_reads part d l json s in
+    rw (is, last) (rw one refl)
+lines_read index parts (l ∷ k ∷ ls) (part, rest, is, (d, json, s), (next, more, follows, one_more, others)) =
+    let one = part_reads part d l json s in
+    let rest_is : lines_from (suc index) rest ≡ Ok (k ∷ ls) = lines_read (suc index) rest (k ∷ ls) (next, more, follows, one_more, others) in
+    let read : lines_from (suc index) (next ∷ more) ≡ Ok (k ∷ ls) = sym (ap (lines_from (suc index)) follows) ∙ rest_is in
+    rw (is, follows) (rw (one, read) refl)
+
+short_report : (bytes : List ℕ) → length bytes ≤ MOST_BYTES → report_in bytes ≡ (lines_from 0 (parts_of bytes) >>= λ ls. Ok (report_with ls))
+unfolding report_in
+short_report bytes short = grind (arith, nat_tests)
+
+pub report_reads : (bytes : List ℕ) (r : Report) → SpellsReport bytes r → report_in bytes ≡ Ok r
+report_reads bytes r (short, parts) =
+    let e = lines_read 0 (parts_of bytes) r.lines parts in
+    short_report bytes short ∙ rw e refl

@@ -1,0 +1,178 @@
+//! The words that distinguish the lines, and the names of faults and refusals.
+ghost use Rattle.std.specs.Prelude.{◌≡◌, map};
+ghost use Rattle.stm_report_lines.specs.Words.{named, event_words, standing_words, fault_words, refusal_words};
+
+use crate::causes::RefusalName;
+use stm_meaning::Fault;
+
+/// The word of an event's line, which comes after the number.
+#[derive(Clone, Copy, Debug, PartialEq, Eq)]
+pub enum EventWord {
+    /// `started`
+    Started,
+    /// `prefetched`
+    Prefetched,
+    /// `fetched`
+    Fetched,
+    /// `committed`
+    Committed,
+    /// `conflict`
+    Conflict,
+    /// `gaveup`
+    GaveUp,
+    /// `aborted`
+    Aborted,
+    /// `faulted`
+    Faulted,
+    /// `ended`
+    Ended,
+    /// `txn`
+    Txn,
+    /// `granted`
+    Granted,
+    /// `kept`
+    Kept,
+    /// `revoked`
+    Revoked,
+    /// `advanced`
+    Advanced,
+    /// `compacted`
+    Compacted,
+    /// `watching`
+    Watching,
+    /// `cancelled`
+    Cancelled,
+    /// `batch`
+    Batch,
+    /// `lost`
+    Lost,
+    /// `refused`
+    Refused,
+}
+
+/// The word of a line of what is left at the end.
+#[derive(Clone, Copy, Debug, PartialEq, Eq)]
+pub enum StandingWord {
+    /// `key`
+    Key,
+    /// `lease`
+    Lease,
+    /// `end`
+    End,
+}
+
+/// What a word stands for in a table, if it stands there.
+fn found<W: Copy>(rows: &[(&str, W)], word: &str) -> Option<W>
+    ensures { result ≡ named (map (λ row. (row.0.now, row.1)) rows.now) word.now }
+{
+    match rows {
+        [] => None,
+        [row, rest @ ..] => {
+            if word == row.0 {
+                Some(row.1)
+            } else {
+                found(rest, word)
+            }
+        }
+    }
+}
+
+/// The words of the lines of events.
+static EVENT_WORDS: [(&str, EventWord); 20] = [
+    ("started", EventWord::Started),
+    ("prefetched", EventWord::Prefetched),
+    ("fetched", EventWord::Fetched),
+    ("committed", EventWord::Committed),
+    ("conflict", EventWord::Conflict),
+    ("gaveup", EventWord::GaveUp),
+    ("aborted", EventWord::Aborted),
+    ("faulted", EventWord::Faulted),
+    ("ended", EventWord::Ended),
+    ("txn", EventWord::Txn),
+    ("granted", EventWord::Granted),
+    ("kept", EventWord::Kept),
+    ("revoked", EventWord::Revoked),
+    ("advanced", EventWord::Advanced),
+    ("compacted", EventWord::Compacted),
+    ("watching", EventWord::Watching),
+    ("cancelled", EventWord::Cancelled),
+    ("batch", EventWord::Batch),
+    ("lost", EventWord::Lost),
+    ("refused", EventWord::Refused),
+];
+
+/// Which event's line begins with a word, if any does.
+pub(crate) fn event_word(word: &str) -> Option<EventWord>
+    ensures { result ≡ named event_words word.now }
+{
+    found(&EVENT_WORDS, word)
+}
+
+/// The words of the lines of the end.
+static STANDING_WORDS: [(&str, StandingWord); 3] = [
+    ("key", StandingWord::Key),
+    ("lease", StandingWord::Lease),
+    ("end", StandingWord::End),
+];
+
+/// Which line of the end begins with a word, if any does.
+pub(crate) fn standing_word(word: &str) -> Option<StandingWord>
+    ensures { result ≡ named standing_words word.now }
+{
+    found(&STANDING_WORDS, word)
+}
+
+/// The names of faults.
+static FAULT_NAMES: [(&str, Fault); 8] = [
+    ("Kind", Fault::Kind),
+    ("Overflow", Fault::Overflow),
+    ("ZeroDivisor", Fault::ZeroDivisor),
+    ("NotANumber", Fault::NotANumber),
+    ("LoopTooLong", Fault::LoopTooLong),
+    ("TurnLimit", Fault::TurnLimit),
+    ("TextTooLong", Fault::TextTooLong),
+    ("EmptyKey", Fault::EmptyKey),
+];
+
+/// The fault of a name, if there is one.
+pub(crate) fn fault_named(word: &str) -> Option<Fault>
+    ensures { result ≡ named fault_words word.now }
+{
+    found(&FAULT_NAMES, word)
+}
+
+/// The names of refusals.
+static REFUSAL_NAMES: [(&str, RefusalName); 25] = [
+    ("Kind", RefusalName::Kind),
+    ("Overflow", RefusalName::Overflow),
+    ("ZeroDivisor", RefusalName::ZeroDivisor),
+    ("NotANumber", RefusalName::NotANumber),
+    ("LoopTooLong", RefusalName::LoopTooLong),
+    ("TurnLimit", RefusalName::TurnLimit),
+    ("TextTooLong", RefusalName::TextTooLong),
+    ("EmptyKey", RefusalName::EmptyKey),
+    ("OutOfMemory", RefusalName::OutOfMemory),
+    ("BadProgram", RefusalName::BadProgram),
+    ("FutureRevision", RefusalName::FutureRevision),
+    ("Compacted", RefusalName::Compacted),
+    ("RevisionsUsedUp", RefusalName::RevisionsUsedUp),
+    ("LeaseExists", RefusalName::LeaseExists),
+    ("TtlOutOfRange", RefusalName::TtlOutOfRange),
+    ("LeaseIdOutOfRange", RefusalName::LeaseIdOutOfRange),
+    ("LeaseNotFound", RefusalName::LeaseNotFound),
+    ("NoWatcher", RefusalName::NoWatcher),
+    ("TooManyOps", RefusalName::TooManyOps),
+    ("DuplicateKey", RefusalName::DuplicateKey),
+    ("TimeGoesBack", RefusalName::TimeGoesBack),
+    ("BadLimit", RefusalName::BadLimit),
+    ("NoRunner", RefusalName::NoRunner),
+    ("Behind", RefusalName::Behind),
+    ("Unvouched", RefusalName::Unvouched),
+];
+
+/// The refusal of a name, if there is one.
+pub(crate) fn refusal_name(word: &str) -> Option<RefusalName>
+    ensures { result ≡ named refusal_words word.now }
+{
+    found(&REFUSAL_NAMES, word)
+}

@@ -1,26 +1,77 @@
 -- What the world replies to the calls of its store that are no runner's.
 --
 -- etcd's API reference, "Transaction", "Lease", "Watch" and "Compaction": each such call is one of the store, and the reply is its answer.
-use Rattle.std.specs.Prelude.{ℕ, List, [], Option, Some, None, Result, Ok, Err}
+use Rattle.std.specs.Prelude.{ℕ, List, [], map, Option, Some, None, option_map, Result, Ok, Err}
+use Rattle.stm_history.specs.declared.key_state.KeyState.{KeyState}
+use Rattle.stm_history.specs.declared.key_state.ReadAnswer.{ReadAnswer}
+use Rattle.stm_history.specs.History.{mod_of}
 use Rattle.stm_outcome.specs.declared.advance.Expired.{Expired}
+use Rattle.stm_outcome.specs.declared.answer.OpAnswer.{OpAnswer}
+use Rattle.stm_outcome.specs.declared.answer.OpAnswer.TheVariants as answer
+use Rattle.stm_outcome.specs.declared.answer.TxnAnswer.{TxnAnswer}
 use Rattle.stm_outcome.specs.declared.refusal.Refusal.{Refusal as StoreRefusal}
-use Rattle.stm_outcome.specs.declared.refusal.Refusal.TheVariants.{Compacted as CompactedRefusal}
+use Rattle.stm_outcome.specs.declared.refusal.Refusal.TheVariants as store
 use Rattle.stm_txn.specs.Standing.{Standing, Step, poll_refused}
 use Rattle.stm_watch.specs.declared.watchers.Batch.{Batch}
 use Rattle.stm_events.specs.declared.reply.Reply.{Reply}
-use Rattle.stm_events.specs.declared.reply.Reply.TheVariants.{Advanced, Batch as BatchReported, Lost}
-use Rattle.stm_events.specs.declared.refusal.Refusal.{Refusal}
-use Rattle.stm_events.specs.declared.refusal.Refusal.TheVariants.{Store}
+use Rattle.stm_events.specs.declared.reply.Reply.TheVariants.{Txn, Advanced, Batch as BatchReported, Lost}
+use Rattle.stm_events.specs.declared.reply.CommittedRead.{CommittedRead}
+use Rattle.stm_events.specs.declared.reply.OpReply.{OpReply}
+use Rattle.stm_events.specs.declared.reply.OpReply.TheVariants as op
+use Rattle.stm_events.specs.declared.refusal.EventRefusal.{EventRefusal}
+use Rattle.stm_events.specs.declared.refusal.EventRefusal.TheVariants as event
 use Rattle.stm_events.specs.declared.refusal.Denied.{Denied}
 
+-- ---- what a reply reports of what the store answered
+
+-- an answer that a commit was made on: the value and the modification revision of its key, and the revision that it shows
+abbrev pub committed_read : ReadAnswer → CommittedRead
+committed_read a =
+    record { key = a.key; value = option_map (λ (s : KeyState). s.value) a.kv; mod_rev = mod_of a.kv; of_rev = a.of_rev }
+
+-- a key that was put once, with this value, at this revision
+abbrev pub put_once : ℕ → List ℕ → KeyState
+put_once revision value = record { value = value; create_rev = revision; mod_rev = revision; version = 1; lease = 0 }
+
+-- A reported answer, as an attempt reads it: a program sees the value and the modification revision of a key alone.
+abbrev pub as_read : CommittedRead → ReadAnswer
+as_read r = record { key = r.key; kv = option_map (put_once r.mod_rev) r.value; of_rev = r.of_rev; revision = r.of_rev }
+
+abbrev pub op_reply : OpAnswer → OpReply
+op_reply (answer.Get a) = op.Get a.revision a.kv
+op_reply answer.Put = op.Put
+op_reply (answer.Del count) = op.Del count
+
+-- a transaction that was made: whether its compares held, the revision after it, and what its operations were answered
+abbrev pub txn_reply : TxnAnswer → Reply
+txn_reply a = Txn a.succeeded a.revision (map op_reply a.answers)
+
+-- the refusal of an event whose call the store refuses
+abbrev pub refusal_of : StoreRefusal → EventRefusal
+refusal_of store.OutOfMemory = event.OutOfMemory
+refusal_of store.EmptyKey = event.EmptyKey
+refusal_of store.FutureRevision = event.FutureRevision
+refusal_of store.Compacted = event.Compacted
+refusal_of store.RevisionsUsedUp = event.RevisionsUsedUp
+refusal_of store.LeaseExists = event.LeaseExists
+refusal_of store.TtlOutOfRange = event.TtlOutOfRange
+refusal_of store.LeaseIdOutOfRange = event.LeaseIdOutOfRange
+refusal_of store.LeaseNotFound = event.LeaseNotFound
+refusal_of store.NoWatcher = event.NoWatcher
+refusal_of store.TooManyOps = event.TooManyOps
+refusal_of store.DuplicateKey = event.DuplicateKey
+refusal_of store.TimeGoesBack = event.TimeGoesBack
+
+-- ---- replies
+
 -- a refusal before which nothing expired
-abbrev pub denied : Refusal → Result Reply Denied
+abbrev pub denied : EventRefusal → Result Reply Denied
 denied cause = Err (record { cause = cause; expired = [] })
 
 -- the reply to a call of the store, by what it answered
 abbrev pub reply_to : {A : Type 0} → (A → Reply) → Result (Step A) StoreRefusal → Result Reply Denied
 reply_to report (Ok done) = Ok (report done.answer)
-reply_to report (Err cause) = denied (Store cause)
+reply_to report (Err cause) = denied (refusal_of cause)
 
 -- the store after a call: a refused one leaves it as it was
 abbrev pub store_after_call : {A : Type 0} → Standing → Result (Step A) StoreRefusal → Standing
@@ -30,7 +81,7 @@ store_after_call s (Err cause) = s
 -- the reply to an advance: what expired, also where it was refused
 abbrev pub advance_reply : ℕ → List Expired → Option StoreRefusal → Result Reply Denied
 advance_reply moment expired None = Ok (Advanced moment expired)
-advance_reply moment expired (Some cause) = Err (record { cause = Store cause; expired = expired })
+advance_reply moment expired (Some cause) = Err (record { cause = refusal_of cause; expired = expired })
 
 -- the batch of a poll: the events, and up to which revision it completes what the watcher is notified of
 abbrev pub batch_reply : ℕ → Batch → Reply
@@ -40,8 +91,8 @@ batch_reply watcher batch = BatchReported watcher batch.upto batch.events
 -- below the compacted revision is cancelled, and its answer has `compact_revision`.)
 abbrev pub poll_reply : ℕ → ℕ → Result (Step Batch) StoreRefusal → Result Reply Denied
 poll_reply watcher floor (Ok done) = Ok (batch_reply watcher done.answer)
-poll_reply watcher floor (Err CompactedRefusal) = Ok (Lost watcher floor)
-poll_reply watcher floor (Err cause) = denied (Store cause)
+poll_reply watcher floor (Err store.Compacted) = Ok (Lost watcher floor)
+poll_reply watcher floor (Err cause) = denied (refusal_of cause)
 
 -- the store after a poll of a watcher: a refused one cancels a watcher that is lost
 abbrev pub store_after_poll : ℕ → Standing → Result (Step Batch) StoreRefusal → Standing

@@ -1,17 +1,20 @@
-//! The events of a world and the replies to them, as values.
+//! The events of a world, the replies to them, and the lines of a report, as values.
 //!
-//! They stand below the world's step and its laws, so that what reads and writes them needs neither.
+//! They stand below the world's step and its laws, so that what reads and writes them needs neither. A reply has what its line has, and nothing
+//! else: the same value is what a world replies, what is written, what is read, and what a check compares.
 #![tactic(auto)]
 
 mod event;
+mod line;
 mod refusal;
 mod reply;
 
 pub use event::WorldEvent;
-pub use refusal::{Denied, Refusal};
-pub use reply::{KeyRead, Reply};
-pub use stm_history::{ReadAnswer, Sequence, Text};
+pub use line::{Report, ReportLine};
+pub use refusal::{Denied, EventRefusal};
+pub use reply::{CommittedRead, KeyRead, OpReply, Reply};
+pub use stm_history::{KeyState, Sequence, Text};
 pub use stm_keys::Event;
 pub use stm_program::{Level, Program};
 pub use stm_steps::{Fault, TraceItem, Value};
-pub use stm_txn::{Expired, Refusal as StoreRefusal, Txn, TxnAnswer};
+pub use stm_txn::{Expired, Refusal as StoreRefusal, Txn};

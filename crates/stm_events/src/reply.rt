@@ -1,8 +1,9 @@
 //! The replies to events.
-use stm_history::{ReadAnswer, Sequence, Text};
+use crate::refusal::EventRefusal;
+use stm_history::{KeyState, Sequence, Text};
 use stm_keys::Event;
 use stm_steps::{Fault, TraceItem, Value};
-use stm_txn::{Expired, Refusal, TxnAnswer};
+use stm_txn::Expired;
 
 /// A key that was read, and its modification revision: 0 where it is absent.
 #[derive(Clone, Debug, Drop)]
@@ -13,7 +14,31 @@ pub struct KeyRead {
     pub mod_rev: u64,
 }
 
-/// The reply to an event that was taken.
+/// An answer that a commit at ReadCommitted was made on.
+#[derive(Debug, Drop)]
+pub struct CommittedRead {
+    /// The key that was read.
+    pub key: Text,
+    /// Its value, `None` where it was absent.
+    pub value: Option<Text>,
+    /// Its modification revision, 0 where it was absent.
+    pub mod_rev: u64,
+    /// The revision that the answer shows.
+    pub of_rev: u64,
+}
+
+/// The reply to one operation of a transaction.
+#[derive(Debug, Drop)]
+pub enum OpReply {
+    /// What a read showed, and the revision that its answer carries.
+    Get { revision: u64, kv: Option<KeyState> },
+    /// A put was made.
+    Put,
+    /// How many keys a delete deleted: 0 or 1.
+    Del { count: u64 },
+}
+
+/// The reply to an event that was taken. Revisions are those of the store's counter; moments are in whole seconds.
 #[derive(Debug, Drop)]
 pub enum Reply {
     /// A runner was started.
@@ -41,10 +66,10 @@ pub enum Reply {
     Committed {
         runner: u64,
         revision: u64,
-        attempts: u32,
+        attempts: u64,
         output: Sequence<Value>,
         trace: Sequence<TraceItem>,
-        answers: Sequence<ReadAnswer>,
+        answers: Sequence<CommittedRead>,
     },
     /// A compare of a step's commit failed: its key, the modification revision that was read (for a written
     /// key the least revision that an answer carried), and the key's current one. The next step begins a new
@@ -59,7 +84,7 @@ pub enum Reply {
     /// committed, and the run is over, after `attempts` commits.
     GaveUp {
         runner: u64,
-        attempts: u32,
+        attempts: u64,
         key: Text,
         seen: u64,
         now: u64,
@@ -78,11 +103,14 @@ pub enum Reply {
     /// run is over.
     Ended {
         runner: u64,
-        cause: Refusal,
+        cause: EventRefusal,
     },
-    /// Another client's transaction was made.
+    /// Another client's transaction was made: whether its compares held, the revision after it, and a reply for each operation of the branch that
+    /// ran, in order.
     Txn {
-        answer: TxnAnswer,
+        succeeded: bool,
+        revision: u64,
+        answers: Sequence<OpReply>,
     },
     /// A lease was granted.
     Granted {
@@ -110,7 +138,7 @@ pub enum Reply {
     /// their revisions, those of one revision in the order of its operations.
     Batch {
         watcher: u64,
-        upto: u64,
+        up_to: u64,
         events: Sequence<Event>,
     },
     /// A watcher was given up. Its number is not given again.

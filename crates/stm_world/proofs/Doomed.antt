@@ -41,7 +41,7 @@ use Rattle.stm_events.specs.declared.reply.Reply.TheVariants.{Started, Prefetche
 use Rattle.stm_events.specs.declared.reply.Reply.TheVariants.{Txn as TxnDone, Granted, Kept, Revoked, Advanced, Watching, Batch, Cancelled, Compacted, Lost}
 use Rattle.stm_events.specs.declared.refusal.Denied.{Denied}
 use Rattle.stm_world.specs.Task.{Task}
-use Rattle.stm_world.specs.Log.{Line, running, store, reported}
+use Rattle.stm_world.specs.Log.{Line, running, store, known_after_log}
 use Rattle.stm_world.specs.Right.{IsConflicted, EndsWith, StepIsRight, situation}
 use Rattle.stm_world.specs.World.{World, Runner, opened, runner_at}
 use Rattle.stm_world.specs.Headline.{runner_for, AreOfOneState}
@@ -95,9 +95,9 @@ real_failure start log id runner task key seen now_modified runs same c =
       is_done = c.commits.is_done;
       conflict = record {
         compare = c.failed;
-        fails = commit_fails (sends_too_many terms.limit task.level (reported start id task log).reads (latest_writes c.commits.run.writes)) terms
-            task.level (reported start id task log).reads c.commits.run
-            (conflict_now h task.level (reported start id task log).reads (latest_writes c.commits.run.writes)) c.done c.failed c.commits.comes_to c.fails;
+        fails = commit_fails (sends_too_many terms.limit task.level (known_after_log start id task log).reads (latest_writes c.commits.run.writes)) terms
+            task.level (known_after_log start id task log).reads c.commits.run
+            (conflict_now h task.level (known_after_log start id task log).reads (latest_writes c.commits.run.writes)) c.done c.failed c.commits.comes_to c.fails;
         seen = c.conflict.seen;
         about = c.conflict.about;
         key = c.about;
@@ -163,10 +163,10 @@ alone_at h task (a ∷ reads) run one truth is =
 
 of_its_state : (start : Setup) (log : List Line) (id : ℕ) (task : Task) (end : End) (w : World) → Follows start log w → 1 ≤ start.revision →
     running id log ≡ Some task → is_serializable task.level ≡ true → EndsWith (situation start log id task) end →
-    IsEndOnOneState (store start log).history task (reported start id task log).reads end
+    IsEndOnOneState (store start log).history task (known_after_log start id task log).reads end
 of_its_state start log id task end w f some runs serializable ends =
     let h : History = (store start log).history in
-    let reads : List ReadAnswer = (reported start id task log).reads in
+    let reads : List ReadAnswer = (known_after_log start id task log).reads in
     let r : Runner = runner_for start log id task in
     let found : runner_at id w.runners ≡ Some r = f.at.slots id ∙ ap (option_map (runner_for start log id)) runs in
     let one : HaveOneBase reads = ((f.at.well_run id r found).based some serializable).0 in

@@ -20,7 +20,7 @@ use Rattle.stm_events.specs.declared.reply.Reply.TheVariants.{Txn as TxnDone, Gr
 use Rattle.stm_events.specs.declared.refusal.Denied.{Denied}
 use Rattle.stm_events.specs.declared.reply.KeyRead.{KeyRead}
 use Rattle.stm_world.specs.Task.{Task, answer_at, after_list, after_fetch, after_conflict}
-use Rattle.stm_world.specs.Log.{Line, is_id, is_over, begun, running, started, failures, store, reported, runner_started, runner_ended, runner_in_conflict}
+use Rattle.stm_world.specs.Log.{Line, is_id, is_over, begun, running, started, failures, store, known_after_log, runner_started, runner_ended, runner_in_conflict}
 use Rattle.stm_world.specs.Log.{task_in, entries_reported, line_entries}
 use Rattle.stm_world.specs.Right.{IsRight, IsFetch, StepIsRight, situation}
 use Rattle.stm_world.specs.World.{World, opened, replies_to, step}
@@ -45,7 +45,7 @@ least start log id = since start id log + failed_commits id log
 -- the store has reached it, and the attempt of a runner that runs has seen nothing below it
 record HasMovedOn (start : Setup) (log : List Line) (id : ℕ) : Type 0 where
   counter : (task : Task) → begun id log ≡ Some task → least start log id ≤ now (store start log).history
-  known : (task : Task) → running id log ≡ Some task → KnowsFrom (least start log id) (reported start id task log)
+  known : (task : Task) → running id log ≡ Some task → KnowsFrom (least start log id) (known_after_log start id task log)
 
 -- a log and the next one
 record Grows (start : Setup) (log : List Line) (line : Line) : Type 0 where
@@ -75,7 +75,7 @@ others_move_on start log line id grows o m = record {
       let grown = grows.grown in
       omega (arith, same);
   known = λ task runs.
-      subst (λ n. KnowsFrom n (reported start id task (line ∷ log))) (sym (same_least start log line id o))
+      subst (λ n. KnowsFrom n (known_after_log start id task (line ∷ log))) (sym (same_least start log line id o))
       (subst (KnowsFrom (least start log id)) (sym (same_reported start id task line log o.untouched)) (m.known task (sym (same_running id line log o.untouched) ∙ runs)));
 }
 
@@ -150,10 +150,10 @@ fetched_moves_on start log id task key mod_rev of_rev revision runs fetch grows 
       counter = λ other is. before;
       known = λ other runs_as.
           let is : task ≡ other = some_is_same task other (sym runs ∙ runs_as) in
-          subst (λ (t : Task). KnowsFrom (least start log id) (reported start id t (line ∷ log))) is
+          subst (λ (t : Task). KnowsFrom (least start log id) (known_after_log start id t (line ∷ log))) is
           (subst (KnowsFrom (least start log id))
-          (sym (ap (λ b. cond b (after_fetch task (answer_at h key of_rev) (reported start id task log)) (reported start id task log)) (same_number id)))
-          (fetched_from (least start log id) h task key of_rev (reported start id task log) before fetch.shows (m.known task runs)));
+          (sym (ap (λ b. cond b (after_fetch task (answer_at h key of_rev) (known_after_log start id task log)) (known_after_log start id task log)) (same_number id)))
+          (fetched_from (least start log id) h task key of_rev (known_after_log start id task log) before fetch.shows (m.known task runs)));
     }
 
 prefetched_moves_on : (start : Setup) (log : List Line) (id : ℕ) (task : Task) (revision : ℕ) (reads : List KeyRead) → running id log ≡ Some task →
@@ -167,10 +167,10 @@ prefetched_moves_on start log id task revision reads runs grows m =
       counter = λ other is. before;
       known = λ other runs_as.
           let is : task ≡ other = some_is_same task other (sym runs ∙ runs_as) in
-          subst (λ (t : Task). KnowsFrom (least start log id) (reported start id t (line ∷ log))) is
+          subst (λ (t : Task). KnowsFrom (least start log id) (known_after_log start id t (line ∷ log))) is
           (subst (KnowsFrom (least start log id))
-          (sym (ap (λ b. cond b (after_list task h (reported start id task log)) (reported start id task log)) (same_number id)))
-          (prefetched_from (least start log id) h task (reported start id task log) before (m.known task runs)));
+          (sym (ap (λ b. cond b (after_list task h (known_after_log start id task log)) (known_after_log start id task log)) (same_number id)))
+          (prefetched_from (least start log id) h task (known_after_log start id task log) before (m.known task runs)));
     }
 
 -- the store is above what the runner has seen
@@ -181,10 +181,10 @@ failure_moves_on start log id task failed same runs real low m =
     let at : running failed.runner log ≡ Some task = subst (λ n. running n log ≡ Some task) (sym same) runs in
     let is : real.task ≡ task = some_is_same real.task task (sym real.runs ∙ at) in
     let reached : least start log id ≤ now (store start log).history = m.counter task (is_begun (is_over id log) (begun id log) task runs) in
-    let knows : KnowsFrom (least start log id) (reported start failed.runner real.task log) =
-    subst (λ n. KnowsFrom (least start log id) (reported start n real.task log)) (sym same)
-    (subst (λ (t : Task). KnowsFrom (least start log id) (reported start id t log)) (sym is) (m.known task runs)) in
-    conflict_moves_on (least start log id) (store start log).history (reported start failed.runner real.task log).reads
+    let knows : KnowsFrom (least start log id) (known_after_log start failed.runner real.task log) =
+    subst (λ n. KnowsFrom (least start log id) (known_after_log start n real.task log)) (sym same)
+    (subst (λ (t : Task). KnowsFrom (least start log id) (known_after_log start id t log)) (sym is) (m.known task runs)) in
+    conflict_moves_on (least start log id) (store start log).history (known_after_log start failed.runner real.task log).reads
     (latest_writes real.run.writes) real.conflict.seen real.conflict.compare.index failed.key (omega arith) knows.0 real.conflict.about real.conflict.changed
 
 conflict_by : (start : Setup) (log : List Line) (id : ℕ) (task : Task) (key : List ℕ) (seen now_modified : ℕ) → running id log ≡ Some task →
@@ -199,8 +199,8 @@ conflict_by start log id task key seen now_modified runs above =
       counter = λ other is. reached;
       known = λ other runs_as.
           subst (KnowsFrom (least start (line ∷ log) id))
-          (sym (ap (λ b. cond b (after_conflict other h (reported start id other log)) (reported start id other log)) (same_number id)))
-          (conflicted_from (least start (line ∷ log) id) h other (reported start id other log) reached);
+          (sym (ap (λ b. cond b (after_conflict other h (known_after_log start id other log)) (known_after_log start id other log)) (same_number id)))
+          (conflicted_from (least start (line ∷ log) id) h other (known_after_log start id other log) reached);
     }
 
 -- a run that is over knows nothing any more

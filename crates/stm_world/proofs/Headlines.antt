@@ -26,7 +26,7 @@ use Rattle.stm_events.specs.declared.refusal.Refusal.TheVariants.{BadLimit, NoRu
 use Rattle.stm_events.specs.declared.refusal.Denied.{Denied}
 use Rattle.stm_events.specs.Replies.{denied, reply_to, store_after_call, advance_reply, batch_reply, poll_reply}
 use Rattle.stm_world.specs.Task.{Task}
-use Rattle.stm_world.specs.Log.{Line, begun, running, started, store, runner_started, if_reported, expired_reported, entries_reported, reported}
+use Rattle.stm_world.specs.Log.{Line, begun, running, started, store, runner_started, if_reported, expired_reported, entries_reported, known_after_log}
 use Rattle.stm_world.specs.Right.{RunnerIsRight}
 use Rattle.stm_world.specs.World.{World, Runner, Slot, Live, live_in, runner_at, begin, opened, refused, start_runner, step_runner}
 use Rattle.stm_world.specs.World.{step}
@@ -335,17 +335,17 @@ runs_after start events id task laws runs =
 pub one_state : CommitLaws → OneState
 one_state laws =
     of_each_log (λ (start : Setup) (log : List Line). (id : ℕ) (task : Task) → 1 ≤ start.revision → running id log ≡ Some task →
-    is_serializable task.level ≡ true → AreOfOneState (store start log).history task (reported start id task log).reads)
+    is_serializable task.level ≡ true → AreOfOneState (store start log).history task (known_after_log start id task log).reads)
     (λ start events id task some runs serializable.
     let log : List Line = log_of start events in
     let known : RunsAfter start events (runner_for start log id task) = runs_after start events id task laws runs in
-    are_of_one_state (store start log).history task (reported start id task log).reads (known.well_run.based some serializable).0 known.truth.0)
+    are_of_one_state (store start log).history task (known_after_log start id task log).reads (known.well_run.based some serializable).0 known.truth.0)
 
 -- no attempt reads a key twice
 pub read_once : CommitLaws → ReadOnce
 read_once laws =
     of_each_log (λ (start : Setup) (log : List Line). (id : ℕ) (task : Task) → running id log ≡ Some task → has_repeat task.program.prefetch ≡ false →
-    HaveDistinctKeys (reported start id task log).reads)
+    HaveDistinctKeys (known_after_log start id task log).reads)
     (λ start events id task runs once.
     let well = (runs_after start events id task laws runs).well_run in
-    asked_are_distinct task.program (reported start id task (log_of start events)).reads once well.listed well.asked)
+    asked_are_distinct task.program (known_after_log start id task (log_of start events)).reads once well.listed well.asked)

@@ -37,7 +37,7 @@ use Rattle.stm_events.specs.declared.reply.Reply.{Reply}
 use Rattle.stm_events.specs.declared.reply.Reply.TheVariants.{Prefetched, Fetched, Committed, Conflict, GaveUp, Aborted, Faulted, Ended}
 use Rattle.stm_events.specs.declared.reply.KeyRead.{KeyRead}
 use Rattle.stm_world.specs.Task.{Task, answer_at, modified_now, after_list, after_fetch, after_conflict}
-use Rattle.stm_world.specs.Log.{Line, begun, is_over, running, failures, is_id, runner_started, runner_ended, store, reported, with_commit, commit_entry}
+use Rattle.stm_world.specs.Log.{Line, begun, is_over, running, failures, is_id, runner_started, runner_ended, store, known_after_log, with_commit, commit_entry}
 use Rattle.stm_world.specs.Log.{line_entries}
 use Rattle.stm_world.specs.Right.{IsRight, RunnerIsRight, situation, HasList, ReplyIsRight, IsConflicted}
 use Rattle.stm_world.specs.World.{Runner, Slot, Over, Live, live_in, runner_at, with_slot, replied, fetch, fetch_list, entry_of, take_commit}
@@ -65,7 +65,7 @@ there : (start : Setup) (log : List Line) (runners : List Slot) (entries : List 
 there start log runners entries id task x = x.follows.slots id ∙ ap (option_map (runner_for start log id)) x.running
 
 known_truth : (start : Setup) (log : List Line) (runners : List Slot) (entries : List Entry) (id : ℕ) (task : Task) → Runs start log runners entries id task →
-    KnowsTruth (store start log).history (reported start id task log)
+    KnowsTruth (store start log).history (known_after_log start id task log)
 known_truth start log runners entries id task x = x.follows.truth id (runner_for start log id task) (there start log runners entries id task x)
 
 well_run : (start : Setup) (log : List Line) (runners : List Slot) (entries : List Entry) (id : ℕ) (task : Task) → Runs start log runners entries id task →
@@ -77,7 +77,7 @@ counter : (start : Setup) (log : List Line) (runners : List Slot) (entries : Lis
 counter start log runners entries id task x some = counter_some start entries (store start log) x.follows.replays some
 
 pub reads_truth : (start : Setup) (log : List Line) (runners : List Slot) (entries : List Entry) (id : ℕ) (task : Task) → Runs start log runners entries id task →
-    AreTrue (store start log).history (reported start id task log).reads
+    AreTrue (store start log).history (known_after_log start id task log).reads
 reads_truth start log runners entries id task x =
     (known_truth start log runners entries id task x).0
 
@@ -137,14 +137,14 @@ listed_in_log : (start : Setup) (log : List Line) (id : ℕ) (task : Task) (revi
     runner_in_log start (with_line (Step id) (Ok (Prefetched id revision reads)) log) id ≡ Some (record {
       task = task;
       failures = failures id log;
-      known = after_list task (store start log).history (reported start id task log);
+      known = after_list task (store start log).history (known_after_log start id task log);
     })
 listed_in_log start log id task revision reads runs =
     ap (option_map (runner_for start (with_line (Step id) (Ok (Prefetched id revision reads)) log) id)) runs
     ∙ ap (λ b. Some (record {
       task = task;
       failures = failures id log;
-      known = cond b (after_list task (store start log).history (reported start id task log)) (reported start id task log);
+      known = cond b (after_list task (store start log).history (known_after_log start id task log)) (known_after_log start id task log);
     })) (same_number id)
 
 -- ---- a fetch ----
@@ -153,31 +153,31 @@ fetched_in_log : (start : Setup) (log : List Line) (id : ℕ) (task : Task) (key
     runner_in_log start (with_line (Step id) (Ok (Fetched id key mod_rev of_rev revision)) log) id ≡ Some (record {
       task = task;
       failures = failures id log;
-      known = after_fetch task (answer_at (store start log).history key of_rev) (reported start id task log);
+      known = after_fetch task (answer_at (store start log).history key of_rev) (known_after_log start id task log);
     })
 fetched_in_log start log id task key mod_rev of_rev revision runs =
     ap (option_map (runner_for start (with_line (Step id) (Ok (Fetched id key mod_rev of_rev revision)) log) id)) runs
     ∙ ap (λ b. Some (record {
       task = task;
       failures = failures id log;
-      known = cond b (after_fetch task (answer_at (store start log).history key of_rev) (reported start id task log)) (reported start id task log);
+      known = cond b (after_fetch task (answer_at (store start log).history key of_rev) (known_after_log start id task log)) (known_after_log start id task log);
     })) (same_number id)
 
 live_is : (a r : Runner) (P : Runner → Type 0) → live_in (Some (Live a)) ≡ Some r → P a → P r
 live_is a r P is p = let same : a ≡ r = cc in subst P same p
 
 fetch_follows : (start : Setup) (log : List Line) (runners : List Slot) (entries : List Entry) (id : ℕ) (task : Task) (key : List ℕ) (trace : List TraceItem) →
-    Runs start log runners entries id task → HasList (situation start log id task) → run_on task.program (reported start id task log).reads ≡ Wants key trace →
-    is_below_floor (store start log).floor (at_of task.level (reported start id task log).reads) ≡ false →
+    Runs start log runners entries id task → HasList (situation start log id task) → run_on task.program (known_after_log start id task log).reads ≡ Wants key trace →
+    is_below_floor (store start log).floor (at_of task.level (known_after_log start id task log).reads) ≡ false →
     FollowsStep start log (Step id) (fetch id (runner_for start log id task) key
-    (revision_read (store start log).history (at_of task.level (reported start id task log).reads)) (world_at start log runners entries))
+    (revision_read (store start log).history (at_of task.level (known_after_log start id task log).reads)) (world_at start log runners entries))
 unfolding fetch
 fetch_follows start log runners entries id task key trace x listed wants readable =
     let h : History = (store start log).history in
-    let reads : List ReadAnswer = (reported start id task log).reads in
+    let reads : List ReadAnswer = (known_after_log start id task log).reads in
     let of_rev : ℕ = revision_read h (at_of task.level reads) in
-    let known : Known = after_fetch task (answer_at h key of_rev) (reported start id task log) in
-    let new : KnowsTruth h known = fetch_true h task key (reported start id task log) (known_truth start log runners entries id task x) in
+    let known : Known = after_fetch task (answer_at h key of_rev) (known_after_log start id task log) in
+    let new : KnowsTruth h known = fetch_true h task key (known_after_log start id task log) (known_truth start log runners entries id task x) in
     replied_follows start log runners entries id task
     (Live (record { task = task; failures = failures id log; known = known }))
     (Fetched id key (mod_of (key_at h key of_rev)) of_rev (now h)) x
@@ -191,11 +191,11 @@ fetch_follows start log runners entries id task key trace x listed wants readabl
 
 -- the fetch of a list that is due, by whether it has too many keys
 list_follows : (start : Setup) (log : List Line) (runners : List Slot) (entries : List Entry) (id : ℕ) (task : Task) (many : Bool) →
-    Runs start log runners entries id task → is_due task.program.prefetch (reported start id task log).reads ≡ true →
+    Runs start log runners entries id task → is_due task.program.prefetch (known_after_log start id task log).reads ≡ true →
     nat_lt (store start log).limit (length task.program.prefetch) ≡ many →
     FollowsStep start log (Step id) (cond many (replied (Ended id TooManyOpsRefusal) id Over (world_at start log runners entries))
     (replied (Prefetched id (now (store start log).history) (map (modified_now (store start log).history) task.program.prefetch)) id
-    (Live (record { task = task; failures = failures id log; known = after_list task (store start log).history (reported start id task log) }))
+    (Live (record { task = task; failures = failures id log; known = after_list task (store start log).history (known_after_log start id task log) }))
     (world_at start log runners entries)))
 list_follows start log runners entries id task true x due is =
     ended_follows start log runners entries id task (Ended id TooManyOpsRefusal) x
@@ -203,8 +203,8 @@ list_follows start log runners entries id task true x due is =
 list_follows start log runners entries id task false x due is =
     let h : History = (store start log).history in
     let reads : List KeyRead = map (modified_now h) task.program.prefetch in
-    let known : Known = after_list task h (reported start id task log) in
-    let new : KnowsTruth h known = prefetch_true h task (reported start id task log) (known_truth start log runners entries id task x) in
+    let known : Known = after_list task h (known_after_log start id task log) in
+    let new : KnowsTruth h known = prefetch_true h task (known_after_log start id task log) (known_truth start log runners entries id task x) in
     replied_follows start log runners entries id task
     (Live (record { task = task; failures = failures id log; known = known }))
     (Prefetched id (now h) reads) x
@@ -217,11 +217,11 @@ list_follows start log runners entries id task false x due is =
 
 -- by whether the base is compacted
 base_follows : (start : Setup) (log : List Line) (runners : List Slot) (entries : List Entry) (id : ℕ) (task : Task) (key : List ℕ) (trace : List TraceItem)
-    (below : Bool) → Runs start log runners entries id task → HasList (situation start log id task) → run_on task.program (reported start id task log).reads ≡ Wants key trace →
-    is_below_floor (store start log).floor (at_of task.level (reported start id task log).reads) ≡ below →
+    (below : Bool) → Runs start log runners entries id task → HasList (situation start log id task) → run_on task.program (known_after_log start id task log).reads ≡ Wants key trace →
+    is_below_floor (store start log).floor (at_of task.level (known_after_log start id task log).reads) ≡ below →
     FollowsStep start log (Step id) (cond below (replied (Ended id CompactedRefusal) id Over (world_at start log runners entries))
     (fetch id (runner_for start log id task) key
-    (revision_read (store start log).history (at_of task.level (reported start id task log).reads)) (world_at start log runners entries)))
+    (revision_read (store start log).history (at_of task.level (known_after_log start id task log).reads)) (world_at start log runners entries)))
 base_follows start log runners entries id task key trace true x listed wants is =
     ended_follows start log runners entries id task (Ended id CompactedRefusal) x
     (refl, inr (inl (refl, record { has_list = listed; key = key; trace = trace; wants = wants; compacted = is }))) refl refl refl refl refl
@@ -233,14 +233,14 @@ conflict_in_log : (start : Setup) (log : List Line) (id : ℕ) (task : Task) (ke
     runner_in_log start (with_line (Step id) (Ok (Conflict id key seen modified)) log) id ≡ Some (record {
       task = task;
       failures = failures id log + 1;
-      known = after_conflict task (store start log).history (reported start id task log);
+      known = after_conflict task (store start log).history (known_after_log start id task log);
     })
 conflict_in_log start log id task key seen modified runs =
     ap (option_map (runner_for start (with_line (Step id) (Ok (Conflict id key seen modified)) log) id)) runs
     ∙ ap (λ b. Some (record {
       task = task;
       failures = cond b (failures id log + 1) (failures id log);
-      known = cond b (after_conflict task (store start log).history (reported start id task log)) (reported start id task log);
+      known = cond b (after_conflict task (store start log).history (known_after_log start id task log)) (known_after_log start id task log);
     })) (same_number id)
 
 failed_by : (start : Setup) (log : List Line) (runners : List Slot) (entries : List Entry) (id : ℕ) (task : Task) (seen : Seen) (modified : ℕ) (more : Bool) →
@@ -250,18 +250,18 @@ failed_by : (start : Setup) (log : List Line) (runners : List Slot) (entries : L
     (replied (Conflict id seen.key seen.mod_rev modified) id (Live (record {
       task = task;
       failures = failures id log + 1;
-      known = after_conflict task (store start log).history (reported start id task log);
+      known = after_conflict task (store start log).history (known_after_log start id task log);
     })) (world_at start log runners entries))
     (replied (GaveUp id (failures id log + 1) seen.key seen.mod_rev modified) id Over (world_at start log runners entries)))
 failed_by start log runners entries id task seen modified true left x conflicted =
     let h : History = (store start log).history in
     let some : failures id log + 1 < task.limit = ltb-true (failures id log + 1) task.limit left in
-    let r : Runner = record { task = task; failures = failures id log + 1; known = after_conflict task h (reported start id task log) } in
+    let r : Runner = record { task = task; failures = failures id log + 1; known = after_conflict task h (known_after_log start id task log) } in
     replied_follows start log runners entries id task (Live r) (Conflict id seen.key seen.mod_rev modified) x (refl, some, conflicted) refl refl refl refl
     (conflict_in_log start log id task seen.key seen.mod_rev modified x.running)
-    (λ q is. live_is r q (λ y. KnowsTruth h y.known) is (conflict_true h task (reported start id task log)))
+    (λ q is. live_is r q (λ y. KnowsTruth h y.known) is (conflict_true h task (known_after_log start id task log)))
     (λ q is. live_is r q (λ y. IsWellRun start y) is
-    (conflict_runs start task (failures id log + 1) h (reported start id task log) (counter start log runners entries id task x) some))
+    (conflict_runs start task (failures id log + 1) h (known_after_log start id task log) (counter start log runners entries id task x) some))
 failed_by start log runners entries id task seen modified false left x conflicted =
     let none : task.limit ≤ failures id log + 1 = ltb-false (failures id log + 1) task.limit left in
     let within : failures id log < task.limit = (well_run start log runners entries id task x).within in
@@ -277,14 +277,14 @@ begun_by false o task is = is
 
 taken_follows : (start : Setup) (log : List Line) (runners : List Slot) (entries : List Entry) (id : ℕ) (task : Task) (run : Run) (done : Done) →
     CommitIsTheRunNow →
-    Runs start log runners entries id task → HasList (situation start log id task) → run_on task.program (reported start id task log).reads ≡ EndedRun run → run.end ≡ DoneEnd →
-    committed (terms_of (store start log)) task.level (reported start id task log).reads run ≡ Ok done →
+    Runs start log runners entries id task → HasList (situation start log id task) → run_on task.program (known_after_log start id task log).reads ≡ EndedRun run → run.end ≡ DoneEnd →
+    committed (terms_of (store start log)) task.level (known_after_log start id task log).reads run ≡ Ok done →
     done.answer.failed ≡ None →
-    FollowsStep start log (Step id) (take_commit id (runner_for start log id task) (reported start id task log).reads run done
+    FollowsStep start log (Step id) (take_commit id (runner_for start log id task) (known_after_log start id task log).reads run done
     (world_at start log runners entries))
 taken_follows start log runners entries id task run done law x listed is_run is_done is none =
     let s : Standing = store start log in
-    let reads : List ReadAnswer = (reported start id task log).reads in
+    let reads : List ReadAnswer = (known_after_log start id task log).reads in
     let takes : Takes s task reads run done =
     record { truth = reads_truth start log runners entries id task x; is_run = is_run; is_done = is_done; comes_to = is; succeeds = none } in
     let came : Taken s task reads run done = taken s task reads run done law takes in
@@ -328,15 +328,15 @@ taken_follows start log runners entries id task run done law x listed is_run is_
 
 conflicted : (start : Setup) (log : List Line) (runners : List Slot) (entries : List Entry) (id : ℕ) (task : Task) (run : Run) (done : Done)
     (failed : FailedCompare) → FailedComparesConflict → Runs start log runners entries id task → HasList (situation start log id task) →
-    run_on task.program (reported start id task log).reads ≡ EndedRun run → run.end ≡ DoneEnd →
-    committed (terms_of (store start log)) task.level (reported start id task log).reads run ≡ Ok done →
+    run_on task.program (known_after_log start id task log).reads ≡ EndedRun run → run.end ≡ DoneEnd →
+    committed (terms_of (store start log)) task.level (known_after_log start id task log).reads run ≡ Ok done →
     done.answer.failed ≡ Some failed →
     IsConflicted (situation start log id task)
-    (seen_in (slice_get (seen_by (reported start id task log).reads (latest_writes run.writes)) failed.index)).key
-    (seen_in (slice_get (seen_by (reported start id task log).reads (latest_writes run.writes)) failed.index)).mod_rev failed.mod_rev
+    (seen_in (slice_get (seen_by (known_after_log start id task log).reads (latest_writes run.writes)) failed.index)).key
+    (seen_in (slice_get (seen_by (known_after_log start id task log).reads (latest_writes run.writes)) failed.index)).mod_rev failed.mod_rev
 conflicted start log runners entries id task run done failed law x listed is_run is_done is some =
     let s : Standing = store start log in
-    let reads : List ReadAnswer = (reported start id task log).reads in
+    let reads : List ReadAnswer = (known_after_log start id task log).reads in
     let failure : Fails s.history task.level reads run failed done = fails (terms_of s) task.level reads run failed done is some in
     let conflict : IsConflict s.history reads (latest_writes run.writes) failed =
     law s.history task.level reads (latest_writes run.writes) failed (reads_truth start log runners entries id task x) failure.conflict in
@@ -359,24 +359,24 @@ pub record CommitLaws : Type 0 where
 
 decided_follows : (start : Setup) (log : List Line) (runners : List Slot) (entries : List Entry) (id : ℕ) (task : Task) (run : Run) (done : Done)
     (o : Option FailedCompare) → CommitLaws → Runs start log runners entries id task → HasList (situation start log id task) →
-    run_on task.program (reported start id task log).reads ≡ EndedRun run → run.end ≡ DoneEnd →
-    committed (terms_of (store start log)) task.level (reported start id task log).reads run ≡ Ok done →
+    run_on task.program (known_after_log start id task log).reads ≡ EndedRun run → run.end ≡ DoneEnd →
+    committed (terms_of (store start log)) task.level (known_after_log start id task log).reads run ≡ Ok done →
     done.answer.failed ≡ o →
-    FollowsStep start log (Step id) (decided id (runner_for start log id task) (reported start id task log).reads run done o
+    FollowsStep start log (Step id) (decided id (runner_for start log id task) (known_after_log start id task log).reads run done o
     (world_at start log runners entries))
 decided_follows start log runners entries id task run done None laws x listed is_run is_done is found =
     taken_follows start log runners entries id task run done laws.run_now x listed is_run is_done is found
 decided_follows start log runners entries id task run done (Some failed) laws x listed is_run is_done is found =
     failed_by start log runners entries id task
-    (seen_in (slice_get (seen_by (reported start id task log).reads (latest_writes run.writes)) failed.index)) failed.mod_rev
+    (seen_in (slice_get (seen_by (known_after_log start id task log).reads (latest_writes run.writes)) failed.index)) failed.mod_rev
     (nat_lt (failures id log + 1) task.limit) refl x
     (conflicted start log runners entries id task run done failed laws.conflicts x listed is_run is_done is found)
 
 commit_follows : (start : Setup) (log : List Line) (runners : List Slot) (entries : List Entry) (id : ℕ) (task : Task) (run : Run) (o : Result Done StoreRefusal) →
     CommitLaws → Runs start log runners entries id task → HasList (situation start log id task) →
-    run_on task.program (reported start id task log).reads ≡ EndedRun run → run.end ≡ DoneEnd →
-    committed (terms_of (store start log)) task.level (reported start id task log).reads run ≡ o →
-    FollowsStep start log (Step id) (commit_reported id (runner_for start log id task) (reported start id task log).reads run o
+    run_on task.program (known_after_log start id task log).reads ≡ EndedRun run → run.end ≡ DoneEnd →
+    committed (terms_of (store start log)) task.level (known_after_log start id task log).reads run ≡ o →
+    FollowsStep start log (Step id) (commit_reported id (runner_for start log id task) (known_after_log start id task log).reads run o
     (world_at start log runners entries))
 commit_follows start log runners entries id task run (Ok done) laws x listed is_run is_done is =
     decided_follows start log runners entries id task run done done.answer.failed laws x listed is_run is_done is refl
@@ -386,19 +386,19 @@ commit_follows start log runners entries id task run (Err cause) laws x listed i
 
 done_follows : (start : Setup) (log : List Line) (runners : List Slot) (entries : List Entry) (id : ℕ) (task : Task) (run : Run) →
     CommitLaws → Runs start log runners entries id task → HasList (situation start log id task) →
-    run_on task.program (reported start id task log).reads ≡ EndedRun run → run.end ≡ DoneEnd →
-    FollowsStep start log (Step id) (commit id (runner_for start log id task) (reported start id task log).reads run
+    run_on task.program (known_after_log start id task log).reads ≡ EndedRun run → run.end ≡ DoneEnd →
+    FollowsStep start log (Step id) (commit id (runner_for start log id task) (known_after_log start id task log).reads run
     (world_at start log runners entries))
 unfolding commit
 done_follows start log runners entries id task run laws x listed is_run is_done =
     commit_follows start log runners entries id task run
-    (committed (terms_of (store start log)) task.level (reported start id task log).reads run)
+    (committed (terms_of (store start log)) task.level (known_after_log start id task log).reads run)
     laws x listed is_run is_done refl
 
 end_follows : (start : Setup) (log : List Line) (runners : List Slot) (entries : List Entry) (id : ℕ) (task : Task) (run : Run) (end : End) →
     CommitLaws → Runs start log runners entries id task → HasList (situation start log id task) →
-    run_on task.program (reported start id task log).reads ≡ EndedRun run → run.end ≡ end →
-    FollowsStep start log (Step id) (finish id (runner_for start log id task) (reported start id task log).reads run end
+    run_on task.program (known_after_log start id task log).reads ≡ EndedRun run → run.end ≡ end →
+    FollowsStep start log (Step id) (finish id (runner_for start log id task) (known_after_log start id task log).reads run end
     (world_at start log runners entries))
 end_follows start log runners entries id task run DoneEnd laws x listed is_run ended = done_follows start log runners entries id task run laws x listed is_run ended
 end_follows start log runners entries id task run (AbortedEnd text) laws x listed is_run ended =
@@ -407,24 +407,24 @@ end_follows start log runners entries id task run (FaultedEnd fault) laws x list
     ended_follows start log runners entries id task (Faulted id fault) x (refl, record { has_list = listed; run = run; is_run = is_run; ended = ended }) refl refl refl refl refl
 
 answered_follows : (start : Setup) (log : List Line) (runners : List Slot) (entries : List Entry) (id : ℕ) (task : Task) (answered : Answered) →
-    CommitLaws → Runs start log runners entries id task → HasList (situation start log id task) → run_on task.program (reported start id task log).reads ≡ answered →
-    FollowsStep start log (Step id) (step_on id (runner_for start log id task) (reported start id task log).reads answered
+    CommitLaws → Runs start log runners entries id task → HasList (situation start log id task) → run_on task.program (known_after_log start id task log).reads ≡ answered →
+    FollowsStep start log (Step id) (step_on id (runner_for start log id task) (known_after_log start id task log).reads answered
     (world_at start log runners entries))
 answered_follows start log runners entries id task (Wants key trace) laws x listed is =
     base_follows start log runners entries id task key trace
-    (is_below_floor (store start log).floor (at_of task.level (reported start id task log).reads)) x listed is refl
+    (is_below_floor (store start log).floor (at_of task.level (known_after_log start id task log).reads)) x listed is refl
 answered_follows start log runners entries id task (EndedRun run) laws x listed is = end_follows start log runners entries id task run run.end laws x listed is refl
 
 -- by whether the list is due
 list_or_run : (start : Setup) (log : List Line) (runners : List Slot) (entries : List Entry) (id : ℕ) (task : Task) (due : Bool) →
-    CommitLaws → Runs start log runners entries id task → is_due task.program.prefetch (reported start id task log).reads ≡ due →
+    CommitLaws → Runs start log runners entries id task → is_due task.program.prefetch (known_after_log start id task log).reads ≡ due →
     FollowsStep start log (Step id) (cond due (fetch_list id (runner_for start log id task) (world_at start log runners entries))
-    (step_on id (runner_for start log id task) (reported start id task log).reads (run_on task.program (reported start id task log).reads)
+    (step_on id (runner_for start log id task) (known_after_log start id task log).reads (run_on task.program (known_after_log start id task log).reads)
     (world_at start log runners entries)))
 list_or_run start log runners entries id task true laws x is =
     list_follows start log runners entries id task (nat_lt (store start log).limit (length task.program.prefetch)) x is refl
 list_or_run start log runners entries id task false laws x is =
-    answered_follows start log runners entries id task (run_on task.program (reported start id task log).reads) laws x is refl
+    answered_follows start log runners entries id task (run_on task.program (known_after_log start id task log).reads) laws x is refl
 
 -- a step of a runner that runs
 pub live_follows : (start : Setup) (log : List Line) (runners : List Slot) (entries : List Entry) (id : ℕ) (task : Task) →
@@ -432,4 +432,4 @@ pub live_follows : (start : Setup) (log : List Line) (runners : List Slot) (entr
     FollowsStep start log (Step id) (step_live id (runner_for start log id task) (world_at start log runners entries))
 unfolding step_live
 live_follows start log runners entries id task laws x =
-    list_or_run start log runners entries id task (is_due task.program.prefetch (reported start id task log).reads) laws x refl
+    list_or_run start log runners entries id task (is_due task.program.prefetch (known_after_log start id task log).reads) laws x refl

@@ -13,7 +13,7 @@ use Rattle.stm_events.specs.declared.reply.Reply.TheVariants.{Txn as TxnDone, Gr
 use Rattle.stm_events.specs.declared.refusal.Denied.{Denied}
 use Rattle.stm_events.specs.Replies.{reply_to, advance_reply}
 use Rattle.stm_world.specs.Task.{Task, nothing_known, answer_at, after_list, after_fetch, after_conflict}
-use Rattle.stm_world.specs.Log.{Line, begun, is_over, running, failures, is_id, task_in, store, reported, known_after}
+use Rattle.stm_world.specs.Log.{Line, begun, is_over, running, failures, is_id, task_in, store, known_after_log, known_after}
 use Rattle.stm_world.specs.Log.{runner_started, runner_ended, runner_in_conflict}
 use Rattle.stm_world.specs.World.{Runner}
 use Rattle.stm_world.specs.Headline.{runner_for, runner_in_log}
@@ -33,8 +33,8 @@ pub same_failures : (id : ℕ) (line : Line) (log : List Line) → Untouched id 
 same_failures id line log u = ap (λ b. cond b (failures id log + 1) (failures id log)) u.no_conflict
 
 pub same_reported : (start : Setup) (id : ℕ) (task : Task) (line : Line) (log : List Line) → Untouched id line.reply →
-    reported start id task (line ∷ log) ≡ reported start id task log
-same_reported start id task line log u = u.known task (store start log).history (reported start id task log)
+    known_after_log start id task (line ∷ log) ≡ known_after_log start id task log
+same_reported start id task line log u = u.known task (store start log).history (known_after_log start id task log)
 
 same_runner_for : (start : Setup) (id : ℕ) (task : Task) (line : Line) (log : List Line) → Untouched id line.reply →
     runner_for start (line ∷ log) id task ≡ runner_for start log id task
@@ -57,7 +57,7 @@ pub record IsFresh (start : Setup) (log : List Line) (id : ℕ) : Type 0 where
   pub not_begun : begun id log ≡ None
   pub not_over : is_over id log ≡ false
   pub no_failures : failures id log ≡ 0
-  pub nothing : (task : Task) → reported start id task log ≡ nothing_known
+  pub nothing : (task : Task) → known_after_log start id task log ≡ nothing_known
 
 pub none_reported : (start : Setup) (id : ℕ) → IsFresh start [] id
 none_reported start id = record { not_begun = refl; not_over = refl; no_failures = refl; nothing = λ task. refl }

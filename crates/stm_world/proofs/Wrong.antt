@@ -46,7 +46,7 @@ use Rattle.stm_watch.specs.Pending.{pending, pending_events, batch_of, after_pol
 use Rattle.stm_watch.specs.Calls.{watcher_at, poll_found}
 use Rattle.stm_events.specs.Replies.{denied, reply_to, advance_reply, poll_reply}
 use Rattle.stm_world.specs.Task.{Task, modified_now}
-use Rattle.stm_world.specs.Log.{Line, begun, running, failures, started, is_start, runner_started, is_id, task_in, store, reported}
+use Rattle.stm_world.specs.Log.{Line, begun, running, failures, started, is_start, runner_started, is_id, task_in, store, known_after_log}
 use Rattle.stm_world.specs.Right.{IsRight, AreRight, RunnerIsRight, Situation, HasList, ReplyIsRight, EndsWith, IsCommitted, IsRefused, situation}
 use Rattle.stm_world.specs.World.{World}
 use Rattle.stm_world.specs.Headline.{Holds}
@@ -183,7 +183,7 @@ not_aborted at run text is_run done ends =
     let both : DoneEnd ≡ AbortedEnd text = sym done ∙ ap (λ (r : Run). r.end) same ∙ ends.ended in absurd (cc)
 
 another_abort : (start : Setup) (log : List Line) (id : ℕ) (task : Task) (run : Run) (text : List ℕ) → running id log ≡ Some task
-    → run_on task.program (reported start id task log).reads ≡ EndedRun run → run.end ≡ DoneEnd
+    → run_on task.program (known_after_log start id task log).reads ≡ EndedRun run → run.end ≡ DoneEnd
     → IsRight start log (Step id) (Ok (Aborted id text)) → ⊥
 another_abort start log id task run text runs is_run done right =
     not_aborted (situation start log id task) run text is_run done
@@ -267,7 +267,7 @@ not_lost start log id most watcher floor w there kept right =
 -- ---- compactions ----
 
 fetch_below : (start : Setup) (log : List Line) (id : ℕ) (task : Task) (key : List ℕ) (mod_rev of_rev revision : ℕ) → running id log ≡ Some task
-    → is_below_floor (store start log).floor (at_of task.level (reported start id task log).reads) ≡ true
+    → is_below_floor (store start log).floor (at_of task.level (known_after_log start id task log).reads) ≡ true
     → IsRight start log (Step id) (Ok (Fetched id key mod_rev of_rev revision)) → ⊥
 fetch_below start log id task key mod_rev of_rev revision runs below right =
     let fetch = (subst (λ (o : Option Task). RunnerIsRight start log id o (Ok (Fetched id key mod_rev of_rev revision))) runs right).1 in
@@ -282,9 +282,9 @@ not_refused at key trace cause listed wants above (inr (inr (same, overfull))) =
     let both : true ≡ false = sym overfull.due ∙ listed in absurd (cc)
 
 refused_fetch : (start : Setup) (log : List Line) (id : ℕ) (task : Task) (key : List ℕ) (trace : List TraceItem) (cause : StoreRefusal)
-    → running id log ≡ Some task → is_due task.program.prefetch (reported start id task log).reads ≡ false
-    → run_on task.program (reported start id task log).reads ≡ Wants key trace
-    → is_below_floor (store start log).floor (at_of task.level (reported start id task log).reads) ≡ false
+    → running id log ≡ Some task → is_due task.program.prefetch (known_after_log start id task log).reads ≡ false
+    → run_on task.program (known_after_log start id task log).reads ≡ Wants key trace
+    → is_below_floor (store start log).floor (at_of task.level (known_after_log start id task log).reads) ≡ false
     → IsRight start log (Step id) (Ok (Ended id cause)) → ⊥
 refused_fetch start log id task key trace cause runs listed wants above right =
     not_refused (situation start log id task) key trace cause listed wants above
@@ -307,7 +307,7 @@ is_listed : (start : Setup) (log : List Line) (id : ℕ) (task : Task) (reply : 
 is_listed start log id task reply runs right = subst (λ (o : Option Task). RunnerIsRight start log id o (Ok reply)) runs right
 
 list_again : (start : Setup) (log : List Line) (id : ℕ) (task : Task) (revision : ℕ) (reads : List KeyRead) → running id log ≡ Some task
-    → is_due task.program.prefetch (reported start id task log).reads ≡ false → IsRight start log (Step id) (Ok (Prefetched id revision reads)) → ⊥
+    → is_due task.program.prefetch (known_after_log start id task log).reads ≡ false → IsRight start log (Step id) (Ok (Prefetched id revision reads)) → ⊥
 list_again start log id task revision reads runs listed right =
     let list = (is_listed start log id task (Prefetched id revision reads) runs right).1 in
     let both : true ≡ false = sym list.due ∙ listed in absurd (cc)
@@ -319,38 +319,38 @@ part_of_list start log id task revision reads runs other right =
     other (ap (λ (l : List KeyRead). length l) list.shows ∙ length-map task.program.prefetch (modified_now (store start log).history))
 
 read_before_list : (start : Setup) (log : List Line) (id : ℕ) (task : Task) (key : List ℕ) (mod_rev of_rev revision : ℕ) → running id log ≡ Some task
-    → is_due task.program.prefetch (reported start id task log).reads ≡ true → IsRight start log (Step id) (Ok (Fetched id key mod_rev of_rev revision)) → ⊥
+    → is_due task.program.prefetch (known_after_log start id task log).reads ≡ true → IsRight start log (Step id) (Ok (Fetched id key mod_rev of_rev revision)) → ⊥
 read_before_list start log id task key mod_rev of_rev revision runs due right =
     let fetch = (is_listed start log id task (Fetched id key mod_rev of_rev revision) runs right).1 in
     let both : true ≡ false = sym due ∙ fetch.has_list in absurd (cc)
 
 abort_before_list : (start : Setup) (log : List Line) (id : ℕ) (task : Task) (text : List ℕ) → running id log ≡ Some task
-    → is_due task.program.prefetch (reported start id task log).reads ≡ true → IsRight start log (Step id) (Ok (Aborted id text)) → ⊥
+    → is_due task.program.prefetch (known_after_log start id task log).reads ≡ true → IsRight start log (Step id) (Ok (Aborted id text)) → ⊥
 abort_before_list start log id task text runs due right =
     let ends = (is_listed start log id task (Aborted id text) runs right).1 in
     let both : true ≡ false = sym due ∙ ends.has_list in absurd (cc)
 
 fault_before_list : (start : Setup) (log : List Line) (id : ℕ) (task : Task) (fault : Fault) → running id log ≡ Some task
-    → is_due task.program.prefetch (reported start id task log).reads ≡ true → IsRight start log (Step id) (Ok (Faulted id fault)) → ⊥
+    → is_due task.program.prefetch (known_after_log start id task log).reads ≡ true → IsRight start log (Step id) (Ok (Faulted id fault)) → ⊥
 fault_before_list start log id task fault runs due right =
     let ends = (is_listed start log id task (Faulted id fault) runs right).1 in
     let both : true ≡ false = sym due ∙ ends.has_list in absurd (cc)
 
 commit_before_list : (start : Setup) (log : List Line) (id : ℕ) (task : Task) (revision attempts : ℕ) (output : List Value) (trace : List TraceItem)
-    (answers : List ReadAnswer) → running id log ≡ Some task → is_due task.program.prefetch (reported start id task log).reads ≡ true
+    (answers : List ReadAnswer) → running id log ≡ Some task → is_due task.program.prefetch (known_after_log start id task log).reads ≡ true
     → IsRight start log (Step id) (Ok (Committed id revision attempts output trace answers)) → ⊥
 commit_before_list start log id task revision attempts output trace answers runs due right =
     let commit = (is_listed start log id task (Committed id revision attempts output trace answers) runs right).3 in
     let both : true ≡ false = sym due ∙ commit.commits.has_list in absurd (cc)
 
 conflict_before_list : (start : Setup) (log : List Line) (id : ℕ) (task : Task) (key : List ℕ) (seen now_modified : ℕ) → running id log ≡ Some task
-    → is_due task.program.prefetch (reported start id task log).reads ≡ true → IsRight start log (Step id) (Ok (Conflict id key seen now_modified)) → ⊥
+    → is_due task.program.prefetch (known_after_log start id task log).reads ≡ true → IsRight start log (Step id) (Ok (Conflict id key seen now_modified)) → ⊥
 conflict_before_list start log id task key seen now_modified runs due right =
     let conflict = (is_listed start log id task (Conflict id key seen now_modified) runs right).2 in
     let both : true ≡ false = sym due ∙ conflict.commits.has_list in absurd (cc)
 
 give_up_before_list : (start : Setup) (log : List Line) (id : ℕ) (task : Task) (attempts : ℕ) (key : List ℕ) (seen now_modified : ℕ)
-    → running id log ≡ Some task → is_due task.program.prefetch (reported start id task log).reads ≡ true
+    → running id log ≡ Some task → is_due task.program.prefetch (known_after_log start id task log).reads ≡ true
     → IsRight start log (Step id) (Ok (GaveUp id attempts key seen now_modified)) → ⊥
 give_up_before_list start log id task attempts key seen now_modified runs due right =
     let conflict = (is_listed start log id task (GaveUp id attempts key seen now_modified) runs right).3 in
@@ -363,7 +363,7 @@ none_refused_list at cause due few (inr (inl (same, behind))) = let both : true 
 none_refused_list at cause due few (inr (inr (same, overfull))) = let many = overfull.many in omega (arith, few, many)
 
 refused_list : (start : Setup) (log : List Line) (id : ℕ) (task : Task) (cause : StoreRefusal) → running id log ≡ Some task
-    → is_due task.program.prefetch (reported start id task log).reads ≡ true → length task.program.prefetch ≤ (store start log).limit
+    → is_due task.program.prefetch (known_after_log start id task log).reads ≡ true → length task.program.prefetch ≤ (store start log).limit
     → IsRight start log (Step id) (Ok (Ended id cause)) → ⊥
 refused_list start log id task cause runs due few right =
     none_refused_list (situation start log id task) cause due few (is_listed start log id task (Ended id cause) runs right).1
@@ -393,7 +393,7 @@ one_revision at run alone revision output trace answers is applies c =
 
 another_revision : (start : Setup) (log : List Line) (id : ℕ) (task : Task) (run : Run) (alone : StoreDone) (revision attempts : ℕ) (output : List Value)
     (trace : List TraceItem) (answers : List ReadAnswer) → running id log ≡ Some task
-    → run_over (seen_at task.level (reported start id task log).reads (store start log).history) task.program.statements ≡ EndedRun run
+    → run_over (seen_at task.level (known_after_log start id task log).reads (store start log).history) task.program.statements ≡ EndedRun run
     → applied_run (without_moment (store start log)) run ≡ Ok alone → revision ≢ now alone.history
     → IsRight start log (Step id) (Ok (Committed id revision attempts output trace answers)) → ⊥
 another_revision start log id task run alone revision attempts output trace answers runs is applies other right =

@@ -46,7 +46,7 @@ use Rattle.stm_events.specs.declared.reply.Reply.TheVariants.{Started, Prefetche
 use Rattle.stm_events.specs.declared.reply.Reply.TheVariants.{Txn as TxnDone, Granted, Kept, Revoked, Advanced, Watching, Batch, Cancelled, Compacted, Lost}
 use Rattle.stm_events.specs.declared.refusal.Denied.{Denied}
 use Rattle.stm_world.specs.Task.{Task, answer_at, after_list, after_fetch, after_conflict}
-use Rattle.stm_world.specs.Log.{Line, begun, running, store, known_after, reported}
+use Rattle.stm_world.specs.Log.{Line, begun, running, store, known_after, known_after_log}
 use Rattle.stm_world.specs.Doomed.{FailedCommit, NamesAConflict, IsRealFailure, Stopped, IsEndOnOneState, IsRealStop, since, failed_commits}
 use Rattle.stm_world.specs.Doomed.{FailuresMoveOn}
 use Rattle.stm_world.specs.World.{opened, replies_to}
@@ -130,10 +130,10 @@ known_small number id task h (Ok (Compacted revision)) known opens all = all
 known_small number id task h (Ok (Lost watcher floor)) known opens all = all
 known_small number id task h (Err refusal) known opens all = all
 
-reported_small : (start : Setup) (id : ℕ) (task : Task) (log : List Line) → KnowsAll IsSmall (reported start id task log)
+reported_small : (start : Setup) (id : ℕ) (task : Task) (log : List Line) → KnowsAll IsSmall (known_after_log start id task log)
 reported_small start id task [] = (tt, tt)
 reported_small start id task (line ∷ older) =
-    known_small start.revision id task (store start older).history line.reply (reported start id task older) (store_opens start older) (reported_small start id task older)
+    known_small start.revision id task (store start older).history line.reply (known_after_log start id task older) (store_opens start older) (reported_small start id task older)
 
 -- so is what a compare is about
 

@@ -28,7 +28,7 @@ use Rattle.stm_events.specs.declared.reply.Reply.{Reply}
 use Rattle.stm_events.specs.declared.reply.Reply.TheVariants.{Conflict, GaveUp, Aborted, Faulted}
 use Rattle.stm_events.specs.declared.refusal.Denied.{Denied}
 use Rattle.stm_world.specs.Task.{Task}
-use Rattle.stm_world.specs.Log.{Line, is_id, runner_started, begun, running, store, reported}
+use Rattle.stm_world.specs.Log.{Line, is_id, runner_started, begun, running, store, known_after_log}
 use Rattle.stm_world.specs.Headline.{OfEachLog, AreOfOneState}
 use Rattle.stm_txn.specs.Standing.{Setup}
 
@@ -69,11 +69,11 @@ pub record NamesAConflict (h : History) (level : Level) (reads : List ReadAnswer
 pub record IsRealFailure (start : Setup) (log : List Line) (failed : FailedCommit) : Type 0 where
   pub task : Task
   pub runs : running failed.runner log ≡ Some task
-  pub has_list : is_due task.program.prefetch (reported start failed.runner task log).reads ≡ false
+  pub has_list : is_due task.program.prefetch (known_after_log start failed.runner task log).reads ≡ false
   pub run : Run
-  pub is_run : run_on task.program (reported start failed.runner task log).reads ≡ EndedRun run
+  pub is_run : run_on task.program (known_after_log start failed.runner task log).reads ≡ EndedRun run
   pub is_done : run.end ≡ DoneEnd
-  pub conflict : NamesAConflict (store start log).history task.level (reported start failed.runner task log).reads (latest_writes run.writes) failed
+  pub conflict : NamesAConflict (store start log).history task.level (known_after_log start failed.runner task log).reads (latest_writes run.writes) failed
 
 abbrev pub IfFailedIsReal : Setup → List Line → Option FailedCommit → Type 0
 IfFailedIsReal start log None = Unit {0}
@@ -112,7 +112,7 @@ pub record IsRealStop (start : Setup) (log : List Line) (stopped : Stopped) : Ty
   pub task : Task
   pub runs : running stopped.runner log ≡ Some task
   pub of_one_state : is_serializable task.level ≡ true →
-      IsEndOnOneState (store start log).history task (reported start stopped.runner task log).reads stopped.end
+      IsEndOnOneState (store start log).history task (known_after_log start stopped.runner task log).reads stopped.end
 
 abbrev pub IfStoppedIsReal : Setup → List Line → Option Stopped → Type 0
 IfStoppedIsReal start log None = Unit {0}

@@ -17,14 +17,14 @@ use Rattle.stm_events.specs.declared.event.WorldEvent.{WorldEvent}
 use Rattle.stm_events.specs.declared.reply.Reply.{Reply}
 use Rattle.stm_events.specs.declared.refusal.Denied.{Denied}
 use Rattle.stm_world.specs.Task.{Task}
-use Rattle.stm_world.specs.Log.{Line, IsLogOf, running, started, failures, store, entries_reported, reported}
+use Rattle.stm_world.specs.Log.{Line, IsLogOf, running, started, failures, store, entries_reported, known_after_log}
 use Rattle.stm_world.specs.Right.{AreRight}
 use Rattle.stm_world.specs.World.{World, Runner, runner_at, opened, world_after, replies_to}
 use Rattle.stm_txn.specs.Standing.{Setup}
 
 -- a runner with this task, as a log has it
 abbrev pub runner_for : Setup → List Line → ℕ → Task → Runner
-runner_for start log id task = record { task = task; failures = failures id log; known = reported start id task log }
+runner_for start log id task = record { task = task; failures = failures id log; known = known_after_log start id task log }
 
 -- the runner with this number that runs, as a log has it
 abbrev pub runner_in_log : Setup → List Line → ℕ → Option Runner
@@ -69,10 +69,10 @@ pub record AreOfOneState (h : History) (task : Task) (reads : List ReadAnswer) :
 abbrev pub OneState : Type 0
 OneState =
     OfEachLog (λ (start : Setup) (log : List Line). (id : ℕ) (task : Task) → 1 ≤ start.revision → running id log ≡ Some task → is_serializable task.level ≡ true
-    → AreOfOneState (store start log).history task (reported start id task log).reads)
+    → AreOfOneState (store start log).history task (known_after_log start id task log).reads)
 
 -- No attempt reads a key twice.
 abbrev pub ReadOnce : Type 0
 ReadOnce =
     OfEachLog (λ (start : Setup) (log : List Line). (id : ℕ) (task : Task) → running id log ≡ Some task → has_repeat task.program.prefetch ≡ false
-    → HaveDistinctKeys (reported start id task log).reads)
+    → HaveDistinctKeys (known_after_log start id task log).reads)

@@ -35,15 +35,17 @@ use Rattle.stm_events.specs.declared.event.WorldEvent.TheVariants.{Start, Step, 
 use Rattle.stm_events.specs.declared.event.WorldEvent.TheVariants.{WatchKey, WatchRange, Poll, Cancel, Compact}
 use Rattle.stm_events.specs.declared.reply.Reply.{Reply}
 use Rattle.stm_events.specs.declared.reply.Reply.TheVariants.{Started, Prefetched, Fetched, Committed, Conflict, GaveUp, Aborted, Faulted, Ended}
-use Rattle.stm_events.specs.declared.reply.Reply.TheVariants.{Txn as TxnDone, Granted, Kept, Revoked, Watching, Cancelled, Compacted}
+use Rattle.stm_events.specs.declared.reply.Reply.TheVariants.{Granted, Kept, Revoked, Watching, Cancelled, Compacted}
 use Rattle.stm_events.specs.declared.reply.KeyRead.{KeyRead}
-use Rattle.stm_events.specs.declared.refusal.Refusal.TheVariants.{BadLimit, NoRunner}
+use Rattle.stm_events.specs.declared.reply.CommittedRead.{CommittedRead}
+use Rattle.stm_events.specs.declared.refusal.EventRefusal.{EventRefusal}
+use Rattle.stm_events.specs.declared.refusal.EventRefusal.TheVariants.{BadLimit, NoRunner}
 use Rattle.stm_events.specs.declared.refusal.Denied.{Denied}
-use Rattle.stm_events.specs.Replies.{denied, reply_to, advance_reply, poll_reply}
+use Rattle.stm_events.specs.Replies.{committed_read, txn_reply, refusal_of, denied, reply_to, advance_reply, poll_reply}
 use Rattle.stm_world.specs.Task.{Task, modified_now}
 use Rattle.stm_events.specs.FirstReads.{keys_first_read}
 use Rattle.stm_world.specs.Asked.{keys_read}
-use Rattle.stm_world.specs.Log.{Line, running, started, failures, store, reported}
+use Rattle.stm_world.specs.Log.{Line, running, started, failures, store, known_after_log}
 
 -- Where a runner stands: its number, its task, what it has read in its attempt (with the prefetched answers that it took), the
 -- conflicts that were reported to it, and the store.
@@ -107,7 +109,7 @@ pub record Commits (at : Situation) (outcome : Result Done StoreRefusal) : Type 
 -- A commit that succeeds: at a comparing level output and trace are those of the program run alone on the state of this
 -- moment, at ReadCommitted those of its run on what it read, which is reported. The last write of each key of this run, with nothing compared, is
 -- what the commit changes in the store. What it read are the keys of its list, and then the others that the run reads, in the order of its first reads.
-pub record IsCommitted (at : Situation) (revision : ℕ) (output : List Value) (trace : List TraceItem) (answers : List ReadAnswer) : Type 0 where
+pub record IsCommitted (at : Situation) (revision : ℕ) (output : List Value) (trace : List TraceItem) (answers : List CommittedRead) : Type 0 where
   pub done : Done
   pub commits : Commits at (Ok done)
   pub succeeds : done.answer.failed ≡ None
@@ -116,7 +118,7 @@ pub record IsCommitted (at : Situation) (revision : ℕ) (output : List Value) (
   pub sees : trace ≡ commits.run.trace
   pub changes : applied_run (without_moment at.store) commits.run ≡ Ok done
   pub reached : revision ≡ now done.history
-  pub reported : answers ≡ answers_kept at.task.level at.reads
+  pub reported : answers ≡ map committed_read (answers_kept at.task.level at.reads)
   pub in_order : keys_first_read at.task.program.prefetch commits.run.reads ≡ keys_read at.reads
 
 -- A commit that fails changes nothing: a compare failed, it is about this key, and it is a conflict.
@@ -136,6 +138,12 @@ pub record IsConflicted (at : Situation) (key : List ℕ) (seen now_modified : �
 abbrev pub IsRefused : Situation → StoreRefusal → Type 0
 IsRefused at cause = Commits at (Err cause) ⊎ ((cause ≡ CompactedRefusal) × IsBehind at) ⊎ ((cause ≡ TooManyOpsRefusal) × IsOverfull at)
 
+-- the run is ended by a refusal of the store, which is reported under its name
+pub record IsEndedBy (at : Situation) (cause : EventRefusal) : Type 0 where
+  pub by_store : StoreRefusal
+  pub named : cause ≡ refusal_of by_store
+  pub refused : IsRefused at by_store
+
 -- A reply to the step of a runner that runs. It names this runner; no run sends more commits than it may, and it gives up exactly at the
 -- last of them.
 abbrev pub ReplyIsRight : Situation → Reply → Type 0
@@ -148,7 +156,7 @@ ReplyIsRight at (GaveUp runner attempts key seen now) =
     (runner ≡ at.id) × (attempts ≡ at.failures + 1) × (attempts ≡ at.task.limit) × IsConflicted at key seen now
 ReplyIsRight at (Aborted runner text) = (runner ≡ at.id) × EndsWith at (AbortedEnd text)
 ReplyIsRight at (Faulted runner fault) = (runner ≡ at.id) × EndsWith at (FaultedEnd fault)
-ReplyIsRight at (Ended runner cause) = (runner ≡ at.id) × IsRefused at cause
+ReplyIsRight at (Ended runner cause) = (runner ≡ at.id) × IsEndedBy at cause
 ReplyIsRight at other = ⊥
 
 -- a step of a runner that runs is never refused
@@ -161,7 +169,7 @@ abbrev pub situation : Setup → List Line → ℕ → Task → Situation
 situation start log id task = record {
   id = id;
   task = task;
-  reads = (reported start id task log).reads;
+  reads = (known_after_log start id task log).reads;
   failures = failures id log;
   store = store start log;
 }
@@ -180,7 +188,7 @@ StartIsRight count limit (Err refusal) = (refusal ≡ record { cause = BadLimit;
 abbrev pub IsRight : Setup → List Line → WorldEvent → Result Reply Denied → Type 0
 IsRight start log (Start program level limit) reply = StartIsRight (started log) limit reply
 IsRight start log (Step id) reply = RunnerIsRight start log id (running id log) reply
-IsRight start log (Txn txn) reply = reply ≡ reply_to TxnDone (transacted (store start log) txn)
+IsRight start log (Txn txn) reply = reply ≡ reply_to txn_reply (transacted (store start log) txn)
 IsRight start log (Grant id ttl) reply = reply ≡ reply_to (λ _. Granted id) (granted (store start log) id ttl)
 IsRight start log (Keep id) reply = reply ≡ reply_to (λ _. Kept id) (kept_alive (store start log) id)
 IsRight start log (Revoke id) reply = reply ≡ reply_to (Revoked id) (revoked (store start log) id)

@@ -40,11 +40,11 @@ use Rattle.stm_events.specs.declared.event.WorldEvent.TheVariants.{Start, Step, 
 use Rattle.stm_events.specs.declared.event.WorldEvent.TheVariants.{WatchKey, WatchRange, Poll, Cancel, Compact}
 use Rattle.stm_events.specs.declared.reply.Reply.{Reply}
 use Rattle.stm_events.specs.declared.reply.Reply.TheVariants.{Started, Prefetched, Fetched, Committed, Conflict, GaveUp, Aborted, Faulted, Ended}
-use Rattle.stm_events.specs.declared.reply.Reply.TheVariants.{Txn as TxnDone, Granted, Kept, Revoked, Watching, Cancelled, Compacted}
-use Rattle.stm_events.specs.declared.refusal.Refusal.{Refusal}
-use Rattle.stm_events.specs.declared.refusal.Refusal.TheVariants.{BadLimit, NoRunner}
+use Rattle.stm_events.specs.declared.reply.Reply.TheVariants.{Granted, Kept, Revoked, Watching, Cancelled, Compacted}
+use Rattle.stm_events.specs.declared.refusal.EventRefusal.{EventRefusal}
+use Rattle.stm_events.specs.declared.refusal.EventRefusal.TheVariants.{BadLimit, NoRunner}
 use Rattle.stm_events.specs.declared.refusal.Denied.{Denied}
-use Rattle.stm_events.specs.Replies.{denied, reply_to, store_after_call, advance_reply, poll_reply, store_after_poll}
+use Rattle.stm_events.specs.Replies.{committed_read, txn_reply, refusal_of, denied, reply_to, store_after_call, advance_reply, poll_reply, store_after_poll}
 use Rattle.stm_world.specs.Task.{Task, nothing_known, answer_at, modified_now, after_list, after_fetch, after_conflict}
 
 -- a runner whose run goes on: its task, the commits of it that failed, and what it knows in its attempt
@@ -86,7 +86,7 @@ runner_at id slots = if nat_eq id 0 then None else live_in (slice_get slots (id 
 abbrev pub with_slot : ℕ → Slot → List Slot → List Slot
 with_slot id slot slots = slice_set slots (id - 1) slot
 
-abbrev pub refused : Refusal → World → Stepped
+abbrev pub refused : EventRefusal → World → Stepped
 refused cause w = record { reply = denied cause; next = w }
 
 -- a reply after which a runner stands at its place so, and nothing else has changed
@@ -120,7 +120,7 @@ fetch id r key of_rev w =
 -- A fetch of the key at the base of the attempt, 0 for the current revision. The store refuses one that is compacted, which ends the run.
 abbrev pub fetch_at : ℕ → Runner → List ℕ → ℕ → World → Stepped
 fetch_at id r key base w =
-    if is_below_floor w.standing.floor base then replied (Ended id CompactedRefusal) id Over w
+    if is_below_floor w.standing.floor base then replied (Ended id (refusal_of CompactedRefusal)) id Over w
     else fetch id r key (revision_read w.standing.history base) w
 
 -- A fetch of all keys of the list, as they are now. The store refuses one of more keys than it takes operations, which ends the run.
@@ -128,7 +128,7 @@ abbrev pub fetch_list : ℕ → Runner → World → Stepped
 fetch_list id r w =
     let h = w.standing.history in
     let keys = r.task.program.prefetch in
-    if nat_lt w.standing.limit (length keys) then replied (Ended id TooManyOpsRefusal) id Over w
+    if nat_lt w.standing.limit (length keys) then replied (Ended id (refusal_of TooManyOpsRefusal)) id Over w
     else replied (Prefetched id (now h) (map (modified_now h) keys)) id (Live (record r { known = after_list r.task h r.known })) w
 
 -- the entry of a commit
@@ -138,7 +138,8 @@ entry_of task reads run revision = Program task.program task.level (answers_kept
 -- a commit that succeeded is an entry, and the run is over
 abbrev pub take_commit : ℕ → Runner → List ReadAnswer → Run → Done → World → Stepped
 take_commit id r reads run done w = record {
-  reply = Ok (Committed id (now done.history) (r.failures + 1) run.output run.trace (answers_kept r.task.level reads));
+  reply = Ok (Committed id (now done.history) (r.failures + 1) run.output run.trace
+  (map committed_read (answers_kept r.task.level reads)));
   next = record {
     standing = with_history w.standing done.history;
     runners = with_slot id Over w.runners;
@@ -161,7 +162,7 @@ decided id r reads run done (Some failed) w =
 
 abbrev pub commit_reported : ℕ → Runner → List ReadAnswer → Run → Result Done StoreRefusal → World → Stepped
 commit_reported id r reads run (Ok done) w = decided id r reads run done done.answer.failed w
-commit_reported id r reads run (Err cause) w = replied (Ended id cause) id Over w
+commit_reported id r reads run (Err cause) w = replied (Ended id (refusal_of cause)) id Over w
 
 -- the commit of a run that is done, one transaction; a refused one ends the run
 unfoldable pub commit : ℕ → Runner → List ReadAnswer → Run → World → Stepped
@@ -206,7 +207,7 @@ step (Step id) w = step_runner id (runner_at id w.runners) w
 step (Txn txn) w =
     let s = w.standing in
     let next = store_after_call s (transacted s txn) in
-    called (reply_to TxnDone (transacted s txn)) next (if_changed s next txn) w
+    called (reply_to txn_reply (transacted s txn)) next (if_changed s next txn) w
 step (Grant id ttl) w =
     let s = w.standing in
     let o = granted s id ttl in

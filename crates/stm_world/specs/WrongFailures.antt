@@ -19,7 +19,7 @@ use Rattle.stm_entries.specs.declared.entry.Entry.{Entry}
 use Rattle.stm_entries.specs.Replayed.{without_moment}
 use Rattle.stm_events.specs.declared.event.WorldEvent.{WorldEvent}
 use Rattle.stm_world.specs.Task.{Task}
-use Rattle.stm_world.specs.Log.{Line, IsLogOf, begun, running, store, reported}
+use Rattle.stm_world.specs.Log.{Line, IsLogOf, begun, running, store, known_after_log}
 use Rattle.stm_world.specs.World.{World, opened, replies_to}
 use Rattle.stm_world.specs.Doomed.{FailedCommit, IsRealFailure, Stopped, IsRealStop, since, failed_commits}
 use Rattle.stm_world.specs.Appended.{HasAppended}
@@ -27,7 +27,7 @@ use Rattle.stm_txn.specs.Standing.{Setup}
 
 -- what a runner with a task has read in its attempt
 abbrev pub reads_of : Setup → List Line → ℕ → Task → List ReadAnswer
-reads_of start log id task = (reported start id task log).reads
+reads_of start log id task = (known_after_log start id task log).reads
 
 -- failures and ends after a log that are rejected
 pub record WrongFailures : Type 0 where

@@ -30,7 +30,7 @@ use Rattle.stm_events.specs.declared.reply.Reply.TheVariants.{Started, Prefetche
 use Rattle.stm_events.specs.declared.reply.KeyRead.{KeyRead}
 use Rattle.stm_events.specs.declared.refusal.Denied.{Denied}
 use Rattle.stm_world.specs.Task.{Task}
-use Rattle.stm_world.specs.Log.{Line, begun, running, failures, store, reported}
+use Rattle.stm_world.specs.Log.{Line, begun, running, failures, store, known_after_log}
 use Rattle.stm_world.specs.Right.{IsRight, AreRight}
 use Rattle.stm_world.specs.World.{World}
 use Rattle.stm_world.specs.Headline.{Holds}
@@ -70,19 +70,19 @@ pub record WrongLogs : Type 0 where
       → IsRight start log (Step id) (Ok reply) → ⊥
   -- a program that is done on what was reported to it has not aborted
   pub another_abort : (start : Setup) (log : List Line) (id : ℕ) (task : Task) (run : Run) (text : List ℕ) → running id log ≡ Some task
-      → run_on task.program (reported start id task log).reads ≡ Ended run → run.end ≡ Done
+      → run_on task.program (known_after_log start id task log).reads ≡ Ended run → run.end ≡ Done
       → IsRight start log (Step id) (Ok (Aborted id text)) → ⊥
   -- no run sends more commits than it may, the one that succeeds among them
   pub commit_beyond_limit : (start : Setup) (log : List Line) (id : ℕ) (task : Task) (revision attempts : ℕ) (output : List Value) (trace : List TraceItem)
-      (answers : List ReadAnswer) → running id log ≡ Some task → task.limit < attempts
+      (answers : List CommittedRead) → running id log ≡ Some task → task.limit < attempts
       → IsRight start log (Step id) (Ok (Committed id revision attempts output trace answers)) → ⊥
   -- nor does it go on after the conflict of the last commit that it may send
   pub conflict_of_the_last : (start : Setup) (log : List Line) (id : ℕ) (task : Task) (key : List ℕ) (seen now_modified : ℕ) → running id log ≡ Some task
       → task.limit ≤ failures id log + 1 → IsRight start log (Step id) (Ok (Conflict id key seen now_modified)) → ⊥
   -- a commit leads to no other revision than what its program's run, alone at this moment, makes of the store
   pub another_revision : (start : Setup) (log : List Line) (id : ℕ) (task : Task) (run : Run) (alone : StoreDone) (revision attempts : ℕ) (output : List Value)
-      (trace : List TraceItem) (answers : List ReadAnswer) → running id log ≡ Some task
-      → run_over (seen_at task.level (reported start id task log).reads (store start log).history) task.program.statements ≡ Ended run
+      (trace : List TraceItem) (answers : List CommittedRead) → running id log ≡ Some task
+      → run_over (seen_at task.level (known_after_log start id task log).reads (store start log).history) task.program.statements ≡ Ended run
       → applied_run (without_moment (store start log)) run ≡ Ok alone → revision ≢ now alone.history
       → IsRight start log (Step id) (Ok (Committed id revision attempts output trace answers)) → ⊥
   -- a watcher that is there is not refused a poll, for NoWatcher or anything else
@@ -106,43 +106,43 @@ pub record WrongLogs : Type 0 where
       → w.lost ≡ false → IsRight start log (Poll id most) (Ok (Lost watcher floor)) → ⊥
   -- at a base that is compacted nothing is fetched
   pub fetch_below : (start : Setup) (log : List Line) (id : ℕ) (task : Task) (key : List ℕ) (mod_rev of_rev revision : ℕ) → running id log ≡ Some task
-      → is_below_floor (store start log).floor (at_of task.level (reported start id task log).reads) ≡ true
+      → is_below_floor (store start log).floor (at_of task.level (known_after_log start id task log).reads) ≡ true
       → IsRight start log (Step id) (Ok (Fetched id key mod_rev of_rev revision)) → ⊥
   -- at one that is not, the store refuses no fetch
   pub refused_fetch : (start : Setup) (log : List Line) (id : ℕ) (task : Task) (key : List ℕ) (trace : List TraceItem) (cause : StoreRefusal)
-      → running id log ≡ Some task → is_due task.program.prefetch (reported start id task log).reads ≡ false
-      → run_on task.program (reported start id task log).reads ≡ Wants key trace
-      → is_below_floor (store start log).floor (at_of task.level (reported start id task log).reads) ≡ false
+      → running id log ≡ Some task → is_due task.program.prefetch (known_after_log start id task log).reads ≡ false
+      → run_on task.program (known_after_log start id task log).reads ≡ Wants key trace
+      → is_below_floor (store start log).floor (at_of task.level (known_after_log start id task log).reads) ≡ false
       → IsRight start log (Step id) (Ok (EndedReply id cause)) → ⊥
   -- a list that is read is not fetched again
   pub list_again : (start : Setup) (log : List Line) (id : ℕ) (task : Task) (revision : ℕ) (reads : List KeyRead) → running id log ≡ Some task
-      → is_due task.program.prefetch (reported start id task log).reads ≡ false → IsRight start log (Step id) (Ok (Prefetched id revision reads)) → ⊥
+      → is_due task.program.prefetch (known_after_log start id task log).reads ≡ false → IsRight start log (Step id) (Ok (Prefetched id revision reads)) → ⊥
   -- nor is a part of it reported as the list
   pub part_of_list : (start : Setup) (log : List Line) (id : ℕ) (task : Task) (revision : ℕ) (reads : List KeyRead) → running id log ≡ Some task
       → length reads ≢ length task.program.prefetch → IsRight start log (Step id) (Ok (Prefetched id revision reads)) → ⊥
   -- before its list is read, a program has no other read
   pub read_before_list : (start : Setup) (log : List Line) (id : ℕ) (task : Task) (key : List ℕ) (mod_rev of_rev revision : ℕ) → running id log ≡ Some task
-      → is_due task.program.prefetch (reported start id task log).reads ≡ true
+      → is_due task.program.prefetch (known_after_log start id task log).reads ≡ true
       → IsRight start log (Step id) (Ok (Fetched id key mod_rev of_rev revision)) → ⊥
   -- and it does not abort
   pub abort_before_list : (start : Setup) (log : List Line) (id : ℕ) (task : Task) (text : List ℕ) → running id log ≡ Some task
-      → is_due task.program.prefetch (reported start id task log).reads ≡ true → IsRight start log (Step id) (Ok (Aborted id text)) → ⊥
+      → is_due task.program.prefetch (known_after_log start id task log).reads ≡ true → IsRight start log (Step id) (Ok (Aborted id text)) → ⊥
   -- nor come to a fault
   pub fault_before_list : (start : Setup) (log : List Line) (id : ℕ) (task : Task) (fault : Fault) → running id log ≡ Some task
-      → is_due task.program.prefetch (reported start id task log).reads ≡ true → IsRight start log (Step id) (Ok (Faulted id fault)) → ⊥
+      → is_due task.program.prefetch (known_after_log start id task log).reads ≡ true → IsRight start log (Step id) (Ok (Faulted id fault)) → ⊥
   -- nor commit
   pub commit_before_list : (start : Setup) (log : List Line) (id : ℕ) (task : Task) (revision attempts : ℕ) (output : List Value) (trace : List TraceItem)
-      (answers : List ReadAnswer) → running id log ≡ Some task → is_due task.program.prefetch (reported start id task log).reads ≡ true
+      (answers : List CommittedRead) → running id log ≡ Some task → is_due task.program.prefetch (known_after_log start id task log).reads ≡ true
       → IsRight start log (Step id) (Ok (Committed id revision attempts output trace answers)) → ⊥
   -- nor is a conflict reported to it, whether it goes on or not
   pub conflict_before_list : (start : Setup) (log : List Line) (id : ℕ) (task : Task) (key : List ℕ) (seen now_modified : ℕ) → running id log ≡ Some task
-      → is_due task.program.prefetch (reported start id task log).reads ≡ true → IsRight start log (Step id) (Ok (Conflict id key seen now_modified)) → ⊥
+      → is_due task.program.prefetch (known_after_log start id task log).reads ≡ true → IsRight start log (Step id) (Ok (Conflict id key seen now_modified)) → ⊥
   pub give_up_before_list : (start : Setup) (log : List Line) (id : ℕ) (task : Task) (attempts : ℕ) (key : List ℕ) (seen now_modified : ℕ)
-      → running id log ≡ Some task → is_due task.program.prefetch (reported start id task log).reads ≡ true
+      → running id log ≡ Some task → is_due task.program.prefetch (known_after_log start id task log).reads ≡ true
       → IsRight start log (Step id) (Ok (GaveUp id attempts key seen now_modified)) → ⊥
   -- and a list that has no more keys than the store takes operations is not refused
   pub refused_list : (start : Setup) (log : List Line) (id : ℕ) (task : Task) (cause : StoreRefusal) → running id log ≡ Some task
-      → is_due task.program.prefetch (reported start id task log).reads ≡ true → length task.program.prefetch ≤ (store start log).limit
+      → is_due task.program.prefetch (known_after_log start id task log).reads ≡ true → length task.program.prefetch ≤ (store start log).limit
       → IsRight start log (Step id) (Ok (EndedReply id cause)) → ⊥
   -- no compaction goes back
   pub compacted_again : (start : Setup) (log : List Line) (revision at : ℕ) → revision ≤ (store start log).floor

@@ -17,7 +17,7 @@ use std::sync::ledger::Share;
 use std::sync::{Mutex, Wait};
 use stm_attempt::{ReadAnswer, Ready, Text};
 use stm_hall::{Verdict, prepare};
-use stm_journal::{read_all, take_reads};
+use stm_journal::{take_reads, txn_of_reads};
 
 /// What each worker of a run calls the hall with: the lock round it, which is held for one fetch or one commit at a time, and the gate.
 #[derive(Drop)]
@@ -64,7 +64,7 @@ impl<'a, R: RunOfJobs, W: Wait, G: Gate> HallAccess<'a, R, W, G> {
         ensures answered { IfOk result (λ answers. AreAnswered R.before seen.old keys.now answers.items seen.new) }
         ensures refused { IfErr result (λ stop. (stop ≡ OutOfMemory) ⊎ AreUnanswered R.before seen.old keys.now stop) }
     {
-        let reading = read_all(self.alloc, keys)?;
+        let reading = txn_of_reads(self.alloc, keys)?;
         // Under the lock: the keys are looked up, and their values copied.
         let reported = self.locked.lock(self.rt).fetch_all(*seen, &reading);
         drop(reading);

@@ -242,8 +242,8 @@ impl Attempt {
         }
     }
 
-    /// The first `advance_to_end`. Where an allocation fails, the attempt is set back to what it was.
-    fn first_to_end(&mut self, program: &Program) -> Result<Next, AllocError>
+    /// The first `advance_and_give`. Where an allocation fails, the attempt is set back to what it was.
+    fn first_and_give(&mut self, program: &Program) -> Result<Next, AllocError>
         requires { self.old.program ≡ None }
         ensures next { IfOk result (λ next. next ≡ next_of program.now self.old.level self.old.known) }
         ensures left { IfOk result (λ next. self.new ≡ left_by next (advanced program.now self.old)) }
@@ -251,15 +251,15 @@ impl Attempt {
     {
         let kept = program.clone()?;
         self.set_out(kept);
-        let next = self.next_to_end(program);
+        let next = self.next_and_give(program);
         if next.is_err() {
             self.start_anew();
         }
         next
     }
 
-    /// Each later `advance_to_end`. Where an allocation fails, the prefetched answers that were taken stay after those reported.
-    fn next_to_end(&mut self, program: &Program) -> Result<Next, AllocError>
+    /// Each later `advance_and_give`. Where an allocation fails, the prefetched answers that were taken stay after those reported.
+    fn next_and_give(&mut self, program: &Program) -> Result<Next, AllocError>
         requires { self.old.program ≡ Some program.now }
         ensures next { IfOk result (λ next. next ≡ next_of program.now self.old.level self.old.known) }
         ensures left { IfOk result (λ next. self.new ≡ left_by next (advanced program.now self.old)) }
@@ -293,7 +293,7 @@ impl Attempt {
     /// `advance`.
     ///
     /// Out of memory is the only refusal, and leaves the attempt as it was.
-    pub fn advance_to_end(&mut self, program: &Program) -> Result<Next, AllocError>
+    pub fn advance_and_give(&mut self, program: &Program) -> Result<Next, AllocError>
         requires { IsOf program.now self.old }
         ensures next { IfOk result (λ next. next ≡ next_of program.now self.old.level self.old.known) }
         ensures left { IfOk result (λ next. self.new ≡ left_by next (advanced program.now self.old)) }
@@ -302,9 +302,9 @@ impl Attempt {
         ensures err { OnErr result (self.new ≡ self.old) }
     {
         if self.program.is_none() {
-            self.first_to_end(program)
+            self.first_and_give(program)
         } else {
-            self.next_to_end(program)
+            self.next_and_give(program)
         }
     }
 

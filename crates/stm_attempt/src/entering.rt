@@ -7,7 +7,7 @@ ghost use Rattle.stm_attempt.specs.Entering.{is_due, answers_of_all, gone_on};
 ghost use Rattle.stm_attempt.specs.Progress.{HasCome, Extends};
 
 use crate::progress::{Progress, put};
-use crate::settle::copy_of;
+use crate::serving::copy_of;
 use std::alloc::{AllocError, Global};
 use std::mem;
 use stm_compile::ReadSet;

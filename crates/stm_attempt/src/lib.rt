@@ -10,7 +10,7 @@ pub mod laws;
 mod next;
 mod progress;
 mod ready;
-mod settle;
+mod serving;
 mod wanted;
 
 pub use attempt::Attempt;

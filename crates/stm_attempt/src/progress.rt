@@ -20,7 +20,7 @@ ghost use Rattle.stm_attempt.specs.Progress.{FinishesAs, HasCome, HasEnded, Exte
 use crate::entering::{enter, list_of};
 use crate::next::Next;
 use crate::ready::Ready;
-use crate::settle::{fetch_revision, take_serving};
+use crate::serving::{fetch_revision, take_serving};
 use crate::wanted::Wanted;
 use std::alloc::{AllocError, Global};
 use std::mem;

@@ -10,5 +10,5 @@ pub mod Walking
 pub mod Once
 pub mod Always
 pub mod LegalReported
-pub mod JudgingLemmas
+pub mod SourceLemmas
 pub mod WorkedExamples

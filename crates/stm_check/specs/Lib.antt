@@ -9,5 +9,5 @@ pub mod Wrong
 pub mod Finals
 pub mod Walks
 pub mod Judged
-pub mod Judging
+pub mod Sources
 pub mod Laws

@@ -4,23 +4,23 @@
 //! the replay of entries, and which line the reply to a call of a store has; it knows nothing of a world's step.
 #![tactic(auto)]
 
-mod calls;
 mod cause;
 mod checking;
 mod commits;
 mod count;
 mod finals;
 mod fits;
-mod judging;
 pub mod laws;
 mod leases;
 mod lookups;
+mod replayed_calls;
 mod runner;
+mod sources;
 mod walk;
 
 pub use cause::WrongCause;
 pub use checking::{Checked, check};
-pub use judging::{CheckFault, bytes_of, check_sources};
 pub use runner::Runner;
+pub use sources::{CheckFault, bytes_of, check_sources};
 pub use stm_report_lines::{Report, ReportLine};
 pub use stm_texts::Scenario;

@@ -7,14 +7,14 @@ ghost use Rattle.stm_entries.specs.LiveLeases.{HasLeases};
 ghost use Rattle.stm_check.specs.Walks.{point_of};
 ghost use Rattle.stm_texts.specs.Opens.{IsOpening, as_setup};
 
-use crate::calls::{
-    replay_advance, replay_compact, replay_grant, replay_keep, replay_revoke, replay_txn,
-};
 use crate::cause::WrongCause;
 use crate::commits::{CommitLine, replay_commit};
 use crate::count::{add_count, count_reported};
 use crate::fits::fits;
 use crate::leases::note_leases;
+use crate::replayed_calls::{
+    replay_advance, replay_compact, replay_grant, replay_keep, replay_revoke, replay_txn,
+};
 use crate::runner::{Runner, find_running, note};
 use std::alloc::{AllocError, Global};
 use std::collections::BTreeMap;

@@ -4,10 +4,10 @@ use Rattle.std.specs.Io.KnownBytes.{Appends, Keeps}
 use Rattle.stm_devices.specs.Transfers.{WritesFront}
 use Rattle.stm_check.specs.declared.checking.Checked.{Checked}
 use Rattle.stm_check.specs.declared.checking.Checked.TheVariants.{Yes, No}
-use Rattle.stm_check.specs.declared.judging.CheckFault.{CheckFault}
-use Rattle.stm_check.specs.declared.judging.CheckFault.TheVariants.{OutOfMemory, BadScenario, BadReport, Device}
+use Rattle.stm_check.specs.declared.sources.CheckFault.{CheckFault}
+use Rattle.stm_check.specs.declared.sources.CheckFault.TheVariants.{OutOfMemory, BadScenario, BadReport, Device}
 use Rattle.stm_check.specs.CauseNames.{cause_name as wrong_cause_name}
-use Rattle.stm_check.specs.Judging.{Sources, Judges, NoneFailed}
+use Rattle.stm_check.specs.Sources.{Sources, Judges, NoneFailed}
 use Rattle.stm_commands.specs.Statuses.{bad_input, memory_fault, device_fault, Reports}
 
 -- ---- answers

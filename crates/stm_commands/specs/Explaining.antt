@@ -7,7 +7,7 @@ use Rattle.stm_devices.specs.Ends.{Devices as ScriptDevices}
 use Rattle.stm_report.specs.declared.format.Format.{Format}
 use Rattle.stm_report.specs.FormatScript.{DoesAs}
 use Rattle.stm_check.specs.declared.checking.Checked.{Checked}
-use Rattle.stm_check.specs.declared.judging.CheckFault.{CheckFault}
+use Rattle.stm_check.specs.declared.sources.CheckFault.{CheckFault}
 use Rattle.stm_report.specs.declared.whole_comparing.WholeChecked.{WholeChecked}
 use Rattle.stm_texts.specs.Reading.{scenario_in}
 use Rattle.stm_faulted_runs.specs.Lines.{OrNothing, ExplainsRun}

@@ -2,9 +2,9 @@
 use Rattle.std.specs.Prelude.{◌≡◌, ◌⊎◌, ◌==◌, ℕ, List, ◌++◌, length, Bool, true, false, if◌then◌else◌, Option, Result, Ok, Err, codes, decimal}
 use Rattle.std.specs.Io.KnownBytes.{Appends, Keeps}
 use Rattle.stm_devices.specs.Transfers.{WritesFront}
-use Rattle.stm_check.specs.declared.judging.CheckFault.{CheckFault}
-use Rattle.stm_check.specs.declared.judging.CheckFault.TheVariants.{OutOfMemory, BadScenario, BadReport, Device}
-use Rattle.stm_check.specs.Judging.{Sources, NoneFailed}
+use Rattle.stm_check.specs.declared.sources.CheckFault.{CheckFault}
+use Rattle.stm_check.specs.declared.sources.CheckFault.TheVariants.{OutOfMemory, BadScenario, BadReport, Device}
+use Rattle.stm_check.specs.Sources.{Sources, NoneFailed}
 use Rattle.stm_report.specs.declared.whole_comparing.WholeChecked.{WholeChecked}
 use Rattle.stm_report.specs.declared.whole_comparing.WholeChecked.TheVariants.{Yes, No}
 use Rattle.stm_report.specs.WholeJudging.{Judges}

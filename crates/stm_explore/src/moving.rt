@@ -56,7 +56,7 @@ pub(crate) fn can_move(
 }
 
 /// Whether an event was refused as out of memory.
-fn is_want(reply: &Result<Reply, Denied>) -> bool
+fn is_out_of_memory(reply: &Result<Reply, Denied>) -> bool
     ensures { result ≡ ran_out reply.now }
 {
     match reply {
@@ -74,7 +74,7 @@ pub(crate) fn take(
     ensures next { OnOk result (world.new ≡ (step event.now world.old).next) }
 {
     let reply = world.step(event);
-    if is_want(&reply) {
+    if is_out_of_memory(&reply) {
         return Err(AllocError);
     }
     Ok(reply)

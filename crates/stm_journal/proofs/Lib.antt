@@ -9,7 +9,7 @@ pub mod WholeFaults
 pub mod FirstFailed
 pub mod StillLemmas
 pub mod Sending
-pub mod Judging
+pub mod CauseLemmas
 pub mod CallLemmas
 pub mod CommitLemmas
 pub mod Cases

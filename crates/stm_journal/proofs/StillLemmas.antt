@@ -13,7 +13,7 @@ use Rattle.stm_outcome.specs.Compares.{first_failed}
 use Rattle.stm_outcome.proofs.Applying.{mod_compares}
 use Rattle.stm_compile.specs.CommitTxn.{is_as_read, compares_of}
 use Rattle.stm_journal.specs.declared.causes.Cause.{Cause}
-use Rattle.stm_journal.specs.Judging.{IsStill, cause_unvouched, cause_failed}
+use Rattle.stm_journal.specs.Causes.{IsStill, cause_unvouched, cause_failed}
 use Rattle.stm_journal.specs.Verdicts.{has_other_value, first_unvouched}
 
 none_changed : (h : History) (reads : List ReadAnswer) (i : ℕ) → AllByRecursion (IsStill h) reads → first_failed (key_now h) i (map is_as_read reads) ≡ None

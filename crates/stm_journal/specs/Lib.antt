@@ -7,7 +7,7 @@ pub mod StateOf
 pub mod JournalState
 pub mod Fetching
 pub mod Verdicts
-pub mod Judging
+pub mod Causes
 pub mod Prepared
 pub mod Entering
 pub mod Names

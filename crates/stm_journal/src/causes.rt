@@ -2,7 +2,7 @@
 ghost use Rattle.std.specs.Prelude.{◌≡◌, ◌≤◌, length};
 ghost use Rattle.stm_outcome.specs.Checks.{has_empty_key};
 ghost use Rattle.stm_outcome.specs.Terms.{most_operations};
-ghost use Rattle.stm_journal.specs.Judging.{cause_of, cause_compared, cause_unvouched, checked};
+ghost use Rattle.stm_journal.specs.Causes.{cause_of, cause_compared, cause_unvouched, checked};
 ghost use Rattle.stm_journal.specs.Verdicts.{txn_of, first_unvouched};
 
 use crate::conflicts::find_conflict;

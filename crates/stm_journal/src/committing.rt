@@ -7,11 +7,11 @@ ghost use Rattle.stm_compile.specs.Now.{as_change};
 ghost use Rattle.stm_attempt.specs.ReadyRun.{IsRunOnItsAnswers};
 ghost use Rattle.stm_journal.specs.declared.causes.Cause.TheVariants.{Unvouched as IsUnvouched};
 ghost use Rattle.stm_journal.specs.declared.refusal.CommitRefusal.TheVariants.{Unvouched as RefusesValue};
-ghost use Rattle.stm_journal.specs.Judging.{cause_of, IsClear, IsSentAs, TurnsDown};
+ghost use Rattle.stm_journal.specs.Causes.{cause_of, IsClear, IsSentAs, TurnsDown};
 ghost use Rattle.stm_journal.specs.Verdicts.{txn_of, taken_by_store, sent, refused_by_store, SendsAs, CommitsAs, CanGoOn};
 
 use crate::causes::{Cause, check};
-use crate::entering::entry_from;
+use crate::commit_entry::entry_from;
 use crate::failing::fail;
 use crate::prepared::{Prepared, changes_of};
 use crate::refusal::CommitRefusal;

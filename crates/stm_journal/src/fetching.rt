@@ -125,7 +125,7 @@ fn read_now(key: &Text) -> Result<Op, AllocError>
 
 /// The transaction that reads these keys as they are now, in their order, and does nothing else. It fails only where an
 /// allocation failed.
-pub fn read_all(alloc: Global, keys: &[Text]) -> Result<Txn, AllocError>
+pub fn txn_of_reads(alloc: Global, keys: &[Text]) -> Result<Txn, AllocError>
     ensures { IfOk result (λ txn. txn ≡ fetch_all_of keys.now) }
 {
     let mut success = ShortList::new(alloc);
@@ -155,7 +155,7 @@ pub(crate) fn fetch_all(
     ensures in_range { IfOk result (λ reads. All ReadFits reads.items) }
     ensures store { store.new.standing ≡ store.old.standing }
 {
-    let txn = read_all(alloc, keys)?;
+    let txn = txn_of_reads(alloc, keys)?;
     let reported = store.txn(&txn);
     drop(txn);
     let answer = reported?;

@@ -16,7 +16,7 @@ ghost use Rattle.stm_journal.specs.Entering.{made, granted_in, renewed_in, revok
 use crate::prepared::{Prepared, prepare_copy};
 use crate::refusal::{CommitRefusal, FetchRefusal};
 use crate::verdict::Verdict;
-use crate::{calls, committing, fetching};
+use crate::{committing, entered_calls, fetching};
 use std::alloc::{AllocError, Global};
 use std::marker::Model;
 use stm_attempt::Ready;
@@ -132,7 +132,7 @@ impl Journal {
         ensures numbers { IfOk result AnswerFits }
         ensures same { self.new ≡ self.old }
     {
-        calls::fetch(&mut self.store, seen, txn)
+        entered_calls::fetch(&mut self.store, seen, txn)
     }
 
     /// Fetches one key at a revision, 0 for the current one, for a caller that has seen this revision in an answer, 0 for none.
@@ -149,7 +149,7 @@ impl Journal {
         ensures seen { IfOk result (λ answer. seen ≤ answer.revision) }
         ensures numbers { IfOk result ReadFits }
     {
-        calls::fetch_one(alloc, &self.store, seen, key, at)
+        entered_calls::fetch_one(alloc, &self.store, seen, key, at)
     }
 
     /// Fetches a key, which is not empty, at a revision that the store has reached, 0 for the current one.
@@ -235,7 +235,7 @@ impl Journal {
         ensures few { self.old.standing.limit ≤ most_operations }
     {
         let _few = self.store.limit();
-        calls::make_txn(&mut self.store, &mut self.entries, txn)
+        entered_calls::make_txn(&mut self.store, &mut self.entries, txn)
     }
 
     /// Grants a lease at the store's moment, and enters that.
@@ -244,7 +244,7 @@ impl Journal {
     pub fn grant(&mut self, id: u64, ttl: u64) -> Result<(), Refusal>
         ensures { JournalReturns (granted_in self.old id ttl) self.old result self.new }
     {
-        calls::grant(&mut self.store, &mut self.entries, id, ttl)
+        entered_calls::grant(&mut self.store, &mut self.entries, id, ttl)
     }
 
     /// Renews a lease at the store's moment, and enters that.
@@ -253,7 +253,7 @@ impl Journal {
     pub fn keep_alive(&mut self, id: u64) -> Result<(), Refusal>
         ensures { JournalReturns (renewed_in self.old id) self.old result self.new }
     {
-        calls::keep_alive(&mut self.store, &mut self.entries, id)
+        entered_calls::keep_alive(&mut self.store, &mut self.entries, id)
     }
 
     /// Revokes a lease, with its keys, enters that, and returns the revision after it.
@@ -262,7 +262,7 @@ impl Journal {
     pub fn revoke(&mut self, id: u64) -> Result<u64, Refusal>
         ensures { JournalReturns (revoked_in self.old id) self.old result self.new }
     {
-        calls::revoke(&mut self.store, &mut self.entries, id)
+        entered_calls::revoke(&mut self.store, &mut self.entries, id)
     }
 
     /// Sets the moment, and ends the leases that are due, each with its keys, as the store's `advance` does. Each is an entry.
@@ -273,7 +273,7 @@ impl Journal {
         ensures ok { IfOk result (λ expired. IsAdvanced self.old moment expired.items None self.new) }
         ensures refused { IfErr result (λ stopped. HasStopped self.old moment stopped.expired stopped.cause self.new) }
     {
-        calls::advance(alloc, &mut self.store, &mut self.entries, moment)
+        entered_calls::advance(alloc, &mut self.store, &mut self.entries, moment)
     }
 }
 

@@ -5,13 +5,13 @@
 #![tactic(auto)]
 
 mod answers;
-mod calls;
 mod causes;
+mod commit_entry;
 mod committing;
 mod conflicts;
 mod copies;
 mod copying;
-mod entering;
+mod entered_calls;
 mod failing;
 mod faults;
 mod fetching;
@@ -28,7 +28,7 @@ mod vouching;
 
 pub use answers::take_reads;
 pub use copies::{Copies, copies_of};
-pub use fetching::{read, read_all};
+pub use fetching::{read, txn_of_reads};
 pub use journal::Journal;
 pub use prepared::{Prepared, prepare};
 pub use present::present_keys;

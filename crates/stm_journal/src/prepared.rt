@@ -2,7 +2,7 @@
 ghost use Rattle.std.specs.Prelude.{◌≡◌, map, IfOk};
 ghost use Rattle.stm_compile.specs.Now.{as_change};
 ghost use Rattle.stm_attempt.specs.ReadyRun.{IsRunOnItsAnswers};
-ghost use Rattle.stm_journal.specs.Judging.{cause_of};
+ghost use Rattle.stm_journal.specs.Causes.{cause_of};
 
 use crate::causes::{Cause, find_cause};
 use crate::copying::copy_of;

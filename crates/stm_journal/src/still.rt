@@ -1,6 +1,6 @@
 //! Whether keys are still as they were read, found with one look-up of each.
 ghost use Rattle.std.specs.Prelude.{◌≡◌, true, None, All};
-ghost use Rattle.stm_journal.specs.Judging.{IsStill, cause_compared};
+ghost use Rattle.stm_journal.specs.Causes.{IsStill, cause_compared};
 
 use stm_attempt::{ReadSet, Ready};
 use stm_history::{KeyState, ReadAnswer};

@@ -19,7 +19,7 @@ use Rattle.stm_report_lines.specs.Reading.{report_in}
 use Rattle.stm_report_lines.proofs.ReportLaws.{report_means}
 use Rattle.stm_check.specs.declared.checking.Checked.{Checked}
 use Rattle.stm_check.specs.declared.checking.Checked.TheVariants.{Yes}
-use Rattle.stm_check.specs.declared.judging.CheckFault.TheVariants.{OutOfMemory, BadScenario, BadReport, Device}
+use Rattle.stm_check.specs.declared.sources.CheckFault.TheVariants.{OutOfMemory, BadScenario, BadReport, Device}
 use Rattle.stm_check.specs.Judged.{IsJudged}
 use Rattle.stm_check.specs.StoreLines.{end_lines}
 use Rattle.stm_check.proofs.Once.{judged_once}

@@ -12,10 +12,10 @@ use Rattle.stm_texts.specs.Reading.{scenario_in}
 use Rattle.stm_report_lines.specs.declared.report.Report.{Report}
 use Rattle.stm_report_lines.specs.Reading.{report_in}
 use Rattle.stm_report.specs.Script.{IsReportOf}
-use Rattle.stm_check.specs.declared.judging.CheckFault.{CheckFault}
-use Rattle.stm_check.specs.declared.judging.CheckFault.TheVariants.{OutOfMemory, BadScenario, BadReport, Device}
-use Rattle.stm_check.specs.Judging.{Sources, NoneFailed}
-use Rattle.stm_check.proofs.JudgingLemmas.{report_reported}
+use Rattle.stm_check.specs.declared.sources.CheckFault.{CheckFault}
+use Rattle.stm_check.specs.declared.sources.CheckFault.TheVariants.{OutOfMemory, BadScenario, BadReport, Device}
+use Rattle.stm_check.specs.Sources.{Sources, NoneFailed}
+use Rattle.stm_check.proofs.SourceLemmas.{report_reported}
 use Rattle.stm_report.specs.declared.whole_comparing.WholeChecked.{WholeChecked}
 use Rattle.stm_report.specs.declared.whole_comparing.WholeChecked.TheVariants.{Yes, No}
 use Rattle.stm_report.specs.WholeComparing.{compared, is_yes}

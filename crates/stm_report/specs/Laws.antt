@@ -11,8 +11,8 @@ use Rattle.stm_report_lines.specs.declared.report.Report.{Report}
 use Rattle.stm_json.specs.declared.limits.TheConstants.{MOST_BYTES}
 use Rattle.stm_check.specs.declared.checking.Checked.{Checked}
 use Rattle.stm_check.specs.declared.checking.Checked.TheVariants.{Yes}
-use Rattle.stm_check.specs.declared.judging.CheckFault.{CheckFault}
-use Rattle.stm_check.specs.Judging.{Sources, Judges}
+use Rattle.stm_check.specs.declared.sources.CheckFault.{CheckFault}
+use Rattle.stm_check.specs.Sources.{Sources, Judges}
 use Rattle.stm_check.specs.Judged.{IsJudged}
 use Rattle.stm_report_lines.specs.Reading.{report_in}
 use Rattle.stm_report_lines.specs.Text.{text_of}

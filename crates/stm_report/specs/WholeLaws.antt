@@ -3,9 +3,9 @@ use Rattle.std.specs.Prelude.{◌≡◌, ◌↔◌, ℕ, ◌≤◌, List, length
 use Rattle.stm_json.specs.declared.limits.TheConstants.{MOST_BYTES}
 use Rattle.stm_texts.specs.Reading.{scenario_in}
 use Rattle.stm_report.specs.Script.{IsReportOf}
-use Rattle.stm_check.specs.declared.judging.CheckFault.{CheckFault}
-use Rattle.stm_check.specs.declared.judging.CheckFault.TheVariants.{OutOfMemory, BadScenario, BadReport, Device}
-use Rattle.stm_check.specs.Judging.{Sources}
+use Rattle.stm_check.specs.declared.sources.CheckFault.{CheckFault}
+use Rattle.stm_check.specs.declared.sources.CheckFault.TheVariants.{OutOfMemory, BadScenario, BadReport, Device}
+use Rattle.stm_check.specs.Sources.{Sources}
 use Rattle.stm_report.specs.declared.whole_comparing.WholeChecked.{WholeChecked}
 use Rattle.stm_report.specs.declared.whole_comparing.WholeChecked.TheVariants.{Yes}
 use Rattle.stm_report.specs.WholeComparing.{compared}

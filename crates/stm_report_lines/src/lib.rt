@@ -4,7 +4,7 @@
 //! `specs/Lines.antt` says which line a reply has. The files `written_*` write. No line has a number that is not whole.
 #![tactic(auto)]
 
-mod calls;
+mod call_lines;
 mod causes;
 mod elements;
 mod event_lines;
@@ -25,7 +25,7 @@ mod written_parts;
 mod written_runners;
 mod written_standing;
 
-pub use calls::{
+pub use call_lines::{
     is_advanced, is_compacted, is_granted, is_kept, is_refused, is_revoked, is_txn, reported_cause,
 };
 pub use causes::RefusalName;

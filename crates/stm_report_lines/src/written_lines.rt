@@ -7,7 +7,7 @@ ghost use Rattle.stm_events.specs.declared.reply.Reply.TheVariants.{Txn, Revoked
 ghost use Rattle.stm_report_lines.specs.LineData.{list, whole};
 ghost use Rattle.stm_report_lines.specs.Lines.{refusal_reported, reply_line, event_line, IsOfRunner, IsOfCommit};
 
-use crate::calls::reported_cause;
+use crate::call_lines::reported_cause;
 use crate::causes::RefusalName;
 use crate::written_items::with_list;
 use crate::written_ops::with_ops;

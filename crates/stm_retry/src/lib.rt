@@ -5,8 +5,8 @@
 //! transaction: the fetch of its program's list or of the key that it wants, or its commit.
 #![tactic(auto)]
 
+mod kept_world;
 pub mod laws;
-mod parts;
 mod runner;
 mod runner_steps;
 mod shared_runner;

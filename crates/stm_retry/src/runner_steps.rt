@@ -18,7 +18,7 @@ ghost use Rattle.stm_retry.specs.StepReturns.{Returns};
 ghost use Rattle.stm_retry.specs.RunnerView.{task_of, AreNamed, with_answer, with_answers, begun_again};
 ghost use Rattle.stm_retry.specs.RunnerReturns.{workplace, Leaves, ReturnsEnd, IsReady, reported_of_fetch, after_reported_fetch, key_read, reported_of_list, after_reported_list, reported_of_failure, may_go_on, reply_in, reply_reported, slot_left};
 
-use crate::parts::{Parts, denied};
+use crate::kept_world::{KeptWorld, denied};
 use crate::runner::Runner;
 use crate::shared_runner::SharedRunner;
 use crate::slots::{Slot, put_slot, take_runner};
@@ -335,7 +335,7 @@ fn reply_of(outcome: Result<StepOutcome, AllocError>) -> Result<Result<Reply, De
     }
 }
 
-impl Parts {
+impl KeptWorld {
     /// Adds a runner, whose run may send at most `limit` commits, and returns its number.
     ///
     /// Out of memory is the only refusal, and leaves the world as it was.

@@ -5,7 +5,7 @@ ghost use Rattle.stm_events.specs.declared.refusal.Refusal.TheVariants.{Store as
 ghost use Rattle.stm_events.specs.Replies.{denied as denied_for};
 ghost use Rattle.stm_retry.specs.CallReturns.{CallReturns};
 
-use crate::parts::denied;
+use crate::kept_world::denied;
 use std::alloc::Global;
 use stm_history::Sequence;
 use stm_journal::Journal;

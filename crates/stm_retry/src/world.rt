@@ -23,7 +23,7 @@ ghost use Rattle.stm_retry.specs.Returns.{Returns, ran_out, expired_of, IsRunSto
 ghost use Rattle.stm_retry.specs.Stops.{GoesOnAlike};
 ghost use Rattle.stm_retry.specs.Kept.{whole_store};
 
-use crate::parts::Parts;
+use crate::kept_world::KeptWorld;
 use crate::slots::is_running;
 use std::alloc::{AllocError, Global};
 use std::marker::Model;
@@ -42,10 +42,10 @@ use stm_world::{Denied, Entry, Refusal, Reply, WorldEvent};
 /// the history, and the store stands for it: it has the revisions from its floor on.
 pub struct World {
     alloc: Global,
-    /// The revision at which the store opened, where the entries begin. The journal has it too, but contracts of the parts see the world that they
+    /// The revision at which the store opened, where the entries begin. The journal has it too, but contracts of `KeptWorld` see the world that they
     /// are, without it.
     opened: u64,
-    parts: Parts,
+    kept: KeptWorld,
 }
 
 impl Drop for World {
@@ -53,7 +53,7 @@ impl Drop for World {
         let World {
             alloc: _,
             opened: _,
-            parts: _,
+            kept: _,
         } = self;
     }
 }
@@ -69,9 +69,9 @@ impl Model for World {
 
     ghost coded = { Prim.hlevel (codes, coded_program, coded_live) };
 
-    ghost view = { λ w. whole_world w.opened w.parts };
+    ghost view = { λ w. whole_world w.opened w.kept };
 
-    ghost invariant = { λ w. IsKeptBy w.parts.standing (whole_world w.opened w.parts) };
+    ghost invariant = { λ w. IsKeptBy w.kept.standing (whole_world w.opened w.kept) };
 }
 
 /// Where a run of events stopped because memory ran out.
@@ -131,11 +131,11 @@ impl World {
         requires operations { (1 ≤ operations) × (operations ≤ most_operations) }
         ensures { IfOk result (λ w. w ≡ opened (record { revision = start; limit = operations })) }
     {
-        let parts = Parts::new(alloc, start, operations)?;
+        let kept = KeptWorld::new(alloc, start, operations)?;
         Ok(World {
             alloc,
             opened: start,
-            parts,
+            kept,
         })
     }
 
@@ -153,7 +153,7 @@ impl World {
         if limit == 0 {
             return Err(Refusal::BadLimit);
         }
-        match self.parts.add_runner(self.alloc, program, level, limit) {
+        match self.kept.add_runner(self.alloc, program, level, limit) {
             Ok(id) => Ok(id),
             Err(AllocError) => Err(Refusal::Store(StoreRefusal::OutOfMemory)),
         }
@@ -190,7 +190,7 @@ impl World {
         ensures headline { ran_out result ≡ false → (start : Setup) (before : List WorldEvent) (earlier : List (Result Reply Denied))
             → Holds start before earlier self.old → Holds start (before ++ event.now ∷ []) (earlier ++ result ∷ []) self.new }
     {
-        self.parts.step(self.alloc, event)
+        self.kept.step(self.alloc, event)
     }
 
     /// Takes these events in their order, and returns their replies.
@@ -224,7 +224,7 @@ impl World {
     fn know_sound(&self)
         ensures { IsSound self.now }
     {
-        let _parts = &self.parts;
+        let _kept = &self.kept;
     }
 
     /// Takes these events in their order, and returns their replies.
@@ -268,7 +268,7 @@ impl World {
         ensures legal { AreLegal self.now.entries (opening self.now.standing.history.opening.number) }
         ensures revisions { AreRevisions self.now.standing.history.revisions }
     {
-        self.parts.journal.entries()
+        self.kept.journal.entries()
     }
 
     /// The store: its keys at every revision from the floor on, its leases, its moment and its watchers.
@@ -281,7 +281,7 @@ impl World {
             kept (whole_store self.now.standing.history.opening.number self.now.entries result.now.standing) }
         ensures reached { self.now.standing.floor ≤ now self.now.standing.history }
     {
-        self.parts.journal.store()
+        self.kept.journal.store()
     }
 
     /// Ends the world, and returns its store. The watchers and leases stay in it.
@@ -291,9 +291,9 @@ impl World {
         let World {
             alloc: _,
             opened: _,
-            parts,
+            kept,
         } = self;
-        let Parts { journal, .. } = parts;
+        let KeptWorld { journal, .. } = kept;
         journal.into_store()
     }
 
@@ -303,7 +303,7 @@ impl World {
     pub fn state(&self) -> Result<State, AllocError>
         ensures { IfOk result (λ state. IsStateOf self.now.standing.history state) }
     {
-        state_of(self.alloc, self.parts.journal.store().keys())
+        state_of(self.alloc, self.kept.journal.store().keys())
     }
 }
 
@@ -316,11 +316,11 @@ impl World {
     pub fn copy(&self) -> Result<World, AllocError>
         ensures { IfOk result (λ copy. copy ≡ self.now) }
     {
-        let parts = self.parts.copy()?;
+        let kept = self.kept.copy()?;
         Ok(World {
             alloc: self.alloc,
             opened: self.opened,
-            parts,
+            kept,
         })
     }
 
@@ -328,13 +328,13 @@ impl World {
     pub fn runner_count(&self) -> usize
         ensures { result ≡ length self.now.runners }
     {
-        self.parts.runners.len()
+        self.kept.runners.len()
     }
 
     /// Whether the runner with this number was started and has not ended.
     pub fn is_running(&self, runner: u64) -> bool
         ensures { result ≡ is_some (runner_at runner self.now.runners) }
     {
-        is_running(self.parts.runners.as_slice(), runner)
+        is_running(self.kept.runners.as_slice(), runner)
     }
 }

@@ -136,7 +136,7 @@ fn ends_of(alloc: Global, gathered: Gathered) -> Sequence<JobEnd>
 }
 
 /// What is to be shown of a run of this many jobs, and how they ended. What else it came to is dropped.
-fn text_of_run(
+fn shown_run(
     alloc: Global,
     jobs: usize,
     gathered: Gathered,
@@ -156,7 +156,7 @@ fn text_of_run(
 }
 
 /// What is to be shown of a run of these jobs on this store.
-fn text_on<R: Threads + Wait + Sync>(
+fn run_on_store<R: Threads + Wait + Sync>(
     rt: &R,
     alloc: Global,
     store: Store,
@@ -171,7 +171,7 @@ fn text_on<R: Threads + Wait + Sync>(
         → IsBrokenOff start calls jobs.now fault) }
 {
     match run_workers(rt, alloc, jobs, workers, Hall::new(alloc, store), &NoGate) {
-        Ok(gathered) => text_of_run(alloc, jobs.len(), gathered, shown),
+        Ok(gathered) => shown_run(alloc, jobs.len(), gathered, shown),
         Err(broken) => Err(fault_of_run(broken)),
     }
 }
@@ -192,7 +192,7 @@ fn run_once<R: Threads + Wait + Sync>(
     ensures fault { IfErr result (IsBrokenOff (as_setup opening) calls.now jobs.now) }
 {
     let store = open_store(alloc, opening, calls)?;
-    text_on(rt, alloc, store, jobs, workers, shown)
+    run_on_store(rt, alloc, store, jobs, workers, shown)
 }
 
 /// Makes one more run of these jobs, and counts what it came to. So many were made before.
@@ -263,7 +263,7 @@ fn run_often<R: Threads + Wait + Sync>(
 }
 
 /// What is printed of these jobs, each run of which is made on an empty store that opens with this, once these calls of it were made.
-fn text_of<R: Threads + Wait + Sync>(
+fn run_printing<R: Threads + Wait + Sync>(
     rt: &R,
     alloc: Global,
     opening: Opening,
@@ -285,7 +285,7 @@ fn text_of<R: Threads + Wait + Sync>(
 }
 
 /// What is printed of a scenario's jobs.
-fn text_of_scenario<R: Threads + Wait + Sync>(
+fn run_scenario<R: Threads + Wait + Sync>(
     rt: &R,
     alloc: Global,
     scenario: Scenario,
@@ -298,7 +298,7 @@ fn text_of_scenario<R: Threads + Wait + Sync>(
 {
     let opening = opens_with(scenario.opening);
     let sorted = accept(alloc, scenario)?;
-    text_of(
+    run_printing(
         rt,
         alloc,
         opening,
@@ -310,7 +310,7 @@ fn text_of_scenario<R: Threads + Wait + Sync>(
 }
 
 /// What is printed of the jobs of the scenario that bytes spell.
-fn text_of_bytes<R: Threads + Wait + Sync>(
+fn run_bytes<R: Threads + Wait + Sync>(
     rt: &R,
     alloc: Global,
     bytes: &[u8],
@@ -321,11 +321,11 @@ fn text_of_bytes<R: Threads + Wait + Sync>(
     ensures { Answers printing (scenario_in bytes.now) result }
 {
     let scenario = read_scenario(alloc, bytes)?;
-    text_of_scenario(rt, alloc, scenario, workers, printing)
+    run_scenario(rt, alloc, scenario, workers, printing)
 }
 
 /// Writes what is printed of the jobs of the scenario that bytes spell, once it is whole, and returns how they ended.
-fn write_text<R: Threads + Wait + Sync, W: Sink>(
+fn run_and_write<R: Threads + Wait + Sync, W: Sink>(
     rt: &R,
     alloc: Global,
     bytes: &[u8],
@@ -337,7 +337,7 @@ fn write_text<R: Threads + Wait + Sync, W: Sink>(
     requires sink_works { W.failed sink.old ≡ false }
     ensures { Writes printing bytes.now (W.held sink.old) (W.held sink.new) (W.failed sink.new) result }
 {
-    let printed = text_of_bytes(rt, alloc, bytes, workers, printing)?;
+    let printed = run_bytes(rt, alloc, bytes, workers, printing)?;
     match write_all(sink, printed.text.as_str().as_bytes()) {
         Ok(()) => Ok(printed.ends),
         Err(_) => Err(JobsFault::Write),
@@ -373,7 +373,7 @@ pub fn run_jobs<R: Threads + Wait + Sync, S: Source, W: Sink>(
     ensures bounded { S.reads source.new ≤ S.reads source.old + MOST_READ }
 {
     match read_all(alloc, source) {
-        Ok(bytes) => write_text(rt, alloc, bytes.as_slice(), workers, printing, sink),
+        Ok(bytes) => run_and_write(rt, alloc, bytes.as_slice(), workers, printing, sink),
         Err(ReadFault::OutOfMemory) => Err(JobsFault::OutOfMemory),
         Err(ReadFault::Device) => Err(JobsFault::Read),
     }

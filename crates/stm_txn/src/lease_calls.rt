@@ -117,7 +117,7 @@ impl Store {
             return Err(Refusal::RevisionsUsedUp);
         }
         let changes = self.lease_deletions(id)?;
-        self.commit(changes)?;
+        self.add_changes(changes)?;
         self.leases.remove(id);
         Ok(())
     }

@@ -227,7 +227,7 @@ impl Store {
     }
 
     /// Adds a revision with these changes, moves their keys to their leases, and notifies the watchers.
-    fn change(&mut self, changes: Changes) -> Result<(), Refusal>
+    fn add_revision(&mut self, changes: Changes) -> Result<(), Refusal>
         requires revision { IsRevision (changes_held changes) }
         requires room { now self.old.standing.history < HIGHEST_REVISION }
         requires live { AttachedToLive self.old.standing.live (attached_of (changes_held changes)) }
@@ -255,7 +255,7 @@ impl Store {
     }
 
     /// Adds a revision with these changes where there are any.
-    pub(crate) fn commit(&mut self, changes: Vec<Change>) -> Result<(), Refusal>
+    pub(crate) fn add_changes(&mut self, changes: Vec<Change>) -> Result<(), Refusal>
         requires distinct { HasDistinctKeys changes.items }
         requires room { is_used_up self.old.standing.history changes.items ≡ false }
         requires live { AttachedToLive self.old.standing.live (attached_of changes.items) }
@@ -273,7 +273,7 @@ impl Store {
             [] => Ok(()),
             [_, ..] => {
                 let _highest = self.keys.revision();
-                self.change(Changes::More(changes))
+                self.add_revision(Changes::More(changes))
             }
         }
     }
@@ -299,7 +299,7 @@ impl Store {
         ensures err { OnErr result (self.new ≡ self.old) }
     {
         let branch = run_branch(self.alloc, &self.keys, ops)?;
-        self.commit(branch.changes)?;
+        self.add_changes(branch.changes)?;
         Ok(TxnAnswer {
             succeeded: failed.is_none(),
             revision: self.keys.revision(),
@@ -329,7 +329,7 @@ impl Store {
         ensures err { OnErr result (self.new ≡ self.old) }
     {
         let change = put_of(key, value, lease)?;
-        self.change(Changes::One(change))?;
+        self.add_revision(Changes::One(change))?;
         Ok(TxnAnswer {
             succeeded: failed.is_none(),
             revision: self.keys.revision(),
@@ -446,7 +446,7 @@ impl Store {
         if are_used_up(&self.keys, changes.as_slice()) {
             return Err(Refusal::RevisionsUsedUp);
         }
-        self.commit(changes)?;
+        self.add_changes(changes)?;
         let revision = self.keys.revision();
         Ok(revision)
     }

@@ -12,7 +12,7 @@ use Rattle.stm_steps.specs.declared.run.Run.{Run}
 use Rattle.stm_steps.specs.declared.run.Answered.TheVariants.{Ended as EndedRun}
 use Rattle.stm_outcome.specs.declared.answer.OpAnswer.TheVariants.{Get as GetAnswer}
 use Rattle.stm_outcome.specs.declared.answer.TxnAnswer.{TxnAnswer}
-use Rattle.stm_outcome.specs.declared.refusal.Refusal.TheVariants.{OutOfMemory as Want}
+use Rattle.stm_outcome.specs.declared.refusal.Refusal.TheVariants.{OutOfMemory as OutOfMemoryRefusal}
 use Rattle.stm_attempt.specs.declared.next.Next.TheVariants.{FetchAll, Fetch, Ready}
 use Rattle.stm_attempt.specs.AttemptState.{AttemptState, begun, begun_after, advanced, supplied, supplied_all}
 use Rattle.stm_attempt.specs.Next.{next_of}
@@ -55,7 +55,7 @@ reads_reported (Refused refusal) = None
 
 -- the hall's refusal of a fetch
 abbrev pub fetch_refusal_reported : Stop → Option FetchRefusal
-fetch_refusal_reported OutOfMemory = Some (FetchRefused Want)
+fetch_refusal_reported OutOfMemory = Some (FetchRefused OutOfMemoryRefusal)
 fetch_refusal_reported (Refused (Store refusal)) = Some (FetchRefused refusal.cause)
 fetch_refusal_reported (Refused (Behind seen now)) = Some (FetchBehind seen now)
 fetch_refusal_reported (Refused (Unvouched key)) = None
@@ -64,7 +64,7 @@ fetch_refusal_reported (Faulted fault reads) = None
 
 -- the hall's refusal of a commit
 abbrev pub commit_refusal_reported : Stop → Option CommitRefusal
-commit_refusal_reported OutOfMemory = Some (CommitRefused Want)
+commit_refusal_reported OutOfMemory = Some (CommitRefused OutOfMemoryRefusal)
 commit_refusal_reported (Refused (Store refusal)) = Some (CommitRefused refusal.cause)
 commit_refusal_reported (Refused (Behind seen now)) = None
 commit_refusal_reported (Refused (Unvouched key)) = Some (CommitUnvouched key)

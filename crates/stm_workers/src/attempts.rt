@@ -9,7 +9,7 @@ ghost use Rattle.stm_workers.specs.Attempts.{HasTried, HasStopped, HasFailed, Ha
 ghost use Rattle.stm_workers.specs.AttemptOutcomes.{IfEnded, IfAgain};
 ghost use Rattle.stm_workers.specs.Calls.{committed_by, counted_end, greatest_carried, seen_after, is_run_of_some, IsOfJob, IsRunOfJob};
 
-use crate::executor::Executor;
+use crate::access::HallAccess;
 use crate::gate::Gate;
 use crate::locked::RunOfJobs;
 use crate::stop::Stop;
@@ -102,7 +102,7 @@ fn after_verdict(
     }
 }
 
-impl<'a, R: RunOfJobs, W: Wait, G: Gate> Executor<'a, R, W, G> {
+impl<'a, R: RunOfJobs, W: Wait, G: Gate> HallAccess<'a, R, W, G> {
     /// Goes on with an attempt to its list or to the next key that it wants, which is fetched, or until it is ready.
     fn go_on(
         &self,
@@ -121,7 +121,7 @@ impl<'a, R: RunOfJobs, W: Wait, G: Gate> Executor<'a, R, W, G> {
     {
         // No key of a list is empty.
         job.program.prefetch();
-        let next = attempt.advance_to_end(&job.program)?;
+        let next = attempt.advance_and_give(&job.program)?;
         match next {
             Next::Ready(ready) => Ok(Some(ready)),
             Next::Aborted(run) => Err(Stop::of_run(run, attempt.take_reads())),

@@ -5,9 +5,10 @@
 //! it has sent as many commits as it may. Each job is drawn once. What nobody can know before all threads have ended is looked at then, by the audit.
 #![tactic(auto)]
 
+mod access;
 mod attempts;
 mod auditing;
-mod executor;
+mod employing;
 mod gate;
 pub mod laws;
 mod locked;
@@ -17,7 +18,6 @@ mod shared;
 mod start_point;
 mod stop;
 mod thread_fault;
-mod threading;
 mod worker;
 
 pub use auditing::audit;

@@ -11,13 +11,13 @@ ghost use Rattle.stm_workers.specs.Runs.{HaveTheirRuns};
 ghost use Rattle.stm_workers.specs.Gathered.{RanTo, OnAudit, BrokeOff};
 
 use crate::auditing::audit;
+use crate::employing::employ;
 use crate::gate::Gate;
 use crate::locked::{Locked, RunOfJobs};
 use crate::placing::{Placed, place_ends};
 use crate::shared::Shared;
 use crate::start_point::StartPoint;
 use crate::thread_fault::ThreadFault;
-use crate::threading::employ;
 use crate::worker::Coordinator;
 use std::alloc::{AllocError, Global};
 use std::marker::Brand;

@@ -5,8 +5,8 @@ ghost use Rattle.stm_job.specs.Seats.{IsSeatAt, seat_view, table_id, table_size}
 ghost use Rattle.stm_workers.specs.Runs.{HasItsRun, BringsToEnd};
 ghost use Rattle.stm_workers.specs.Drawn.{committed_in, drawing, jobs_of};
 
+use crate::access::HallAccess;
 use crate::auditing::job_at;
-use crate::executor::Executor;
 use crate::gate::Gate;
 use crate::locked::{Locked, RunOfJobs};
 use crate::worker::{EndOf, RetiredWorker, Worker, WorkerStep};
@@ -67,8 +67,8 @@ impl<'a, R: RunOfJobs, W: Wait, G: Gate> Shared<'a, R, W, G> {
     }
 
     /// What a worker calls the hall with.
-    fn executor(&self) -> Executor<'a, R, W, G> {
-        Executor {
+    fn access(&self) -> HallAccess<'a, R, W, G> {
+        HallAccess {
             rt: self.rt,
             alloc: self.alloc,
             locked: self.locked,
@@ -98,8 +98,8 @@ impl<'a, R: RunOfJobs, W: Wait, G: Gate> Shared<'a, R, W, G> {
         let mut attempts = 0;
         let mut ended = ended;
         let it = job_at(self.jobs, job);
-        let executor = self.executor();
-        let end = executor.run_job(job, it, &mut share, &mut most, &mut attempts)?;
+        let access = self.access();
+        let end = access.run_job(job, it, &mut share, &mut most, &mut attempts)?;
         ended.push(EndOf { job, end, attempts })?;
         Ok(Worker::at_work(seat, share, most, ended))
     }

@@ -1,7 +1,7 @@
 //! Why a job goes no further.
 ghost use Rattle.std.specs.Prelude.{◌≡◌, ◌≢◌, ◌↔◌, false, Some, IfOk, IfErr, OnOk, IsTrue};
 ghost use Rattle.stm_steps.specs.declared.run.End.TheVariants.{Done};
-ghost use Rattle.stm_outcome.specs.declared.refusal.Refusal.TheVariants.{OutOfMemory as Want};
+ghost use Rattle.stm_outcome.specs.declared.refusal.Refusal.TheVariants.{OutOfMemory as OutOfMemoryRefusal};
 ghost use Rattle.stm_journal.specs.declared.refusal.FetchRefusal.TheVariants.{Store as FetchRefused};
 ghost use Rattle.stm_journal.specs.declared.refusal.CommitRefusal.TheVariants.{Store as CommitRefused};
 ghost use Rattle.stm_job.specs.Ends.{is_committed};
@@ -44,8 +44,8 @@ impl From<AllocError> for Stop {
 }
 
 /// Whether a call was refused because memory ran out.
-fn is_want(cause: Refusal) -> bool
-    ensures { IsTrue result ↔ cause ≡ Want }
+fn is_out_of_memory(cause: Refusal) -> bool
+    ensures { IsTrue result ↔ cause ≡ OutOfMemoryRefusal }
 {
     cause == Refusal::OutOfMemory
 }
@@ -58,7 +58,7 @@ impl Stop {
         ensures fetch { fetch_refusal_reported result ≡ Some (FetchRefused cause) }
         ensures commit { commit_refusal_reported result ≡ Some (CommitRefused cause) }
     {
-        if is_want(cause) {
+        if is_out_of_memory(cause) {
             return Stop::OutOfMemory;
         }
         Stop::Refused(JobRefusal::Store(StoreRefusal::of(cause)))

@@ -52,7 +52,7 @@ fn foreign(
     changes: &[Change],
 ) -> Result<(), AllocError> {
     let txn = changes_of(alloc, changes)?;
-    let made = hall.foreign(&txn);
+    let made = hall.make_txn(&txn);
     drop(txn);
     let done = report_foreign(reported, &made);
     drop(made);

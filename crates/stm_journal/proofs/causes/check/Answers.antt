@@ -6,7 +6,7 @@ use Rattle.stm_outcome.specs.Checks.{fault_of}
 use Rattle.stm_outcome.specs.Compares.{first_failed}
 use Rattle.stm_txn.specs.Standing.{Standing}
 use Rattle.stm_attempt.specs.ReadyRun.{ReadyRun}
-use Rattle.stm_journal.specs.Judging.{unless_wrong}
+use Rattle.stm_journal.specs.Causes.{unless_wrong}
 use Rattle.stm_journal.specs.Verdicts.{txn_of}
 use Rattle.stm_journal.proofs.WholeFaults.{compares_within}
 use Rattle.stm_journal.proofs.causes.check.Goals as goal

@@ -4,7 +4,7 @@ use Rattle.stm_outcome.specs.declared.refusal.Refusal.{Refusal}
 use Rattle.stm_outcome.specs.Checks.{fault_of}
 use Rattle.stm_txn.specs.Standing.{Standing}
 use Rattle.stm_attempt.specs.ReadyRun.{ReadyRun}
-use Rattle.stm_journal.specs.Judging.{cause_compared, cause_wrong}
+use Rattle.stm_journal.specs.Causes.{cause_compared, cause_wrong}
 use Rattle.stm_journal.specs.Verdicts.{txn_of}
 use Rattle.stm_journal.proofs.WholeFaults.{compares_within}
 use Rattle.stm_journal.proofs.causes.find_cause.Goals as goal

@@ -1,7 +1,7 @@
 use Rattle.std.proofs.Common.{Option, sym, ◌∙◌, ap}
 use Rattle.stm_outcome.specs.declared.answer.FailedCompare.{FailedCompare}
 use Rattle.stm_attempt.specs.ReadyRun.{ReadyRun}
-use Rattle.stm_journal.specs.Judging.{cause_unvouched, cause_failed}
+use Rattle.stm_journal.specs.Causes.{cause_unvouched, cause_failed}
 use Rattle.stm_journal.specs.Verdicts.{first_unvouched}
 use Rattle.stm_journal.proofs.causes.find_failure.Goals as goal
 

@@ -1,6 +1,6 @@
 use Rattle.std.proofs.Common.{sym, ◌∙◌, ap}
 use Rattle.std.specs.Prelude.{option_copied}
-use Rattle.stm_journal.specs.Judging.{cause_unvouched}
+use Rattle.stm_journal.specs.Causes.{cause_unvouched}
 use Rattle.stm_journal.proofs.causes.find_false_value.Goals as goal
 
 pub returns-in-None : goal.returns-in-None

@@ -5,9 +5,9 @@ use Rattle.stm_compile.specs.Now.{as_change}
 use Rattle.stm_attempt.specs.ReadyRun.{ReadyRun, IsRunOnItsAnswers}
 use Rattle.stm_journal.specs.declared.verdict.Verdict.{Verdict}
 use Rattle.stm_journal.specs.declared.refusal.CommitRefusal.{CommitRefusal}
-use Rattle.stm_journal.specs.Judging.{cause_of, IsClear}
+use Rattle.stm_journal.specs.Causes.{cause_of, IsClear}
 use Rattle.stm_journal.specs.Verdicts.{taken_by_store, SendsAs, CommitsAs, CanGoOn}
-use Rattle.stm_journal.proofs.Judging.{without_cause, commits_as_taken, goes_on_by, turned_there}
+use Rattle.stm_journal.proofs.CauseLemmas.{without_cause, commits_as_taken, goes_on_by, turned_there}
 use Rattle.stm_journal.proofs.committing.commit.Goals as goal
 
 -- nothing turns it down

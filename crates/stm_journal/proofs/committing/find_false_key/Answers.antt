@@ -4,7 +4,7 @@ use Rattle.stm_history.specs.History.{History}
 use Rattle.stm_txn.specs.Standing.{Standing}
 use Rattle.stm_attempt.specs.ReadyRun.{ReadyRun}
 use Rattle.stm_journal.specs.Verdicts.{first_unvouched}
-use Rattle.stm_journal.proofs.Judging.{not_vouched, turned_unvouched}
+use Rattle.stm_journal.proofs.CauseLemmas.{not_vouched, turned_unvouched}
 use Rattle.stm_journal.proofs.committing.find_false_key.Goals as goal
 
 -- there is one

@@ -6,7 +6,7 @@ use Rattle.stm_entries.specs.declared.entry.Entry.{Entry}
 use Rattle.stm_journal.specs.JournalState.{journal_of}
 use Rattle.stm_journal.specs.Verdicts.{entry_of}
 use Rattle.stm_journal.proofs.CallLemmas.{same_journal}
-use Rattle.stm_journal.proofs.Judging.{reports_made, reports_not_made, changes_of_ready}
+use Rattle.stm_journal.proofs.CauseLemmas.{reports_made, reports_not_made, changes_of_ready}
 use Rattle.stm_journal.proofs.committing.make.Goals as goal
 
 -- its changes are of distinct keys

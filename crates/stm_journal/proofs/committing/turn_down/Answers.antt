@@ -1,7 +1,7 @@
 use Rattle.std.proofs.Common.{◌∙◌, Some, Err, ap}
 use Rattle.std.proofs.lemmas.Result.{err_from_is_err_and}
 use Rattle.stm_journal.specs.declared.causes.Cause.{Cause}
-use Rattle.stm_journal.proofs.Judging.{caused_by_compare, turned_wrong, turned_failed, turned_out}
+use Rattle.stm_journal.proofs.CauseLemmas.{caused_by_compare, turned_wrong, turned_failed, turned_out}
 use Rattle.stm_journal.proofs.committing.turn_down.Goals as goal
 
 -- wrong as a whole

@@ -10,7 +10,7 @@ use Rattle.stm_compile.specs.CommitTxn.{reread_keys}
 use Rattle.stm_attempt.specs.ReadyRun.{ReadyRun, ready_parts}
 use Rattle.stm_journal.specs.Verdicts.{txn_of, failed_with, CanGoOn}
 use Rattle.stm_journal.proofs.PrefetchLemmas.{may_be_prefetched}
-use Rattle.stm_journal.proofs.Judging.{read_so, failed_within}
+use Rattle.stm_journal.proofs.CauseLemmas.{read_so, failed_within}
 use Rattle.stm_journal.proofs.Sending.{place_seen}
 use Rattle.stm_journal.proofs.failing.fail.Goals as goal
 

@@ -1,7 +1,7 @@
 use Rattle.std.proofs.Common.{sym, ◌∙◌, ap}
 use Rattle.std.proofs.lemmas.List.Elements.{recursion_from_All}
 use Rattle.stm_attempt.specs.ReadyRun.{ReadyRun}
-use Rattle.stm_journal.specs.Judging.{IsStill, cause_compared}
+use Rattle.stm_journal.specs.Causes.{IsStill, cause_compared}
 use Rattle.stm_journal.proofs.StillLemmas.{cause_at, clear_serializable, clear_repeatable}
 use Rattle.stm_journal.proofs.still.is_clear.Goals as goal
 

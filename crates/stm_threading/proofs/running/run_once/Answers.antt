@@ -4,8 +4,8 @@ use Rattle.stm_threading.proofs.running.run_once.Goals as goal
 
 pub returns-clause-shows : goal.returns-clause-shows
 returns-clause-shows g c =
-    IfOk-weaker c.text_on.result _ _ (λ text printed. printed (as_setup c.args.opening) c.args.calls.now c.in_ok-store.ensures) c.text_on.ensures.shows
+    IfOk-weaker c.run_on_store.result _ _ (λ text printed. printed (as_setup c.args.opening) c.args.calls.now c.in_ok-store.ensures) c.run_on_store.ensures.shows
 
 pub returns-clause-fault : goal.returns-clause-fault
 returns-clause-fault g c =
-    IfErr-weaker c.text_on.result _ _ (λ fault reported. reported (as_setup c.args.opening) c.args.calls.now c.in_ok-store.ensures) c.text_on.ensures.fault
+    IfErr-weaker c.run_on_store.result _ _ (λ fault reported. reported (as_setup c.args.opening) c.args.calls.now c.in_ok-store.ensures) c.run_on_store.ensures.fault

@@ -1,6 +1,6 @@
 use Rattle.std.proofs.Common.{◌∙◌, ap, subst}
 use Rattle.stm_attempt.specs.ReadyRun.{IsRunOnItsAnswers}
-use Rattle.stm_journal.specs.Judging.{cause_of}
+use Rattle.stm_journal.specs.Causes.{cause_of}
 use Rattle.stm_journal.proofs.prepared.Prepared.find_cause.Goals as goal
 
 -- whether it names an empty key was found

@@ -5,7 +5,7 @@ use Rattle.stm_retry.proofs.world.World.copy.Goals as goal
 
 pub invariant_of-result : goal.invariant_of-result
 invariant_of-result c =
-    subst (λ (m : World). IsKeptBy m.standing (whole_world c.self.inside.opened m)) (sym c.in_ok-parts.ensures) c.self.invariant
+    subst (λ (m : World). IsKeptBy m.standing (whole_world c.self.inside.opened m)) (sym c.in_ok-kept.ensures) c.self.invariant
 
 pub returns : goal.returns
-returns c = ap (whole_world c.self.inside.opened) c.in_ok-parts.ensures ∙ c.self.view_is
+returns c = ap (whole_world c.self.inside.opened) c.in_ok-kept.ensures ∙ c.self.view_is

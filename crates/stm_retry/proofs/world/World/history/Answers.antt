@@ -18,4 +18,4 @@ returns-clause-legal c =
 
 pub returns-clause-revisions : goal.returns-clause-revisions
 returns-clause-revisions c =
-    subst (λ (w : World). AreRevisions w.standing.history.revisions) c.self.view_is (are_revisions c.self.inside.opened c.self.inside.parts)
+    subst (λ (w : World). AreRevisions w.standing.history.revisions) c.self.view_is (are_revisions c.self.inside.opened c.self.inside.kept)

@@ -12,7 +12,7 @@ use Rattle.stm_retry.proofs.world.World.start.Goals.{in-Ok, in-Err}
 pub invariant_of-self : goal.invariant_of-self
 invariant_of-self c =
     started_leaves (record { program = c.args.program; level = c.args.level; limit = c.args.limit }) c.add_runner.result c.self.inside.opened
-    c.self.inside.parts c.add_runner.new.self c.self.invariant c.add_runner.ensures.ok c.add_runner.ensures.err
+    c.self.inside.kept c.add_runner.new.self c.self.invariant c.add_runner.ensures.ok c.add_runner.ensures.err
 
 pub returns-clause-number : goal.returns-clause-number
 returns-clause-number c =
@@ -20,7 +20,7 @@ returns-clause-number c =
     let reported : Result ℕ Refusal → Type 0 = λ r. IfOk r (λ id. (start_runner task c.args.self.now).reply ≡ Ok (Started id)) in
     elim c.match-add_runner.branch [
       | in-Ok w ↦ subst reported (sym w.result-is)
-          (sym (started_number task c.self.inside.opened c.self.inside.parts c.self.invariant ∙ ap (λ (w : World). (start_runner task w).reply) c.self.view_is)
+          (sym (started_number task c.self.inside.opened c.self.inside.kept c.self.invariant ∙ ap (λ (w : World). (start_runner task w).reply) c.self.view_is)
           ∙ w.in-Ok.ensures.number)
       | in-Err w ↦ subst reported (sym w.result-is) tt
     ]
@@ -32,7 +32,7 @@ returns-clause-ok c =
     λ r. OnOk r (whole_world c.self.inside.opened c.add_runner.new.self ≡ (start_runner task c.args.self.now).next) in
     elim c.match-add_runner.branch [
       | in-Ok w ↦ subst left (sym w.result-is)
-          (started_next task c.self.inside.opened c.self.inside.parts c.add_runner.new.self c.self.invariant w.in-Ok.ensures.ok
+          (started_next task c.self.inside.opened c.self.inside.kept c.add_runner.new.self c.self.invariant w.in-Ok.ensures.ok
           ∙ ap (λ (w : World). (start_runner task w).next) c.self.view_is)
       | in-Err w ↦ subst left (sym w.result-is) tt
     ]

@@ -6,5 +6,5 @@ use Rattle.stm_retry.proofs.world.World.state.Goals as goal
 
 pub returns : goal.returns
 returns c =
-    state_reported c.self.inside.opened c.self.inside.parts c.args.self.now c.state_of.result c.self.invariant c.self.view_is
-    (c.keys.ensures.history ∙ ap (λ (s : Standing). s.history) c.store.ensures ∙ ap (λ (w : Inside). w.parts.standing.history) c.self-inside.view_is) c.state_of.ensures
+    state_reported c.self.inside.opened c.self.inside.kept c.args.self.now c.state_of.result c.self.invariant c.self.view_is
+    (c.keys.ensures.history ∙ ap (λ (s : Standing). s.history) c.store.ensures ∙ ap (λ (w : Inside). w.kept.standing.history) c.self-inside.view_is) c.state_of.ensures

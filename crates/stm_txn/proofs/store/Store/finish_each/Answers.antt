@@ -19,20 +19,20 @@ run_branch-requires c =
     subst (λ (s : StoreView). IsTrue (are_readable (now s.standing.history) ops)) (sym c.self.view_is)
     (all_readable (terms_of c.args.self.now.standing) ops c.requires.allowed)
 
-pub commit-requires-clause-distinct : goal.commit-requires-clause-distinct
-commit-requires-clause-distinct c =
+pub add_changes-requires-clause-distinct : goal.add_changes-requires-clause-distinct
+add_changes-requires-clause-distinct c =
     subst (λ (cs : List Change). HasDistinctKeys cs) (sym (c.in_ok-branch.ensures.changes
     ∙ ap (λ (s : StoreView). changes_copied s.standing.history [] c.args.ops.now) c.self.view_is))
     (changes_are_distinct c.args.self.now.standing.history c.args.ops.now c.requires.apart)
 
-pub commit-requires-clause-live : goal.commit-requires-clause-live
-commit-requires-clause-live c =
+pub add_changes-requires-clause-live : goal.add_changes-requires-clause-live
+add_changes-requires-clause-live c =
     subst (λ (cs : List Change). AttachedToLive c.args.self.now.standing.live (attached_of cs)) (sym (c.in_ok-branch.ensures.changes
     ∙ ap (λ (s : StoreView). changes_copied s.standing.history [] c.args.ops.now) c.self.view_is))
     (attaches_live c.args.self.now.standing c.args.ops.now c.requires.allowed)
 
-pub commit-requires-clause-present : goal.commit-requires-clause-present
-commit-requires-clause-present c =
+pub add_changes-requires-clause-present : goal.add_changes-requires-clause-present
+add_changes-requires-clause-present c =
     subst (λ (cs : List Change). DeletePresent c.args.self.now.standing.history cs) (sym (c.in_ok-branch.ensures.changes
     ∙ ap (λ (s : StoreView). changes_copied s.standing.history [] c.args.ops.now) c.self.view_is))
     (deletes_present c.args.self.now.standing.history c.args.ops.now c.requires.apart)

@@ -10,14 +10,14 @@ use Rattle.stm_txn.specs.Store.{StoreView}
 use Rattle.stm_txn.proofs.Writing.{effective_distinct, effective_live, effective_present}
 use Rattle.stm_txn.proofs.store.Store.make.Goals as goal
 
-pub commit-requires-clause-distinct : goal.commit-requires-clause-distinct
-commit-requires-clause-distinct c =
+pub add_changes-requires-clause-distinct : goal.add_changes-requires-clause-distinct
+add_changes-requires-clause-distinct c =
     subst (λ (cs : List Change). HasDistinctKeys cs) (sym (c.only_effective-changes.ensures
     ∙ ap (λ (s : StoreView). effective s.standing.history c.args.writes.items) c.self.view_is))
     (effective_distinct c.args.self.now.standing.history c.args.writes.items c.requires)
 
-pub commit-requires-clause-live : goal.commit-requires-clause-live
-commit-requires-clause-live c =
+pub add_changes-requires-clause-live : goal.add_changes-requires-clause-live
+add_changes-requires-clause-live c =
     let alive : list_any (is_on_dead_lease (is_live_in c.args.self.now.standing.live)) c.args.writes.items ≡ false =
     ap (λ (s : StoreView). list_any (is_on_dead_lease (is_live_in s.standing.live)) c.args.writes.items) (sym c.self.view_is)
     ∙ sym (c.any_names_dead_lease.ensures ∙ ap (list_any (is_on_dead_lease (is_live_in c.self.inside.leases.live))) c.as_slice.ensures.value)
@@ -26,8 +26,8 @@ commit-requires-clause-live c =
     ∙ ap (λ (s : StoreView). effective s.standing.history c.args.writes.items) c.self.view_is))
     (effective_live c.args.self.now.standing c.args.writes.items c.requires alive)
 
-pub commit-requires-clause-present : goal.commit-requires-clause-present
-commit-requires-clause-present c =
+pub add_changes-requires-clause-present : goal.add_changes-requires-clause-present
+add_changes-requires-clause-present c =
     subst (λ (cs : List Change). DeletePresent c.args.self.now.standing.history cs) (sym (c.only_effective-changes.ensures
     ∙ ap (λ (s : StoreView). effective s.standing.history c.args.writes.items) c.self.view_is))
     (effective_present c.args.self.now.standing.history c.args.writes.items c.requires)

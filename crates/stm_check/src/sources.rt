@@ -1,0 +1,118 @@
+//! From the bytes of a scenario and of a report to what the check comes to.
+ghost use Rattle.std.specs.Prelude.{◌≡◌, ◌≤◌, ◌+◌, false};
+ghost use Rattle.stm_devices.specs.declared.transfer.TheConstants.{MOST_READ};
+ghost use Rattle.stm_check.specs.Sources.{HasRead, ReadsScenario, ReadsReport, Judges};
+
+use crate::checking::{Checked, check};
+use std::alloc::Global;
+use stm_devices::{ReadFault, Source, read_all};
+use stm_report_lines::{Report, read_report};
+use stm_texts::{BadInput, ReadError, Scenario, read_scenario};
+use thiserror::Error;
+
+/// Why a check came to no answer.
+#[derive(Debug, Drop, Error)]
+pub enum CheckFault {
+    /// A growth was refused.
+    #[error("out of memory")]
+    OutOfMemory,
+    /// The first input is no scenario: its first fault.
+    #[error("bad scenario {0}")]
+    BadScenario(BadInput),
+    /// The second input is no report: its first fault.
+    #[error("bad report {0}")]
+    BadReport(BadInput),
+    /// A device failed.
+    #[error("device fault")]
+    Device,
+}
+
+/// The bytes of a source, at most `stm_devices::MOST_READ` of them.
+///
+/// The source has not failed before. It fails as `OutOfMemory` where an allocation failed, and as `Device` exactly where the source has failed.
+pub fn bytes_of<S: Source>(alloc: Global, source: &mut S) -> Result<Vec<u8>, CheckFault>
+    requires { S.failed source.old ≡ false }
+    ensures bytes { HasRead (λ bytes. bytes.items) (S.left source.old) (S.failed source.new) result }
+    ensures bounded { S.reads source.new ≤ S.reads source.old + MOST_READ }
+{
+    match read_all(alloc, source) {
+        Ok(bytes) => Ok(bytes),
+        Err(ReadFault::OutOfMemory) => Err(CheckFault::OutOfMemory),
+        Err(ReadFault::Device) => Err(CheckFault::Device),
+    }
+}
+
+/// The scenario of a source.
+fn scenario_of<S: Source>(alloc: Global, source: &mut S) -> Result<Scenario, CheckFault>
+    requires { S.failed source.old ≡ false }
+    ensures scenario { ReadsScenario (S.left source.old) (S.failed source.new) result }
+    ensures bounded { S.reads source.new ≤ S.reads source.old + MOST_READ }
+{
+    let bytes = match bytes_of(alloc, source) {
+        Ok(bytes) => bytes,
+        Err(fault) => return Err(fault),
+    };
+    match read_scenario(alloc, bytes.as_slice()) {
+        Ok(scenario) => Ok(scenario),
+        Err(ReadError::OutOfMemory) => Err(CheckFault::OutOfMemory),
+        Err(ReadError::Bad(fault)) => Err(CheckFault::BadScenario(fault)),
+    }
+}
+
+/// The report of a source.
+fn report_of<S: Source>(alloc: Global, source: &mut S) -> Result<Report, CheckFault>
+    requires { S.failed source.old ≡ false }
+    ensures report { ReadsReport (S.left source.old) (S.failed source.new) result }
+    ensures bounded { S.reads source.new ≤ S.reads source.old + MOST_READ }
+{
+    let bytes = match bytes_of(alloc, source) {
+        Ok(bytes) => bytes,
+        Err(fault) => return Err(fault),
+    };
+    match read_report(alloc, bytes.as_slice()) {
+        Ok(report) => Ok(report),
+        Err(ReadError::OutOfMemory) => Err(CheckFault::OutOfMemory),
+        Err(ReadError::Bad(fault)) => Err(CheckFault::BadReport(fault)),
+    }
+}
+
+/// Reads a scenario from its source to the end, then a report from its own, and checks the report.
+///
+/// Neither source has failed before. It fails as `BadScenario` with the scenario's first fault, and then the report is
+/// not read; as `BadReport` with the report's first fault; as `OutOfMemory` where a growth was refused; and as `Device`
+/// exactly where a source has failed. At most 16777217 bytes of each are read, in at most as many reads.
+pub fn check_sources<S: Source, R: Source>(
+    alloc: Global,
+    scenario: &mut S,
+    report: &mut R,
+) -> Result<Checked, CheckFault>
+    requires scenario_works { S.failed scenario.old ≡ false }
+    requires report_works { R.failed report.old ≡ false }
+    ensures judged { Judges (record {
+      scenario = S.left scenario.old;
+      report = R.left report.old;
+      scenario_failed = S.failed scenario.new;
+      report_failed = R.failed report.new;
+    }) result }
+    ensures scenario_bounded { S.reads scenario.new ≤ S.reads scenario.old + MOST_READ }
+    ensures report_bounded { R.reads report.new ≤ R.reads report.old + MOST_READ }
+{
+    let scenario = match scenario_of(alloc, scenario) {
+        Ok(scenario) => scenario,
+        Err(fault) => return Err(fault),
+    };
+    let report = match report_of(alloc, report) {
+        Ok(report) => report,
+        Err(fault) => {
+            drop(scenario);
+            return Err(fault);
+        }
+    };
+    let checked = check(alloc, &scenario, &report);
+    drop(report);
+    drop(scenario);
+    match checked {
+        Ok(checked) => Ok(checked),
+        Err(_) => Err(CheckFault::OutOfMemory),
+    }
+}

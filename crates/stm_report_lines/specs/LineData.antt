@@ -2,7 +2,7 @@
 --
 -- The words are those of docs/FORMATS.md, "Reports"; what a transaction's line includes is what etcd's API reference, "Transaction",
 -- has in a `TxnResponse`: whether it succeeded, the header's revision, and a response for each operation.
-use Rattle.std.specs.Prelude.{ℕ, List, [], ◌∷◌, map, Option, Some, None, codes}
+use Rattle.std.specs.Prelude.{ℕ, List, [], ◌∷◌, map, Option, Some, None, Result, Ok, Err, codes}
 use Rattle.serde_json.specs.Data.{Data, null, boolean, number, string, array, unsigned}
 use Rattle.serde_json.specs.Find.{of_integer}
 use Rattle.serde_json.specs.View.{items_of}
@@ -13,16 +13,19 @@ use Rattle.stm_steps.specs.declared.trace_item.TraceItem.{TraceItem}
 use Rattle.stm_steps.specs.declared.trace_item.TraceItem.TheVariants as trace
 use Rattle.stm_meaning.specs.Faults.{fault_name}
 use Rattle.stm_outcome.specs.declared.advance.Expired.{Expired}
-use Rattle.stm_report_lines.specs.declared.line.ReportLine.{ReportLine}
-use Rattle.stm_report_lines.specs.declared.line.ReportLine.TheVariants.{Started, Prefetched, Fetched, Committed, Conflict, GaveUp, Aborted, Faulted, Ended, Txn, Granted}
-use Rattle.stm_report_lines.specs.declared.line.ReportLine.TheVariants.{Kept, Revoked, Advanced, Compacted, Watching, Cancelled, Batch, Lost, Refused, Key, Lease, End}
-use Rattle.stm_report_lines.specs.declared.line.ReportedAnswer.{ReportedAnswer}
+use Rattle.stm_events.specs.declared.line.ReportLine.{ReportLine}
+use Rattle.stm_events.specs.declared.line.ReportLine.TheVariants as line
+use Rattle.stm_events.specs.declared.reply.Reply.{Reply}
+use Rattle.stm_events.specs.declared.reply.Reply.TheVariants.{Started, Prefetched, Fetched, Committed, Conflict, GaveUp, Aborted, Faulted, Ended}
+use Rattle.stm_events.specs.declared.reply.Reply.TheVariants.{Txn, Granted, Kept, Revoked, Advanced, Compacted, Watching, Batch, Lost, Cancelled}
+use Rattle.stm_events.specs.declared.reply.CommittedRead.{CommittedRead}
+use Rattle.stm_events.specs.declared.refusal.Denied.{Denied}
 use Rattle.stm_keys.specs.declared.event.Event.{Event}
 use Rattle.stm_keys.specs.declared.event.Event.TheVariants as event
-use Rattle.stm_report_lines.specs.declared.line.ReportedOp.{ReportedOp}
-use Rattle.stm_report_lines.specs.declared.line.ReportedOp.TheVariants as op
+use Rattle.stm_events.specs.declared.reply.OpReply.{OpReply}
+use Rattle.stm_events.specs.declared.reply.OpReply.TheVariants as op
 use Rattle.stm_events.specs.declared.reply.KeyRead.{KeyRead}
-use Rattle.stm_report_lines.specs.Names.{refusal_text}
+use Rattle.stm_events.specs.Names.{refusal_name}
 
 abbrev pub list : List Data → Data
 list ds = array (items_of ds)
@@ -48,7 +51,7 @@ abbrev pub text_or_null : Option (List ℕ) → Data
 text_or_null None = null
 text_or_null (Some value) = string value
 
-abbrev pub answer_data : ReportedAnswer → Data
+abbrev pub answer_data : CommittedRead → Data
 answer_data a = list (string a.key ∷ text_or_null a.value ∷ whole a.mod_rev ∷ whole a.of_rev ∷ [])
 
 abbrev pub state_data : KeyState → Data
@@ -58,7 +61,7 @@ abbrev pub state_or_null : Option KeyState → Data
 state_or_null None = null
 state_or_null (Some state) = state_data state
 
-abbrev pub op_data : ReportedOp → Data
+abbrev pub op_data : OpReply → Data
 op_data (op.Get revision kv) = list (word (codes "get") ∷ whole revision ∷ state_or_null kv ∷ [])
 op_data op.Put = list (word (codes "put") ∷ [])
 op_data (op.Del count) = list (word (codes "del") ∷ whole count ∷ [])
@@ -85,34 +88,42 @@ event_data (event.Delete key revision) = list (word (codes "DELETE") ∷ string 
 abbrev pub numbered : ℕ → List ℕ → List Data → Data
 numbered n w parts = list (whole n ∷ word w ∷ parts)
 
-abbrev pub line_data : ReportLine → Data
-line_data (Started n runner) = numbered n (codes "started") (whole runner ∷ [])
-line_data (Prefetched n runner revision reads) =
+-- the reply to the event with this number
+abbrev pub reply_data : ℕ → Reply → Data
+reply_data n (Started runner) = numbered n (codes "started") (whole runner ∷ [])
+reply_data n (Prefetched runner revision reads) =
     numbered n (codes "prefetched") (whole runner ∷ whole revision ∷ list (map read_data reads) ∷ [])
-line_data (Fetched n runner key mod_rev of_rev revision) =
+reply_data n (Fetched runner key mod_rev of_rev revision) =
     numbered n (codes "fetched") (whole runner ∷ string key ∷ whole mod_rev ∷ whole of_rev ∷ whole revision ∷ [])
-line_data (Committed n runner revision attempts output trace answers) =
+reply_data n (Committed runner revision attempts output trace answers) =
     numbered n (codes "committed") (whole runner ∷ whole revision ∷ whole attempts
     ∷ list (map value_data output) ∷ list (map trace_data trace) ∷ list (map answer_data answers) ∷ [])
-line_data (Conflict n runner key seen now) = numbered n (codes "conflict") (whole runner ∷ string key ∷ whole seen ∷ whole now ∷ [])
-line_data (GaveUp n runner attempts key seen now) =
+reply_data n (Conflict runner key seen now) = numbered n (codes "conflict") (whole runner ∷ string key ∷ whole seen ∷ whole now ∷ [])
+reply_data n (GaveUp runner attempts key seen now) =
     numbered n (codes "gaveup") (whole runner ∷ whole attempts ∷ string key ∷ whole seen ∷ whole now ∷ [])
-line_data (Aborted n runner text) = numbered n (codes "aborted") (whole runner ∷ string text ∷ [])
-line_data (Faulted n runner fault) = numbered n (codes "faulted") (whole runner ∷ word (fault_name fault) ∷ [])
-line_data (Ended n runner cause) = numbered n (codes "ended") (whole runner ∷ word (refusal_text cause) ∷ [])
-line_data (Txn n succeeded revision answers) =
+reply_data n (Aborted runner text) = numbered n (codes "aborted") (whole runner ∷ string text ∷ [])
+reply_data n (Faulted runner fault) = numbered n (codes "faulted") (whole runner ∷ word (fault_name fault) ∷ [])
+reply_data n (Ended runner cause) = numbered n (codes "ended") (whole runner ∷ word (refusal_name cause) ∷ [])
+reply_data n (Txn succeeded revision answers) =
     numbered n (codes "txn") (boolean succeeded ∷ whole revision ∷ list (map op_data answers) ∷ [])
-line_data (Granted n id) = numbered n (codes "granted") (whole id ∷ [])
-line_data (Kept n id) = numbered n (codes "kept") (whole id ∷ [])
-line_data (Revoked n id revision) = numbered n (codes "revoked") (whole id ∷ whole revision ∷ [])
-line_data (Advanced n now expired) = numbered n (codes "advanced") (whole now ∷ list (map expired_data expired) ∷ [])
-line_data (Compacted n revision) = numbered n (codes "compacted") (whole revision ∷ [])
-line_data (Watching n id) = numbered n (codes "watching") (whole id ∷ [])
-line_data (Cancelled n id) = numbered n (codes "cancelled") (whole id ∷ [])
-line_data (Batch n id up_to events) = numbered n (codes "batch") (whole id ∷ whole up_to ∷ list (map event_data events) ∷ [])
-line_data (Lost n id floor) = numbered n (codes "lost") (whole id ∷ whole floor ∷ [])
-line_data (Refused n cause expired) =
-    numbered n (codes "refused") (word (refusal_text cause) ∷ list (map expired_data expired) ∷ [])
-line_data (Key key state) = keyed_data (codes "key") key state
-line_data (Lease id ttl renewed) = list (word (codes "lease") ∷ whole id ∷ whole ttl ∷ whole renewed ∷ [])
-line_data (End revision entries) = list (word (codes "end") ∷ whole revision ∷ whole entries ∷ [])
+reply_data n (Granted id) = numbered n (codes "granted") (whole id ∷ [])
+reply_data n (Kept id) = numbered n (codes "kept") (whole id ∷ [])
+reply_data n (Revoked id revision) = numbered n (codes "revoked") (whole id ∷ whole revision ∷ [])
+reply_data n (Advanced now expired) = numbered n (codes "advanced") (whole now ∷ list (map expired_data expired) ∷ [])
+reply_data n (Compacted revision) = numbered n (codes "compacted") (whole revision ∷ [])
+reply_data n (Watching watcher) = numbered n (codes "watching") (whole watcher ∷ [])
+reply_data n (Cancelled watcher) = numbered n (codes "cancelled") (whole watcher ∷ [])
+reply_data n (Batch watcher up_to events) = numbered n (codes "batch") (whole watcher ∷ whole up_to ∷ list (map event_data events) ∷ [])
+reply_data n (Lost watcher floor) = numbered n (codes "lost") (whole watcher ∷ whole floor ∷ [])
+
+-- the line of the event with this number: the reply to it, or why it was refused and which leases had expired before
+abbrev pub event_data_of : ℕ → Result Reply Denied → Data
+event_data_of n (Ok reply) = reply_data n reply
+event_data_of n (Err denied) =
+    numbered n (codes "refused") (word (refusal_name denied.cause) ∷ list (map expired_data denied.expired) ∷ [])
+
+abbrev pub line_data : ReportLine → Data
+line_data (line.Event n reply) = event_data_of n reply
+line_data (line.Key key state) = keyed_data (codes "key") key state
+line_data (line.Lease id ttl renewed) = list (word (codes "lease") ∷ whole id ∷ whole ttl ∷ whole renewed ∷ [])
+line_data (line.End revision entries) = list (word (codes "end") ∷ whole revision ∷ whole entries ∷ [])

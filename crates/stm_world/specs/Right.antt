@@ -82,7 +82,7 @@ pub record IsFetch (at : Situation) (key : List ℕ) (mod_rev of_rev revision : 
   pub carries : revision ≡ now at.store.history
 
 -- the program wants a key, and its base is compacted
-pub record IsBehind (at : Situation) : Type 0 where
+pub record HasCompactedBase (at : Situation) : Type 0 where
   pub has_list : HasList at
   pub key : List ℕ
   pub trace : List TraceItem
@@ -134,7 +134,7 @@ pub record IsConflicted (at : Situation) (key : List ℕ) (seen now_modified : �
 -- The store refuses what the step asks of it: the commit of a program that is done, or, as compacted, a fetch at the base of the attempt, or, as too
 -- many operations, the fetch of the list.
 abbrev pub IsRefused : Situation → StoreRefusal → Type 0
-IsRefused at cause = Commits at (Err cause) ⊎ ((cause ≡ CompactedRefusal) × IsBehind at) ⊎ ((cause ≡ TooManyOpsRefusal) × IsOverfull at)
+IsRefused at cause = Commits at (Err cause) ⊎ ((cause ≡ CompactedRefusal) × HasCompactedBase at) ⊎ ((cause ≡ TooManyOpsRefusal) × IsOverfull at)
 
 -- A reply to the step of a runner that runs. It names this runner; no run sends more commits than it may, and it gives up exactly at the
 -- last of them.

@@ -104,7 +104,7 @@ fn read_often(keys: &Keys, count: u32) -> Result<u32> {
 }
 
 /// Puts one key once, and then another one `count` times.
-fn put_behind(alloc: Global, store: &mut Store, count: u32) -> Result<()> {
+fn put_after(alloc: Global, store: &mut Store, count: u32) -> Result<()> {
     put(alloc, store, 0)?;
     for _ in 0..count {
         put(alloc, store, 1)?;
@@ -141,7 +141,7 @@ fn time_reads(rt: &(impl Clock + Eprint), alloc: Global, revisions: u32) -> Resu
 /// Adds this many revisions of one short put to an empty store, and prints a line. `bench/store` counts the bytes there, from
 /// outside.
 fn print_beside(rt: &impl Eprint, alloc: Global, store: &mut Store, revisions: u32) -> Result<()> {
-    put_behind(alloc, store, revisions)?;
+    put_after(alloc, store, revisions)?;
     let counter = store.keys().revision();
     eprintln!(rt; "held at revision {counter}")?;
     Ok(())

@@ -19,7 +19,7 @@ use Rattle.stm_attempt.specs.Wanted.{next_wanted}
 use Rattle.stm_attempt.specs.declared.next.Next.TheVariants.{FetchAll}
 use Rattle.stm_attempt.specs.Known.{Known, known_of, HaveDistinctKeys}
 use Rattle.stm_attempt.specs.Settled.{run_on, served, settled}
-use Rattle.stm_attempt.specs.Entering.{is_due, with_first, answers_of_all, behind_list, gone_on}
+use Rattle.stm_attempt.specs.Entering.{is_due, with_first, answers_of_all, after_list, gone_on}
 use Rattle.stm_attempt.specs.Fetches.{AllShow, ShowOneRevision, HaveOneBase}
 use Rattle.stm_attempt.specs.Next.{next_after, next_settled, next_on, next_of}
 use Rattle.stm_attempt.specs.AttemptState.{with_reads}
@@ -114,11 +114,11 @@ take_some taken key keys prefetched a some =
     ∙ take_by taken a (answers_of_all keys prefetched)
 
 pub take_end : (taken : List ReadAnswer) → Some taken ≡ option_map (λ more. taken ++ more) (Some [])
-take_end taken = ap (λ (l : List ReadAnswer). Some l) (sym (nothing_behind taken))
+take_end taken = ap (λ (l : List ReadAnswer). Some l) (sym (nothing_after taken))
   where
-    nothing_behind : (l : List ReadAnswer) → l ++ [] ≡ l
-    nothing_behind [] = refl
-    nothing_behind (x ∷ l) = ap (λ (m : List ReadAnswer). x ∷ m) (nothing_behind l)
+    nothing_after : (l : List ReadAnswer) → l ++ [] ≡ l
+    nothing_after [] = refl
+    nothing_after (x ∷ l) = ap (λ (m : List ReadAnswer). x ∷ m) (nothing_after l)
 
 pub take_all : (o : Option (List ReadAnswer)) → option_map (λ more. [] ++ more) o ≡ o
 take_all None = refl
@@ -175,13 +175,13 @@ list_named program fits =
 
 pub gone_settled : (program : ProgramTree) (known : Known) → is_due program.prefetch known.reads ≡ false → gone_on program known ≡ settled program known
 gone_settled program known not =
-    ap (λ (b : Bool). cond b (behind_list program known (answers_of_all program.prefetch known.prefetched)) (settled program known)) not
+    ap (λ (b : Bool). cond b (after_list program known (answers_of_all program.prefetch known.prefetched)) (settled program known)) not
 
-pub gone_behind : (program : ProgramTree) (known : Known) (o : Option (List ReadAnswer)) → is_due program.prefetch known.reads ≡ true
-    → answers_of_all program.prefetch known.prefetched ≡ o → gone_on program known ≡ behind_list program known o
-gone_behind program known o due is =
-    ap (λ (b : Bool). cond b (behind_list program known (answers_of_all program.prefetch known.prefetched)) (settled program known)) due
-    ∙ ap (behind_list program known) is
+pub gone_after : (program : ProgramTree) (known : Known) (o : Option (List ReadAnswer)) → is_due program.prefetch known.reads ≡ true
+    → answers_of_all program.prefetch known.prefetched ≡ o → gone_on program known ≡ after_list program known o
+gone_after program known o due is =
+    ap (λ (b : Bool). cond b (after_list program known (answers_of_all program.prefetch known.prefetched)) (settled program known)) due
+    ∙ ap (after_list program known) is
 
 -- the list is due still, and not all of it was prefetched
 pub record StaysDue (program : ProgramTree) (known : Known) : Type 0 where
@@ -200,10 +200,10 @@ where_by : (program : ProgramTree) (known : Known) (b : Bool) (o : Option (List 
     → answers_of_all program.prefetch known.prefetched ≡ o → StaysDue program known ⊎ Settles program known
 where_by program known false o due is =
     inr (record { start = known.reads; settles = gone_settled program known due; not_due = due; is_start = inl refl })
-where_by program known true None due is = inl (record { due = due; none = is; stays = gone_behind program known None due is })
+where_by program known true None due is = inl (record { due = due; none = is; stays = gone_after program known None due is })
 where_by program known true (Some answers) due is = inr (record {
   start = answers;
-  settles = gone_behind program known (Some answers) due is;
+  settles = gone_after program known (Some answers) due is;
   not_due = taken_not_due program.prefetch known.prefetched answers is;
   is_start = inr is;
 })
@@ -233,7 +233,7 @@ settles_none_served program known s =
 again_due : (program : ProgramTree) (known : Known) → StaysDue program known → gone_on program (with_reads (gone_on program known) known) ≡ gone_on program known
 again_due program known d =
     let still : is_due program.prefetch (gone_on program known) ≡ true = ap (is_due program.prefetch) d.stays ∙ d.due in
-    gone_behind program (with_reads (gone_on program known) known) None still d.none
+    gone_after program (with_reads (gone_on program known) known) None still d.none
 
 again_settled : (program : ProgramTree) (known : Known) (s : Settles program known)
     → gone_on program (with_reads (gone_on program known) known) ≡ gone_on program known
@@ -259,46 +259,46 @@ pub next_on_settled : (program : ProgramTree) (level : Level) (reads : List Read
 next_on_settled program level reads not =
     ap (λ (b : Bool). cond b (FetchAll program.prefetch 0) (next_after program level reads (run_on program reads))) not
 
-pub behind_next : (program : ProgramTree) (level : Level) (before entered prefetched : List ReadAnswer) (next : Next)
+pub after_next : (program : ProgramTree) (level : Level) (before entered prefetched : List ReadAnswer) (next : Next)
     → gone_on program (known_of entered prefetched) ≡ gone_on program (known_of before prefetched) → is_due program.prefetch entered ≡ false
     → next ≡ next_settled program level (known_of entered prefetched) → next ≡ next_of program level (known_of before prefetched)
-behind_next program level before entered prefetched next gone not reported =
+after_next program level before entered prefetched next gone not reported =
     let reads : List ReadAnswer = settled program (known_of entered prefetched) in
     let later : is_due program.prefetch reads ≡ false =
     not_due_after program.prefetch entered reads not (settled_extends program (known_of entered prefetched)) in
     reported ∙ sym (next_on_settled program level reads later) ∙ ap (next_on program level) (sym (gone_settled program (known_of entered prefetched) not) ∙ gone)
 
-pub behind_reads : (program : ProgramTree) (before entered prefetched after : List ReadAnswer)
+pub after_reads : (program : ProgramTree) (before entered prefetched after : List ReadAnswer)
     → gone_on program (known_of entered prefetched) ≡ gone_on program (known_of before prefetched) → is_due program.prefetch entered ≡ false
     → after ≡ settled program (known_of entered prefetched) → after ≡ gone_on program (known_of before prefetched)
-behind_reads program before entered prefetched after gone not settles =
+after_reads program before entered prefetched after gone not settles =
     settles ∙ sym (gone_settled program (known_of entered prefetched) not) ∙ gone
 
 -- the same after a call that was refused after the list
-pub behind_gone : (program : ProgramTree) (before entered prefetched after : List ReadAnswer)
+pub after_gone : (program : ProgramTree) (before entered prefetched after : List ReadAnswer)
     → gone_on program (known_of entered prefetched) ≡ gone_on program (known_of before prefetched) → is_due program.prefetch entered ≡ false
     → Extends entered after → settled program (known_of after prefetched) ≡ settled program (known_of entered prefetched)
     → gone_on program (known_of after prefetched) ≡ gone_on program (known_of before prefetched)
-behind_gone program before entered prefetched after gone not more settles =
+after_gone program before entered prefetched after gone not more settles =
     gone_settled program (known_of after prefetched) (not_due_after program.prefetch entered after not more)
     ∙ settles ∙ sym (gone_settled program (known_of entered prefetched) not) ∙ gone
 
 -- what is waited for
-pub behind_wanted : (program : ProgramTree) (level : Level) (before entered prefetched : List ReadAnswer) (found : Option Wanted)
+pub after_wanted : (program : ProgramTree) (level : Level) (before entered prefetched : List ReadAnswer) (found : Option Wanted)
     → gone_on program (known_of entered prefetched) ≡ gone_on program (known_of before prefetched) → is_due program.prefetch entered ≡ false
     → IfSome found (λ w. next_wanted w ≡ next_settled program level (known_of entered prefetched))
     → IfSome found (λ w. next_wanted w ≡ next_of program level (known_of before prefetched))
-behind_wanted program level before entered prefetched None gone not reported = tt
-behind_wanted program level before entered prefetched (Some w) gone not reported =
-    behind_next program level before entered prefetched (next_wanted w) gone not reported
+after_wanted program level before entered prefetched None gone not reported = tt
+after_wanted program level before entered prefetched (Some w) gone not reported =
+    after_next program level before entered prefetched (next_wanted w) gone not reported
 
 -- at the end of the run, which is the one that is reported
-pub behind_end : (program : ProgramTree) (level : Level) (before entered prefetched after : List ReadAnswer)
+pub after_end : (program : ProgramTree) (level : Level) (before entered prefetched after : List ReadAnswer)
     → gone_on program (known_of entered prefetched) ≡ gone_on program (known_of before prefetched) → is_due program.prefetch entered ≡ false
     → after ≡ settled program (known_of entered prefetched)
     → next_of program level (known_of before prefetched) ≡ next_after program level after (run_on program after)
-behind_end program level before entered prefetched after gone not settles =
-    sym (behind_next program level before entered prefetched (next_after program level after (run_on program after)) gone not
+after_end program level before entered prefetched after gone not settles =
+    sym (after_next program level before entered prefetched (next_after program level after (run_on program after)) gone not
     (ap (λ (l : List ReadAnswer). next_after program level l (run_on program l)) settles))
 
 pub extends_further : (before entered after : List ReadAnswer) → Extends before entered → Extends entered after → Extends before after
@@ -314,7 +314,7 @@ pub entered_gone : (program : ProgramTree) (reads prefetched answers entered : L
 entered_gone program reads prefetched answers entered due is same =
     ap (λ (l : List ReadAnswer). gone_on program (known_of l prefetched)) same
     ∙ gone_settled program (known_of answers prefetched) (taken_not_due program.prefetch prefetched answers (sym is))
-    ∙ sym (gone_behind program (known_of reads prefetched) (Some answers) due (sym is))
+    ∙ sym (gone_after program (known_of reads prefetched) (Some answers) due (sym is))
 
 pub entered_extends : (keys : List (List ℕ)) (reads entered : List ReadAnswer) → is_due keys reads ≡ true → Extends reads entered
 entered_extends keys reads entered due = record { added = entered; follow = ap (λ (l : List ReadAnswer). l ++ entered) (sym (due_is_nothing keys reads due)) }
@@ -332,21 +332,21 @@ begins_more [] [] (a ∷ more) not begins = record { others = map (λ (x : ReadA
 begins_more (key ∷ keys) [] (a ∷ more) not begins = absurd (cc)
 begins_more keys (a ∷ before) more not begins = record {
   others = begins.others ++ map (λ (x : ReadAnswer). x.key) more;
-  first = map_behind (a ∷ before) more ∙ ap (λ (l : List (List ℕ)). l ++ map (λ (x : ReadAnswer). x.key) more) begins.first
+  first = map_after (a ∷ before) more ∙ ap (λ (l : List (List ℕ)). l ++ map (λ (x : ReadAnswer). x.key) more) begins.first
       ∙ append_assoc keys begins.others (map (λ (x : ReadAnswer). x.key) more);
 }
   where
-    map_behind : (xs ys : List ReadAnswer) → map (λ (x : ReadAnswer). x.key) (xs ++ ys) ≡ map (λ (x : ReadAnswer). x.key) xs ++ map (λ (x : ReadAnswer). x.key) ys
-    map_behind [] ys = refl
-    map_behind (x ∷ xs) ys = ap (λ (l : List (List ℕ)). x.key ∷ l) (map_behind xs ys)
+    map_after : (xs ys : List ReadAnswer) → map (λ (x : ReadAnswer). x.key) (xs ++ ys) ≡ map (λ (x : ReadAnswer). x.key) xs ++ map (λ (x : ReadAnswer). x.key) ys
+    map_after [] ys = refl
+    map_after (x ∷ xs) ys = ap (λ (l : List (List ℕ)). x.key ∷ l) (map_after xs ys)
 
 pub list_begins : (keys : List (List ℕ)) (answers : List ReadAnswer) → map (λ (a : ReadAnswer). a.key) answers ≡ keys → BeginsWithList keys answers
 list_begins keys [] is = tt
-list_begins keys (a ∷ answers) is = record { others = []; first = is ∙ sym (nothing_behind keys) }
+list_begins keys (a ∷ answers) is = record { others = []; first = is ∙ sym (nothing_after keys) }
   where
-    nothing_behind : (l : List (List ℕ)) → l ++ [] ≡ l
-    nothing_behind [] = refl
-    nothing_behind (x ∷ l) = ap (λ (m : List (List ℕ)). x ∷ m) (nothing_behind l)
+    nothing_after : (l : List (List ℕ)) → l ++ [] ≡ l
+    nothing_after [] = refl
+    nothing_after (x ∷ l) = ap (λ (m : List (List ℕ)). x ∷ m) (nothing_after l)
 
 start_begins : (program : ProgramTree) (known : Known) (start : List ReadAnswer) → BeginsWithList program.prefetch known.reads
     → (known.reads ≡ start) ⊎ (answers_of_all program.prefetch known.prefetched ≡ Some start) → BeginsWithList program.prefetch start

@@ -16,7 +16,7 @@ use Rattle.stm_attempt.specs.Entering.{is_due, gone_on}
 use Rattle.stm_attempt.specs.ReadyRun.{ReadyRun, ready_run}
 use Rattle.stm_attempt.specs.AttemptState.{awaited, list_awaited}
 use Rattle.stm_attempt.specs.Next.{next_at_end, next_after}
-use Rattle.stm_attempt.specs.Laws.{BeginsWith, BeginsWithList, SuppliedListComesFirst, SuppliedKeyComesBehind, ReadyBeginsWithTheList}
+use Rattle.stm_attempt.specs.Laws.{BeginsWith, BeginsWithList, SuppliedListComesFirst, SuppliedKeyComesAfter, ReadyBeginsWithTheList}
 use Rattle.stm_attempt.proofs.EnteringLemmas.{begins_more, list_begins, reads_begin_with_the_list}
 use Rattle.stm_attempt.proofs.NextLemmas.{awaits_not_due}
 
@@ -45,8 +45,8 @@ not_due_at (Some p) level known program key has is =
     let same : p ≡ program = cc has in
     ap (λ (q : ProgramTree). is_due q.prefetch known.reads) (sym same) ∙ awaits_not_due p known key is
 
-pub supplied_key_comes_behind : SuppliedKeyComesBehind
-supplied_key_comes_behind program attempt answer has is begins =
+pub supplied_key_comes_after : SuppliedKeyComesAfter
+supplied_key_comes_after program attempt answer has is begins =
     begins_more program.prefetch attempt.known.reads (answer ∷ [])
     (not_due_at attempt.program attempt.level attempt.known program answer.key has is) begins
 

@@ -26,11 +26,11 @@ answers_of_all [] answers = Some []
 answers_of_all (key ∷ keys) answers = with_first (answer_in key answers) (answers_of_all keys answers)
 
 -- after a list that is taken, the reads are settled
-abbrev pub behind_list : ProgramTree → Known → Option (List ReadAnswer) → List ReadAnswer
-behind_list program known None = known.reads
-behind_list program known (Some answers) = settled program (known_of answers known.prefetched)
+abbrev pub after_list : ProgramTree → Known → Option (List ReadAnswer) → List ReadAnswer
+after_list program known None = known.reads
+after_list program known (Some answers) = settled program (known_of answers known.prefetched)
 
 -- The reads as far as what the attempt knows takes it. A list that is due is taken where all of it was prefetched; else it stays due.
 abbrev pub gone_on : ProgramTree → Known → List ReadAnswer
 gone_on program known =
-    if is_due program.prefetch known.reads then behind_list program known (answers_of_all program.prefetch known.prefetched) else settled program known
+    if is_due program.prefetch known.reads then after_list program known (answers_of_all program.prefetch known.prefetched) else settled program known

@@ -56,8 +56,8 @@ SuppliedListComesFirst =
     → list_awaited attempt ≡ Some (map (λ a. a.key) answers) → BeginsWithList program.prefetch (supplied_all answers attempt).known.reads
 
 -- The answer to a key that is awaited stands after what was read before.
-abbrev pub SuppliedKeyComesBehind : Type 0
-SuppliedKeyComesBehind =
+abbrev pub SuppliedKeyComesAfter : Type 0
+SuppliedKeyComesAfter =
     (program : ProgramTree) (attempt : AttemptState) (answer : ReadAnswer) → attempt.program ≡ Some program → awaited attempt ≡ Some answer.key
     → BeginsWithList program.prefetch attempt.known.reads → BeginsWithList program.prefetch (supplied answer attempt).known.reads
 

@@ -1,6 +1,6 @@
 //! The laws of attempts. Each function does nothing: its contract is the law.
 ghost use Rattle.stm_attempt.specs.Laws.{NothingServesTheSettled, SettledIsSettled, RepeatingAnswersTheSame, WhatServesIsTaken, SettlingAddsPrefetched, GoneOnIsGoneOn, ReadsBeginWithTheList, GoingOnKeepsTheBase};
-ghost use Rattle.stm_attempt.specs.Laws.{SuppliedListComesFirst, SuppliedKeyComesBehind, ReadyBeginsWithTheList};
+ghost use Rattle.stm_attempt.specs.Laws.{SuppliedListComesFirst, SuppliedKeyComesAfter, ReadyBeginsWithTheList};
 ghost use Rattle.stm_attempt.specs.Laws.{SettlingKeepsTheBase, FetchingKeepsTheBase, ReadyIsTheRun};
 
 /// A key that an attempt wants after settling is served by no prefetched answer.
@@ -49,8 +49,8 @@ pub fn supplied_list_comes_first()
 {}
 
 /// Where what an attempt has read begins with its program's list, it still does once the answer to a key was supplied.
-pub fn supplied_key_comes_behind()
-    ensures { SuppliedKeyComesBehind }
+pub fn supplied_key_comes_after()
+    ensures { SuppliedKeyComesAfter }
 {}
 
 /// An attempt that is ready has read its program's whole list, before any other key, where what it had read began with the list.

@@ -269,7 +269,7 @@ fn come_to_fetch(
 ///
 /// Where an allocation fails, the program stands where it came to, from where the call can be repeated: it answers then
 /// what it would have answered.
-fn come_behind(
+fn come_after_list(
     alloc: Global,
     program: &Program,
     level: Level,
@@ -326,7 +326,7 @@ pub(crate) fn come_on(
         let keys = list_of(alloc, program)?;
         return Ok(Some(Wanted::List(keys)));
     }
-    let found = come_behind(alloc, program, level, prefetched, reads, progress)?;
+    let found = come_after_list(alloc, program, level, prefetched, reads, progress)?;
     Ok(found)
 }
 

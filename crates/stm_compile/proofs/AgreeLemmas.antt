@@ -156,15 +156,15 @@ unmodified_writes h first (w ∷ writes) i none =
     (omega (arith, below), unmodified_writes h first writes (i + 1) parts.1)
 
 -- none of the compares after those of the keys read fails either, wherever they are counted from
-behind_reads : (h : History) (reads : List ReadAnswer) (others : List Compare) (i : ℕ) →
+after_reads : (h : History) (reads : List ReadAnswer) (others : List Compare) (i : ℕ) →
     first_failed (key_now h) i (map is_as_read reads ++ others) ≡ None → (j : ℕ) × (first_failed (key_now h) j others ≡ None)
-behind_reads h [] others i none = (i, none)
-behind_reads h (a ∷ reads) others i none =
+after_reads h [] others i none = (i, none)
+after_reads h (a ∷ reads) others i none =
     let parts = next_holds (holds (is_as_read a) (key_now h a.key)) (record { index = i; mod_rev = mod_of (key_now h a.key) })
-    (first_failed (key_now h) (i + 1) (map is_as_read reads ++ others)) none in behind_reads h reads others (i + 1) parts.1
+    (first_failed (key_now h) (i + 1) (map is_as_read reads ++ others)) none in after_reads h reads others (i + 1) parts.1
 
 pub written_keys_are_unmodified : WrittenKeysAreUnmodified
 written_keys_are_unmodified h reads writes none =
-    let behind = behind_reads h reads (map (is_unmodified (first_carried reads)) writes) 0 none in
+    let behind = after_reads h reads (map (is_unmodified (first_carried reads)) writes) 0 none in
     All-from_recursion (λ (w : Write). mod_of (key_now h (key_of w)) ≤ first_carried reads) writes
     (unmodified_writes h (first_carried reads) writes behind.0 behind.1)

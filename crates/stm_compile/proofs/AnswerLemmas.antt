@@ -154,8 +154,8 @@ none_second None second none = none
 none_second (Some a) second none = absurd (cc)
 
 -- a key that has no answer has none after the first n
-new_behind : (key : List ℕ) (n : ℕ) (answers : List ReadAnswer) → answer_in key answers ≡ None → answer_in key (drop n answers) ≡ None
-new_behind key n answers new =
+new_after : (key : List ℕ) (n : ℕ) (answers : List ReadAnswer) → answer_in key answers ≡ None → answer_in key (drop n answers) ≡ None
+new_after key n answers new =
     none_second (answer_in key (take n answers)) (answer_in key (drop n answers)) (sym (answer_of_both key n answers _ refl) ∙ new)
 
 -- what a search finds is the answer for the key
@@ -180,7 +180,7 @@ pub read_indexed : (n : ℕ) (answers : List ReadAnswer) (a : ReadAnswer) (place
     ((key : List ℕ) → after key ≡ update bytes_eq places a.key (Some (length (drop n answers))) key) → AreRead n (answers ++ a ∷ []) after
 read_indexed n answers a places after read many new reported = record {
   placed = subst (λ l. AreAnswerPlaces l after) (sym (drop-append-le n answers (a ∷ []) many))
-      (place_added (drop n answers) a places after read.placed (new_behind a.key n answers new) reported);
+      (place_added (drop n answers) a places after read.placed (new_after a.key n answers new) reported);
   distinct = distinct_added answers a read.distinct new;
 }
 

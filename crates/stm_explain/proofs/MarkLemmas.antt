@@ -2,7 +2,7 @@
 use Rattle.std.proofs.Common.{◌≡◌, ◌∙◌, ℕ, ◌+◌, ◌-◌, ◌≤◌, List, [], ◌∷◌, ◌++◌, length, take, drop, Bool, true, false, if◌then◌else◌, nat_eq, refl, sym, ap, subst, arith}
 use Rattle.std.proofs.Math.Seq.{take-add}
 use Rattle.std.proofs.lemmas.List.{length-take-le}
-use Rattle.stm_explain.specs.Positions.{next, place_from, place_behind}
+use Rattle.stm_explain.specs.Positions.{next, place_from, place_after}
 use Rattle.stm_explain.specs.declared.marked.Mark.{Mark}
 use Rattle.stm_explain.specs.Marks.{IsMark}
 
@@ -42,4 +42,4 @@ mark-on text m next is behind within on =
     let rest : List ℕ = take more (drop m.offset text) in
     let all : take next.offset text ≡ so_far ++ rest =
     ap (λ (n : ℕ). take n text) (let e : next.offset ≡ m.offset + more = omega (arith, behind) in e) ∙ take-add m.offset more text in
-    (within, on ∙ ap (λ (p : ℕ × ℕ). place_from p rest) is.1 ∙ sym (place-append (1, 1) so_far rest) ∙ ap place_behind (sym all))
+    (within, on ∙ ap (λ (p : ℕ × ℕ). place_from p rest) is.1 ∙ sym (place-append (1, 1) so_far rest) ∙ ap place_after (sym all))

@@ -1,6 +1,6 @@
 -- Explanations of faults.
 use Rattle.std.specs.Prelude.{◌≡◌, ◌⊎◌, ℕ, ◌≤◌, List, [], ◌++◌, length, take, codes, decimal}
-use Rattle.stm_explain.specs.Positions.{place_behind}
+use Rattle.stm_explain.specs.Positions.{place_after}
 
 -- a line of explanation: the name of the file, the line and the column, and what is said
 abbrev pub explanation : List ℕ → ℕ → ℕ → List ℕ → List ℕ
@@ -9,13 +9,13 @@ explanation name line column words = name ++ codes ":" ++ decimal line ++ codes 
 -- it is one with these words, whose line and column are those of an offset in the text
 abbrev pub IsExplanationOf : List ℕ → List ℕ → List ℕ → List ℕ → Type 0
 IsExplanationOf name text words said =
-    (offset : ℕ) × (offset ≤ length text) × (said ≡ explanation name (place_behind (take offset text)).0 (place_behind (take offset text)).1 words)
+    (offset : ℕ) × (offset ≤ length text) × (said ≡ explanation name (place_after (take offset text)).0 (place_after (take offset text)).1 words)
 
 -- it is one with some words
 abbrev pub IsExplanation : List ℕ → List ℕ → List ℕ → Type 0
 IsExplanation name text said =
     (offset : ℕ) × (offset ≤ length text) × (words : List ℕ)
-    × (said ≡ explanation name (place_behind (take offset text)).0 (place_behind (take offset text)).1 words)
+    × (said ≡ explanation name (place_after (take offset text)).0 (place_after (take offset text)).1 words)
 
 -- it is one, or nothing is said
 abbrev pub ExplainsOrNothing : List ℕ → List ℕ → List ℕ → Type 0

@@ -10,5 +10,5 @@ place_from at [] = at
 place_from at (b ∷ bs) = place_from (next at b) bs
 
 -- the line and the column after a prefix of a text, which begins at line 1 and column 1
-abbrev pub place_behind : List ℕ → ℕ × ℕ
-place_behind bytes = place_from (1, 1) bytes
+abbrev pub place_after : List ℕ → ℕ × ℕ
+place_after bytes = place_from (1, 1) bytes

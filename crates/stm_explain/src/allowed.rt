@@ -11,7 +11,7 @@ use strsim::levenshtein;
 const MOST_NEAR: usize = 60;
 
 /// The elements that follow a word, where it is one of these.
-fn behind(forms: &[(&str, Parts)], word: &str) -> Option<Parts> {
+fn elements_after(forms: &[(&str, Parts)], word: &str) -> Option<Parts> {
     for form in forms {
         if form.0 == word {
             return Some(form.1);
@@ -21,19 +21,19 @@ fn behind(forms: &[(&str, Parts)], word: &str) -> Option<Parts> {
 }
 
 /// The elements that follow a word in such a place, where the word is allowed there.
-pub(crate) fn parts_behind(part: Part, word: &str) -> Option<Parts> {
+pub(crate) fn parts_after(part: Part, word: &str) -> Option<Parts> {
     match part {
-        Part::Event => behind(&EVENTS, word),
-        Part::Beginning => behind(&BEGINNINGS, word),
-        Part::Level => behind(&LEVELS, word),
-        Part::FirstElement => behind(&FIRST_ELEMENTS, word),
-        Part::Statement => behind(&STATEMENTS, word),
-        Part::Expression => behind(&EXPRESSIONS, word),
-        Part::Condition => behind(&CONDITIONS, word),
-        Part::Compare => behind(&COMPARES, word),
-        Part::Operation => behind(&OPERATIONS, word),
-        Part::Order => behind(&ORDERS, word),
-        Part::Line => behind(&LINES, word),
+        Part::Event => elements_after(&EVENTS, word),
+        Part::Beginning => elements_after(&BEGINNINGS, word),
+        Part::Level => elements_after(&LEVELS, word),
+        Part::FirstElement => elements_after(&FIRST_ELEMENTS, word),
+        Part::Statement => elements_after(&STATEMENTS, word),
+        Part::Expression => elements_after(&EXPRESSIONS, word),
+        Part::Condition => elements_after(&CONDITIONS, word),
+        Part::Compare => elements_after(&COMPARES, word),
+        Part::Operation => elements_after(&OPERATIONS, word),
+        Part::Order => elements_after(&ORDERS, word),
+        Part::Line => elements_after(&LINES, word),
         _ => None,
     }
 }

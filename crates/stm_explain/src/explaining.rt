@@ -2,7 +2,7 @@
 ghost use Rattle.std.specs.Prelude.{◌≡◌, ◌≤◌, length, IfOk, string_bytes};
 ghost use Rattle.stm_explain.specs.Explaining.{IsExplanation, IsExplanationOf, explanation};
 
-use crate::allowed::{described, noun, parts_behind, words_allowed};
+use crate::allowed::{described, noun, parts_after, words_allowed};
 use crate::forms::{Input, Part, Parts};
 use crate::offsets::{line_length, line_start, offset_of};
 use crate::position::position_of;
@@ -97,7 +97,7 @@ fn misworded(
     word: &str,
     elements: &[Value],
 ) -> Result<String, AllocError> {
-    match parts_behind(found.part, word) {
+    match parts_after(found.part, word) {
         Some(parts) => miscounted(alloc, input, word, parts, elements.len()),
         None => match found.value.get(0) {
             Some(first) => unknown(alloc, found.part, word, first),
@@ -147,7 +147,7 @@ fn misshaped_line(alloc: Global, found: Found<'_>) -> Result<String, AllocError>
     let Some(word) = first.as_str() else {
         return unfit(alloc, found);
     };
-    match parts_behind(Part::Line, word) {
+    match parts_after(Part::Line, word) {
         Some(_) => unfit_line(alloc, found, word),
         None => unknown(alloc, Part::Line, word, first),
     }

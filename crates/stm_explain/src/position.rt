@@ -1,6 +1,6 @@
 //! Lines and columns.
 ghost use Rattle.std.specs.Prelude.{◌≡◌, ◌≤◌, ◌+◌, ◌^◌, length, take};
-ghost use Rattle.stm_explain.specs.Positions.{next as next_place, place_behind, place_from};
+ghost use Rattle.stm_explain.specs.Positions.{next as next_place, place_after, place_from};
 
 /// Where a byte of a file stands.
 #[derive(Clone, Copy, Debug, PartialEq, Eq)]
@@ -56,7 +56,7 @@ impl Position {
 /// The line is one more than the number of line feeds before it, the column one more than the number of bytes since the last of them.
 pub fn position_of(text: &[u8], offset: usize) -> Position
     requires { offset ≤ length text.now }
-    ensures { (result.line, result.column) ≡ place_behind (take offset text.now) }
+    ensures { (result.line, result.column) ≡ place_after (take offset text.now) }
 {
     position_from(Position::first(), &text[..offset])
 }

@@ -10,7 +10,7 @@ use std::alloc::{AllocError, Global};
 const MOST_DEPTH: usize = 127;
 
 /// How many arrays and objects are still open after these bytes.
-fn depth_behind(bytes: &[u8]) -> usize {
+fn depth_after(bytes: &[u8]) -> usize {
     let mut depth = 0usize;
     let mut is_text = false;
     let mut is_escaped = false;
@@ -76,7 +76,7 @@ fn reason_at(alloc: Global, text: &[u8], offset: usize) -> Result<String, AllocE
     requires { offset ≤ length text.now }
 {
     let (before, rest) = text.split_at(offset);
-    let depth = depth_behind(before);
+    let depth = depth_after(before);
     if std::str::from_utf8(text).is_err() {
         return String::from_str(alloc, "no JSON: what stands here is not UTF-8");
     }

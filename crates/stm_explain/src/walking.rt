@@ -1,6 +1,6 @@
 //! From the place of a fault to the value there, and to what is expected in its place.
 
-use crate::allowed::parts_behind;
+use crate::allowed::parts_after;
 use crate::forms::Part;
 use serde_json::Value;
 use std::alloc::{AllocError, Global};
@@ -37,7 +37,7 @@ fn begins(value: &Value) -> bool {
 /// What is expected at an index of an array that begins with a word; `None` where the word is not allowed, or has nothing there.
 fn part_of(part: Part, array: &Value, index: usize) -> Option<Part> {
     let (word, _) = worded_array(array)?;
-    parts_behind(part, word)?.at(index)
+    parts_after(part, word)?.at(index)
 }
 
 /// What is expected at an index of a scenario, whose element there is this.

@@ -9,7 +9,7 @@ use Rattle.stm_schedules.specs.Places.{Place, moves, moved}
 use Rattle.stm_schedules.specs.Keeping.{first_of, goes_on}
 use Rattle.stm_schedules.specs.Outcomes.{Ends, ends_moved}
 use Rattle.stm_schedules.specs.Fewer.{quiet_runner, fewer_bad_at, fewer_go_on, fewer_outcomes_at, FewerAreEnough}
-use Rattle.stm_explore.specs.Seen.{looks, seen_go_on, bad_behind, outcomes_behind}
+use Rattle.stm_explore.specs.Seen.{looks, seen_go_on, bad_after, outcomes_after}
 
 first_by : {A B : Type 0} (f : A → Option B) (x : A) (xs : List A) (b : Bool) → first_of f (cond b (x ∷ xs) xs) ≡ option_or (cond b (f x) None) (first_of f xs)
 first_by f x xs true = refl
@@ -22,7 +22,7 @@ first_of-filter f test (x ∷ xs) =
     first_by f x (filter test xs) (test x) ∙ ap (option_or (cond (test x) (f x) None)) (first_of-filter f test xs)
 
 pub fewer_bad : (keep : World → Bool) (n : ℕ) (last : Option ℕ) (p : Place) →
-    fewer_bad_at keep (suc n) last p ≡ first_of (bad_behind keep n last p) (moves p)
+    fewer_bad_at keep (suc n) last p ≡ first_of (bad_after keep n last p) (moves p)
 fewer_bad keep n last p =
     first_of-filter (λ (m : Move). option_map (λ (ms : List Move). m ∷ ms) (fewer_bad_at keep n (quiet_runner m p.world) (moved m p))) (looks last p) (moves p)
 
@@ -37,7 +37,7 @@ flat_map-filter f test (x ∷ xs) =
     flat_by f x (filter test xs) (test x) ∙ ap (λ l. cond (test x) (f x) [] ++ l) (flat_map-filter f test xs)
 
 pub fewer_outcomes : (n : ℕ) (last : Option ℕ) (p : Place) (ends : Ends) →
-    fewer_outcomes_at (suc n) last p ends ≡ flat_map (outcomes_behind n last p ends) (moves p)
+    fewer_outcomes_at (suc n) last p ends ≡ flat_map (outcomes_after n last p ends) (moves p)
 fewer_outcomes n last p ends =
     flat_map-filter (λ (m : Move). fewer_outcomes_at n (quiet_runner m p.world) (moved m p) (ends_moved m p ends)) (looks last p) (moves p)
 

@@ -9,7 +9,7 @@ use Rattle.stm_schedules.specs.declared.outcome.Outcome.{Outcome}
 use Rattle.stm_schedules.specs.declared.moves.Move.{Move}
 use Rattle.stm_schedules.specs.Places.{Place, moves, moved}
 use Rattle.stm_schedules.specs.Fewer.{quiet_runner, fewer_outcomes_at, FewerAreEnough}
-use Rattle.stm_explore.specs.Seen.{looks, seen_go_on, goes_on_behind, outcomes_behind}
+use Rattle.stm_explore.specs.Seen.{looks, seen_go_on, goes_on_after, outcomes_after}
 use Rattle.stm_explore.proofs.FewerLooks.{fewer_outcomes}
 use Rattle.stm_explore.proofs.LookLemmas.{passes, passes_here, passes_left, go_on_deeper}
 use Rattle.stm_schedules.specs.Outcomes.{Ends, ends_moved, shown, outcome_if_whole, outcomes_at}
@@ -123,39 +123,39 @@ leads_end left all found start none so_far =
     so_far.leads found (subst (λ (l : List Outcome). Gathers l found found) (sym none) (gathers_nothing found))
 
 pub outcomes_at_deeper : (n : ℕ) (last : Option ℕ) (p : Place) (ends : Ends) → n ≢ 0 →
-    fewer_outcomes_at n last p ends ≡ flat_map (outcomes_behind (n - 1) last p ends) (moves p)
+    fewer_outcomes_at n last p ends ≡ flat_map (outcomes_after (n - 1) last p ends) (moves p)
 outcomes_at_deeper zero last p ends more = absurd (more refl)
 outcomes_at_deeper (suc n) last p ends more = let e : suc n - 1 ≡ n = omega arith in rw e (fewer_outcomes n last p ends)
 
 -- what is yet to be gathered after the moves that are left, and whether some schedule goes on after a move so far or one that is left
 pub record CollectedSoFar (n : ℕ) (last : Option ℕ) (p : Place) (ends : Ends) (more : Bool) (left : List Move) (found start : List Outcome) : Type 0 where
-  pub leading : LeadsTo (flat_map (outcomes_behind (n - 1) last p ends) left) (fewer_outcomes_at n last p ends) found start
-  pub going : passes more (goes_on_behind (n - 1) last p) left ≡ seen_go_on n last p
+  pub leading : LeadsTo (flat_map (outcomes_after (n - 1) last p ends) left) (fewer_outcomes_at n last p ends) found start
+  pub going : passes more (goes_on_after (n - 1) last p) left ≡ seen_go_on n last p
 
 pub collected_none : (n : ℕ) (last : Option ℕ) (p : Place) (ends : Ends) (ms : List Move) (start : List Outcome) → n ≢ 0 → ms ≡ moves p →
     CollectedSoFar n last p ends false ms start start
 collected_none n last p ends ms start deep is = record {
-  leading = let e : flat_map (outcomes_behind (n - 1) last p ends) ms ≡ fewer_outcomes_at n last p ends
-      = ap (flat_map (outcomes_behind (n - 1) last p ends)) is ∙ sym (outcomes_at_deeper n last p ends deep) in
+  leading = let e : flat_map (outcomes_after (n - 1) last p ends) ms ≡ fewer_outcomes_at n last p ends
+      = ap (flat_map (outcomes_after (n - 1) last p ends)) is ∙ sym (outcomes_at_deeper n last p ends deep) in
       subst (λ (l : List Outcome). LeadsTo l (fewer_outcomes_at n last p ends) start start) (sym e) (leads_all (fewer_outcomes_at n last p ends) start);
-  going = ap (list_any (goes_on_behind (n - 1) last p)) is ∙ sym (go_on_deeper n last p deep);
+  going = ap (list_any (goes_on_after (n - 1) last p)) is ∙ sym (go_on_deeper n last p deep);
 }
 
 pub collected_more : (n : ℕ) (last : Option ℕ) (p : Place) (ends : Ends) (ms : List Move) (i : ℕ) (m : Move) (so_far more : Bool) (found next start : List Outcome) →
-    i < length ms → m ≡ get_or ms i m → more ≡ goes_on_behind (n - 1) last p m → Gathers (outcomes_behind (n - 1) last p ends m) found next →
+    i < length ms → m ≡ get_or ms i m → more ≡ goes_on_after (n - 1) last p m → Gathers (outcomes_after (n - 1) last p ends m) found next →
     CollectedSoFar n last p ends so_far (drop i ms) found start → CollectedSoFar n last p ends (so_far || more) (drop (i + 1) ms) next start
 collected_more n last p ends ms i m so_far more found next start within is reported gathers old =
-    let f : Move → List Outcome = outcomes_behind (n - 1) last p ends in
+    let f : Move → List Outcome = outcomes_after (n - 1) last p ends in
     record {
       leading = leads_more (f m) (flat_map f (drop (i + 1) ms)) (flat_map f (drop i ms)) (fewer_outcomes_at n last p ends) found next start
           (flat_more f ms i m within is) gathers old.leading;
-      going = passes_here so_far more (goes_on_behind (n - 1) last p) ms i m within is reported ∙ old.going;
+      going = passes_here so_far more (goes_on_after (n - 1) last p) ms i m within is reported ∙ old.going;
     }
 
 -- the same by what one turn of the loop has
 pub collected_next : (n : ℕ) (last : Option ℕ) (p : Place) (ends : Ends) (ms : List Move) (i : ℕ) (d : Move) (so_far more next_more : Bool)
-    (found next start : List Outcome) → Gathers (outcomes_behind (n - 1) last p ends (get_or ms i d)) found next →
-    more ≡ goes_on_behind (n - 1) last p (get_or ms i d) → i < length ms → next_more ≡ (so_far || more) →
+    (found next start : List Outcome) → Gathers (outcomes_after (n - 1) last p ends (get_or ms i d)) found next →
+    more ≡ goes_on_after (n - 1) last p (get_or ms i d) → i < length ms → next_more ≡ (so_far || more) →
     CollectedSoFar n last p ends so_far (drop i ms) found start → CollectedSoFar n last p ends next_more (drop (i + 1) ms) next start
 collected_next n last p ends ms i d so_far more next_more found next start gathers reported within is old =
     subst (λ (b : Bool). CollectedSoFar n last p ends b (drop (i + 1) ms) next start) (sym is)
@@ -164,43 +164,43 @@ collected_next n last p ends ms i d so_far more next_more found next start gathe
 -- the same where the world and the ends came to be what they were at first
 pub collected_next_here : (n : ℕ) (last : Option ℕ) (p : Place) (w : World) (ends known : Ends) (ms : List Move) (i : ℕ) (d : Move) (so_far more next_more : Bool)
     (found next start : List Outcome) → w ≡ p.world → known ≡ ends →
-    Gathers (outcomes_behind (n - 1) last (record { world = w; others = p.others }) known (get_or ms i d)) found next →
-    more ≡ goes_on_behind (n - 1) last (record { world = w; others = p.others }) (get_or ms i d) → i < length ms → next_more ≡ (so_far || more) →
+    Gathers (outcomes_after (n - 1) last (record { world = w; others = p.others }) known (get_or ms i d)) found next →
+    more ≡ goes_on_after (n - 1) last (record { world = w; others = p.others }) (get_or ms i d) → i < length ms → next_more ≡ (so_far || more) →
     CollectedSoFar n last p ends so_far (drop i ms) found start → CollectedSoFar n last p ends next_more (drop (i + 1) ms) next start
 collected_next_here n last p w ends known ms i d so_far more next_more found next start same alike gathers reported =
     collected_next n last p ends ms i d so_far more next_more found next start
-    (subst (λ (v : World). Gathers (outcomes_behind (n - 1) last (record { world = v; others = p.others }) ends (get_or ms i d)) found next) same
-    (subst (λ (e : Ends). Gathers (outcomes_behind (n - 1) last (record { world = w; others = p.others }) e (get_or ms i d)) found next) alike gathers))
-    (reported ∙ ap (λ (v : World). goes_on_behind (n - 1) last (record { world = v; others = p.others }) (get_or ms i d)) same)
+    (subst (λ (v : World). Gathers (outcomes_after (n - 1) last (record { world = v; others = p.others }) ends (get_or ms i d)) found next) same
+    (subst (λ (e : Ends). Gathers (outcomes_after (n - 1) last (record { world = w; others = p.others }) e (get_or ms i d)) found next) alike gathers))
+    (reported ∙ ap (λ (v : World). goes_on_after (n - 1) last (record { world = v; others = p.others }) (get_or ms i d)) same)
 
 pub collected_all : (n : ℕ) (last : Option ℕ) (p : Place) (ends : Ends) (ms : List Move) (i : ℕ) (so_far : Bool) (found start : List Outcome) → length ms ≤ i →
     CollectedSoFar n last p ends so_far (drop i ms) found start → (so_far ≡ seen_go_on n last p) × Gathers (fewer_outcomes_at n last p ends) start found
 collected_all n last p ends ms i so_far found start end old = (
-  sym (passes_left so_far (goes_on_behind (n - 1) last p) ms i end) ∙ old.going,
-  leads_end (flat_map (outcomes_behind (n - 1) last p ends) (drop i ms)) (fewer_outcomes_at n last p ends) found start
-      (flat_end (outcomes_behind (n - 1) last p ends) ms i end) old.leading,
+  sym (passes_left so_far (goes_on_after (n - 1) last p) ms i end) ∙ old.going,
+  leads_end (flat_map (outcomes_after (n - 1) last p ends) (drop i ms)) (fewer_outcomes_at n last p ends) found start
+      (flat_end (outcomes_after (n - 1) last p ends) ms i end) old.leading,
 )
 
 -- ---- after a move ----
 
 -- a move that is looked at
-pub going_behind : (n : ℕ) (last : Option ℕ) (m : Move) (p : Place) (more : Bool) → looks last p m ≡ true →
-    more ≡ seen_go_on n (quiet_runner m p.world) (moved m p) → more ≡ goes_on_behind n last p m
-going_behind n last m p more kept going =
+pub going_after : (n : ℕ) (last : Option ℕ) (m : Move) (p : Place) (more : Bool) → looks last p m ≡ true →
+    more ≡ seen_go_on n (quiet_runner m p.world) (moved m p) → more ≡ goes_on_after n last p m
+going_after n last m p more kept going =
     going ∙ ap (λ (b : Bool). cond b (seen_go_on n (quiet_runner m p.world) (moved m p)) false) (sym kept)
 
-pub gathers_behind : (n : ℕ) (last : Option ℕ) (m : Move) (p : Place) (ends : Ends) (old new : List Outcome) → looks last p m ≡ true →
-    Gathers (fewer_outcomes_at n (quiet_runner m p.world) (moved m p) (ends_moved m p ends)) old new → Gathers (outcomes_behind n last p ends m) old new
-gathers_behind n last m p ends old new kept gathers =
+pub gathers_after : (n : ℕ) (last : Option ℕ) (m : Move) (p : Place) (ends : Ends) (old new : List Outcome) → looks last p m ≡ true →
+    Gathers (fewer_outcomes_at n (quiet_runner m p.world) (moved m p) (ends_moved m p ends)) old new → Gathers (outcomes_after n last p ends m) old new
+gathers_after n last m p ends old new kept gathers =
     subst (λ (b : Bool). Gathers (cond b (fewer_outcomes_at n (quiet_runner m p.world) (moved m p) (ends_moved m p ends)) []) old new) (sym kept) gathers
 
 -- and one that is not
-pub not_going_behind : (n : ℕ) (last : Option ℕ) (m : Move) (p : Place) → looks last p m ≡ false → false ≡ goes_on_behind n last p m
-not_going_behind n last m p not = ap (λ (b : Bool). cond b (seen_go_on n (quiet_runner m p.world) (moved m p)) false) (sym not)
+pub not_going_after : (n : ℕ) (last : Option ℕ) (m : Move) (p : Place) → looks last p m ≡ false → false ≡ goes_on_after n last p m
+not_going_after n last m p not = ap (λ (b : Bool). cond b (seen_go_on n (quiet_runner m p.world) (moved m p)) false) (sym not)
 
-pub nothing_behind : (n : ℕ) (last : Option ℕ) (m : Move) (p : Place) (ends : Ends) (found : List Outcome) → looks last p m ≡ false →
-    Gathers (outcomes_behind n last p ends m) found found
-nothing_behind n last m p ends found not =
+pub nothing_after : (n : ℕ) (last : Option ℕ) (m : Move) (p : Place) (ends : Ends) (found : List Outcome) → looks last p m ≡ false →
+    Gathers (outcomes_after n last p ends m) found found
+nothing_after n last m p ends found not =
     subst (λ (b : Bool). Gathers (cond b (fewer_outcomes_at n (quiet_runner m p.world) (moved m p) (ends_moved m p ends)) []) found found) (sym not)
     (gathers_nothing found)
 

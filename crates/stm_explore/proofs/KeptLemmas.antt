@@ -19,7 +19,7 @@ use Rattle.stm_schedules.proofs.BadSchedules.{kept_here}
 use Rattle.stm_schedules.proofs.Exchanging.{runner_does}
 use Rattle.stm_schedules.proofs.Members.{IsAmong, among, or_none, map_none, none_found}
 use Rattle.stm_explore.specs.declared.looked.Looked.TheVariants.{Kept}
-use Rattle.stm_explore.specs.Seen.{looks, bad_behind, IsSeen, KeptBefore, KeptBehind}
+use Rattle.stm_explore.specs.Seen.{looks, bad_after, IsSeen, KeptBefore, KeptAfter}
 use Rattle.stm_explore.proofs.FewerLooks.{fewer_bad}
 
 -- ---- the rule after a quiet step
@@ -44,20 +44,20 @@ quiet_by true id runner is = refl
 quiet_by false id runner is = absurd (cc)
 
 -- the state after a quiet step keeps what the state before it keeps
-kept_behind_quiet : (rule : ProgramTree) (m : Move) (p : Place) (runner : ℕ) → quiet_runner m p.world ≡ Some runner → keeps rule p.world ≡ true →
+kept_after_quiet : (rule : ProgramTree) (m : Move) (p : Place) (runner : ℕ) → quiet_runner m p.world ≡ Some runner → keeps rule p.world ≡ true →
     keeps rule (moved m p).world ≡ true
-kept_behind_quiet rule (StepOf id) p runner is kept =
+kept_after_quiet rule (StepOf id) p runner is kept =
     same_standing rule p.world (step (Step id) p.world).next (quiet_standing id p.world (quiet_by (is_quiet id p.world) id runner is)) kept
-kept_behind_quiet rule Other p runner is kept = absurd (cc)
+kept_after_quiet rule Other p runner is kept = absurd (cc)
 
 kept_there : (rule : ProgramTree) (m : Move) (p : Place) (quiet : Option ℕ) → quiet_runner m p.world ≡ quiet → keeps rule p.world ≡ true →
     KeptBefore rule 0 quiet (moved m p)
 kept_there rule m p None is kept = tt
-kept_there rule m p (Some runner) is kept = kept_behind_quiet rule m p runner is kept
+kept_there rule m p (Some runner) is kept = kept_after_quiet rule m p runner is kept
 
 -- ---- what is known at the next move
 
-kept_at_move : (rule : ProgramTree) (n : ℕ) (last : Option ℕ) (m : Move) (p : Place) → looks last p m ≡ true → KeptBehind rule n last p m →
+kept_at_move : (rule : ProgramTree) (n : ℕ) (last : Option ℕ) (m : Move) (p : Place) → looks last p m ≡ true → KeptAfter rule n last p m →
     KeptBefore rule n (quiet_runner m p.world) (moved m p)
 kept_at_move rule zero last m p looked kept = kept_there rule m p (quiet_runner m p.world) refl kept
 kept_at_move rule (suc n) last m p looked kept =
@@ -67,34 +67,34 @@ kept_at_move rule (suc n) last m p looked kept =
 
 -- the same at a place by its parts
 pub kept_at : (rule : ProgramTree) (n : ℕ) (last quiet : Option ℕ) (m : Move) (p q : Place) → looks last p m ≡ true →
-    quiet ≡ quiet_runner m p.world → q.world ≡ (moved m p).world → q.others ≡ (moved m p).others → KeptBehind rule n last p m → KeptBefore rule n quiet q
+    quiet ≡ quiet_runner m p.world → q.world ≡ (moved m p).world → q.others ≡ (moved m p).others → KeptAfter rule n last p m → KeptBefore rule n quiet q
 kept_at rule n last quiet m p q looked is world others kept =
     let same : q ≡ moved m p = λ i. record { world = world i; others = others i } in
     subst (λ (place : Place). KeptBefore rule n quiet place) (sym same)
     (subst (λ (l : Option ℕ). KeptBefore rule n l (moved m p)) (sym is) (kept_at_move rule n last m p looked kept))
 
-behind_each : (rule : ProgramTree) (n : ℕ) (last : Option ℕ) (p : Place) (m : Move) → IsAmong m (moves p) → fewer_bad_at (keeps rule) n last p ≡ None →
-    KeptBehind rule n last p m
-behind_each rule zero last p m a none = kept_here (keeps rule p.world) none
-behind_each rule (suc n) last p m a none =
-    none_found (bad_behind (keeps rule) n last p) (moves p) m (sym (fewer_bad (keeps rule) n last p) ∙ none) a
+after_each : (rule : ProgramTree) (n : ℕ) (last : Option ℕ) (p : Place) (m : Move) → IsAmong m (moves p) → fewer_bad_at (keeps rule) n last p ≡ None →
+    KeptAfter rule n last p m
+after_each rule zero last p m a none = kept_here (keeps rule p.world) none
+after_each rule (suc n) last p m a none =
+    none_found (bad_after (keeps rule) n last p) (moves p) m (sym (fewer_bad (keeps rule) n last p) ∙ none) a
 
 -- what is known of a place is known of each move that can be made there
 kept_at_each : (rule : ProgramTree) (n : ℕ) (last : Option ℕ) (p : Place) (ms : List Move) (i : ℕ) (d : Move) → n ≢ 0 → ms ≡ moves p →
-    i < length ms → KeptBefore rule n last p → KeptBehind rule (n - 1) last p (get_or ms i d)
+    i < length ms → KeptBefore rule n last p → KeptAfter rule (n - 1) last p (get_or ms i d)
 kept_at_each rule zero last p ms i d deep is within kept = absurd (deep refl)
 kept_at_each rule (suc n) last p ms i d deep is within kept =
     let m : Move = get_or ms i d in
     let e : suc n - 1 ≡ n = omega arith in
     let a : IsAmong m ms = among m ms (i, within, get_or_default ms i m d within) in
-    subst (λ (k : ℕ). KeptBehind rule k last p m) (sym e)
-    (behind_each rule n last p m (subst (λ (l : List Move). IsAmong m l) is a) kept)
+    subst (λ (k : ℕ). KeptAfter rule k last p m) (sym e)
+    (after_each rule n last p m (subst (λ (l : List Move). IsAmong m l) is a) kept)
 
 -- the same where the world is what it was at first
 pub kept_at_each_here : (rule : ProgramTree) (n : ℕ) (last : Option ℕ) (p : Place) (w : World) (ms : List Move) (i : ℕ) (d : Move) → w ≡ p.world → n ≢ 0 →
-    ms ≡ moves p → i < length ms → KeptBefore rule n last p → KeptBehind rule (n - 1) last (record { world = w; others = p.others }) (get_or ms i d)
+    ms ≡ moves p → i < length ms → KeptBefore rule n last p → KeptAfter rule (n - 1) last (record { world = w; others = p.others }) (get_or ms i d)
 kept_at_each_here rule n last p w ms i d same deep is within kept =
-    subst (λ (v : World). KeptBehind rule (n - 1) last (record { world = v; others = p.others }) (get_or ms i d)) (sym same)
+    subst (λ (v : World). KeptAfter rule (n - 1) last (record { world = v; others = p.others }) (get_or ms i d)) (sym same)
     (kept_at_each rule n last p ms i d deep is within kept)
 
 pub kept_at_end : (rule : ProgramTree) (n : ℕ) (last : Option ℕ) (p : Place) → n ≡ 0 → KeptBefore rule n last p → KeptBefore rule 0 last p

@@ -31,21 +31,21 @@ IsSeen rule n last p (Broken ms end) =
 
 -- ---- the same after a move, nothing where it is not looked at
 
-abbrev pub bad_behind : (World → Bool) → ℕ → Option ℕ → Place → Move → Option (List Move)
-bad_behind keep n last p m =
+abbrev pub bad_after : (World → Bool) → ℕ → Option ℕ → Place → Move → Option (List Move)
+bad_after keep n last p m =
     if looks last p m then option_map (λ (ms : List Move). m ∷ ms) (fewer_bad_at keep n (quiet_runner m p.world) (moved m p)) else None
 
-abbrev pub goes_on_behind : ℕ → Option ℕ → Place → Move → Bool
-goes_on_behind n last p m = if looks last p m then seen_go_on n (quiet_runner m p.world) (moved m p) else false
+abbrev pub goes_on_after : ℕ → Option ℕ → Place → Move → Bool
+goes_on_after n last p m = if looks last p m then seen_go_on n (quiet_runner m p.world) (moved m p) else false
 
-abbrev pub outcomes_behind : ℕ → Option ℕ → Place → Ends → Move → List Outcome
-outcomes_behind n last p ends m =
+abbrev pub outcomes_after : ℕ → Option ℕ → Place → Ends → Move → List Outcome
+outcomes_after n last p ends m =
     if looks last p m then fewer_outcomes_at n (quiet_runner m p.world) (moved m p) (ends_moved m p ends) else []
 
-abbrev pub IsSeenBehind : ProgramTree → ℕ → Option ℕ → Move → Place → Looked → Type 0
-IsSeenBehind rule n last m p (Kept more) = (bad_behind (keeps rule) n last p m ≡ None) × (more ≡ goes_on_behind n last p m)
-IsSeenBehind rule n last m p (Broken ms end) =
-    (bad_behind (keeps rule) n last p m ≡ Some ms) × (end_alone rule (place_after ms p).world ≡ Some end)
+abbrev pub IsSeenAfter : ProgramTree → ℕ → Option ℕ → Move → Place → Looked → Type 0
+IsSeenAfter rule n last m p (Kept more) = (bad_after (keeps rule) n last p m ≡ None) × (more ≡ goes_on_after n last p m)
+IsSeenAfter rule n last m p (Broken ms end) =
+    (bad_after (keeps rule) n last p m ≡ Some ms) × (end_alone rule (place_after ms p).world ≡ Some end)
 
 -- what was seen after a move, as it is reported with this move in front
 abbrev pub in_front_of : Move → Looked → Looked
@@ -61,6 +61,6 @@ KeptBefore rule zero (Some runner) p = keeps rule p.world ≡ true
 KeptBefore rule (suc n) last p = fewer_bad_at (keeps rule) n last p ≡ None
 
 -- the same after a move, if it is looked at, and of the place before it
-abbrev pub KeptBehind : ProgramTree → ℕ → Option ℕ → Place → Move → Type 0
-KeptBehind rule zero last p m = keeps rule p.world ≡ true
-KeptBehind rule (suc n) last p m = bad_behind (keeps rule) n last p m ≡ None
+abbrev pub KeptAfter : ProgramTree → ℕ → Option ℕ → Place → Move → Type 0
+KeptAfter rule zero last p m = keeps rule p.world ≡ true
+KeptAfter rule (suc n) last p m = bad_after (keeps rule) n last p m ≡ None

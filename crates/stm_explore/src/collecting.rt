@@ -7,7 +7,7 @@ ghost use Rattle.stm_schedules.specs.Fewer.{fewer_outcomes_at};
 ghost use Rattle.stm_schedules.specs.Outcomes.{outcome_if_whole};
 ghost use Rattle.stm_schedules.specs.Places.{moves};
 ghost use Rattle.stm_explore.specs.Gathering.{Gathers};
-ghost use Rattle.stm_explore.specs.Seen.{seen_go_on, goes_on_behind, outcomes_behind};
+ghost use Rattle.stm_explore.specs.Seen.{seen_go_on, goes_on_after, outcomes_after};
 ghost use Rattle.stm_explore.specs.declared.halt.Halt.TheVariants.{Spent};
 
 use crate::budget::{Budget, Observer};
@@ -70,7 +70,7 @@ fn collect<O: Observer>(
     let mut goes_on = false;
     for chosen in choices {
         left -= 1;
-        let more = collect_behind(
+        let more = collect_after(
             alloc,
             world,
             others,
@@ -90,7 +90,7 @@ fn collect<O: Observer>(
 /// Adds the outcomes of whole schedules that have `depth` moves after this one, if one more event may be taken. It is made on copies of the
 /// world and of the ends, while other moves are left to be gone through from there, and else in these themselves.
 #[cycle(collect)]
-fn collect_behind<O: Observer>(
+fn collect_after<O: Observer>(
     alloc: Global,
     world: &mut World,
     others: &[WorldEvent],
@@ -102,8 +102,8 @@ fn collect_behind<O: Observer>(
     found: &mut Vec<Outcome>,
     budget: &mut Budget<O>,
 ) -> Result<bool, Halt>
-    ensures more { IfOk result (λ more. more ≡ goes_on_behind depth last (record { world = world.old; others = others.now }) chosen) }
-    ensures found { OnOk result (Gathers (outcomes_behind depth last (record { world = world.old; others = others.now }) ends.old.items chosen) found.old.items found.new.items) }
+    ensures more { IfOk result (λ more. more ≡ goes_on_after depth last (record { world = world.old; others = others.now }) chosen) }
+    ensures found { OnOk result (Gathers (outcomes_after depth last (record { world = world.old; others = others.now }) ends.old.items chosen) found.old.items found.new.items) }
     ensures within { budget.new.left ≤ budget.old.left }
     ensures spent { IsErrOf result Spent → budget.new.left ≡ 0 }
     ensures taken { OnOk result (budget.new.left < budget.old.left) }
@@ -144,8 +144,8 @@ fn collect_aside<O: Observer>(
     found: &mut Vec<Outcome>,
     budget: &mut Budget<O>,
 ) -> Result<bool, Halt>
-    ensures more { IfOk result (λ more. more ≡ goes_on_behind depth last (record { world = world.now; others = others.now }) chosen) }
-    ensures found { OnOk result (Gathers (outcomes_behind depth last (record { world = world.now; others = others.now }) ends.now chosen) found.old.items found.new.items) }
+    ensures more { IfOk result (λ more. more ≡ goes_on_after depth last (record { world = world.now; others = others.now }) chosen) }
+    ensures found { OnOk result (Gathers (outcomes_after depth last (record { world = world.now; others = others.now }) ends.now chosen) found.old.items found.new.items) }
     ensures within { budget.new.left ≤ budget.old.left }
     ensures spent { IsErrOf result Spent → budget.new.left ≡ 0 }
 {
@@ -172,8 +172,8 @@ fn collect_moved<O: Observer>(
     found: &mut Vec<Outcome>,
     budget: &mut Budget<O>,
 ) -> Result<bool, Halt>
-    ensures more { IfOk result (λ more. more ≡ goes_on_behind depth last (record { world = world.old; others = others.now }) chosen) }
-    ensures found { OnOk result (Gathers (outcomes_behind depth last (record { world = world.old; others = others.now }) ends.old.items chosen) found.old.items found.new.items) }
+    ensures more { IfOk result (λ more. more ≡ goes_on_after depth last (record { world = world.old; others = others.now }) chosen) }
+    ensures found { OnOk result (Gathers (outcomes_after depth last (record { world = world.old; others = others.now }) ends.old.items chosen) found.old.items found.new.items) }
     ensures within { budget.new.left ≤ budget.old.left }
     ensures spent { IsErrOf result Spent → budget.new.left ≡ 0 }
 {

@@ -40,7 +40,7 @@ fn in_front(first: Move, moves: Sequence<Move>) -> Result<Sequence<Move>, AllocE
 
 impl Looked {
     /// What was seen after a move, as it is seen before it.
-    pub(crate) fn behind(self, first: Move) -> Result<Looked, AllocError>
+    pub(crate) fn after(self, first: Move) -> Result<Looked, AllocError>
         ensures { IfOk result (λ looked. looked ≡ in_front_of first self) }
     {
         match self {

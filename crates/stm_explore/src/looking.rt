@@ -7,7 +7,7 @@
 ghost use Rattle.std.specs.Prelude.{◌≡◌, ◌<◌, ◌≤◌, true, None, IfOk, OnOk, IsErrOf};
 ghost use Rattle.stm_explore.specs.declared.halt.Halt.TheVariants.{Spent};
 ghost use Rattle.stm_explore.specs.declared.looked.Looked.TheVariants.{Kept};
-ghost use Rattle.stm_explore.specs.Seen.{IsSeen, IsSeenBehind, KeptBefore, KeptBehind};
+ghost use Rattle.stm_explore.specs.Seen.{IsSeen, IsSeenAfter, KeptBefore, KeptAfter};
 
 use crate::budget::{Budget, Observer};
 use crate::halt::Halt;
@@ -76,7 +76,7 @@ fn look<O: Observer>(
     let mut goes_on = false;
     for chosen in choices {
         left -= 1;
-        match look_behind(
+        match look_after(
             alloc,
             rule,
             world,
@@ -97,7 +97,7 @@ fn look<O: Observer>(
 /// Looks at all places `depth` moves after a move, if one more event may be taken. The move is made on a copy of the world, while other
 /// moves are left to be looked at from there, and else in the world itself.
 #[cycle(look)]
-fn look_behind<O: Observer>(
+fn look_after<O: Observer>(
     alloc: Global,
     rule: &Program,
     world: &mut World,
@@ -108,8 +108,8 @@ fn look_behind<O: Observer>(
     depth: u64,
     budget: &mut Budget<O>,
 ) -> Result<Looked, Halt>
-    requires { KeptBehind rule.now depth last (record { world = world.old; others = others.now }) chosen }
-    ensures seen { IfOk result (IsSeenBehind rule.now depth last chosen (record { world = world.old; others = others.now })) }
+    requires { KeptAfter rule.now depth last (record { world = world.old; others = others.now }) chosen }
+    ensures seen { IfOk result (IsSeenAfter rule.now depth last chosen (record { world = world.old; others = others.now })) }
     ensures within { budget.new.left ≤ budget.old.left }
     ensures spent { IsErrOf result Spent → budget.new.left ≡ 0 }
     ensures taken { OnOk result (budget.new.left < budget.old.left) }
@@ -136,8 +136,8 @@ fn look_aside<O: Observer>(
     depth: u64,
     budget: &mut Budget<O>,
 ) -> Result<Looked, Halt>
-    requires { KeptBehind rule.now depth last (record { world = world.now; others = others.now }) chosen }
-    ensures seen { IfOk result (IsSeenBehind rule.now depth last chosen (record { world = world.now; others = others.now })) }
+    requires { KeptAfter rule.now depth last (record { world = world.now; others = others.now }) chosen }
+    ensures seen { IfOk result (IsSeenAfter rule.now depth last chosen (record { world = world.now; others = others.now })) }
     ensures within { budget.new.left ≤ budget.old.left }
     ensures spent { IsErrOf result Spent → budget.new.left ≡ 0 }
 {
@@ -160,8 +160,8 @@ fn look_moved<O: Observer>(
     depth: u64,
     budget: &mut Budget<O>,
 ) -> Result<Looked, Halt>
-    requires { KeptBehind rule.now depth last (record { world = world.old; others = others.now }) chosen }
-    ensures seen { IfOk result (IsSeenBehind rule.now depth last chosen (record { world = world.old; others = others.now })) }
+    requires { KeptAfter rule.now depth last (record { world = world.old; others = others.now }) chosen }
+    ensures seen { IfOk result (IsSeenAfter rule.now depth last chosen (record { world = world.old; others = others.now })) }
     ensures within { budget.new.left ≤ budget.old.left }
     ensures spent { IsErrOf result Spent → budget.new.left ≡ 0 }
 {
@@ -176,7 +176,7 @@ fn look_moved<O: Observer>(
             depth,
             budget,
         )?;
-        let seen = looked.behind(chosen)?;
+        let seen = looked.after(chosen)?;
         return Ok(seen);
     }
     Ok(Looked::Kept { goes_on: false })

@@ -4,7 +4,7 @@ use Rattle.std.proofs.Common.{Some, None, option_map, if◌then◌else◌, refl,
 use Rattle.std.specs.List.{list_any}
 use Rattle.std.proofs.lemmas.List.Folds.{list_any_more}
 use Rattle.stm_events.specs.declared.event.WorldEvent.{WorldEvent}
-use Rattle.stm_schedules.specs.Scenarios.{is_start, has_start, up_to_last_start, behind_last_start}
+use Rattle.stm_schedules.specs.Scenarios.{is_start, has_start, up_to_last_start, after_last_start}
 use Rattle.stm_exploring.specs.Asking.{is_step, first_step}
 
 neither : (a b : Bool) → (a || b) ≡ false → (a ≡ false) × (b ≡ false)
@@ -13,9 +13,9 @@ neither false b e = (refl, e)
 
 -- ---- the first step
 
-first_behind : (b : Bool) (es : List WorldEvent) (i : ℕ) → b ≡ false → first_step es ≡ Some i
+first_after : (b : Bool) (es : List WorldEvent) (i : ℕ) → b ≡ false → first_step es ≡ Some i
     → (if b then Some 0 else option_map suc (first_step es)) ≡ Some (suc i)
-first_behind b es i none found = rw (none, found) refl
+first_after b es i none found = rw (none, found) refl
 
 -- a step before which no step stands is the first one
 pub first_step_at : (es : List WorldEvent) (i : ℕ) (e : WorldEvent) → i < length es → e ≡ get_or es i e → list_any is_step (take i es) ≡ false
@@ -24,7 +24,7 @@ first_step_at [] i e within at none is = absurd (omega (arith, within))
 first_step_at (x ∷ es) zero e within at none is = rw (sym (ap is_step at) ∙ is) refl
 first_step_at (x ∷ es) (suc i) e within at none is =
     let parts = neither (is_step x) (list_any is_step (take i es)) none in
-    first_behind (is_step x) es i parts.0 (first_step_at es i e (omega (arith, within)) at parts.1 is)
+    first_after (is_step x) es i parts.0 (first_step_at es i e (omega (arith, within)) at parts.1 is)
 
 -- one more event that is no step
 pub no_step_yet : (es : List WorldEvent) (i : ℕ) (e : WorldEvent) → i < length es → e ≡ get_or es i e → list_any is_step (take i es) ≡ false
@@ -40,7 +40,7 @@ no_step (x ∷ es) none =
 
 -- ---- the last start
 
-pub no_setup : (es : List WorldEvent) → has_start es ≡ false → (up_to_last_start es ≡ []) × (behind_last_start es ≡ es)
+pub no_setup : (es : List WorldEvent) → has_start es ≡ false → (up_to_last_start es ≡ []) × (after_last_start es ≡ es)
 no_setup [] none = (refl, refl)
 no_setup (x ∷ es) none = (rw none refl, rw none refl)
 
@@ -48,7 +48,7 @@ no_setup (x ∷ es) none = (rw none refl, rw none refl)
 pub record LastStart (es : List WorldEvent) (i : ℕ) : Type 0 where
   pub some : has_start es ≡ true
   pub front : take (suc i) es ≡ up_to_last_start es
-  pub rest : drop (suc i) es ≡ behind_last_start es
+  pub rest : drop (suc i) es ≡ after_last_start es
 
 started : (b c : Bool) → c ≡ true → (b || c) ≡ true
 started true c is = refl

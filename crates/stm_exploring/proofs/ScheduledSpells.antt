@@ -10,7 +10,7 @@ use Rattle.stm_texts.specs.Laws.{AreSpelled}
 use Rattle.stm_texts.proofs.WrittenScenarios.{scenarios_spell}
 use Rattle.stm_schedules.specs.declared.moves.Move.{Move}
 use Rattle.stm_schedules.specs.declared.moves.Move.TheVariants.{Step, Other}
-use Rattle.stm_schedules.specs.Scenarios.{has_start, up_to_last_start, behind_last_start, at_level, with_schedule}
+use Rattle.stm_schedules.specs.Scenarios.{has_start, up_to_last_start, after_last_start, at_level, with_schedule}
 use Rattle.stm_schedules.specs.Schedules.{events_along}
 use Rattle.stm_texts.specs.Grammar.{level_text, SpellsEvent, SpellsOpening, SpellsElements, SpellsScenario}
 use Rattle.stm_texts.specs.Reading.{scenario_in}
@@ -84,12 +84,12 @@ setup_spelled : (es : List WorldEvent) → AreSpelled es → AreSpelled (up_to_l
 setup_spelled [] all = tt
 setup_spelled (e ∷ es) (s, others) = setup_of (has_start (e ∷ es)) e es s (setup_spelled es others)
 
-others_of : (b : Bool) (e : WorldEvent) (es : List WorldEvent) → AreSpelled (e ∷ es) → AreSpelled (behind_last_start es)
-    → AreSpelled (cond b (behind_last_start es) (e ∷ es))
+others_of : (b : Bool) (e : WorldEvent) (es : List WorldEvent) → AreSpelled (e ∷ es) → AreSpelled (after_last_start es)
+    → AreSpelled (cond b (after_last_start es) (e ∷ es))
 others_of true e es all rest = rest
 others_of false e es all rest = all
 
-others_spelled : (es : List WorldEvent) → AreSpelled es → AreSpelled (behind_last_start es)
+others_spelled : (es : List WorldEvent) → AreSpelled es → AreSpelled (after_last_start es)
 others_spelled [] all = tt
 others_spelled (e ∷ es) (s, others) = others_of (has_start (e ∷ es)) e es (s, others) (others_spelled es others)
 
@@ -104,8 +104,8 @@ along_spelled (Other ∷ ms) (e ∷ es) numbered (s, rest) = (s, along_spelled m
 
 schedule_spelled : (es : List WorldEvent) (ms : List Move) → AreNumbered ms → AreSpelled es → AreSpelled (with_schedule es ms)
 schedule_spelled es ms numbered all =
-    append_spelled (up_to_last_start es) (events_along ms (behind_last_start es)) (setup_spelled es all)
-    (along_spelled ms (behind_last_start es) numbered (others_spelled es all))
+    append_spelled (up_to_last_start es) (events_along ms (after_last_start es)) (setup_spelled es all)
+    (along_spelled ms (after_last_start es) numbered (others_spelled es all))
 
 -- ---- the law
 

@@ -1,7 +1,7 @@
 //! Where the schedules of a scenario begin.
 ghost use Rattle.std.specs.Prelude.{◌≡◌, ◌≤◌, [], length, take, drop, IfOk, OnOk};
 ghost use Rattle.stm_schedules.specs.Outcomes.{after_replies};
-ghost use Rattle.stm_schedules.specs.Scenarios.{is_start, up_to_last_start, behind_last_start};
+ghost use Rattle.stm_schedules.specs.Scenarios.{is_start, up_to_last_start, after_last_start};
 ghost use Rattle.stm_world.specs.World.{world_after, replies_to};
 
 use std::alloc::{AllocError, Global};
@@ -21,7 +21,7 @@ fn is_start(event: &WorldEvent) -> bool
 fn setup_length(events: &[WorldEvent]) -> usize
     ensures within { result ≤ length events.now }
     ensures front { take result events.now ≡ up_to_last_start events.now }
-    ensures rest { drop result events.now ≡ behind_last_start events.now }
+    ensures rest { drop result events.now ≡ after_last_start events.now }
 {
     let mut count = events.len();
     while count > 0 {
@@ -36,7 +36,7 @@ fn setup_length(events: &[WorldEvent]) -> usize
 /// The events up to and including the last start, and those after it.
 pub(crate) fn setup_and_others(events: &[WorldEvent]) -> (&[WorldEvent], &[WorldEvent])
     ensures setup { result.0.now ≡ up_to_last_start events.now }
-    ensures others { result.1.now ≡ behind_last_start events.now }
+    ensures others { result.1.now ≡ after_last_start events.now }
 {
     events.split_at(setup_length(events))
 }

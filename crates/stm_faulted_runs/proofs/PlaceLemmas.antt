@@ -22,7 +22,7 @@ use Rattle.stm_sites.specs.Sites.{block_site, site_of}
 use Rattle.stm_sites.specs.Found.{fault_by, fault_of}
 use Rattle.stm_sites.specs.Laws.{front, StopsFirst}
 use Rattle.stm_sites.proofs.SiteLemmas.{sites_are_first}
-use Rattle.stm_faulted_runs.specs.Places.{BeginsBelow, behind}
+use Rattle.stm_faulted_runs.specs.Places.{BeginsBelow, counted_from}
 
 -- ---- how many statements a block has
 
@@ -97,7 +97,7 @@ first_below most [] index some is below = absurd (omega arith)
 first_below most (n ∷ place) index some is below = subst (λ (m : ℕ). m < most) (sym is) below
 
 pub place_pushed : (first index : ℕ) (old place : List ℕ) → 1 ≤ length place → index ≡ get_or place 0 index →
-    (old ++ (first + index) ∷ []) ++ take (length place - 1) (drop 1 place) ≡ old ++ behind first place
+    (old ++ (first + index) ∷ []) ++ take (length place - 1) (drop 1 place) ≡ old ++ counted_from first place
 place_pushed first index old [] some is = absurd (omega arith)
 place_pushed first index old (n ∷ place) some is =
     ap (λ (rest : List ℕ). (old ++ (first + index) ∷ []) ++ rest) (take_rest (n ∷ place) 1)

@@ -32,9 +32,9 @@ abbrev pub first_in : Data → ℕ → ℕ
 first_in scenario element = first_of_program (option_and_then (at 3) (at element scenario))
 
 -- a place in the statements of a program, of which the first is the element with this index
-abbrev pub behind : ℕ → List ℕ → List ℕ
-behind first [] = []
-behind first (index ∷ inner) = (first + index) ∷ inner
+abbrev pub counted_from : ℕ → List ℕ → List ℕ
+counted_from first [] = []
+counted_from first (index ∷ inner) = (first + index) ∷ inner
 
 -- a place begins below a number
 abbrev pub BeginsBelow : ℕ → List ℕ → Type 0
@@ -50,7 +50,7 @@ ReturnsPlace place more = (reason : List ℕ) × (more ≡ codes " at " ++ point
 abbrev pub IsMore : Data → ℕ → Fault → Option FoundFault → List ℕ → Type 0
 IsMore scenario element fault None more = more ≡ []
 IsMore scenario element fault (Some found) more =
-    ((found.fault ≡ fault) × ReturnsPlace (element ∷ 3 ∷ behind (first_in scenario element) found.site.place) more) ⊎ ((found.fault ≢ fault) × (more ≡ []))
+    ((found.fault ≡ fault) × ReturnsPlace (element ∷ 3 ∷ counted_from (first_in scenario element) found.site.place) more) ⊎ ((found.fault ≢ fault) × (more ≡ []))
 
 -- ---- the runs that events begin
 

@@ -18,7 +18,7 @@ use Rattle.stm_texts.specs.Opens.{setup_of}
 use Rattle.stm_explain.specs.Explaining.{IsExplanationOf}
 use Rattle.stm_sites.specs.declared.finding.FoundFault.{FoundFault}
 use Rattle.stm_sites.specs.Found.{fault_of}
-use Rattle.stm_faulted_runs.specs.Places.{behind, ReturnsPlace}
+use Rattle.stm_faulted_runs.specs.Places.{counted_from, ReturnsPlace}
 
 abbrev pub rule_head : Fault → List ℕ
 rule_head fault = fault_name fault ++ codes " of the rule"
@@ -26,7 +26,7 @@ rule_head fault = fault_name fault ++ codes " of the rule"
 -- a line of explanation of a fault, with its place in the rule's text, in which the first statement is the element with this index
 abbrev pub IsRuleLine : List ℕ → List ℕ → ℕ → FoundFault → List ℕ → Type 0
 IsRuleLine name text first found line =
-    (more : List ℕ) × ReturnsPlace (behind first found.site.place) more × IsExplanationOf name text (rule_head found.fault ++ more) line
+    (more : List ℕ) × ReturnsPlace (counted_from first found.site.place) more × IsExplanationOf name text (rule_head found.fault ++ more) line
 
 -- the line of the fault that was found, and nothing where none was
 abbrev pub IsRuleSaid : List ℕ → List ℕ → ℕ → Option FoundFault → List ℕ → Type 0

@@ -4,7 +4,7 @@ ghost use Rattle.serde_json.specs.View.{view};
 ghost use Rattle.stm_json.specs.Outcome.{step};
 ghost use Rattle.stm_program.specs.declared.limits.TheConstants.{MAX_NODES};
 ghost use Rattle.stm_sites.specs.Found.{fault_of};
-ghost use Rattle.stm_faulted_runs.specs.Places.{pointer, behind, first_in, BeginsBelow, ReturnsPlace, IsMore, IsMoreOf};
+ghost use Rattle.stm_faulted_runs.specs.Places.{pointer, counted_from, first_in, BeginsBelow, ReturnsPlace, IsMore, IsMoreOf};
 ghost use Rattle.stm_faulted_runs.specs.Origins.{origin_in};
 
 use crate::reasons::reason;
@@ -90,7 +90,7 @@ pub(crate) fn fault_in_program<L: Lookup>(
 fn push_place(steps: &mut Vec<usize>, first: usize, place: &[usize]) -> Result<(), AllocError>
     requires first { first ≤ 1 }
     requires few { BeginsBelow MAX_NODES place.now }
-    ensures { OnOk result (steps.new.items ≡ steps.old.items ++ behind first place.now) }
+    ensures { OnOk result (steps.new.items ≡ steps.old.items ++ counted_from first place.now) }
 {
     match place {
         [] => Ok(()),
@@ -111,7 +111,7 @@ pub(crate) fn place_of_fault(
 ) -> Result<Place, AllocError>
     requires first { first ≤ 1 }
     requires few { BeginsBelow MAX_NODES found.now.site.place }
-    ensures { IfOk result (λ place. ReturnsPlace (steps.items ++ behind first found.now.site.place) (string_bytes place.more)) }
+    ensures { IfOk result (λ place. ReturnsPlace (steps.items ++ counted_from first found.now.site.place) (string_bytes place.more)) }
 {
     let mut steps = steps;
     push_place(&mut steps, first, found.site.place.as_slice())?;
@@ -158,7 +158,7 @@ fn place_in_element(
     found: &FoundFault,
 ) -> Result<Place, AllocError>
     requires { BeginsBelow MAX_NODES found.now.site.place }
-    ensures { IfOk result (λ place. ReturnsPlace (element ∷ 3 ∷ behind (first_in (view scenario.now) element) found.now.site.place) (string_bytes place.more)) }
+    ensures { IfOk result (λ place. ReturnsPlace (element ∷ 3 ∷ counted_from (first_in (view scenario.now) element) found.now.site.place) (string_bytes place.more)) }
 {
     let first = first_in(scenario, element);
     let mut steps = Vec::new(alloc);

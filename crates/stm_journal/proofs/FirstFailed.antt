@@ -87,16 +87,16 @@ fails_first state from (c ∷ cs) ds f is = by (holds c (state c.key)) is (fails
     by true found later = later found
     by false found later = found
 
-pub fails_behind : (state : List ℕ → Option KeyState) (from behind : ℕ) (cs ds : List Compare) → first_failed state from cs ≡ None →
+pub fails_after : (state : List ℕ → Option KeyState) (from behind : ℕ) (cs ds : List Compare) → first_failed state from cs ≡ None →
     behind ≡ from + length cs → first_failed state from (cs ++ ds) ≡ first_failed state behind ds
-fails_behind state from behind [] ds none is =
+fails_after state from behind [] ds none is =
     let there : behind ≡ from + zero = is in
     let same : from ≡ behind = omega (arith, there) in
     ap (λ (n : ℕ). first_failed state n ds) same
-fails_behind state from behind (c ∷ cs) ds none is =
+fails_after state from behind (c ∷ cs) ds none is =
     let there : behind ≡ from + suc (length cs) = is in
     let next : behind ≡ (from + 1) + length cs = omega (arith, there) in
-    by (holds c (state c.key)) none (λ later. fails_behind state (from + 1) behind cs ds later next)
+    by (holds c (state c.key)) none (λ later. fails_after state (from + 1) behind cs ds later next)
   where
     by : (b : Bool) → cond b (first_failed state (from + 1) cs) (found_at from (mod_of (state c.key))) ≡ None →
         (first_failed state (from + 1) cs ≡ None → first_failed state (from + 1) (cs ++ ds) ≡ first_failed state behind ds) →

@@ -119,9 +119,9 @@ alone_reads ds (Then s b) (a, rest, is, t, u) f =
     let all = program_block 0 (item a rest) (Then s b) (a, rest, refl, t, u) f in
     rw is (rw (none, all) refl)
 
-behind_reads : (ds : Items) (p : ProgramTree) (a : Data) (rest : Items) → ds ≡ item a rest → SpellsList a p.prefetch → SpellsStatements rest p.statements
+after_reads : (ds : Items) (p : ProgramTree) (a : Data) (rest : Items) → ds ≡ item a rest → SpellsList a p.prefetch → SpellsStatements rest p.statements
     → ListParts p.prefetch → BlockFits MAX_DEPTH MAX_NODES p.statements → program_list (Some ds) ≡ Ok p
-behind_reads ds p a rest is list s parts f =
+after_reads ds p a rest is list s parts f =
     let read = list_reads a p.prefetch list parts in
     let all = program_block 1 rest p.statements s f in
     rw is (rw (read.1, read.2, all) refl)
@@ -132,7 +132,7 @@ elements_read ds p (inl (none, s)) f =
     alone_reads ds p.statements s b
     ∙ ap (λ (keys : List (List ℕ)). (let o : Outcome ProgramTree = Ok (record { statements = p.statements; prefetch = keys }) in o)) (sym none)
 elements_read ds p (inr (a, rest, is, list, s)) f =
-    behind_reads ds p a rest is list s (list_parts_of p.prefetch (list_of_program p.prefetch (BlockFits MAX_DEPTH MAX_NODES p.statements) f))
+    after_reads ds p a rest is list s (list_parts_of p.prefetch (list_of_program p.prefetch (BlockFits MAX_DEPTH MAX_NODES p.statements) f))
     (statements_fit p.prefetch (BlockFits MAX_DEPTH MAX_NODES p.statements) f)
 
 -- a program within the limits that data spell is read

@@ -176,16 +176,16 @@ abbrev listing : List (List ℕ) → Block → ProgramTree
 listing keys b = record { statements = b; prefetch = keys }
 
 -- after a list that was read, or the fault of the list
-behind_fault : (ds : Items) (reading : Outcome (List (List ℕ))) (first : Option BadInput)
+after_fault : (ds : Items) (reading : Outcome (List (List ℕ))) (first : Option BadInput)
     → first ≡ after_number (at [] 0) MAX_NODES reading (marks_of_steps 1 [] 1 ds)
     → first ≡ fault_of (within 0 reading >>= λ keys. statements_from (statement_at MAX_DEPTH) 1 MAX_NODES ds >>= λ b. Ok (listing keys b.0))
-behind_fault ds (Ok keys) first h = h ∙ program_steps 1 ds ∙ reported (listing keys) (statements_from (statement_at MAX_DEPTH) 1 MAX_NODES ds)
-behind_fault ds (Err f) first h = h
+after_fault ds (Ok keys) first h = h ∙ program_steps 1 ds ∙ reported (listing keys) (statements_from (statement_at MAX_DEPTH) 1 MAX_NODES ds)
+after_fault ds (Err f) first h = h
 
 list_tested : (parts ds all : Items) (b : Bool)
     → first_of_marks MAX_NODES (cond b (marks_of_list (at [] 0) parts ++ marks_of_steps 1 [] 1 ds) (marks_of_steps 1 [] 0 all))
     ≡ fault_of (program_after (cond b (Some parts) None) all ds)
-list_tested parts ds all true = behind_fault ds (list_of (one_of parts)) _ (list_marked (at [] 0) MAX_NODES parts (marks_of_steps 1 [] 1 ds))
+list_tested parts ds all true = after_fault ds (list_of (one_of parts)) _ (list_marked (at [] 0) MAX_NODES parts (marks_of_steps 1 [] 1 ds))
 list_tested parts ds all false = alone_fault all
 
 elements_fault : (d : Data) (ds : Items) → first_of_marks MAX_NODES (marks_of_elements (item d ds)) ≡ fault_of (program_after (list_parts (worded d)) (item d ds) ds)

@@ -18,7 +18,7 @@ use Rattle.stm_program_json.specs.declared.words.Simple.TheVariants as simple
 use Rattle.stm_json.specs.Parts.{same}
 use Rattle.stm_program_json.specs.Words.{expression_word, condition_word, statement_word}
 use Rattle.stm_json.specs.Faults.{at}
-use Rattle.stm_program_json.specs.FirstFault.{Mark, Node, Sort, Value, Test, Step, Block, Count, wrong, number_marks, parts_behind, marks_if, marks_in}
+use Rattle.stm_program_json.specs.FirstFault.{Mark, Node, Sort, Value, Test, Step, Block, Count, wrong, number_marks, parts_after, marks_if, marks_in}
 use Rattle.stm_program_json.specs.FirstFault.{marks_of_parts, marks_of_steps}
 use Rattle.stm_program_json.proofs.ReaderMarks.{expression_of_one, expression_of_two, expression_inner, condition_of_one, condition_of_two, condition_inner}
 use Rattle.stm_program_json.proofs.ReaderMarks.{statement_of_one, statement_of_two, statement_of_three, statement_of_four, statement_inner, block_marks}
@@ -62,8 +62,8 @@ statement_parts (Some statement.If) = Some (Test ∷ Block ∷ Block ∷ [])
 statement_parts (Some statement.For) = Some (Count MAX_VARIABLE ∷ Value ∷ Count MAX_TURNS ∷ Block ∷ [])
 statement_parts (Some (statement.Simple s)) = Some (Value ∷ [])
 
-expression_table : (w : List ℕ) → parts_behind Value w ≡ expression_parts (expression_word w)
-unfolding parts_behind expression_word
+expression_table : (w : List ℕ) → parts_after Value w ≡ expression_parts (expression_word w)
+unfolding parts_after expression_word
 expression_table w =
     picked expression_parts
     (same w (codes "var") ∷ same w (codes "get") ∷ same w (codes "rev") ∷ same w (codes "text_of") ∷ same w (codes "num_of")
@@ -73,16 +73,16 @@ expression_table w =
     ∷ Some (expression.Binary (binary.Arithmetic Add)) ∷ Some (expression.Binary (binary.Arithmetic Sub)) ∷ Some (expression.Binary (binary.Arithmetic Mul))
     ∷ Some (expression.Binary (binary.Arithmetic Div)) ∷ Some (expression.Binary (binary.Arithmetic Rem)) ∷ []) None
 
-condition_table : (w : List ℕ) → parts_behind Test w ≡ condition_parts (condition_word w)
-unfolding parts_behind condition_word
+condition_table : (w : List ℕ) → parts_after Test w ≡ condition_parts (condition_word w)
+unfolding parts_after condition_word
 condition_table w =
     picked condition_parts
     (same w (codes "eq") ∷ same w (codes "less") ∷ same w (codes "not") ∷ same w (codes "and") ∷ same w (codes "or") ∷ [])
     (Some (condition.Comparison comparison.Equal) ∷ Some (condition.Comparison comparison.Less) ∷ Some condition.Not
     ∷ Some (condition.Connective connective.And) ∷ Some (condition.Connective connective.Or) ∷ []) None
 
-statement_table : (w : List ℕ) → parts_behind Step w ≡ statement_parts (statement_word w)
-unfolding parts_behind statement_word
+statement_table : (w : List ℕ) → parts_after Step w ≡ statement_parts (statement_word w)
+unfolding parts_after statement_word
 statement_table w =
     picked statement_parts
     (same w (codes "set") ∷ same w (codes "put") ∷ same w (codes "if") ∷ same w (codes "for")

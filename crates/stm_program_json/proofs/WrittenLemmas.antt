@@ -9,7 +9,7 @@ use Rattle.stm_program_json.specs.Grammar.{SpellsExpression, SpellsCondition, Sp
 use Rattle.stm_json.specs.Parts.{spelled}
 use Rattle.stm_json.specs.Elements.{SpellsNumber}
 use Rattle.stm_program_json.specs.Reading.{program_of}
-use Rattle.stm_program_json.specs.Writing.{written_number, written_expression, written_condition, written_statement, written_statements, written_keys, behind_list, written_program}
+use Rattle.stm_program_json.specs.Writing.{written_number, written_expression, written_condition, written_statement, written_statements, written_keys, after_list, written_program}
 use Rattle.stm_program_json.proofs.StatementComplete.{program_reads}
 
 number_spells : (z : ℤ) → SpellsNumber (number (of_integer z)) z
@@ -74,21 +74,21 @@ keys_spell [] = refl
 keys_spell (key ∷ keys) = (written_keys keys, refl, keys_spell keys)
 
 elements_spell : (keys : List (List ℕ)) (b : Block)
-    → SpellsElements (behind_list keys (written_statements b)) (record { statements = b; prefetch = keys })
+    → SpellsElements (after_list keys (written_statements b)) (record { statements = b; prefetch = keys })
 elements_spell [] b = inl (refl, statements_spell b)
 elements_spell (key ∷ keys) b =
     let list : Data = spelled (codes "prefetch") (array (written_keys (key ∷ keys)) ∷ []) in
     inr (list, written_statements b, refl, (written_keys (key ∷ keys), refl, keys_spell (key ∷ keys)), statements_spell b)
 
 pub written_program-spells : (p : ProgramTree) → SpellsProgram (written_program p) p
-written_program-spells p = (behind_list p.prefetch (written_statements p.statements), refl, elements_spell p.prefetch p.statements)
+written_program-spells p = (after_list p.prefetch (written_statements p.statements), refl, elements_spell p.prefetch p.statements)
 
 -- the same, for data, keys and statements that are equal to these
-pub written_as : (d : Data) (keys : List (List ℕ)) (b : Block) (p : ProgramTree) → d ≡ array (behind_list keys (written_statements b)) → keys ≡ p.prefetch
+pub written_as : (d : Data) (keys : List (List ℕ)) (b : Block) (p : ProgramTree) → d ≡ array (after_list keys (written_statements b)) → keys ≡ p.prefetch
     → b ≡ p.statements → d ≡ written_program p
 written_as d keys b p e f g =
-    e ∙ ap (λ (ks : List (List ℕ)). array (behind_list ks (written_statements b))) f
-    ∙ ap (λ (c : Block). array (behind_list p.prefetch (written_statements c))) g
+    e ∙ ap (λ (ks : List (List ℕ)). array (after_list ks (written_statements b))) f
+    ∙ ap (λ (c : Block). array (after_list p.prefetch (written_statements c))) g
 
 pub spells_as : (d : Data) (p : ProgramTree) → d ≡ written_program p → SpellsProgram d p
 spells_as d p e = subst (λ (x : Data). SpellsProgram x p) (sym e) (written_program-spells p)

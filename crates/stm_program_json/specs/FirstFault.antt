@@ -79,8 +79,8 @@ words_of Block = []
 words_of (Count limit) = []
 
 -- the sorts of the parts after a word, where something of this sort begins with it
-unfoldable pub parts_behind : Sort → List ℕ → Option (List Sort)
-parts_behind sort word = lookup (bytes_eq word) (words_of sort)
+unfoldable pub parts_after : Sort → List ℕ → Option (List Sort)
+parts_after sort word = lookup (bytes_eq word) (words_of sort)
 
 -- there are as many elements as parts
 abbrev pub are_as_many : List Sort → Items → Bool
@@ -107,7 +107,7 @@ abbrev mutual
   marks_in Value k p (number n) = whole_marks p (as_integer n)
   marks_in Block k p (array ds) = marks_of_steps k p 0 ds
   marks_in (Count limit) k p d = number_marks p limit d
-  marks_in sort k p (array (item (string word) ds)) = marks_if p (parts_behind sort word) ds (λ sorts. marks_of_parts k p 1 sorts ds)
+  marks_in sort k p (array (item (string word) ds)) = marks_if p (parts_after sort word) ds (λ sorts. marks_of_parts k p 1 sorts ds)
   marks_in sort k p _ = wrong p Shape
 
   -- the parts of a node, from an index on
@@ -154,15 +154,15 @@ abbrev pub is_list : Data → Bool
 is_list (array (item (string w) ds)) = bytes_eq w (codes "prefetch")
 is_list _ = false
 
-abbrev pub behind_word : Data → Items
-behind_word (array (item d ds)) = ds
-behind_word _ = no_items
+abbrev pub after_word : Data → Items
+after_word (array (item d ds)) = ds
+after_word _ = no_items
 
 -- the elements of a program: its statements, after its list where it has one
 abbrev pub marks_of_elements : Items → List Mark
 marks_of_elements no_items = []
 marks_of_elements (item d ds) =
-    if is_list d then marks_of_list (at [] 0) (behind_word d) ++ marks_of_steps 1 [] 1 ds else marks_of_steps 1 [] 0 (item d ds)
+    if is_list d then marks_of_list (at [] 0) (after_word d) ++ marks_of_steps 1 [] 1 ds else marks_of_steps 1 [] 0 (item d ds)
 
 abbrev pub program_marks : Data → List Mark
 program_marks (array ds) = marks_of_elements ds

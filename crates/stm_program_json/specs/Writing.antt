@@ -55,10 +55,10 @@ written_keys [] = no_items
 written_keys (key ∷ keys) = item (string key) (written_keys keys)
 
 -- a list is written where it has keys
-abbrev pub behind_list : List (List ℕ) → Items → Items
-behind_list [] ds = ds
-behind_list (key ∷ keys) ds = item (spelled (codes "prefetch") (array (written_keys (key ∷ keys)) ∷ [])) ds
+abbrev pub after_list : List (List ℕ) → Items → Items
+after_list [] ds = ds
+after_list (key ∷ keys) ds = item (spelled (codes "prefetch") (array (written_keys (key ∷ keys)) ∷ [])) ds
 
 -- a program is the array of its statements, after its list
 abbrev pub written_program : ProgramTree → Data
-written_program p = array (behind_list p.prefetch (written_statements p.statements))
+written_program p = array (after_list p.prefetch (written_statements p.statements))

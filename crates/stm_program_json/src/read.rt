@@ -57,7 +57,7 @@ pub fn first_statement(value: &Value) -> usize
 }
 
 /// The program of the list that these parts spell, the elements after its word, and of the statements that follow it.
-fn program_behind(alloc: Global, parts: &[Value], rest: &[Value]) -> Result<Program, ReadError>
+fn program_after_list(alloc: Global, parts: &[Value], rest: &[Value]) -> Result<Program, ReadError>
     ensures { (all : Items) → Returns (λ p. p) result (program_after (Some (items_view parts.now)) all (items_view rest.now)) }
 {
     let keys = list::list_part(alloc, parts)?;
@@ -87,7 +87,7 @@ fn program(alloc: Global, value: &Value) -> Result<Program, ReadError>
         return Ok(Program::of(Vec::new(alloc)));
     };
     match list::list_parts(first) {
-        Some(parts) => program_behind(alloc, parts, rest),
+        Some(parts) => program_after_list(alloc, parts, rest),
         None => program_alone(alloc, values.as_slice()),
     }
 }

@@ -161,10 +161,10 @@ cut_at_feed c rest utf8 =
       IsUtf8-drop (10 ∷ rest) 1 behind (IsCharBoundary-after_ascii (10 ∷ rest) 0 behind (omega arith) (omega arith)),
     )
 
-cut_behind : (c rest : List ℕ) → HasNoFeed c → parts_of (c ++ 10 ∷ rest) ≡ c ∷ parts_of rest
-cut_behind [] rest none = slice_split-cons_yes is_line_feed 10 rest refl
-cut_behind (b ∷ c) rest none =
-    slice_split-cons_no is_line_feed b (c ++ 10 ∷ rest) none.0 ∙ ap (onto_first b) (cut_behind c rest none.1)
+cut_after : (c rest : List ℕ) → HasNoFeed c → parts_of (c ++ 10 ∷ rest) ≡ c ∷ parts_of rest
+cut_after [] rest none = slice_split-cons_yes is_line_feed 10 rest refl
+cut_after (b ∷ c) rest none =
+    slice_split-cons_no is_line_feed b (c ++ 10 ∷ rest) none.0 ∙ ap (onto_first b) (cut_after c rest none.1)
 
 parts_spell : (lines : List ReportLine) → AreReadable lines → IsUtf8 (text_of lines) → SpellsParts (parts_of (text_of lines)) lines
 parts_spell [] readable utf8 = refl
@@ -174,7 +174,7 @@ parts_spell (l ∷ lines) (one, others) utf8 =
     let halves : IsUtf8 c × IsUtf8 (text_of lines) = cut_at_feed c (text_of lines) (subst IsUtf8 whole utf8) in (
       c,
       parts_of (text_of lines),
-      ap parts_of whole ∙ cut_behind c (text_of lines) (data_none (line_data l) one.0),
+      ap parts_of whole ∙ cut_after c (text_of lines) (data_none (line_data l) one.0),
       (line_data l, written_is_read (line_data l) one.0 halves.0 (line_is_shallow l), (spell (line_data l) one.0, one.1)),
       parts_spell lines others halves.1,
     )

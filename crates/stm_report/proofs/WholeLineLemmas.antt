@@ -65,9 +65,9 @@ goes_on n (l ∷ ls) [] some same = absurd (some_line (is_line_feed l) (line_end
 goes_on n (l ∷ ls) (g ∷ gs) some same =
     let line : List ℕ = take (line_end (l ∷ ls)) (l ∷ ls) in
     let behind : List (List ℕ) = lines_in (drop (line_end (l ∷ ls)) (l ∷ ls)) in
-    let given_behind : List (List ℕ) = lines_in (drop (line_end (g ∷ gs)) (g ∷ gs)) in
+    let given_after : List (List ℕ) = lines_in (drop (line_end (g ∷ gs)) (g ∷ gs)) in
     ap₂ (λ (xs ys : List (List ℕ)). first_unlike n xs ys) (starts (l ∷ ls)) (starts (g ∷ gs))
-    ∙ ap (λ (b : Bool). cond b (first_unlike (suc n) behind given_behind) (Some (n, line))) same
+    ∙ ap (λ (b : Bool). cond b (first_unlike (suc n) behind given_after) (Some (n, line))) same
 
 -- two lines are not
 pub stops : (n : ℕ) (ls gs : List ℕ) → 0 < length ls → bytes_eq (take (line_end ls) ls) (take (line_end gs) gs) ≡ false
@@ -77,9 +77,9 @@ stops n (l ∷ ls) [] some differ = ap (λ (xs : List (List ℕ)). first_unlike 
 stops n (l ∷ ls) (g ∷ gs) some differ =
     let line : List ℕ = take (line_end (l ∷ ls)) (l ∷ ls) in
     let behind : List (List ℕ) = lines_in (drop (line_end (l ∷ ls)) (l ∷ ls)) in
-    let given_behind : List (List ℕ) = lines_in (drop (line_end (g ∷ gs)) (g ∷ gs)) in
+    let given_after : List (List ℕ) = lines_in (drop (line_end (g ∷ gs)) (g ∷ gs)) in
     ap₂ (λ (xs ys : List (List ℕ)). first_unlike n xs ys) (starts (l ∷ ls)) (starts (g ∷ gs))
-    ∙ ap (λ (b : Bool). cond b (first_unlike (suc n) behind given_behind) (Some (n, line))) differ
+    ∙ ap (λ (b : Bool). cond b (first_unlike (suc n) behind given_after) (Some (n, line))) differ
 
 not_true : (b d : Bool) → d ≡ not b → d ≡ true → b ≡ false
 not_true false d tests is = refl

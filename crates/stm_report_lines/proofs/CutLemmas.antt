@@ -4,7 +4,7 @@ use Rattle.std.proofs.Common.{ap, ◌∙◌, arith, add-one}
 use Rattle.std.proofs.Math.Seq.{drop-cons}
 use Rattle.std.proofs.lemmas.List.Splits.{slice_split-cons_yes, slice_split-cons_no}
 use Rattle.std.specs.List.{onto_first}
-use Rattle.stm_report_lines.specs.Bytes.{is_line_feed, parts_of, line_length, split_behind, first_cut}
+use Rattle.stm_report_lines.specs.Bytes.{is_line_feed, parts_of, line_length, split_after, first_cut}
 
 -- ---- the parts
 
@@ -32,12 +32,12 @@ abbrev pub Cut : List ℕ → Option (List ℕ × List ℕ) → Type 0
 Cut bs None = parts_of bs ≡ bs ∷ []
 Cut bs (Some p) = (parts_of bs ≡ p.0 ∷ parts_of p.1) × (length p.1 < length bs)
 
-cut_more : (b : ℕ) (bs front rest : List ℕ) → is_line_feed b ≡ false → Cut bs (split_behind front rest) → Cut (b ∷ bs) (split_behind (b ∷ front) rest)
+cut_more : (b : ℕ) (bs front rest : List ℕ) → is_line_feed b ≡ false → Cut bs (split_after front rest) → Cut (b ∷ bs) (split_after (b ∷ front) rest)
 cut_more b bs front [] e cut = after_other b bs e ∙ ap (onto_first b) cut
 cut_more b bs front (x ∷ behind) e cut = (after_other b bs e ∙ ap (onto_first b) cut.0, omega (arith, cut.1))
 
 cut_by : (b : ℕ) (bs : List ℕ) (is : Bool) → is_line_feed b ≡ is → Cut bs (first_cut bs)
-    → Cut (b ∷ bs) (split_behind (take (cond is 0 (suc (line_length bs))) (b ∷ bs)) (drop (cond is 0 (suc (line_length bs))) (b ∷ bs)))
+    → Cut (b ∷ bs) (split_after (take (cond is 0 (suc (line_length bs))) (b ∷ bs)) (drop (cond is 0 (suc (line_length bs))) (b ∷ bs)))
 cut_by b bs true e cut = (after_feed b bs e, omega arith)
 cut_by b bs false e cut = cut_more b bs (take (line_length bs) bs) (drop (line_length bs) bs) e cut
 

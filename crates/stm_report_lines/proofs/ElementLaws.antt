@@ -39,7 +39,7 @@ use Rattle.stm_report_lines.specs.Reading.{ops_of}
 use Rattle.stm_report_lines.proofs.ArrayLemmas.{worded_array, worded_spells, worded_shape}
 use Rattle.stm_report_lines.proofs.PartLaws.{count_reported, count_means, count_reads}
 use Rattle.stm_report_lines.proofs.PartLaws.{text_or_null-reported, text_or_null-means, text_or_null-reads, list_reported}
-use Rattle.stm_report_lines.proofs.Rows.{Part, part, Row, nothing, ◌&◌, read_row, row_reads, plain_reported, plain_means, behind_reported, behind_means}
+use Rattle.stm_report_lines.proofs.Rows.{Part, part, Row, nothing, ◌&◌, read_row, row_reads, plain_reported, plain_means, after_reported, after_means}
 use Rattle.stm_report_lines.proofs.Rows.{second, third, fourth, one_counted, two_counted, four_counted}
 use Rattle.stm_report_lines.proofs.StateLaws.{whole_part, text_part, state_or_null_part, keyed_items, keyed_sorts, keyed_reported, keyed_means, keyed_reads}
 
@@ -81,8 +81,8 @@ rev_is = two_counted (rev_row.read TraceItem 1 rev_made) AnyText any_number trac
 trace_tested : (p : List ℕ) (ds : Items) (gets revs : Bool)
     → first_of (sorted_faults p (cond gets (Some get_row.sorts) (cond revs (Some rev_row.sorts) None)) ds)
     ≡ fault_of p (cond gets (get_from ds) (cond revs (rev_from ds) (bad Shape)))
-trace_tested p ds true revs = behind_reported get_row get_made get_from get_is p ds
-trace_tested p ds false true = behind_reported rev_row rev_made rev_from rev_is p ds
+trace_tested p ds true revs = after_reported get_row get_made get_from get_is p ds
+trace_tested p ds false true = after_reported rev_row rev_made rev_from rev_is p ds
 trace_tested p ds false false = wrong_is {A = TraceItem} p Shape (bad Shape) refl
 
 pub trace_reported : (p : List ℕ) (d : Data) → first_of (worded_faults trace_table p d) ≡ fault_of p (trace_of d)
@@ -93,10 +93,10 @@ trace_reported p _ = wrong_is {A = TraceItem} p Shape (bad Shape) refl
 trace_word : (d : Data) (p : List ℕ × Items) (t : TraceItem) (gets revs : Bool) → worded d ≡ Some p → same p.0 (codes "get") ≡ gets
     → same p.0 (codes "rev") ≡ revs → cond gets (get_from p.1) (cond revs (rev_from p.1) (bad Shape)) ≡ Ok t → Spells d (trace_data t)
 trace_word d p t true revs is g r h =
-    let m = behind_means get_row get_made get_from get_is (codes "get") trace_data AllFit (λ x. refl) (λ x f. tt) p.1 t h in
+    let m = after_means get_row get_made get_from get_is (codes "get") trace_data AllFit (λ x. refl) (λ x f. tt) p.1 t h in
     of_word d p (codes "get") (trace_data t) is ((bytes_eq-Decides p.0 (codes "get")).0 g) m.0
 trace_word d p t false true is g r h =
-    let m = behind_means rev_row rev_made rev_from rev_is (codes "rev") trace_data AllFit (λ x. refl) (λ x f. tt) p.1 t h in
+    let m = after_means rev_row rev_made rev_from rev_is (codes "rev") trace_data AllFit (λ x. refl) (λ x f. tt) p.1 t h in
     of_word d p (codes "rev") (trace_data t) is ((bytes_eq-Decides p.0 (codes "rev")).0 r) m.0
 trace_word d p t false false is g r h = cc
 
@@ -207,9 +207,9 @@ op_del_is = one_counted (op_del_row.read ReportedOp 1 op_del_made) (NumberIn 0 1
 op_tested : (p : List ℕ) (ds : Items) (gets puts dels : Bool)
     → first_of (sorted_faults p (cond gets (Some op_get_row.sorts) (cond puts (Some []) (cond dels (Some op_del_row.sorts) None))) ds)
     ≡ fault_of p (cond gets (op_get_from ds) (cond puts (op_put_of ds) (cond dels (op_del_from ds) (bad Shape))))
-op_tested p ds true puts dels = behind_reported op_get_row op_get_made op_get_from op_get_is p ds
-op_tested p ds false true dels = behind_reported nothing op_put_made op_put_of op_put_is p ds
-op_tested p ds false false true = behind_reported op_del_row op_del_made op_del_from op_del_is p ds
+op_tested p ds true puts dels = after_reported op_get_row op_get_made op_get_from op_get_is p ds
+op_tested p ds false true dels = after_reported nothing op_put_made op_put_of op_put_is p ds
+op_tested p ds false false true = after_reported op_del_row op_del_made op_del_from op_del_is p ds
 op_tested p ds false false false = wrong_is {A = ReportedOp} p Shape (bad Shape) refl
 
 pub op_reported : (p : List ℕ) (d : Data) → first_of (worded_faults op_table p d) ≡ fault_of p (op_of d)
@@ -222,13 +222,13 @@ op_word : (d : Data) (p : List ℕ × Items) (o : ReportedOp) (gets puts dels : 
     → cond gets (op_get_from p.1) (cond puts (op_put_of p.1) (cond dels (op_del_from p.1) (bad Shape))) ≡ Ok o
     → Spells d (op_data o) × CountFits o
 op_word d p o true puts dels is g u l h =
-    let m = behind_means op_get_row op_get_made op_get_from op_get_is (codes "get") op_data CountFits (λ x. refl) (λ x f. tt) p.1 o h in
+    let m = after_means op_get_row op_get_made op_get_from op_get_is (codes "get") op_data CountFits (λ x. refl) (λ x f. tt) p.1 o h in
     (of_word d p (codes "get") (op_data o) is ((bytes_eq-Decides p.0 (codes "get")).0 g) m.0, m.1)
 op_word d p o false true dels is g u l h =
-    let m = behind_means nothing op_put_made op_put_of op_put_is (codes "put") op_data CountFits (λ x. refl) (λ x f. tt) p.1 o h in
+    let m = after_means nothing op_put_made op_put_of op_put_is (codes "put") op_data CountFits (λ x. refl) (λ x f. tt) p.1 o h in
     (of_word d p (codes "put") (op_data o) is ((bytes_eq-Decides p.0 (codes "put")).0 u) m.0, m.1)
 op_word d p o false false true is g u l h =
-    let m = behind_means op_del_row op_del_made op_del_from op_del_is (codes "del") op_data CountFits (λ x. refl) (λ x f. f.0) p.1 o h in
+    let m = after_means op_del_row op_del_made op_del_from op_del_is (codes "del") op_data CountFits (λ x. refl) (λ x f. f.0) p.1 o h in
     (of_word d p (codes "del") (op_data o) is ((bytes_eq-Decides p.0 (codes "del")).0 l) m.0, m.1)
 op_word d p o false false false is g u l h = cc
 
@@ -352,7 +352,7 @@ event_tested : (p : List ℕ) (ds : Items) (puts deletes : Bool)
     → first_of (sorted_faults p (cond puts (Some keyed_sorts) (cond deletes (Some delete_row.sorts) None)) ds)
     ≡ fault_of p (cond puts (event_put_of (six_of ds)) (cond deletes (event_delete_of (two_of ds)) (bad Shape)))
 event_tested p ds true deletes = event_put_reported p ds
-event_tested p ds false true = behind_reported delete_row delete_made delete_from delete_is p ds
+event_tested p ds false true = after_reported delete_row delete_made delete_from delete_is p ds
 event_tested p ds false false = wrong_is {A = Event} p Shape (bad Shape) refl
 
 pub event_reported : (p : List ℕ) (d : Data) → first_of (worded_faults watched_table p d) ≡ fault_of p (event_of d)
@@ -366,7 +366,7 @@ event_word : (d : Data) (p : List ℕ × Items) (e : Event) (puts deletes : Bool
 event_word d p e true deletes is u l h =
     of_word d p (codes "PUT") (event_data e) is ((bytes_eq-Decides p.0 (codes "PUT")).0 u) (event_put_means p.1 e h)
 event_word d p e false true is u l h =
-    let m = behind_means delete_row delete_made delete_from delete_is (codes "DELETE") event_data AllFit (λ x. refl) (λ x f. tt) p.1 e h in
+    let m = after_means delete_row delete_made delete_from delete_is (codes "DELETE") event_data AllFit (λ x. refl) (λ x f. tt) p.1 e h in
     of_word d p (codes "DELETE") (event_data e) is ((bytes_eq-Decides p.0 (codes "DELETE")).0 l) m.0
 event_word d p e false false is u l h = cc
 

@@ -29,7 +29,7 @@ use Rattle.stm_report_lines.specs.Words.{named, event_words, standing_words}
 use Rattle.stm_report_lines.proofs.ArrayLemmas.{worded_array, worded_spells, worded_shape, numbered_array, numbered_shape}
 use Rattle.stm_report_lines.proofs.EventRows.{event_parts, event_row, event_sorts, event_made, event_text, event_named-text, event_spelled}
 use Rattle.stm_report_lines.proofs.EventRows.{event_line_reported, event_line_means, event_line_reads}
-use Rattle.stm_report_lines.proofs.Rows.{Row, nothing, ◌&◌, second, third, read_row, row_reads, behind_reported, behind_means, two_counted, three_counted}
+use Rattle.stm_report_lines.proofs.Rows.{Row, nothing, ◌&◌, second, third, read_row, row_reads, after_reported, after_means, two_counted, three_counted}
 use Rattle.stm_report_lines.proofs.StateLaws.{whole_part, keyed_items, keyed_sorts, keyed_reported, keyed_means, keyed_reads}
 use Rattle.stm_report_lines.proofs.WordLaws.{AreTexts, named-is, sorts_named}
 
@@ -88,16 +88,16 @@ standing_reported : (p : List ℕ) (o : Option StandingWord) (ds : Items)
     → first_of (sorted_faults p (option_map standing_sorts o) ds) ≡ fault_of p (standing_named o ds)
 standing_reported p None ds = wrong_is {A = ReportLine} p Shape (bad Shape) refl
 standing_reported p (Some standing.Key) ds = key_reported p ds
-standing_reported p (Some standing.Lease) ds = behind_reported lease_row lease_made lease_from lease_is p ds
-standing_reported p (Some standing.End) ds = behind_reported end_row end_made end_from end_is p ds
+standing_reported p (Some standing.Lease) ds = after_reported lease_row lease_made lease_from lease_is p ds
+standing_reported p (Some standing.End) ds = after_reported end_row end_made end_from end_is p ds
 
 standing_line_means : (w : StandingWord) (ds : Items) (l : ReportLine) → standing_line_of w ds ≡ Ok l → SpellsLine (worded_array
     (standing_text w) ds) l
 standing_line_means standing.Key ds l h = key_means ds l h
 standing_line_means standing.Lease ds l h =
-    behind_means lease_row lease_made lease_from lease_is (codes "lease") line_data CountsFit (λ x. refl) (λ x f. tt) ds l h
+    after_means lease_row lease_made lease_from lease_is (codes "lease") line_data CountsFit (λ x. refl) (λ x f. tt) ds l h
 standing_line_means standing.End ds l h =
-    behind_means end_row end_made end_from end_is (codes "end") line_data CountsFit (λ x. refl) (λ x f. tt) ds l h
+    after_means end_row end_made end_from end_is (codes "end") line_data CountsFit (λ x. refl) (λ x f. tt) ds l h
 
 -- ---- the first fault
 

@@ -190,15 +190,15 @@ module _ {X Y : Type 0} (R : Row X) (make : X → Y) (f : Items → Outcome Y) w
       let m = row_means R 0 make f is ds y h in
       subst (λ (z : Y). Spells (array ds) (spell z)) m.1 (subst (λ (e : Data). Spells (array ds) e) (sym (spelled m.0)) (ds, refl, m.2))
 
-  pub behind_reported : ((ds : Items) → f ds ≡ read_row R 1 make ds) → (p : List ℕ) (ds : Items)
+  pub after_reported : ((ds : Items) → f ds ≡ read_row R 1 make ds) → (p : List ℕ) (ds : Items)
       → first_of (sorted_faults p (Some R.sorts) ds) ≡ fault_of p (f ds)
-  behind_reported is p ds = row_reported R 1 make f is p ds
+  after_reported is p ds = row_reported R 1 make f is p ds
 
   -- and what was made of it fits
-  pub behind_means : ((ds : Items) → f ds ≡ read_row R 1 make ds) → (w : List ℕ) (spell : Y → Data) (Fits : Y → Type 0)
+  pub after_means : ((ds : Items) → f ds ≡ read_row R 1 make ds) → (w : List ℕ) (spell : Y → Data) (Fits : Y → Type 0)
       → ((x : X) → spell (make x) ≡ list (word w ∷ R.spell x)) → ((x : X) → R.Fits x → Fits (make x))
       → (ds : Items) (y : Y) → f ds ≡ Ok y → Spells (worded_array w ds) (spell y) × Fits y
-  behind_means is w spell Fits spelled fits ds y h =
+  after_means is w spell Fits spelled fits ds y h =
       let m = row_means R 1 make f is ds y h in
       let s = worded_spells ds w (R.spell m.0) m.2 in
       subst (λ (z : Y). Spells (worded_array w ds) (spell z) × Fits z) m.1

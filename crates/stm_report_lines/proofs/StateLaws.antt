@@ -17,7 +17,7 @@ use Rattle.stm_report_lines.specs.Grammar.{Spells, SpellsItems}
 use Rattle.stm_report_lines.specs.LineData.{whole, state_data, state_or_null}
 use Rattle.stm_report_lines.specs.Parts.{number_of, state_with, state_parts, state_array, state_of, keyed_of, state_or_null_of}
 use Rattle.stm_report_lines.proofs.PartLaws.{number_means, number_reads}
-use Rattle.stm_report_lines.proofs.Rows.{Part, part, Row, nothing, ◌&◌, read_row, row_means, row_reads, plain_reported, plain_means, behind_reported}
+use Rattle.stm_report_lines.proofs.Rows.{Part, part, Row, nothing, ◌&◌, read_row, row_means, row_reads, plain_reported, plain_means, after_reported}
 use Rattle.stm_report_lines.proofs.Rows.{second, third, fourth, fifth, five_counted, six_counted}
 
 abbrev pub whole_part : Part ℕ
@@ -128,7 +128,7 @@ keyed_is =
     (λ a b c d e g. refl)
 
 pub keyed_reported : (p : List ℕ) (ds : Items) → first_of (sorted_faults p (Some keyed_sorts) ds) ≡ fault_of p (keyed_of (six_of ds))
-keyed_reported p ds = behind_reported keyed_row keyed_made (λ es. keyed_of (six_of es)) keyed_is p ds
+keyed_reported p ds = after_reported keyed_row keyed_made (λ es. keyed_of (six_of es)) keyed_is p ds
 
 pub keyed_means : (ds : Items) (l : List ℕ × KeyState) → keyed_of (six_of ds) ≡ Ok l → SpellsItems ds (items_of (keyed_items l))
 keyed_means ds l h =

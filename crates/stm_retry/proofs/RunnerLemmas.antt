@@ -13,7 +13,7 @@ use Rattle.stm_outcome.specs.Commits.{AreNamed as KeysAreNamed}
 use Rattle.stm_compile.specs.Answers.{answer_in, look_up}
 use Rattle.stm_attempt.specs.Known.{Known, known_of, serving}
 use Rattle.stm_attempt.specs.Settled.{run_on, wanted, answer_for, settle, settled}
-use Rattle.stm_attempt.specs.Entering.{is_due, answers_of_all, behind_list, gone_on}
+use Rattle.stm_attempt.specs.Entering.{is_due, answers_of_all, after_list, gone_on}
 use Rattle.stm_attempt.specs.AttemptState.{AttemptState, IsOf, begun, advanced, supplied, supplied_all, awaited, list_awaited, unserved}
 use Rattle.stm_attempt.specs.Laws.{AddsPrefetched}
 use Rattle.stm_attempt.proofs.SettleLemmas.{settle_stays, settling_adds_prefetched}
@@ -29,7 +29,7 @@ IsNamed a = 0 < length a.key
 
 -- where nothing was read or prefetched, no list is taken, and nothing serves
 begins_by : (program : ProgramTree) (keys : List (List ℕ)) →
-    cond (is_due keys []) (behind_list program nothing_known (answers_of_all keys [])) (settled program nothing_known) ≡ []
+    cond (is_due keys []) (after_list program nothing_known (answers_of_all keys [])) (settled program nothing_known) ≡ []
 unfolding settle
 begins_by program [] = refl
 begins_by program (key ∷ keys) = refl
@@ -82,17 +82,17 @@ awaits_of program known key not is =
       gone = gone_settled program known not ∙ settle_stays (length known.prefetched) program known.prefetched known.reads left.0;
     }
 
-awaits_behind : (program : ProgramTree) (known : Known) (key : List ℕ) (due : Bool) → is_due program.prefetch known.reads ≡ due →
+awaits_after : (program : ProgramTree) (known : Known) (key : List ℕ) (due : Bool) → is_due program.prefetch known.reads ≡ due →
     cond due None (unserved (serving known.reads known.prefetched) (wanted (run_on program known.reads))) ≡ Some key → Awaits program known key
-awaits_behind program known key true is reported = absurd (cc)
-awaits_behind program known key false is reported = awaits_of program known key is reported
+awaits_after program known key true is reported = absurd (cc)
+awaits_after program known key false is reported = awaits_of program known key is reported
 
 awaits_by : (program : ProgramTree) (kept : Option ProgramTree) (level : Level) (known : Known) (key : List ℕ) →
     IfSome kept (λ (k : ProgramTree). k ≡ program) → awaited (record { program = kept; level = level; known = known }) ≡ Some key →
     Awaits program known key
 awaits_by program None level known key of is = absurd (cc)
 awaits_by program (Some k) level known key of is =
-    subst (λ (p : ProgramTree). Awaits p known key) of (awaits_behind k known key (is_due k.prefetch known.reads) refl is)
+    subst (λ (p : ProgramTree). Awaits p known key) of (awaits_after k known key (is_due k.prefetch known.reads) refl is)
 
 pub awaits : (program : ProgramTree) (attempt : AttemptState) (key : List ℕ) → IsOf program attempt → awaited attempt ≡ Some key →
     Awaits program attempt.known key
@@ -110,16 +110,16 @@ supplied_runner task failures attempt a of is =
 
 -- ---- the list that is awaited ----
 
-listed_behind : (program : ProgramTree) (keys : List (List ℕ)) (due : Bool) → cond due (Some program.prefetch) None ≡ Some keys → keys ≡ program.prefetch
-listed_behind program keys true is = cc
-listed_behind program keys false is = absurd (cc)
+listed_after : (program : ProgramTree) (keys : List (List ℕ)) (due : Bool) → cond due (Some program.prefetch) None ≡ Some keys → keys ≡ program.prefetch
+listed_after program keys true is = cc
+listed_after program keys false is = absurd (cc)
 
 listed_by : (program : ProgramTree) (kept : Option ProgramTree) (level : Level) (known : Known) (keys : List (List ℕ)) →
     IfSome kept (λ (k : ProgramTree). k ≡ program) → list_awaited (record { program = kept; level = level; known = known }) ≡ Some keys →
     keys ≡ program.prefetch
 listed_by program None level known keys of is = absurd (cc)
 listed_by program (Some k) level known keys of is =
-    listed_behind k keys (is_due k.prefetch known.reads) is ∙ ap (λ (p : ProgramTree). p.prefetch) of
+    listed_after k keys (is_due k.prefetch known.reads) is ∙ ap (λ (p : ProgramTree). p.prefetch) of
 
 -- it is the program's
 pub listed : (program : ProgramTree) (attempt : AttemptState) (keys : List (List ℕ)) → IsOf program attempt → list_awaited attempt ≡ Some keys →

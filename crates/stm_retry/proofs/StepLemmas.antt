@@ -62,25 +62,25 @@ use Rattle.stm_retry.proofs.SlotLemmas.{put_back, put_there}
 -- ---- whether the list is due ----
 
 -- the list is not due, and this is what comes next after it
-pub record IsBehind (r : Runner) (next : Next) : Type 0 where
+pub record IsAfterList (r : Runner) (next : Next) : Type 0 where
   pub has_list : is_due r.task.program.prefetch r.known.reads ≡ false
   pub is_next : next_after r.task.program r.task.level r.known.reads (run_on r.task.program r.known.reads) ≡ next
 
-behind_by : (r : Runner) (next : Next) (due : Bool) → is_due r.task.program.prefetch r.known.reads ≡ due → list_asked next ≡ None →
+after_list_by : (r : Runner) (next : Next) (due : Bool) → is_due r.task.program.prefetch r.known.reads ≡ due → list_asked next ≡ None →
     cond due (FetchAll r.task.program.prefetch 0) (next_after r.task.program r.task.level r.known.reads (run_on r.task.program r.known.reads)) ≡ next →
-    IsBehind r next
-behind_by r next true is no_list reported =
+    IsAfterList r next
+after_list_by r next true is no_list reported =
     let both : Some r.task.program.prefetch ≡ None = ap list_asked reported ∙ no_list in absurd (cc both)
-behind_by r next false is no_list reported = record { has_list = is; is_next = reported }
+after_list_by r next false is no_list reported = record { has_list = is; is_next = reported }
 
 -- where what is next is no list, the list is not due
-is_behind : (r : Runner) (next : Next) → list_asked next ≡ None → next_for r ≡ next → IsBehind r next
-is_behind r next no_list reported = behind_by r next (is_due r.task.program.prefetch r.known.reads) refl no_list reported
+is_after_list : (r : Runner) (next : Next) → list_asked next ≡ None → next_for r ≡ next → IsAfterList r next
+is_after_list r next no_list reported = after_list_by r next (is_due r.task.program.prefetch r.known.reads) refl no_list reported
 
-step_behind : (id : ℕ) (r : Runner) (w : World) → is_due r.task.program.prefetch r.known.reads ≡ false →
+step_after : (id : ℕ) (r : Runner) (w : World) → is_due r.task.program.prefetch r.known.reads ≡ false →
     step_live id r w ≡ step_on id r r.known.reads (run_on r.task.program r.known.reads) w
 unfolding step_live
-step_behind id r w not =
+step_after id r w not =
     ap (λ (b : Bool). cond b (fetch_list id r w) (step_on id r r.known.reads (run_on r.task.program r.known.reads) w)) not
 
 step_due : (id : ℕ) (r : Runner) (w : World) → is_due r.task.program.prefetch r.known.reads ≡ true → step_live id r w ≡ fetch_list id r w
@@ -101,17 +101,17 @@ no_list_at_end program level reads run DoneEnd keys at reported = cc
 no_list_at_end program level reads run (AbortedEnd text) keys at reported = cc
 no_list_at_end program level reads run (FaultedEnd fault) keys at reported = cc
 
-no_list_behind : (program : ProgramTree) (level : Level) (reads : List ReadAnswer) (x : Answered) (keys : List (List ℕ)) (at : ℕ) →
+no_list_after : (program : ProgramTree) (level : Level) (reads : List ReadAnswer) (x : Answered) (keys : List (List ℕ)) (at : ℕ) →
     next_after program level reads x ≡ FetchAll keys at → ⊥
-no_list_behind program level reads (Wants k trace) keys at reported = cc
-no_list_behind program level reads (EndedRun run) keys at reported = no_list_at_end program level reads run run.end keys at reported
+no_list_after program level reads (Wants k trace) keys at reported = cc
+no_list_after program level reads (EndedRun run) keys at reported = no_list_at_end program level reads run run.end keys at reported
 
 listing_by : (r : Runner) (keys : List (List ℕ)) (at : ℕ) (due : Bool) → is_due r.task.program.prefetch r.known.reads ≡ due →
     cond due (FetchAll r.task.program.prefetch 0) (next_after r.task.program r.task.level r.known.reads (run_on r.task.program r.known.reads))
     ≡ FetchAll keys at → IsListing r keys
 listing_by r keys at true is reported = record { due = is; keys_are = cc }
 listing_by r keys at false is reported =
-    absurd (no_list_behind r.task.program r.task.level r.known.reads (run_on r.task.program r.known.reads) keys at reported)
+    absurd (no_list_after r.task.program r.task.level r.known.reads (run_on r.task.program r.known.reads) keys at reported)
 
 pub is_listing : (r : Runner) (keys : List (List ℕ)) (at : ℕ) → next_for r ≡ FetchAll keys at → IsListing r keys
 is_listing r keys at reported = listing_by r keys at (is_due r.task.program.prefetch r.known.reads) refl reported
@@ -259,7 +259,7 @@ wanting_by r (EndedRun run) key at listed is reported = absurd (no_fetch_at_end 
 
 pub is_wanting : (r : Runner) (key : List ℕ) (at : ℕ) → next_for r ≡ Fetch key at → IsWanting r key at
 is_wanting r key at reported =
-    let behind : IsBehind r (Fetch key at) = is_behind r (Fetch key at) refl reported in
+    let behind : IsAfterList r (Fetch key at) = is_after_list r (Fetch key at) refl reported in
     wanting_by r (run_on r.task.program r.known.reads) key at behind.has_list refl behind.is_next
 
 -- a key that is wanted is not empty
@@ -303,7 +303,7 @@ pub fetch_leaves : (id : ℕ) (r q : Runner) (j after : JournalState) (key : Lis
     Leaves id (Ok reported) (workplace j r) (workplace after q) (step_live id r)
 fetch_leaves id r q j after key at reported x reported_is runner_is journal_is slots =
     let w : World = world_around (workplace j r) slots in
-    step_behind id r w x.has_list
+    step_after id r w x.has_list
     ∙ ap (λ (a : Answered). step_on id r r.known.reads a w) x.wants
     ∙ ap (λ (n : ℕ). fetch_at id r key n w) x.at_is
     ∙ step_fetches id r key at w
@@ -365,12 +365,12 @@ ready_by r (EndedRun run) ready listed is reported = ready_at_end r run run.end 
 
 pub is_ready : (r : Runner) (ready : ReadyRun) → next_for r ≡ Ready ready → (q : Run) × IsReady r q ready
 is_ready r ready reported =
-    let behind : IsBehind r (Ready ready) = is_behind r (Ready ready) refl reported in
+    let behind : IsAfterList r (Ready ready) = is_after_list r (Ready ready) refl reported in
     ready_by r (run_on r.task.program r.known.reads) ready behind.has_list refl behind.is_next
 
 finished : (id : ℕ) (r : Runner) (run : Run) (w : World) → is_due r.task.program.prefetch r.known.reads ≡ false →
     run_on r.task.program r.known.reads ≡ EndedRun run → step_live id r w ≡ finish id r r.known.reads run run.end w
-finished id r run w listed is = step_behind id r w listed ∙ ap (λ (a : Answered). step_on id r r.known.reads a w) is
+finished id r run w listed is = step_after id r w listed ∙ ap (λ (a : Answered). step_on id r r.known.reads a w) is
 
 step_commits : (id : ℕ) (r : Runner) (run : Run) (ready : ReadyRun) (w : World) → IsReady r run ready →
     step_live id r w ≡ commit id r r.known.reads run w
@@ -420,7 +420,7 @@ aborted_by r (EndedRun run) aborted listed is reported = aborted_at_end r run ab
 
 pub has_aborted : (r : Runner) (run : Run) → next_for r ≡ AbortedNext run → IsOver r run
 has_aborted r run reported =
-    let behind : IsBehind r (AbortedNext run) = is_behind r (AbortedNext run) refl reported in
+    let behind : IsAfterList r (AbortedNext run) = is_after_list r (AbortedNext run) refl reported in
     aborted_by r (run_on r.task.program r.known.reads) run behind.has_list refl behind.is_next
 
 faulted_at_end : (r : Runner) (run faulted : Run) (end : End) → is_due r.task.program.prefetch r.known.reads ≡ false →
@@ -439,7 +439,7 @@ faulted_by r (EndedRun run) faulted listed is reported = faulted_at_end r run fa
 
 pub has_faulted : (r : Runner) (run : Run) → next_for r ≡ FaultedNext run → IsOver r run
 has_faulted r run reported =
-    let behind : IsBehind r (FaultedNext run) = is_behind r (FaultedNext run) refl reported in
+    let behind : IsAfterList r (FaultedNext run) = is_after_list r (FaultedNext run) refl reported in
     faulted_by r (run_on r.task.program r.known.reads) run behind.has_list refl behind.is_next
 
 end_is : (id : ℕ) (r : Runner) (run : Run) (end : End) (reply : Reply) (w : World) → ReturnsEnd id end reply →

@@ -101,10 +101,10 @@ expiries-append : (before more : List Expired) → expiries (before ++ more) ≡
 expiries-append [] more = refl
 expiries-append (e ∷ es) more = ap (λ (l : List Entry). Expire e.id ∷ l) (expiries-append es more)
 
-reported_behind : (moment : ℕ) (before rest : List Expired) (cause : Option Refusal) →
+reported_after : (moment : ℕ) (before rest : List Expired) (cause : Option Refusal) →
     advance_reply moment (before ++ rest) cause ≡ with_expired before (advance_reply moment rest cause)
-reported_behind moment before rest None = refl
-reported_behind moment before rest (Some cause) = refl
+reported_after moment before rest None = refl
+reported_after moment before rest (Some cause) = refl
 
 -- the advance after some expiries
 expired_repeats : (moment : ℕ) (expired : List Expired) (old : World) (left : Standing) → old.standing.moment ≤ moment →
@@ -113,7 +113,7 @@ expired_repeats moment expired old left above come =
     let rest : StoreAdvance = advanced left moment in
     let whole : advanced old.standing moment ≡ after expired rest = advances_go_on old.standing left moment expired above come in
     record {
-      reply_is = ap (λ (a : StoreAdvance). advance_reply moment a.expired a.cause) whole ∙ reported_behind moment expired rest.expired rest.cause;
+      reply_is = ap (λ (a : StoreAdvance). advance_reply moment a.expired a.cause) whole ∙ reported_after moment expired rest.expired rest.cause;
       next_is = ap (λ (a : StoreAdvance). world_with old.runners a.leaves (old.entries ++ expiries a.expired)) whole
           ∙ ap (λ (l : List Entry). world_with old.runners rest.leaves (old.entries ++ l)) (expiries-append expired rest.expired)
           ∙ ap (λ (l : List Entry). world_with old.runners rest.leaves l) (sym (append_assoc old.entries (expiries expired) (expiries rest.expired)));
@@ -243,7 +243,7 @@ twice_reported moment [] rest cause some same = some refl
 twice_reported moment (e ∷ es) rest cause some same =
     let longer : length (e ∷ (es ++ rest)) ≡ length rest =
     sym (reported_length moment (e ∷ (es ++ rest)) cause)
-    ∙ ap (λ (r : Result Reply Denied). length (expired_reported r)) (reported_behind moment (e ∷ es) rest cause ∙ same)
+    ∙ ap (λ (r : Result Reply Denied). length (expired_reported r)) (reported_after moment (e ∷ es) rest cause ∙ same)
     ∙ reported_length moment rest cause in
     omega (arith, longer, length-append es rest)
 

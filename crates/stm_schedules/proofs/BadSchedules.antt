@@ -16,8 +16,8 @@ use Rattle.stm_schedules.proofs.MoveLemmas.{moves_ascend, FoundFirst, found_firs
 -- ---- of exactly n moves
 
 -- what follows a move, with the move before it
-abbrev pub bad_behind : (World → Bool) → ℕ → Place → Move → Option (List Move)
-bad_behind keep n p m = option_map (λ (ms : List Move). m ∷ ms) (bad_at keep n (moved m p))
+abbrev pub bad_after : (World → Bool) → ℕ → Place → Move → Option (List Move)
+bad_after keep n p m = option_map (λ (ms : List Move). m ∷ ms) (bad_at keep n (moved m p))
 
 pub kept_here : (b : Bool) → cond b None (Some (let none : List Move = [] in none)) ≡ None → b ≡ true
 kept_here true is = refl
@@ -30,7 +30,7 @@ none_bad keep zero p (m ∷ ms) none s as_long = absurd (omega arith)
 none_bad keep (suc n) p [] none s as_long = absurd (omega arith)
 none_bad keep (suc n) p (m ∷ ms) none s as_long =
     none_bad keep n (moved m p) ms
-    (map_none (λ (rest : List Move). m ∷ rest) (bad_at keep n (moved m p)) (none_found (bad_behind keep n p) (moves p) m none (among m (moves p) s.0)))
+    (map_none (λ (rest : List Move). m ∷ rest) (bad_at keep n (moved m p)) (none_found (bad_after keep n p) (moves p) m none (among m (moves p) s.0)))
     s.1 (omega arith)
 
 -- a schedule of n moves that does not keep the rule, while those of n moves before it do
@@ -61,7 +61,7 @@ from_same : (one same_one : Move) (ms : List Move) (p : Place) → one ≡ same_
 from_same one same_one ms p same s = subst (λ (m : Move). IsSchedule ms (moved m p)) same s
 
 kept_before : (keep : World → Bool) (n : ℕ) (p : Place) (move : Move) (rest : List Move) → ((o : Move) → IsAmong o (moves p) → IsBefore o move →
-    bad_behind keep n p o ≡ None) → IsBadAt keep n (moved move p) rest → (other : List Move) → IsSchedule other p → length other ≡ suc n →
+    bad_after keep n p o ≡ None) → IsBadAt keep n (moved move p) rest → (other : List Move) → IsSchedule other p → length other ≡ suc n →
     AreBefore other (move ∷ rest) → KeepsAfter keep p other
 kept_before keep n p move rest none bad [] s as_long before = absurd before
 kept_before keep n p move rest none bad (o ∷ os) s as_long before = elim before [
@@ -72,7 +72,7 @@ kept_before keep n p move rest none bad (o ∷ os) s as_long before = elim befor
 ]
 
 bad_further : (keep : World → Bool) (n : ℕ) (p : Place) (move : Move) (rest : List Move) → IsAmong move (moves p) →
-    ((o : Move) → IsAmong o (moves p) → IsBefore o move → bad_behind keep n p o ≡ None) → IsBadAt keep n (moved move p) rest →
+    ((o : Move) → IsAmong o (moves p) → IsBefore o move → bad_after keep n p o ≡ None) → IsBadAt keep n (moved move p) rest →
     IsBadAt keep (suc n) p (move ∷ rest)
 bad_further keep n p move rest a none bad = record {
   is_schedule = (contained move (moves p) a, bad.is_schedule);
@@ -84,7 +84,7 @@ bad_further keep n p move rest a none bad = record {
 pub is_bad_at : (keep : World → Bool) (n : ℕ) (p : Place) (schedule : List Move) → bad_at keep n p ≡ Some schedule → IsBadAt keep n p schedule
 is_bad_at keep zero p schedule found = bad_here keep p schedule (keep p.world) refl found
 is_bad_at keep (suc n) p schedule found =
-    let first : FoundFirst (bad_behind keep n p) (moves p) schedule = found_first (bad_behind keep n p) (moves p) schedule (moves_ascend p) found in
+    let first : FoundFirst (bad_after keep n p) (moves p) schedule = found_first (bad_after keep n p) (moves p) schedule (moves_ascend p) found in
     let rest = map_some (λ (ms : List Move). first.move ∷ ms) (bad_at keep n (moved first.move p)) schedule first.gives in
     subst (λ (ms : List Move). IsBadAt keep (suc n) p ms) rest.2
     (bad_further keep n p first.move rest.0 first.is_among first.before (is_bad_at keep n (moved first.move p) rest.0 rest.1))

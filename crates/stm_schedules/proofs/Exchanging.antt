@@ -369,11 +369,11 @@ behind i j s slots entries ne a =
     ∙ ap (λ (o : Option Runner). step_runner j o (world s (put i a.touch.slot slots) entries)) (others_stay i j a.touch.slot slots ne a.place)
 
 -- what a quiet step does after another one
-quiet_behind : (i j : ℕ) (s : Standing) (slots : List Slot) (entries : List Entry) → i ≢ j →
+quiet_after : (i j : ℕ) (s : Standing) (slots : List Slot) (entries : List Entry) → i ≢ j →
     (a : Quiet i s (step_runner i (runner_at i slots))) → (b : Quiet j s (step_runner j (runner_at j slots))) →
     step (Step j) (after_step i (world s slots entries))
     ≡ stepped b.touch.reply (world s (put j b.touch.slot (put i a.touch.slot slots)) entries)
-quiet_behind i j s slots entries ne a b = behind i j s slots entries ne a ∙ b.touch.is (put i a.touch.slot slots) entries
+quiet_after i j s slots entries ne a b = behind i j s slots entries ne a ∙ b.touch.is (put i a.touch.slot slots) entries
 
 other_way : (i j : ℕ) → i ≢ j → j ≢ i
 other_way i j ne = λ same. ne (sym same)
@@ -381,8 +381,8 @@ other_way i j ne = λ same. ne (sym same)
 exchanged : (i j : ℕ) (s : Standing) (slots : List Slot) (entries : List Entry) → i ≢ j →
     Quiet i s (step_runner i (runner_at i slots)) → Quiet j s (step_runner j (runner_at j slots)) → Exchange i j (world s slots entries)
 exchanged i j s slots entries ne a b =
-    let last_j = quiet_behind i j s slots entries ne a b in
-    let last_i = quiet_behind j i s slots entries (other_way i j ne) b a in
+    let last_j = quiet_after i j s slots entries ne a b in
+    let last_i = quiet_after j i s slots entries (other_way i j ne) b a in
     record {
       world = ap (λ (x : Stepped). x.next) last_j
           ∙ ap (λ (places : List Slot). world s places entries) (either_first i j a.touch.slot b.touch.slot slots ne a.place b.place)
@@ -396,7 +396,7 @@ exchange i j w ne quiet_i quiet_j = exchanged i j w.standing w.runners w.entries
 
 stays : (i j : ℕ) (w : World) → i ≢ j → IsQuiet i w → IsQuiet j w → IsQuiet j (after_step i w)
 stays i j w ne quiet_i quiet_j =
-    ap (λ (x : Stepped). x.next.entries) (quiet_behind i j w.standing w.runners w.entries ne (quiet_step i w quiet_i) (quiet_step j w quiet_j)) ∙ sym quiet_i
+    ap (λ (x : Stepped). x.next.entries) (quiet_after i j w.standing w.runners w.entries ne (quiet_step i w quiet_i) (quiet_step j w quiet_j)) ∙ sym quiet_i
 
 pub quiet_steps_exchange : QuietStepsExchange
 quiet_steps_exchange = record {

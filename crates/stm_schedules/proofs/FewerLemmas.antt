@@ -10,7 +10,7 @@ use Rattle.stm_schedules.specs.Places.{Place, moves, moved}
 use Rattle.stm_schedules.specs.Schedules.{place_after, IsSchedule, IsBefore, AreBefore}
 use Rattle.stm_schedules.specs.Keeping.{KeepsAfter, bad_at, goes_on}
 use Rattle.stm_schedules.specs.Outcomes.{Ends, ends_moved, ends_after, shown, Comes, outcomes_at}
-use Rattle.stm_schedules.specs.Fewer.{quiet_runner, is_looked_at, AreLookedAt, StandsFor, moves_behind, fewer_bad_at, fewer_go_on, fewer_outcomes_at, FewerAreEnough}
+use Rattle.stm_schedules.specs.Fewer.{quiet_runner, is_looked_at, AreLookedAt, StandsFor, moves_after, fewer_bad_at, fewer_go_on, fewer_outcomes_at, FewerAreEnough}
 use Rattle.stm_schedules.proofs.Members.{IsAmong, among, contained, map_none, map_some, none_found, some_pass, one_passes, gathered_from, is_gathered}
 use Rattle.stm_schedules.proofs.MoveLemmas.{Ascend, moves_ascend, FoundFirst, found_first}
 use Rattle.stm_schedules.proofs.BadSchedules.{kept_here, none_before, none_bad, IsBadAt, is_bad_at}
@@ -65,19 +65,19 @@ kept_ascend : (test : Move → Bool) (ms : List Move) → Ascend ms → Ascend (
 kept_ascend test [] up = tt
 kept_ascend test (m ∷ ms) up = ascend_by test m ms (test m) up (kept_ascend test ms up.1)
 
-abbrev is_behind : Option ℕ → Place → Move → Bool
-is_behind last p m = is_looked_at last (quiet_runner m p.world)
+abbrev is_after : Option ℕ → Place → Move → Bool
+is_after last p m = is_looked_at last (quiet_runner m p.world)
 
-is_looked : (last : Option ℕ) (p : Place) (m : Move) → Contains (moves p) m → is_behind last p m ≡ true → IsAmong m (moves_behind last p)
-is_looked last p m can is = is_kept (is_behind last p) m (moves p) (among m (moves p) can) is
+is_looked : (last : Option ℕ) (p : Place) (m : Move) → Contains (moves p) m → is_after last p m ≡ true → IsAmong m (moves_after last p)
+is_looked last p m can is = is_kept (is_after last p) m (moves p) (among m (moves p) can) is
 
-was_looked : (last : Option ℕ) (p : Place) (m : Move) → IsAmong m (moves_behind last p) → WasThere (is_behind last p) m (moves p)
-was_looked last p m a = was_there (is_behind last p) m (moves p) a
+was_looked : (last : Option ℕ) (p : Place) (m : Move) → IsAmong m (moves_after last p) → WasThere (is_after last p) m (moves p)
+was_looked last p m a = was_there (is_after last p) m (moves p) a
 
 -- ---- the first one that does not keep a rule
 
-abbrev fewer_bad_behind : (World → Bool) → ℕ → Place → Move → Option (List Move)
-fewer_bad_behind keep n p m = option_map (λ (ms : List Move). m ∷ ms) (fewer_bad_at keep n (quiet_runner m p.world) (moved m p))
+abbrev fewer_bad_after : (World → Bool) → ℕ → Place → Move → Option (List Move)
+fewer_bad_after keep n p m = option_map (λ (ms : List Move). m ∷ ms) (fewer_bad_at keep n (quiet_runner m p.world) (moved m p))
 
 fewer_keep : (keep : World → Bool) (n : ℕ) (last : Option ℕ) (p : Place) (schedule : List Move) → fewer_bad_at keep n last p ≡ None →
     IsSchedule schedule p → AreLookedAt last schedule p → length schedule ≡ n → KeepsAfter keep p schedule
@@ -87,7 +87,7 @@ fewer_keep keep (suc n) last p [] none s looked is = absurd (omega arith)
 fewer_keep keep (suc n) last p (m ∷ ms) none s looked is =
     fewer_keep keep n (quiet_runner m p.world) (moved m p) ms
     (map_none (λ (rest : List Move). m ∷ rest) (fewer_bad_at keep n (quiet_runner m p.world) (moved m p))
-    (none_found (fewer_bad_behind keep n p) (moves_behind last p) m none (is_looked last p m s.0 looked.0)))
+    (none_found (fewer_bad_after keep n p) (moves_after last p) m none (is_looked last p m s.0 looked.0)))
     s.1 looked.1 (omega arith)
 
 -- a schedule that is looked at and does not keep the rule, while those that are looked at before it do
@@ -112,11 +112,11 @@ fewer_bad_here keep last p schedule false is found =
 -- what is known of a move at which a bad schedule was found
 record IsFirstMove (keep : World → Bool) (n : ℕ) (last : Option ℕ) (p : Place) (move : Move) : Type 0 where
   can : Contains (moves p) move
-  none_before : (o : Move) → IsAmong o (moves_behind last p) → IsBefore o move → fewer_bad_behind keep n p o ≡ None
+  none_before : (o : Move) → IsAmong o (moves_after last p) → IsBefore o move → fewer_bad_after keep n p o ≡ None
 
-same_behind : (one move : Move) (ms : List Move) (p : Place) → one ≡ move → AreLookedAt (quiet_runner one p.world) ms (moved one p) →
+same_after : (one move : Move) (ms : List Move) (p : Place) → one ≡ move → AreLookedAt (quiet_runner one p.world) ms (moved one p) →
     AreLookedAt (quiet_runner move p.world) ms (moved move p)
-same_behind one move ms p same looked = subst (λ (m : Move). AreLookedAt (quiet_runner m p.world) ms (moved m p)) same looked
+same_after one move ms p same looked = subst (λ (m : Move). AreLookedAt (quiet_runner m p.world) ms (moved m p)) same looked
 
 fewer_before : (keep : World → Bool) (n : ℕ) (last : Option ℕ) (p : Place) (move : Move) (rest : List Move) → IsFirstMove keep n last p move →
     IsFewerBad keep n (quiet_runner move p.world) (moved move p) rest → (other : List Move) → IsSchedule other p → AreLookedAt last other p →
@@ -127,7 +127,7 @@ fewer_before keep n last p move rest first bad (o ∷ os) s looked is before = e
       (map_none (λ (ms : List Move). o ∷ ms) (fewer_bad_at keep n (quiet_runner o p.world) (moved o p))
       (first.none_before o (is_looked last p o s.0 looked.0) less)) s.1 looked.1 (omega arith)
   | inr same ↦ subst (λ (m : Move). KeepsAfter keep (moved m p) os) (sym same.0)
-      (bad.before_keep os (subst (λ (m : Move). IsSchedule os (moved m p)) same.0 s.1) (same_behind o move os p same.0 looked.1) (omega arith) same.1)
+      (bad.before_keep os (subst (λ (m : Move). IsSchedule os (moved m p)) same.0 s.1) (same_after o move os p same.0 looked.1) (omega arith) same.1)
 ]
 
 fewer_further : (keep : World → Bool) (n : ℕ) (last : Option ℕ) (p : Place) (move : Move) (rest : List Move) → IsFirstMove keep n last p move →
@@ -143,8 +143,8 @@ is_fewer_bad : (keep : World → Bool) (n : ℕ) (last : Option ℕ) (p : Place)
     IsFewerBad keep n last p schedule
 is_fewer_bad keep zero last p schedule found = fewer_bad_here keep last p schedule (keep p.world) refl found
 is_fewer_bad keep (suc n) last p schedule found =
-    let first : FoundFirst (fewer_bad_behind keep n p) (moves_behind last p) schedule =
-    found_first (fewer_bad_behind keep n p) (moves_behind last p) schedule (kept_ascend (is_behind last p) (moves p) (moves_ascend p)) found in
+    let first : FoundFirst (fewer_bad_after keep n p) (moves_after last p) schedule =
+    found_first (fewer_bad_after keep n p) (moves_after last p) schedule (kept_ascend (is_after last p) (moves p) (moves_ascend p)) found in
     let rest = map_some (λ (ms : List Move). first.move ∷ ms) (fewer_bad_at keep n (quiet_runner first.move p.world) (moved first.move p)) schedule first.gives in
     subst (λ (ms : List Move). IsFewerBad keep (suc n) last p ms) rest.2
     (fewer_further keep n last p first.move rest.0
@@ -173,8 +173,8 @@ compared_moves (StepOf i) Other = inr (inl tt)
 compared_moves Other (StepOf j) = inr (inr tt)
 compared_moves Other Other = inl refl
 
-compared_behind : (m o : Move) (ms os : List Move) → m ≡ o → Compared ms os → Compared (m ∷ ms) (o ∷ os)
-compared_behind m o ms os same rest = elim rest [
+compared_after : (m o : Move) (ms os : List Move) → m ≡ o → Compared ms os → Compared (m ∷ ms) (o ∷ os)
+compared_after m o ms os same rest = elim rest [
   | inl equal ↦ inl (λ t. same t ∷ equal t)
   | inr differ ↦ elim differ [
     | inl before ↦ inr (inl (inr (same, before)))
@@ -184,7 +184,7 @@ compared_behind m o ms os same rest = elim rest [
 
 compared_by : (m o : Move) (ms os : List Move) → MovesCompared m o → Compared ms os → Compared (m ∷ ms) (o ∷ os)
 compared_by m o ms os first rest = elim first [
-  | inl same ↦ compared_behind m o ms os same rest
+  | inl same ↦ compared_after m o ms os same rest
   | inr differ ↦ elim differ [
     | inl before ↦ inr (inl (inl before))
     | inr behind ↦ inr (inr (inl behind))
@@ -209,7 +209,7 @@ keeps_alike keep p one schedule stands = ap (λ (q : Place). keep q.world) stand
 first_is_looked_at : (keep : World → Bool) (n : ℕ) (p : Place) (schedule : List Move) → IsBadAt keep n p schedule → AreLookedAt None schedule p
 first_is_looked_at keep n p schedule bad =
     let one = sorted schedule p bad.is_schedule in
-    elim one.1.not_behind [
+    elim one.1.not_after [
       | inl same ↦ subst (λ (ms : List Move). AreLookedAt None ms p) same one.1.looked_at
       | inr before ↦ absurd (both_values (keep (place_after one.0 p).world)
           (bad.before_keep one.0 one.1.is_schedule (one.1.as_long ∙ bad.as_long) before)
@@ -247,7 +247,7 @@ fewer_bad keep n p = bad_by keep n p (fewer_bad_at keep n None p) (bad_at keep n
 fewer_as_long : (n : ℕ) (last : Option ℕ) (p : Place) → fewer_go_on n last p ≡ true → (schedule : List Move) × IsSchedule schedule p × (length schedule ≡ n)
 fewer_as_long zero last p is = ([], tt, refl)
 fewer_as_long (suc n) last p is =
-    let first = some_pass (λ (m : Move). fewer_go_on n (quiet_runner m p.world) (moved m p)) (moves_behind last p) is in
+    let first = some_pass (λ (m : Move). fewer_go_on n (quiet_runner m p.world) (moved m p)) (moves_after last p) is in
     let rest = fewer_as_long n (quiet_runner first.0 p.world) (moved first.0 p) first.2 in
     (first.0 ∷ rest.0, (contained first.0 (moves p) (was_looked last p first.0 first.1).is_among, rest.1), ap suc rest.2)
 
@@ -256,7 +256,7 @@ fewer_does_go_on : (n : ℕ) (last : Option ℕ) (p : Place) (schedule : List Mo
 fewer_does_go_on zero last p schedule s looked is = refl
 fewer_does_go_on (suc n) last p [] s looked is = absurd (omega arith)
 fewer_does_go_on (suc n) last p (m ∷ ms) s looked is =
-    one_passes (λ (o : Move). fewer_go_on n (quiet_runner o p.world) (moved o p)) (moves_behind last p) m (is_looked last p m s.0 looked.0)
+    one_passes (λ (o : Move). fewer_go_on n (quiet_runner o p.world) (moved o p)) (moves_after last p) m (is_looked last p m s.0 looked.0)
     (fewer_does_go_on n (quiet_runner m p.world) (moved m p) ms s.1 looked.1 (omega arith))
 
 same_values : (a b : Bool) → (a ≡ true → b ≡ true) → (b ≡ true → a ≡ true) → a ≡ b
@@ -283,7 +283,7 @@ comes_alike p ends it one schedule stands comes = record {
 fewer_comes : (n : ℕ) (last : Option ℕ) (p : Place) (ends : Ends) (it : Outcome) → IsAmong it (fewer_outcomes_at n last p ends) → ComesAt n p ends it
 fewer_comes zero last p ends it a = whole_here p ends it (moves p) refl a
 fewer_comes (suc n) last p ends it a =
-    let from = gathered_from (λ (m : Move). fewer_outcomes_at n (quiet_runner m p.world) (moved m p) (ends_moved m p ends)) (moves_behind last p) it a in
+    let from = gathered_from (λ (m : Move). fewer_outcomes_at n (quiet_runner m p.world) (moved m p) (ends_moved m p ends)) (moves_after last p) it a in
     comes_further n p ends it from.0 (was_looked last p from.0 from.1).is_among
     (fewer_comes n (quiet_runner from.0 p.world) (moved from.0 p) (ends_moved from.0 p ends) it from.2)
 
@@ -294,7 +294,7 @@ fewer_have zero last p ends it [] comes looked is =
 fewer_have zero last p ends it (m ∷ ms) comes looked is = absurd (omega arith)
 fewer_have (suc n) last p ends it [] comes looked is = absurd (omega arith)
 fewer_have (suc n) last p ends it (m ∷ ms) comes looked is =
-    is_gathered (λ (o : Move). fewer_outcomes_at n (quiet_runner o p.world) (moved o p) (ends_moved o p ends)) (moves_behind last p) m it
+    is_gathered (λ (o : Move). fewer_outcomes_at n (quiet_runner o p.world) (moved o p) (ends_moved o p ends)) (moves_after last p) m it
     (is_looked last p m comes.is_whole.0.0 looked.0)
     (fewer_have n (quiet_runner m p.world) (moved m p) (ends_moved m p ends) it ms
     (record { is_whole = (comes.is_whole.0.1, comes.is_whole.1); to = sym (goes_along m ms p ends) ∙ comes.to }) looked.1 (omega arith))

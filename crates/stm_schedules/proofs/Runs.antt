@@ -15,9 +15,9 @@ joined : (first second : List Move) (p : Place) → place_after (first ++ second
 joined [] second p = refl
 joined (m ∷ first) second p = joined first second (moved m p)
 
-behind : (first second : List Move) (p : Place) → IsSchedule first p → IsSchedule second (place_after first p) → IsSchedule (first ++ second) p
-behind [] second p one other = other
-behind (m ∷ first) second p one other = (one.0, behind first second (moved m p) one.1 other)
+appended : (first second : List Move) (p : Place) → IsSchedule first p → IsSchedule second (place_after first p) → IsSchedule (first ++ second) p
+appended [] second p one other = other
+appended (m ∷ first) second p one other = (one.0, appended first second (moved m p) one.1 other)
 
 pub schedules_are_runs : SchedulesAreRuns
-schedules_are_runs = record { world = world_along; joined = joined; behind = behind }
+schedules_are_runs = record { world = world_along; joined = joined; appended = appended }

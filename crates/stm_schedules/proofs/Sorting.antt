@@ -38,20 +38,20 @@ are_before (x ∷ xs) (y ∷ ys) (z ∷ zs) one other = elim one [
   ]
 ]
 
-abbrev pub IsNotBehind : List Move → List Move → Type 0
-IsNotBehind one other = (one ≡ other) ⊎ AreBefore one other
+abbrev pub IsNotAfter : List Move → List Move → Type 0
+IsNotAfter one other = (one ≡ other) ⊎ AreBefore one other
 
-not_behind : (a b c : List Move) → IsNotBehind a b → IsNotBehind b c → IsNotBehind a c
-not_behind a b c one other = elim one [
-  | inl same ↦ subst (λ (ms : List Move). IsNotBehind ms c) (sym same) other
+not_after : (a b c : List Move) → IsNotAfter a b → IsNotAfter b c → IsNotAfter a c
+not_after a b c one other = elim one [
+  | inl same ↦ subst (λ (ms : List Move). IsNotAfter ms c) (sym same) other
   | inr first ↦ elim other [
     | inl equal ↦ inr (subst (λ (ms : List Move). AreBefore a ms) equal first)
     | inr second ↦ inr (are_before a b c first second)
   ]
 ]
 
-not_behind_further : (m : Move) (a b : List Move) → IsNotBehind a b → IsNotBehind (m ∷ a) (m ∷ b)
-not_behind_further m a b one = elim one [
+not_after_further : (m : Move) (a b : List Move) → IsNotAfter a b → IsNotAfter (m ∷ a) (m ∷ b)
+not_after_further m a b one = elim one [
   | inl same ↦ inl (ap (λ (ms : List Move). m ∷ ms) same)
   | inr first ↦ inr (inr (refl, first))
 ]
@@ -102,7 +102,7 @@ record Inserted (last : Option ℕ) (m : Move) (rest : List Move) (p : Place) : 
   is_schedule : IsSchedule schedule p
   looked_at : AreLookedAt last schedule p
   as_long : length schedule ≡ suc (length rest)
-  is_not_behind : IsNotBehind schedule (m ∷ rest)
+  is_not_after : IsNotAfter schedule (m ∷ rest)
   place : place_after schedule p ≡ place_after rest (moved m p)
   ends : (ends : Ends) → ends_after schedule p ends ≡ ends_after rest (moved m p) (ends_moved m p ends)
 
@@ -120,7 +120,7 @@ put_first last id rest p can quiet is s looked_at = record {
   is_schedule = (can, s);
   looked_at = looked_at_first last id rest p quiet is looked_at;
   as_long = refl;
-  is_not_behind = inl refl;
+  is_not_after = inl refl;
   place = refl;
   ends = λ ends. ends_go_along (StepOf id) rest p ends;
 }
@@ -143,14 +143,14 @@ swapped_ends : (i k : ℕ) (p : Place) (ends : Ends) → ArePair i k p →
 swapped_ends i k p ends pair = same_ends i k p.world ends pair.differ (quiet_is i p.world pair.quiet_i) (quiet_is k p.world pair.quiet_k)
 
 -- the other step first, and the move in its place after it
-put_behind : (last : Option ℕ) (i k : ℕ) (os : List Move) (p : Place) → ArePair i k p → k < i → is_looked_at last (Some k) ≡ true →
+put_after : (last : Option ℕ) (i k : ℕ) (os : List Move) (p : Place) → ArePair i k p → k < i → is_looked_at last (Some k) ≡ true →
     Inserted (Some k) (StepOf i) os (moved (StepOf k) p) → Inserted last (StepOf i) (StepOf k ∷ os) p
-put_behind last i k os p pair less is rest = record {
+put_after last i k os p pair less is rest = record {
   schedule = StepOf k ∷ rest.schedule;
   is_schedule = (pair.can_k, rest.is_schedule);
   looked_at = looked_at_first last k rest.schedule p pair.quiet_k is rest.looked_at;
   as_long = ap suc rest.as_long;
-  is_not_behind = inr (inl less);
+  is_not_after = inr (inl less);
   place = rest.place ∙ sym (ap (place_after os) (swapped i k p pair));
   ends = λ ends.
       ends_go_along (StepOf k) rest.schedule p ends ∙ rest.ends (ends_moved (StepOf k) p ends)
@@ -201,13 +201,13 @@ Inserts i rest =
     (last : Option ℕ) (p : Place) → Contains (moves p) (StepOf i) → is_quiet i p.world ≡ true → is_looked_at last (Some i) ≡ true →
     IsSchedule rest (moved (StepOf i) p) → AreLookedAt last rest (moved (StepOf i) p) → Inserted last (StepOf i) rest p
 
-insert_behind : (i k : ℕ) (os : List Move) → Inserts i os → (last : Option ℕ) (p : Place) → Contains (moves p) (StepOf i) → is_quiet i p.world ≡ true →
+insert_after : (i k : ℕ) (os : List Move) → Inserts i os → (last : Option ℕ) (p : Place) → Contains (moves p) (StepOf i) → is_quiet i p.world ≡ true →
     IsSchedule (StepOf k ∷ os) (moved (StepOf i) p) → AreLookedAt last (StepOf k ∷ os) (moved (StepOf i) p) →
     is_quiet k (moved (StepOf i) p).world ≡ true → k < i → Inserted last (StepOf i) (StepOf k ∷ os) p
-insert_behind i k os inserts last p can quiet s looked_at quiet_k less =
+insert_after i k os inserts last p can quiet s looked_at quiet_k less =
     let pair : ArePair i k p = pair_of i k p less can quiet s.0 quiet_k in
     let still_there : StillCan i (moved (StepOf k) p) = still_can i k p pair in
-    put_behind last i k os p pair less
+    put_after last i k os p pair less
     (subst (λ (q : Option ℕ). is_looked_at last q ≡ true) (own_runner k (moved (StepOf i) p).world quiet_k) looked_at.0)
     (inserts (Some k) (moved (StepOf k) p) still_there.can still_there.quiet (in_order k i less)
     (subst (λ (q : Place). IsSchedule os q) (swapped i k p pair) s.1) (looked_at_swapped i k os p pair quiet_k looked_at.1))
@@ -217,7 +217,7 @@ insert_over : (i : ℕ) (o : Move) (os : List Move) → Inserts i os → (last :
     IsPassedOver i o (moved (StepOf i) p).world → Inserted last (StepOf i) (o ∷ os) p
 insert_over i o os inserts last p can quiet s looked_at over =
     subst (λ (m : Move). Inserted last (StepOf i) (m ∷ os) p) (sym over.is)
-    (insert_behind i over.id os inserts last p can quiet (subst (λ (m : Move). IsSchedule (m ∷ os) (moved (StepOf i) p)) over.is s)
+    (insert_after i over.id os inserts last p can quiet (subst (λ (m : Move). IsSchedule (m ∷ os) (moved (StepOf i) p)) over.is s)
     (subst (λ (m : Move). AreLookedAt last (m ∷ os) (moved (StepOf i) p)) over.is looked_at) over.quiet over.lower)
 
 insert_by : (i : ℕ) (o : Move) (os : List Move) (b : Bool) (last : Option ℕ) (p : Place) → Inserts i os →
@@ -243,7 +243,7 @@ stays_first m ms one p can loud rest = record {
   is_schedule = (can, rest.is_schedule);
   looked_at = (refl, subst (λ (q : Option ℕ). AreLookedAt q one (moved m p)) (sym loud) rest.looked_at);
   as_long = ap suc rest.as_long;
-  not_behind = not_behind_further m one ms rest.not_behind;
+  not_after = not_after_further m one ms rest.not_after;
   place = rest.place;
   ends = λ ends. ends_go_along m one p ends ∙ rest.ends (ends_moved m p ends) ∙ sym (ends_go_along m ms p ends);
 }
@@ -254,7 +254,7 @@ is_inserted m ms one p rest found = record {
   is_schedule = found.is_schedule;
   looked_at = found.looked_at;
   as_long = found.as_long ∙ ap suc rest.as_long;
-  not_behind = not_behind found.schedule (m ∷ one) (m ∷ ms) found.is_not_behind (not_behind_further m one ms rest.not_behind);
+  not_after = not_after found.schedule (m ∷ one) (m ∷ ms) found.is_not_after (not_after_further m one ms rest.not_after);
   place = found.place ∙ rest.place;
   ends = λ ends. found.ends ends ∙ rest.ends (ends_moved m p ends) ∙ sym (ends_go_along m ms p ends);
 }
@@ -275,5 +275,5 @@ sorted_by (StepOf id) ms p can rest = step_sorted id ms p (is_quiet id p.world) 
 sorted_by Other ms p can rest = (Other ∷ rest.0, stays_first Other ms rest.0 p can refl rest.1)
 
 pub sorted : (schedule : List Move) (p : Place) → IsSchedule schedule p → HasOne schedule p
-sorted [] p s = ([], record { is_schedule = tt; looked_at = tt; as_long = refl; not_behind = inl refl; place = refl; ends = λ ends. refl })
+sorted [] p s = ([], record { is_schedule = tt; looked_at = tt; as_long = refl; not_after = inl refl; place = refl; ends = λ ends. refl })
 sorted (m ∷ ms) p s = sorted_by m ms p s.0 (sorted ms (moved m p) s.1)

@@ -7,7 +7,7 @@ use Rattle.stm_world.specs.World.{opened, world_after}
 use Rattle.stm_world.proofs.Joined.{runs_go_on}
 use Rattle.stm_schedules.specs.declared.moves.Move.{Move}
 use Rattle.stm_schedules.specs.Schedules.{place_after, events_along}
-use Rattle.stm_schedules.specs.Scenarios.{is_start, has_start, up_to_last_start, behind_last_start, begun, with_schedule, at_level, ScenariosAreSplit}
+use Rattle.stm_schedules.specs.Scenarios.{is_start, has_start, up_to_last_start, after_last_start, begun, with_schedule, at_level, ScenariosAreSplit}
 use Rattle.stm_schedules.proofs.Members.{both_false}
 use Rattle.stm_schedules.proofs.Runs.{world_along}
 use Rattle.stm_txn.specs.Standing.{Setup}
@@ -16,22 +16,22 @@ both_by : (b : Bool) (e : WorldEvent) (es first second : List WorldEvent) → fi
 both_by true e es first second is = ap (λ (rest : List WorldEvent). e ∷ rest) is
 both_by false e es first second is = refl
 
-both : (events : List WorldEvent) → up_to_last_start events ++ behind_last_start events ≡ events
+both : (events : List WorldEvent) → up_to_last_start events ++ after_last_start events ≡ events
 both [] = refl
-both (e ∷ es) = both_by (has_start (e ∷ es)) e es (up_to_last_start es) (behind_last_start es) (both es)
+both (e ∷ es) = both_by (has_start (e ∷ es)) e es (up_to_last_start es) (after_last_start es) (both es)
 
 none_by : (b : Bool) (e : WorldEvent) (es second : List WorldEvent) → has_start (e ∷ es) ≡ b → has_start second ≡ false → has_start (cond b second (e ∷ es)) ≡ false
 none_by true e es second is none = none
 none_by false e es second is none = is
 
-no_start_behind : (events : List WorldEvent) → has_start (behind_last_start events) ≡ false
-no_start_behind [] = refl
-no_start_behind (e ∷ es) = none_by (has_start (e ∷ es)) e es (behind_last_start es) refl (no_start_behind es)
+no_start_after : (events : List WorldEvent) → has_start (after_last_start events) ≡ false
+no_start_after [] = refl
+no_start_after (e ∷ es) = none_by (has_start (e ∷ es)) e es (after_last_start es) refl (no_start_after es)
 
 replayed : (start : Setup) (events : List WorldEvent) (schedule : List Move) →
     world_after (with_schedule events schedule) (opened start) ≡ (place_after schedule (begun start events)).world
 replayed start events schedule =
-    runs_go_on.worlds (up_to_last_start events) (events_along schedule (behind_last_start events)) (opened start)
+    runs_go_on.worlds (up_to_last_start events) (events_along schedule (after_last_start events)) (opened start)
     ∙ sym (world_along schedule (begun start events))
 
 -- ---- at another level
@@ -67,16 +67,16 @@ no_starts_stay level (e ∷ es) none =
     ap (λ (first : WorldEvent). first ∷ map (at_level level) es) (no_start_stays level e each.0)
     ∙ ap (λ (rest : List WorldEvent). e ∷ rest) (no_starts_stay level es each.1)
 
-behind_by : (level : Level) (b : Bool) (e : WorldEvent) (es first second : List WorldEvent) → has_start (e ∷ es) ≡ b → first ≡ second →
+after_by : (level : Level) (b : Bool) (e : WorldEvent) (es first second : List WorldEvent) → has_start (e ∷ es) ≡ b → first ≡ second →
     cond b first (map (at_level level) (e ∷ es)) ≡ cond b second (e ∷ es)
-behind_by level true e es first second is same = same
-behind_by level false e es first second is same = no_starts_stay level (e ∷ es) is
+after_by level true e es first second is same = same
+after_by level false e es first second is same = no_starts_stay level (e ∷ es) is
 
-levels_behind : (level : Level) (events : List WorldEvent) → behind_last_start (map (at_level level) events) ≡ behind_last_start events
-levels_behind level [] = refl
-levels_behind level (e ∷ es) =
-    ap (λ b. cond b (behind_last_start (map (at_level level) es)) (map (at_level level) (e ∷ es))) (same_starts level (e ∷ es))
-    ∙ behind_by level (has_start (e ∷ es)) e es (behind_last_start (map (at_level level) es)) (behind_last_start es) refl (levels_behind level es)
+levels_after : (level : Level) (events : List WorldEvent) → after_last_start (map (at_level level) events) ≡ after_last_start events
+levels_after level [] = refl
+levels_after level (e ∷ es) =
+    ap (λ b. cond b (after_last_start (map (at_level level) es)) (map (at_level level) (e ∷ es))) (same_starts level (e ∷ es))
+    ∙ after_by level (has_start (e ∷ es)) e es (after_last_start (map (at_level level) es)) (after_last_start es) refl (levels_after level es)
 
 pub scenarios_are_split : ScenariosAreSplit
-scenarios_are_split = record { both = both; no_start_behind = no_start_behind; replayed = replayed; levels = levels; levels_behind = levels_behind }
+scenarios_are_split = record { both = both; no_start_after = no_start_after; replayed = replayed; levels = levels; levels_after = levels_after }

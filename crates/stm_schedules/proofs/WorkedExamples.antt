@@ -22,7 +22,7 @@ use Rattle.stm_schedules.specs.declared.outcome.RunnerEnd.TheVariants.{Committed
 use Rattle.stm_schedules.specs.Places.{moves}
 use Rattle.stm_schedules.specs.Schedules.{place_after}
 use Rattle.stm_schedules.specs.Keeping.{end_alone, keeps, first_bad, goes_on}
-use Rattle.stm_schedules.specs.Scenarios.{up_to_last_start, behind_last_start, begun, with_schedule}
+use Rattle.stm_schedules.specs.Scenarios.{up_to_last_start, after_last_start, begun, with_schedule}
 use Rattle.stm_schedules.specs.Outcomes.{ends_begun, outcomes_at, outcomes_up_to}
 use Rattle.stm_schedules.specs.Fewer.{fewer_outcomes_at}
 
@@ -32,7 +32,7 @@ puts key value = Txn (record { compares = []; success = Put key value 0 ∷ []; 
 -- ---- a scenario without a start is the others' alone
 
 no_start : (up_to_last_start (puts (codes "x") (codes "1") ∷ Grant 1 5 ∷ []) ≡ [])
-    × (behind_last_start (puts (codes "x") (codes "1") ∷ Grant 1 5 ∷ []) ≡ puts (codes "x") (codes "1") ∷ Grant 1 5 ∷ [])
+    × (after_last_start (puts (codes "x") (codes "1") ∷ Grant 1 5 ∷ []) ≡ puts (codes "x") (codes "1") ∷ Grant 1 5 ∷ [])
 no_start = (refl, refl)
 
 -- ---- a key is put at revision 10 by one runner and deleted by another, and a rule wants it below: the first step breaks it

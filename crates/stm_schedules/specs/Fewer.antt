@@ -32,29 +32,29 @@ pub record StandsFor (one other : List Move) (p : Place) : Type 0 where
   pub is_schedule : IsSchedule one p
   pub looked_at : AreLookedAt None one p
   pub as_long : length one ≡ length other
-  pub not_behind : (one ≡ other) ⊎ AreBefore one other
+  pub not_after : (one ≡ other) ⊎ AreBefore one other
   pub place : place_after one p ≡ place_after other p
   pub ends : (ends : Ends) → ends_after one p ends ≡ ends_after other p ends
 
 -- ---- what is computed of those alone
 
 -- the moves that are looked at
-abbrev pub moves_behind : Option ℕ → Place → List Move
-moves_behind last p = filter (λ m. is_looked_at last (quiet_runner m p.world)) (moves p)
+abbrev pub moves_after : Option ℕ → Place → List Move
+moves_after last p = filter (λ m. is_looked_at last (quiet_runner m p.world)) (moves p)
 
 abbrev pub fewer_bad_at : (World → Bool) → ℕ → Option ℕ → Place → Option (List Move)
 fewer_bad_at keep zero last p = if keep p.world then None else Some []
 fewer_bad_at keep (suc n) last p =
-    first_of (λ m. option_map (λ (ms : List Move). m ∷ ms) (fewer_bad_at keep n (quiet_runner m p.world) (moved m p))) (moves_behind last p)
+    first_of (λ m. option_map (λ (ms : List Move). m ∷ ms) (fewer_bad_at keep n (quiet_runner m p.world) (moved m p))) (moves_after last p)
 
 abbrev pub fewer_go_on : ℕ → Option ℕ → Place → Bool
 fewer_go_on zero last p = true
-fewer_go_on (suc n) last p = list_any (λ m. fewer_go_on n (quiet_runner m p.world) (moved m p)) (moves_behind last p)
+fewer_go_on (suc n) last p = list_any (λ m. fewer_go_on n (quiet_runner m p.world) (moved m p)) (moves_after last p)
 
 abbrev pub fewer_outcomes_at : ℕ → Option ℕ → Place → Ends → List Outcome
 fewer_outcomes_at zero last p ends = outcome_if_whole (moves p) p.world ends
 fewer_outcomes_at (suc n) last p ends =
-    flat_map (λ m. fewer_outcomes_at n (quiet_runner m p.world) (moved m p) (ends_moved m p ends)) (moves_behind last p)
+    flat_map (λ m. fewer_outcomes_at n (quiet_runner m p.world) (moved m p) (ends_moved m p ends)) (moves_after last p)
 
 -- ---- laws
 

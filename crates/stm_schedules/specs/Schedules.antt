@@ -54,4 +54,4 @@ IsEarlier one other = (length one < length other) ⊎ ((length one ≡ length ot
 pub record SchedulesAreRuns : Type 0 where
   pub world : (schedule : List Move) (p : Place) → (place_after schedule p).world ≡ world_after (events_along schedule p.others) p.world
   pub joined : (first second : List Move) (p : Place) → place_after (first ++ second) p ≡ place_after second (place_after first p)
-  pub behind : (first second : List Move) (p : Place) → IsSchedule first p → IsSchedule second (place_after first p) → IsSchedule (first ++ second) p
+  pub appended : (first second : List Move) (p : Place) → IsSchedule first p → IsSchedule second (place_after first p) → IsSchedule (first ++ second) p

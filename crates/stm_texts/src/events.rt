@@ -169,7 +169,7 @@ fn event(alloc: Global, value: &Value) -> Result<WorldEvent, ReadError>
 
 /// An event that `before` others stand before.
 #[tactic(auto, unfolding(crate::specs::Reading::event_after))]
-fn event_behind(alloc: Global, before: usize, value: &Value) -> Result<WorldEvent, ReadError>
+fn next_event(alloc: Global, before: usize, value: &Value) -> Result<WorldEvent, ReadError>
     ensures { Returns (λ e. e) result (event_after before (view value.now)) }
 {
     if before < MOST_EVENTS {
@@ -189,7 +189,7 @@ fn event_at(
     requires { first + before < 2 ^ 64 }
     ensures { Returns (λ e. e) result (within_list (first + before) (event_after before (view value.now))) }
 {
-    within(alloc, first + before, event_behind(alloc, before, value))
+    within(alloc, first + before, next_event(alloc, before, value))
 }
 
 /// The events of a list whose first element has this index.

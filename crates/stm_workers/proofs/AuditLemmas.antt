@@ -250,9 +250,9 @@ pub second_of_two_decides : (b : Bool) (A B : Type 0) → A → (b ≡ true) ↔
 second_of_two_decides b A B first test = ((λ yes. (first, test.0 yes)), (λ both. test.1 both.1))
 
 -- no commit stands after the last entry
-pub nothing_behind : (job : Job) (revision : ℕ) (entries : List Entry) (index : ℕ) → length entries ≤ index →
+pub nothing_after : (job : Job) (revision : ℕ) (entries : List Entry) (index : ℕ) → length entries ≤ index →
     IsCommitOf job revision (slice_get entries index) → ⊥
-nothing_behind job revision entries index behind commit =
+nothing_after job revision entries index behind commit =
     let there : index < length entries = commit_is_there job revision (slice_get entries index) entries index refl commit in omega arith
 
 -- ---- one mark more

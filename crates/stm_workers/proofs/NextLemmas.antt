@@ -24,17 +24,17 @@ use Rattle.stm_job.specs.declared.job.Job.{Job}
 use Rattle.stm_workers.specs.Calls.{IsOfJob, IsRunOfJob}
 
 -- where what is next is no list, the list is not due
-behind_by : (program : ProgramTree) (level : Level) (reads : List ReadAnswer) (next : Next) (due : Bool) → list_asked next ≡ None →
+after_by : (program : ProgramTree) (level : Level) (reads : List ReadAnswer) (next : Next) (due : Bool) → list_asked next ≡ None →
     cond due (FetchAll program.prefetch 0) (next_after program level reads (run_on program reads)) ≡ next →
     next_after program level reads (run_on program reads) ≡ next
-behind_by program level reads next true no_list reported =
+after_by program level reads next true no_list reported =
     let both : Some program.prefetch ≡ None = ap list_asked reported ∙ no_list in absurd (cc both)
-behind_by program level reads next false no_list reported = reported
+after_by program level reads next false no_list reported = reported
 
-next_behind : (program : ProgramTree) (level : Level) (known : Known) (next : Next) → list_asked next ≡ None → next_of program level known ≡ next →
+next_after_list : (program : ProgramTree) (level : Level) (known : Known) (next : Next) → list_asked next ≡ None → next_of program level known ≡ next →
     next_after program level (gone_on program known) (run_on program (gone_on program known)) ≡ next
-next_behind program level known next no_list reported =
-    behind_by program level (gone_on program known) next (is_due program.prefetch (gone_on program known)) no_list reported
+next_after_list program level known next no_list reported =
+    after_by program level (gone_on program known) next (is_due program.prefetch (gone_on program known)) no_list reported
 
 not_due_by : (program : ProgramTree) (level : Level) (reads : List ReadAnswer) (next : Next) (due : Bool) → is_due program.prefetch reads ≡ due →
     list_asked next ≡ None → cond due (FetchAll program.prefetch 0) (next_after program level reads (run_on program reads)) ≡ next →
@@ -73,7 +73,7 @@ aborted_by program level reads (Ended run) aborted reported = aborted_at_end pro
 pub aborted_is_not_done : (program : ProgramTree) (level : Level) (known : Known) (run : Run) → next_of program level known ≡ Aborted run → run.end ≢ DoneEnd
 aborted_is_not_done program level known run reported =
     let reads : List ReadAnswer = gone_on program known in
-    aborted_by program level reads (run_on program reads) run (next_behind program level known (Aborted run) refl reported)
+    aborted_by program level reads (run_on program reads) run (next_after_list program level known (Aborted run) refl reported)
 
 faulted_at_end : (program : ProgramTree) (level : Level) (reads : List ReadAnswer) (run faulted : Run) (end : End) → run.end ≡ end →
     next_at_end program level reads run end ≡ Faulted faulted → faulted.end ≢ DoneEnd
@@ -90,7 +90,7 @@ faulted_by program level reads (Ended run) faulted reported = faulted_at_end pro
 pub faulted_is_not_done : (program : ProgramTree) (level : Level) (known : Known) (run : Run) → next_of program level known ≡ Faulted run → run.end ≢ DoneEnd
 faulted_is_not_done program level known run reported =
     let reads : List ReadAnswer = gone_on program known in
-    faulted_by program level reads (run_on program reads) run (next_behind program level known (Faulted run) refl reported)
+    faulted_by program level reads (run_on program reads) run (next_after_list program level known (Faulted run) refl reported)
 
 -- and it is the program's run on what the attempt has read
 aborted_run_at : (program : ProgramTree) (level : Level) (reads : List ReadAnswer) (run aborted : Run) (end : End) →
@@ -109,7 +109,7 @@ pub aborted_is_run : (program : ProgramTree) (level : Level) (known : Known) (ru
     run_on program (gone_on program known) ≡ Ended run
 aborted_is_run program level known run reported =
     let reads : List ReadAnswer = gone_on program known in
-    aborted_run program level reads (run_on program reads) run (next_behind program level known (Aborted run) refl reported)
+    aborted_run program level reads (run_on program reads) run (next_after_list program level known (Aborted run) refl reported)
 
 faulted_run_at : (program : ProgramTree) (level : Level) (reads : List ReadAnswer) (run faulted : Run) (end : End) →
     next_at_end program level reads run end ≡ Faulted faulted → run ≡ faulted
@@ -127,7 +127,7 @@ pub faulted_is_run : (program : ProgramTree) (level : Level) (known : Known) (ru
     run_on program (gone_on program known) ≡ Ended run
 faulted_is_run program level known run reported =
     let reads : List ReadAnswer = gone_on program known in
-    faulted_run program level reads (run_on program reads) run (next_behind program level known (Faulted run) refl reported)
+    faulted_run program level reads (run_on program reads) run (next_after_list program level known (Faulted run) refl reported)
 
 -- ---- what is ready
 
@@ -152,7 +152,7 @@ pub ready_is_of : (job : Job) (attempt : AttemptState) (ready : ReadyRun) → Is
 ready_is_of job attempt ready of reported =
     let reads : List ReadAnswer = gone_on job.program attempt.known in
     let both = ready_by job.program attempt.level reads (run_on job.program reads) ready
-    (next_behind job.program attempt.level attempt.known (Ready ready) refl reported) in
+    (next_after_list job.program attempt.level attempt.known (Ready ready) refl reported) in
     (both.0, both.1 ∙ of.1)
 
 -- ---- an attempt of a job
@@ -211,15 +211,15 @@ no_list_at_end program level reads run DoneEnd keys at reported = cc
 no_list_at_end program level reads run (AbortedEnd text) keys at reported = cc
 no_list_at_end program level reads run (FaultedEnd fault) keys at reported = cc
 
-no_list_behind : (program : ProgramTree) (level : Level) (reads : List ReadAnswer) (x : Answered) (keys : List (List ℕ)) (at : ℕ) →
+no_list_after : (program : ProgramTree) (level : Level) (reads : List ReadAnswer) (x : Answered) (keys : List (List ℕ)) (at : ℕ) →
     next_after program level reads x ≡ FetchAll keys at → ⊥
-no_list_behind program level reads (Wants k trace) keys at reported = cc
-no_list_behind program level reads (Ended run) keys at reported = no_list_at_end program level reads run run.end keys at reported
+no_list_after program level reads (Wants k trace) keys at reported = cc
+no_list_after program level reads (Ended run) keys at reported = no_list_at_end program level reads run run.end keys at reported
 
 listed_by : (program : ProgramTree) (level : Level) (reads : List ReadAnswer) (keys : List (List ℕ)) (at : ℕ) (due : Bool) →
     cond due (FetchAll program.prefetch 0) (next_after program level reads (run_on program reads)) ≡ FetchAll keys at → program.prefetch ≡ keys
 listed_by program level reads keys at true reported = cc
-listed_by program level reads keys at false reported = absurd (no_list_behind program level reads (run_on program reads) keys at reported)
+listed_by program level reads keys at false reported = absurd (no_list_after program level reads (run_on program reads) keys at reported)
 
 -- its keys are the program's, and none of them is empty
 pub list_is_named : (program : ProgramTree) (level : Level) (known : Known) (keys : List (List ℕ)) (at : ℕ) → Fits program →

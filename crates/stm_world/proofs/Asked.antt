@@ -33,7 +33,7 @@ use Rattle.stm_attempt.proofs.EnteringLemmas.{once-have_distinct, taken_keys, wh
 use Rattle.stm_attempt.proofs.Unread.{found_key, same_bytes}
 use Rattle.stm_world.specs.Task.{Task, answer_at, after_list, after_fetch, after_conflict}
 use Rattle.stm_events.specs.FirstReads.{keys_first_read}
-use Rattle.stm_world.specs.Asked.{AskedBehind, AreAsked, keys_read, AnswersAreTheReads}
+use Rattle.stm_world.specs.Asked.{AskedAfter, AreAsked, keys_read, AnswersAreTheReads}
 use Rattle.stm_world.proofs.ReadOrder.{reads_of, OneKeyMore, wanted_is_read}
 use Rattle.stm_world.proofs.FirstReads.{first_none, first_adds, first_stays}
 
@@ -167,13 +167,13 @@ listed_read keys program answers are =
     ap (keys_first_read keys) (same_reads (run_with program answers))
     ∙ kept_by_run (look_up answers) (λ s. IsFirst keys answers s.reads) (steps_read_listed keys answers) program.statements (first_none keys ∙ sym are)
 
-reads_behind : (keys : List (List ℕ)) (program : ProgramTree) (before reads : List ReadAnswer) → AskedBehind program before reads →
+reads_after : (keys : List (List ℕ)) (program : ProgramTree) (before reads : List ReadAnswer) → AskedAfter program before reads →
     IsFirst keys before (reads_of (run_with program before)) → IsFirst keys (before ++ reads) (reads_of (run_with program (before ++ reads)))
-reads_behind keys program before [] asked is =
+reads_after keys program before [] asked is =
     subst (λ (l : List ReadAnswer). IsFirst keys l (reads_of (run_with program l))) (sym (append-nil before)) is
-reads_behind keys program before (a ∷ reads) asked is =
+reads_after keys program before (a ∷ reads) asked is =
     subst (λ (l : List ReadAnswer). IsFirst keys l (reads_of (run_with program l))) (append_assoc before (a ∷ []) reads)
-    (reads_behind keys program (before ++ a ∷ []) reads asked.1 (one_more_read keys program before a asked.0 is))
+    (reads_after keys program (before ++ a ∷ []) reads asked.1 (one_more_read keys program before a asked.0 is))
 
 -- ---- no key is asked for twice ----
 
@@ -194,22 +194,22 @@ distinct_more (x ∷ reads) a distinct new =
     let apart : (bytes_eq x.key a.key ≡ false) × (answer_in a.key reads ≡ None) = apart_by (bytes_eq x.key a.key) x (answer_in a.key reads) new in
     (still_none x.key reads a distinct.0 (bytes_eq-flip a.key x.key ∙ apart.0), distinct_more reads a distinct.1 apart.1)
 
-distinct_behind : (program : ProgramTree) (before reads : List ReadAnswer) → AskedBehind program before reads → HaveDistinctKeys before →
+distinct_after : (program : ProgramTree) (before reads : List ReadAnswer) → AskedAfter program before reads → HaveDistinctKeys before →
     HaveDistinctKeys (before ++ reads)
-distinct_behind program before [] asked distinct = subst HaveDistinctKeys (sym (append-nil before)) distinct
-distinct_behind program before (a ∷ reads) asked distinct =
+distinct_after program before [] asked distinct = subst HaveDistinctKeys (sym (append-nil before)) distinct
+distinct_after program before (a ∷ reads) asked distinct =
     subst HaveDistinctKeys (append_assoc before (a ∷ []) reads)
-    (distinct_behind program (before ++ a ∷ []) reads asked.1 (distinct_more before a distinct (wanted_is_new program before a.key asked.0)))
+    (distinct_after program (before ++ a ∷ []) reads asked.1 (distinct_more before a distinct (wanted_is_new program before a.key asked.0)))
 
 -- ---- what an attempt has read was asked for ----
 
-asked_behind : (program : ProgramTree) (before reads : List ReadAnswer) (a : ReadAnswer) → AskedBehind program before reads →
-    wanted (run_on program (before ++ reads)) ≡ Some a.key → AskedBehind program before (reads ++ a ∷ [])
-asked_behind program before [] a asked wants =
+asked_after : (program : ProgramTree) (before reads : List ReadAnswer) (a : ReadAnswer) → AskedAfter program before reads →
+    wanted (run_on program (before ++ reads)) ≡ Some a.key → AskedAfter program before (reads ++ a ∷ [])
+asked_after program before [] a asked wants =
     (subst (λ (l : List ReadAnswer). wanted (run_on program l) ≡ Some a.key) (append-nil before) wants, tt)
-asked_behind program before (x ∷ reads) a asked wants = (
+asked_after program before (x ∷ reads) a asked wants = (
   asked.0,
-  asked_behind program (before ++ x ∷ []) reads a asked.1
+  asked_after program (before ++ x ∷ []) reads a asked.1
       (subst (λ (l : List ReadAnswer). wanted (run_on program l) ≡ Some a.key) (sym (append_assoc before (x ∷ []) reads)) wants),
 )
 
@@ -236,12 +236,12 @@ list_within keys (a ∷ reads) begins not =
     let count : length all ≡ length (a ∷ reads) = length-map (a ∷ reads) (λ (x : ReadAnswer). x.key) in
     omega (arith, same, parts, count)
 
-none_behind : (program : ProgramTree) (n : ℕ) → AskedBehind program (take n []) (drop n [])
-none_behind program zero = tt
-none_behind program (suc n) = tt
+none_after : (program : ProgramTree) (n : ℕ) → AskedAfter program (take n []) (drop n [])
+none_after program zero = tt
+none_after program (suc n) = tt
 
 pub none_asked : (program : ProgramTree) → AreAsked program []
-none_asked program = none_behind program (length program.prefetch)
+none_asked program = none_after program (length program.prefetch)
 
 -- the answers to a list alone
 all_listed : (program : ProgramTree) (answers : List ReadAnswer) → map (λ (a : ReadAnswer). a.key) answers ≡ program.prefetch → AreAsked program answers
@@ -249,7 +249,7 @@ all_listed program answers is =
     let n : ℕ = length program.prefetch in
     let count : length answers ≡ n =
     sym (length-map answers (λ (a : ReadAnswer). a.key)) ∙ ap (λ (l : List (List ℕ)). length l) is in
-    subst (λ (l : List ReadAnswer). AskedBehind program (take n answers) l) (sym (drop_all n answers (omega (arith, count)))) tt
+    subst (λ (l : List ReadAnswer). AskedAfter program (take n answers) l) (sym (drop_all n answers (omega (arith, count)))) tt
 
 one_more_asked : (program : ProgramTree) (reads : List ReadAnswer) (a : ReadAnswer) → length program.prefetch ≤ length reads → AreAsked program reads →
     wanted (run_on program reads) ≡ Some a.key → AreAsked program (reads ++ a ∷ [])
@@ -257,9 +257,9 @@ one_more_asked program reads a within asked wants =
     let n : ℕ = length program.prefetch in
     let whole : wanted (run_on program (take n reads ++ drop n reads)) ≡ Some a.key =
     ap (λ (l : List ReadAnswer). wanted (run_on program l)) (rejoined n reads) ∙ wants in
-    subst (λ (l : List ReadAnswer). AskedBehind program (take n (reads ++ a ∷ [])) l) (sym (dropped_more n reads a within))
-    (subst (λ (l : List ReadAnswer). AskedBehind program l (drop n reads ++ a ∷ [])) (sym (take-append-le n reads (a ∷ []) within))
-    (asked_behind program (take n reads) (drop n reads) a asked whole))
+    subst (λ (l : List ReadAnswer). AskedAfter program (take n (reads ++ a ∷ [])) l) (sym (dropped_more n reads a within))
+    (subst (λ (l : List ReadAnswer). AskedAfter program l (drop n reads ++ a ∷ [])) (sym (take-append-le n reads (a ∷ []) within))
+    (asked_after program (take n reads) (drop n reads) a asked whole))
 
 is_for : (o : Option (List ℕ)) (answers : List ReadAnswer) (a : ReadAnswer) → answer_for o answers ≡ Some a → o ≡ Some a.key
 is_for None answers a is = absurd (cc)
@@ -361,7 +361,7 @@ asked_are_distinct program (a ∷ reads) once begins asked =
     let front : map (λ (x : ReadAnswer). x.key) (take n all) ≡ program.prefetch =
     taken_keys_of n all ∙ ap (λ (l : List (List ℕ)). take n l) begins.first ∙ front_of program.prefetch begins.others in
     let distinct : HaveDistinctKeys (take n all) = once-have_distinct (take n all) (ap has_repeat front ∙ once) in
-    subst HaveDistinctKeys (rejoined n all) (distinct_behind program (take n all) (drop n all) asked distinct)
+    subst HaveDistinctKeys (rejoined n all) (distinct_after program (take n all) (drop n all) asked distinct)
 
 -- ---- what was read is what the run reads
 
@@ -378,7 +378,7 @@ answers_are_the_reads program reads run begins listed asked is =
     let keys : List (List ℕ) = program.prefetch in
     let n : ℕ = length keys in
     let whole : IsFirst keys (take n reads ++ drop n reads) (reads_of (run_with program (take n reads ++ drop n reads))) =
-    reads_behind keys program (take n reads) (drop n reads) asked
+    reads_after keys program (take n reads) (drop n reads) asked
     (listed_read keys program (take n reads) (front_keys keys reads begins listed)) in
     ap (keys_first_read keys) (ended_reads (run_with program reads) run is)
     ∙ subst (λ (l : List ReadAnswer). IsFirst keys l (reads_of (run_with program l))) (rejoined n reads) whole

@@ -37,10 +37,10 @@ kept_set h floor [] (suc i) o are is = tt
 kept_set h floor (x ∷ ws) zero o are is = (is, are.1)
 kept_set h floor (x ∷ ws) (suc i) o are is = (are.0, kept_set h floor ws i o are.1 is)
 
-pub kept_behind : (h : History) (floor : ℕ) (ws : List (Option Watching)) (o : Option Watching) → AreKeptFor h floor ws → IsKeptFor h floor o →
+pub kept_after : (h : History) (floor : ℕ) (ws : List (Option Watching)) (o : Option Watching) → AreKeptFor h floor ws → IsKeptFor h floor o →
     AreKeptFor h floor (ws ++ o ∷ [])
-kept_behind h floor [] o are is = (is, tt)
-kept_behind h floor (x ∷ ws) o are is = (are.0, kept_behind h floor ws o are.1 is)
+kept_after h floor [] o are is = (is, tt)
+kept_after h floor (x ∷ ws) o are is = (are.0, kept_after h floor ws o are.1 is)
 
 -- ---- by call
 
@@ -69,7 +69,7 @@ kept_by_changes s changes k = record {
 pub kept_by_watch : (s : Standing) (keys : Watched) (from : ℕ) → HasKept s →
     AreKeptFor s.history s.floor (s.watchers ++ Some (watching_from s.history s.floor keys from) ∷ [])
 kept_by_watch s keys from k =
-    kept_behind s.history s.floor s.watchers (Some (watching_from s.history s.floor keys from)) k.watchers
+    kept_after s.history s.floor s.watchers (Some (watching_from s.history s.floor keys from)) k.watchers
     (λ kept. begun_from s.floor s.history keys from k.reached kept)
 
 -- a poll of a watcher that is there

@@ -38,12 +38,12 @@ abbrev read : List ℕ → ℕ → KeyRead
 read key mod_rev = record { key = key; mod_rev = mod_rev }
 
 -- after a list of p and q
-abbrev behind_both : Statement → ProgramTree
-behind_both statement = record { statements = Then statement EndBlock; prefetch = codes "p" ∷ codes "q" ∷ [] }
+abbrev after_both : Statement → ProgramTree
+after_both statement = record { statements = Then statement EndBlock; prefetch = codes "p" ∷ codes "q" ∷ [] }
 
 -- the program looks up p alone
 abbrev emits_p : ProgramTree
-emits_p = behind_both (Emit (Get (Text (codes "p"))))
+emits_p = after_both (Emit (Get (Text (codes "p"))))
 
 abbrev raced : Level → List WorldEvent
 raced level = put (codes "p") ∷ Start emits_p level 2 ∷ Step 1 ∷ put (codes "q") ∷ Step 1 ∷ []
@@ -83,7 +83,7 @@ list_is_reported = refl
 
 -- a key that is only written is in conflict where it was put since the list was read
 abbrev puts_r : ProgramTree
-puts_r = behind_both (PutStatement (Text (codes "r")) (Text (codes "2")) 0)
+puts_r = after_both (PutStatement (Text (codes "r")) (Text (codes "2")) 0)
 
 written_key_conflicts : replies_to (put (codes "p") ∷ Start puts_r SerializableSnapshot 2 ∷ Step 1 ∷ put (codes "r") ∷ Step 1 ∷ []) (opened (at_revision 1))
     ≡ until_second_put ++ Ok (Conflict 1 (codes "r") 2 3) ∷ []
@@ -100,7 +100,7 @@ list_is_too_long = refl
 
 -- one that takes two fetches both, and refuses the commit that would compare three
 abbrev emits_r : ProgramTree
-emits_r = behind_both (Emit (Get (Text (codes "r"))))
+emits_r = after_both (Emit (Get (Text (codes "r"))))
 
 reads_are_too_many : replies_to (Start emits_r Serializable 1 ∷ Step 1 ∷ Step 1 ∷ Step 1 ∷ []) (opened (record { revision = 1; limit = 2 }))
     ≡ Ok (Started 1) ∷ Ok (Prefetched 1 1 (read (codes "p") 0 ∷ read (codes "q") 0 ∷ [])) ∷ Ok (Fetched 1 (codes "r") 0 1 1) ∷ Ok (Ended 1 TooManyOps) ∷ []

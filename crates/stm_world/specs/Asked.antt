@@ -12,14 +12,14 @@ use Rattle.stm_attempt.specs.Laws.{BeginsWithList}
 use Rattle.stm_events.specs.FirstReads.{keys_first_read}
 
 -- each of the answers after these was added when the program's run wanted its key
-abbrev pub AskedBehind : ProgramTree → List ReadAnswer → List ReadAnswer → Type 0
-AskedBehind program before [] = Unit {0}
-AskedBehind program before (a ∷ reads) = (wanted (run_on program before) ≡ Some a.key) × AskedBehind program (before ++ a ∷ []) reads
+abbrev pub AskedAfter : ProgramTree → List ReadAnswer → List ReadAnswer → Type 0
+AskedAfter program before [] = Unit {0}
+AskedAfter program before (a ∷ reads) = (wanted (run_on program before) ≡ Some a.key) × AskedAfter program (before ++ a ∷ []) reads
 
 -- each answer after those of the list was added when the program's run wanted its key
 abbrev pub AreAsked : ProgramTree → List ReadAnswer → Type 0
 AreAsked program reads =
-    let count : ℕ = length program.prefetch in AskedBehind program (take count reads) (drop count reads)
+    let count : ℕ = length program.prefetch in AskedAfter program (take count reads) (drop count reads)
 
 abbrev pub keys_read : List ReadAnswer → List (List ℕ)
 keys_read reads = map (λ a. a.key) reads

@@ -84,7 +84,7 @@ pub record IsFetch (at : Situation) (key : List ℕ) (mod_rev of_rev revision : 
   pub carries : revision ≡ now at.store.history
 
 -- the program wants a key, and its base is compacted
-pub record IsBehind (at : Situation) : Type 0 where
+pub record HasCompactedBase (at : Situation) : Type 0 where
   pub has_list : HasList at
   pub key : List ℕ
   pub trace : List TraceItem
@@ -136,7 +136,7 @@ pub record IsConflicted (at : Situation) (key : List ℕ) (seen now_modified : �
 -- The store refuses what the step asks of it: the commit of a program that is done, or, as compacted, a fetch at the base of the attempt, or, as too
 -- many operations, the fetch of the list.
 abbrev pub IsRefused : Situation → StoreRefusal → Type 0
-IsRefused at cause = Commits at (Err cause) ⊎ ((cause ≡ CompactedRefusal) × IsBehind at) ⊎ ((cause ≡ TooManyOpsRefusal) × IsOverfull at)
+IsRefused at cause = Commits at (Err cause) ⊎ ((cause ≡ CompactedRefusal) × HasCompactedBase at) ⊎ ((cause ≡ TooManyOpsRefusal) × IsOverfull at)
 
 -- the run is ended by a refusal of the store, which is reported under its name
 pub record IsEndedBy (at : Situation) (cause : EventRefusal) : Type 0 where

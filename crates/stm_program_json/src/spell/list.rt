@@ -4,10 +4,10 @@ ghost use Rattle.serde_json.specs.Data.{array};
 ghost use Rattle.serde_json.specs.View.{view, items_view};
 ghost use Rattle.stm_json.specs.Parts.{spelled};
 ghost use Rattle.stm_program.specs.BlockView.{block_of};
-ghost use Rattle.stm_program_json.specs.Writing.{items_after, written_keys, written_statements, behind_list};
+ghost use Rattle.stm_program_json.specs.Writing.{items_after, written_keys, written_statements, after_list};
 
 use crate::spell::arrays::one_part;
-use crate::spell::statements::{statements_behind, statements_value};
+use crate::spell::statements::{statements_after, statements_value};
 use serde_json::Value;
 use std::alloc::{AllocError, Global};
 use stm_program::Stmt;
@@ -41,7 +41,7 @@ pub(crate) fn program_value(
     keys: &[String],
     statements: &[Stmt],
 ) -> Result<Value, AllocError>
-    ensures { IfOk result (λ v. view v ≡ array (behind_list (map string_bytes keys.now) (written_statements (block_of statements.now)))) }
+    ensures { IfOk result (λ v. view v ≡ array (after_list (map string_bytes keys.now) (written_statements (block_of statements.now)))) }
 {
     if keys.is_empty() {
         return statements_value(alloc, statements);
@@ -49,5 +49,5 @@ pub(crate) fn program_value(
     let list = list_value(alloc, keys)?;
     let mut before = Vec::new(alloc);
     before.push(list)?;
-    statements_behind(alloc, before, statements)
+    statements_after(alloc, before, statements)
 }

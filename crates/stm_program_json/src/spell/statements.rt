@@ -93,12 +93,12 @@ fn block_value(alloc: Global, block: &Block) -> Result<Value, AllocError>
 pub(crate) fn statements_value(alloc: Global, statements: &[Stmt]) -> Result<Value, AllocError>
     ensures { IfOk result (λ v. view v ≡ written_block (block_of statements.now)) }
 {
-    statements_behind(alloc, Vec::new(alloc), statements)
+    statements_after(alloc, Vec::new(alloc), statements)
 }
 
 /// The array of these values, and of statements after them.
 #[cycle(write_statements)]
-pub(crate) fn statements_behind(
+pub(crate) fn statements_after(
     alloc: Global,
     before: Vec<Value>,
     statements: &[Stmt],

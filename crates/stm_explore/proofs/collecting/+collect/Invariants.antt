@@ -6,8 +6,8 @@ use Rattle.stm_explore.proofs.collecting.+collect.Given as goal
 abbrev pub decreases-collect : goal.decreases-collect
 decreases-collect g l = 4 * l.depth
 
-abbrev pub decreases-collect_behind : goal.decreases-collect_behind
-decreases-collect_behind g l = 4 * l.depth + 3
+abbrev pub decreases-collect_after : goal.decreases-collect_after
+decreases-collect_after g l = 4 * l.depth + 3
 
 abbrev pub decreases-collect_aside : goal.decreases-collect_aside
 decreases-collect_aside g l = 4 * l.depth + 2

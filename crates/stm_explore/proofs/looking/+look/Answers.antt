@@ -4,9 +4,9 @@ use Rattle.stm_schedules.specs.declared.moves.Move.{Move}
 use Rattle.stm_schedules.specs.declared.moves.Move.TheVariants.{Step as StepOf}
 use Rattle.stm_schedules.specs.Places.{Place, moved}
 use Rattle.stm_schedules.specs.Fewer.{quiet_runner, is_looked_at}
-use Rattle.stm_explore.specs.Seen.{IsSeenBehind, KeptBefore, KeptBehind}
+use Rattle.stm_explore.specs.Seen.{IsSeenAfter, KeptBefore, KeptAfter}
 use Rattle.stm_explore.proofs.KeptLemmas.{kept_at, kept_at_each_here, kept_at_end}
-use Rattle.stm_explore.proofs.LookLemmas.{seen_at, seen_none, seen_next_here, seen_broken_here, seen_all, looked_behind, not_looked_behind}
+use Rattle.stm_explore.proofs.LookLemmas.{seen_at, seen_none, seen_next_here, seen_broken_here, seen_all, looked_after, not_looked_after}
 use Rattle.stm_explore.proofs.looking.+look.Goals as goal
 
 pub look-look_here-requires : goal.look-look_here-requires
@@ -25,11 +25,11 @@ look-loop-chosen-init g t c =
       world = λ within. refl;
     }
 
-pub look-look_behind-requires : goal.look-look_behind-requires
-look-look_behind-requires g t c =
+pub look-look_after-requires : goal.look-look_after-requires
+look-look_after-requires g t c =
     let p : Place = record { world = c.args.world.now; others = c.args.others.now } in
     let ms : List Move = c.as_slice-choices.result.now in
-    let kept : KeptBehind c.args.rule.now (c.args.depth - 1) c.args.last (record { world = c.loop-chosen.world; others = c.args.others.now })
+    let kept : KeptAfter c.args.rule.now (c.args.depth - 1) c.args.last (record { world = c.loop-chosen.world; others = c.args.others.now })
     (get_or ms c.loop-chosen.chosen-index (StepOf 0)) =
     kept_at_each_here c.args.rule.now c.args.depth c.args.last p c.loop-chosen.world ms c.loop-chosen.chosen-index (StepOf 0)
     (c.loop-chosen.invariant.world (omega arith)) c.if-depth-eq0.false (c.as_slice-choices.ensures.value ∙ c.in_ok-all.ensures) (omega arith) c.requires in
@@ -41,7 +41,7 @@ look-loop-chosen-preserved g t c =
     let p : Place = record { world = c.args.world.now; others = c.args.others.now } in
     let ms : List Move = c.as_slice-choices.result.now in
     let same : c.loop-chosen.world ≡ c.args.world.now = c.loop-chosen.invariant.world (omega arith) in
-    let one : c.look_behind.new.budget.left < c.loop-chosen.budget.left = c.in_ok-more.ensures.taken in
+    let one : c.look_after.new.budget.left < c.loop-chosen.budget.left = c.in_ok-more.ensures.taken in
     record {
       seen = seen_next_here c.args.rule.now c.args.depth c.args.last p c.loop-chosen.world ms c.loop-chosen.chosen-index _ c.loop-chosen.goes_on
           c.in-Kept.more c.is_either-goes_on.result c.in_ok-more.field-0 same c.in_ok-more.ensures.seen c.in-Kept.is (omega arith)
@@ -66,14 +66,14 @@ look-returns-clause-seen g t c =
 
 pub look_aside-look_moved-looked-requires : goal.look_aside-look_moved-looked-requires
 look_aside-look_moved-looked-requires g t c =
-    let kept : KeptBehind c.args.rule.now c.args.depth c.args.last (record { world = c.in_ok-next.next; others = c.args.others.now }) c.args.chosen =
-    subst (λ (w : World). KeptBehind c.args.rule.now c.args.depth c.args.last (record { world = w; others = c.args.others.now }) c.args.chosen)
+    let kept : KeptAfter c.args.rule.now c.args.depth c.args.last (record { world = c.in_ok-next.next; others = c.args.others.now }) c.args.chosen =
+    subst (λ (w : World). KeptAfter c.args.rule.now c.args.depth c.args.last (record { world = w; others = c.args.others.now }) c.args.chosen)
     (sym c.in_ok-next.ensures) c.requires in
     search rules
 
 pub look_aside-returns-clause-seen : goal.look_aside-returns-clause-seen
 look_aside-returns-clause-seen g t c =
-    subst (λ (w : World). IsSeenBehind c.args.rule.now c.args.depth c.args.last c.args.chosen (record { world = w; others = c.args.others.now }) c.in_ok-looked.looked)
+    subst (λ (w : World). IsSeenAfter c.args.rule.now c.args.depth c.args.last c.args.chosen (record { world = w; others = c.args.others.now }) c.in_ok-looked.looked)
     c.in_ok-next.ensures c.in_ok-looked.ensures.seen
 
 pub look_moved-look-requires : goal.look_moved-look-requires
@@ -88,7 +88,7 @@ look_moved-look-requires g t c =
 pub look_moved-returns-then-is_looked_at-clause-seen : goal.look_moved-returns-then-is_looked_at-clause-seen
 look_moved-returns-then-is_looked_at-clause-seen g t c =
     let p : Place = record { world = c.args.world.now; others = c.args.others.now } in
-    looked_behind c.args.rule.now c.args.depth c.args.last c.args.chosen p c.in_ok-looked.looked c.in_ok-seen.seen
+    looked_after c.args.rule.now c.args.depth c.args.last c.args.chosen p c.in_ok-looked.looked c.in_ok-seen.seen
     (ap (is_looked_at c.args.last) (sym c.in_ok-quiet.ensures.quiet) ∙ sym c.is_looked_at.ensures ∙ c.if-is_looked_at.true) c.in_ok-seen.ensures
     (seen_at c.args.rule.now c.args.depth (quiet_runner c.args.chosen c.args.world.now) c.in_ok-quiet.quiet (moved c.args.chosen p) _ c.in_ok-looked.looked
     c.in_ok-quiet.ensures.quiet c.in_ok-quiet.ensures.next c.left_after.ensures c.in_ok-looked.ensures.seen)
@@ -96,7 +96,7 @@ look_moved-returns-then-is_looked_at-clause-seen g t c =
 pub look_moved-returns-clause-seen : goal.look_moved-returns-clause-seen
 look_moved-returns-clause-seen g t c =
     let p : Place = record { world = c.args.world.now; others = c.args.others.now } in
-    not_looked_behind c.args.rule.now c.args.depth c.args.last c.args.chosen p
+    not_looked_after c.args.rule.now c.args.depth c.args.last c.args.chosen p
     (ap (is_looked_at c.args.last) (sym c.in_ok-quiet.ensures.quiet) ∙ sym c.is_looked_at.ensures ∙ c.if-is_looked_at.false)
 
 -- ---- the events that are taken

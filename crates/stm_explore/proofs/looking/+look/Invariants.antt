@@ -6,8 +6,8 @@ use Rattle.stm_explore.proofs.looking.+look.Given as goal
 abbrev pub decreases-look : goal.decreases-look
 decreases-look g l = 4 * l.depth
 
-abbrev pub decreases-look_behind : goal.decreases-look_behind
-decreases-look_behind g l = 4 * l.depth + 3
+abbrev pub decreases-look_after : goal.decreases-look_after
+decreases-look_after g l = 4 * l.depth + 3
 
 abbrev pub decreases-look_aside : goal.decreases-look_aside
 decreases-look_aside g l = 4 * l.depth + 2

@@ -4,7 +4,7 @@ use Rattle.stm_history.specs.declared.key_state.KeyState.{KeyState}
 use Rattle.stm_history.specs.History.{key_now}
 use Rattle.stm_outcome.specs.Compares.{first_failed}
 use Rattle.stm_compile.specs.CommitTxn.{first_carried, is_as_read, is_unmodified}
-use Rattle.stm_journal.proofs.FirstFailed.{fails_first, fails_behind}
+use Rattle.stm_journal.proofs.FirstFailed.{fails_first, fails_after}
 use Rattle.stm_journal.proofs.conflicts.find_either.Goals as goal
 
 -- a key that was read was changed
@@ -22,5 +22,5 @@ returns-in-None c =
     let behind : c.len.result ≡ 0 + length (map is_as_read c.args.answers.now) = omega (arith, c.len.ensures, count) in
     c.find_modified.ensures
     ∙ ap (λ (first : ℕ). first_failed state c.len.result (map (is_unmodified first) c.args.writes.now)) c.first_carried.ensures.first
-    ∙ sym (fails_behind state 0 c.len.result (map is_as_read c.args.answers.now)
+    ∙ sym (fails_after state 0 c.len.result (map is_as_read c.args.answers.now)
     (map (is_unmodified (first_carried c.args.answers.now)) c.args.writes.now) (sym c.find_changed.ensures ∙ c.in-None.is) behind)

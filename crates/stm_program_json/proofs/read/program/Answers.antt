@@ -10,8 +10,8 @@ pub returns-in-Some-list_parts : goal.returns-in-Some-list_parts
 returns-in-Some-list_parts c =
     let vs = c.in-Some.values.now.items in
     let split : vs ≡ c.in-Some-split_first.first.now ∷ c.in-Some-split_first.rest.now = sym c.deref.ensures.value ∙ c.in-Some-split_first.ensures.cases.0 in
-    program_reported c.program_behind.result (view c.args.value.now) vs c.in-Some-split_first.rest.now c.in-Some-split_first.first.now
-    (Some (items_view c.in-Some-list_parts.parts.now)) (sym c.in-Some.ensures) split (sym c.in-Some-list_parts.ensures) (c.program_behind.ensures (items_view vs))
+    program_reported c.program_after_list.result (view c.args.value.now) vs c.in-Some-split_first.rest.now c.in-Some-split_first.first.now
+    (Some (items_view c.in-Some-list_parts.parts.now)) (sym c.in-Some.ensures) split (sym c.in-Some-list_parts.ensures) (c.program_after_list.ensures (items_view vs))
 
 pub returns-in-None : goal.returns-in-None
 returns-in-None c =

@@ -20,10 +20,10 @@ decreases-block_value l = 4 * block_weight l.block.now + 2
 abbrev pub decreases-statements_value : goal.decreases-statements_value
 decreases-statements_value l = 4 * block_weight (block_of l.statements.now) + 1
 
-abbrev pub decreases-statements_behind : goal.decreases-statements_behind
-decreases-statements_behind l = 4 * block_weight (block_of l.statements.now)
+abbrev pub decreases-statements_after : goal.decreases-statements_after
+decreases-statements_after l = 4 * block_weight (block_of l.statements.now)
 
 -- the values so far, and then what is written of the rest
-abbrev pub invariant-statements_behind-loop-statement : goal.invariant-statements_behind-loop-statement
-invariant-statements_behind-loop-statement l =
+abbrev pub invariant-statements_after-loop-statement : goal.invariant-statements_after-loop-statement
+invariant-statements_after-loop-statement l =
     items_after (map view l.values.items) (written_statements (block_of (drop l.statement-index l.statements))) ≡ items_after (map view l.fn.before.items) (written_statements (block_of l.statements))

@@ -3,7 +3,7 @@ use Rattle.std.specs.Prelude.{ℕ}
 use Rattle.stm_attempt.specs.declared.next.Next.TheVariants.{Fetch}
 use Rattle.stm_attempt.specs.Settled.{run_on}
 use Rattle.stm_attempt.proofs.ProgressLemmas.{fetch_is, next_of_settled}
-use Rattle.stm_attempt.proofs.progress.come_behind.Goals as goal
+use Rattle.stm_attempt.proofs.progress.come_after_list.Goals as goal
 
 pub returns-in_err-begin-clause-come : goal.returns-in_err-begin-clause-come
 returns-in_err-begin-clause-come c = c.begin.ensures.come c.args.reads.now c.requires.come

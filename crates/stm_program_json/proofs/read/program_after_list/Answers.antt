@@ -1,7 +1,7 @@
 use Rattle.stm_program.proofs.ListLemmas.{fits_behind, list_whole}
 use Rattle.stm_program_json.proofs.KeyLists.{list_parts_of_keys}
 use Rattle.stm_program_json.proofs.StatementSound.{program_statements}
-use Rattle.stm_program_json.proofs.read.program_behind.Goals as goal
+use Rattle.stm_program_json.proofs.read.program_after_list.Goals as goal
 
 pub with_list-requires : goal.with_list-requires
 with_list-requires c =

@@ -16,21 +16,21 @@ fn copy_program(program: &Program) -> Result<Program, AllocError>
 }
 
 /// A copy of a run's output.
-pub(crate) fn copy_output(output: &Sequence<Value>) -> Result<Sequence<Value>, AllocError>
+fn copy_output(output: &Sequence<Value>) -> Result<Sequence<Value>, AllocError>
     ensures { IfOk result (λ copy. copy ≡ output.now) }
 {
     output.clone()
 }
 
 /// A copy of a run's trace.
-pub(crate) fn copy_trace(trace: &Sequence<TraceItem>) -> Result<Sequence<TraceItem>, AllocError>
+fn copy_trace(trace: &Sequence<TraceItem>) -> Result<Sequence<TraceItem>, AllocError>
     ensures { IfOk result (λ copy. copy ≡ trace.now) }
 {
     trace.clone()
 }
 
 /// A copy of what was read.
-pub(crate) fn copy_answers(answers: &ReadSet) -> Result<ReadSet, AllocError>
+fn copy_answers(answers: &ReadSet) -> Result<ReadSet, AllocError>
     ensures { IfOk result (λ copy. copy ≡ answers.now) }
 {
     answers.clone()

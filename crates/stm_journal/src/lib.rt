@@ -1,7 +1,7 @@
 //! The journal: a store with the entries of what changed it. Fetches, commits, transactions of other clients and leases go through it, and each that changes
 //! something is entered by one function.
 //!
-//! Beside it what those who keep such a store have in common: copies of what a commit reports, reads of a store, and its present keys and its state.
+//! Beside it what those who keep such a store have in common: reads of a store, and its present keys and its state.
 #![tactic(auto)]
 
 mod answers;
@@ -9,7 +9,6 @@ mod causes;
 mod commit_entry;
 mod committing;
 mod conflicts;
-mod copies;
 mod copying;
 mod entered_calls;
 mod failing;
@@ -27,7 +26,6 @@ mod verdict;
 mod vouching;
 
 pub use answers::take_reads;
-pub use copies::{Copies, copies_of};
 pub use fetching::{read, txn_of_reads};
 pub use journal::Journal;
 pub use prepared::{Prepared, prepare};

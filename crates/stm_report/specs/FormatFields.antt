@@ -1,9 +1,12 @@
 -- The lines of a report as objects: each element of a line under the name of its field. A name says what docs/FORMATS.md says of the element.
-use Rattle.std.specs.Prelude.{ℕ, List, [], ◌∷◌, codes}
+use Rattle.std.specs.Prelude.{ℕ, List, [], ◌∷◌, Result, Ok, Err, codes}
 use Rattle.serde_json.specs.Data.{Data, array, object, Items, no_items, item, Members, no_members, put}
-use Rattle.stm_report_lines.specs.declared.line.ReportLine.{ReportLine}
-use Rattle.stm_report_lines.specs.declared.line.ReportLine.TheVariants.{Started, Prefetched, Fetched, Committed, Conflict, GaveUp, Aborted, Faulted, Ended, Txn, Granted}
-use Rattle.stm_report_lines.specs.declared.line.ReportLine.TheVariants.{Kept, Revoked, Advanced, Compacted, Watching, Cancelled, Batch, Lost, Refused, Key, Lease, End}
+use Rattle.stm_events.specs.declared.line.ReportLine.{ReportLine}
+use Rattle.stm_events.specs.declared.line.ReportLine.TheVariants.{Event, Key, Lease, End}
+use Rattle.stm_events.specs.declared.reply.Reply.{Reply}
+use Rattle.stm_events.specs.declared.reply.Reply.TheVariants.{Started, Prefetched, Fetched, Committed, Conflict, GaveUp, Aborted, Faulted, Ended}
+use Rattle.stm_events.specs.declared.reply.Reply.TheVariants.{Txn, Granted, Kept, Revoked, Advanced, Compacted, Watching, Batch, Lost, Cancelled}
+use Rattle.stm_events.specs.declared.refusal.Denied.{Denied}
 use Rattle.stm_report_lines.specs.LineData.{line_data}
 
 -- ---- a line with names
@@ -25,30 +28,37 @@ object_of names other = other
 abbrev pub numbered : List (List ℕ) → List (List ℕ)
 numbered names = codes "event" ∷ codes "kind" ∷ names
 
-abbrev pub line_fields : ReportLine → List (List ℕ)
-line_fields (Started n runner) = numbered (codes "runner" ∷ [])
-line_fields (Prefetched n runner revision reads) = numbered (codes "runner" ∷ codes "revision" ∷ codes "reads" ∷ [])
-line_fields (Fetched n runner key mod_rev of_rev revision) =
+-- of the reply to an event
+abbrev pub reply_fields : Reply → List (List ℕ)
+reply_fields (Started runner) = numbered (codes "runner" ∷ [])
+reply_fields (Prefetched runner revision reads) = numbered (codes "runner" ∷ codes "revision" ∷ codes "reads" ∷ [])
+reply_fields (Fetched runner key mod_rev of_rev revision) =
     numbered (codes "runner" ∷ codes "key" ∷ codes "mod_rev" ∷ codes "of_rev" ∷ codes "revision" ∷ [])
-line_fields (Committed n runner revision attempts output trace answers) =
+reply_fields (Committed runner revision attempts output trace answers) =
     numbered (codes "runner" ∷ codes "revision" ∷ codes "attempts" ∷ codes "output" ∷ codes "trace" ∷ codes "answers" ∷ [])
-line_fields (Conflict n runner key seen now) = numbered (codes "runner" ∷ codes "key" ∷ codes "seen" ∷ codes "now" ∷ [])
-line_fields (GaveUp n runner attempts key seen now) =
+reply_fields (Conflict runner key seen now) = numbered (codes "runner" ∷ codes "key" ∷ codes "seen" ∷ codes "now" ∷ [])
+reply_fields (GaveUp runner attempts key seen now) =
     numbered (codes "runner" ∷ codes "attempts" ∷ codes "key" ∷ codes "seen" ∷ codes "now" ∷ [])
-line_fields (Aborted n runner text) = numbered (codes "runner" ∷ codes "text" ∷ [])
-line_fields (Faulted n runner fault) = numbered (codes "runner" ∷ codes "fault" ∷ [])
-line_fields (Ended n runner cause) = numbered (codes "runner" ∷ codes "cause" ∷ [])
-line_fields (Txn n succeeded revision answers) = numbered (codes "succeeded" ∷ codes "revision" ∷ codes "answers" ∷ [])
-line_fields (Granted n id) = numbered (codes "lease" ∷ [])
-line_fields (Kept n id) = numbered (codes "lease" ∷ [])
-line_fields (Revoked n id revision) = numbered (codes "lease" ∷ codes "revision" ∷ [])
-line_fields (Advanced n now expired) = numbered (codes "now" ∷ codes "expired" ∷ [])
-line_fields (Compacted n revision) = numbered (codes "revision" ∷ [])
-line_fields (Watching n id) = numbered (codes "watcher" ∷ [])
-line_fields (Cancelled n id) = numbered (codes "watcher" ∷ [])
-line_fields (Batch n id up_to events) = numbered (codes "watcher" ∷ codes "upto" ∷ codes "events" ∷ [])
-line_fields (Lost n id floor) = numbered (codes "watcher" ∷ codes "floor" ∷ [])
-line_fields (Refused n cause expired) = numbered (codes "cause" ∷ codes "expired" ∷ [])
+reply_fields (Aborted runner text) = numbered (codes "runner" ∷ codes "text" ∷ [])
+reply_fields (Faulted runner fault) = numbered (codes "runner" ∷ codes "fault" ∷ [])
+reply_fields (Ended runner cause) = numbered (codes "runner" ∷ codes "cause" ∷ [])
+reply_fields (Txn succeeded revision answers) = numbered (codes "succeeded" ∷ codes "revision" ∷ codes "answers" ∷ [])
+reply_fields (Granted id) = numbered (codes "lease" ∷ [])
+reply_fields (Kept id) = numbered (codes "lease" ∷ [])
+reply_fields (Revoked id revision) = numbered (codes "lease" ∷ codes "revision" ∷ [])
+reply_fields (Advanced now expired) = numbered (codes "now" ∷ codes "expired" ∷ [])
+reply_fields (Compacted revision) = numbered (codes "revision" ∷ [])
+reply_fields (Watching watcher) = numbered (codes "watcher" ∷ [])
+reply_fields (Cancelled watcher) = numbered (codes "watcher" ∷ [])
+reply_fields (Batch watcher up_to events) = numbered (codes "watcher" ∷ codes "upto" ∷ codes "events" ∷ [])
+reply_fields (Lost watcher floor) = numbered (codes "watcher" ∷ codes "floor" ∷ [])
+
+abbrev pub event_fields : Result Reply Denied → List (List ℕ)
+event_fields (Ok reply) = reply_fields reply
+event_fields (Err denied) = numbered (codes "cause" ∷ codes "expired" ∷ [])
+
+abbrev pub line_fields : ReportLine → List (List ℕ)
+line_fields (Event n reply) = event_fields reply
 line_fields (Key key state) =
     codes "kind" ∷ codes "key" ∷ codes "value" ∷ codes "create_rev" ∷ codes "mod_rev" ∷ codes "version" ∷ codes "lease" ∷ []
 line_fields (Lease id ttl renewed) = codes "kind" ∷ codes "lease" ∷ codes "ttl" ∷ codes "renewed" ∷ []

@@ -1,14 +1,13 @@
 -- What a row says of an event and its reply. A revision comes after `@`, 0 where the key is absent.
 use Rattle.std.specs.Prelude.{ℕ, List, [], ◌∷◌, length, Bool, if◌then◌else◌, Result, Ok, Err, codes, decimal}
 use Rattle.stm_meaning.specs.Faults.{fault_name}
-use Rattle.stm_outcome.specs.Names.{refusal_name as store_refusal_name}
 use Rattle.stm_events.specs.declared.event.WorldEvent.{WorldEvent}
 use Rattle.stm_events.specs.declared.event.WorldEvent.TheVariants as event
 use Rattle.stm_events.specs.declared.reply.Reply.{Reply}
 use Rattle.stm_events.specs.declared.reply.Reply.TheVariants.{Started, Prefetched, Fetched, Committed, Conflict, GaveUp, Aborted, Faulted, Ended}
 use Rattle.stm_events.specs.declared.reply.Reply.TheVariants.{Txn, Granted, Kept, Revoked, Advanced, Compacted, Watching, Batch, Lost, Cancelled}
 use Rattle.stm_events.specs.declared.refusal.Denied.{Denied}
-use Rattle.stm_events.specs.declared.refusal.Refusal.{Refusal}
+use Rattle.stm_events.specs.declared.refusal.EventRefusal.{EventRefusal}
 use Rattle.stm_events.specs.Names.{refusal_name}
 use Rattle.stm_texts.specs.Grammar.{level_text}
 use Rattle.stm_report.specs.FormatShown.{shown}
@@ -57,8 +56,8 @@ abbrev pub advanced_words : ℕ → ℕ → List ℕ
 advanced_words now expired = joined (codes "advance to " ∷ decimal now ∷ codes ", " ∷ decimal expired ∷ codes " expired" ∷ [])
 
 abbrev pub batch_words : ℕ → ℕ → ℕ → List ℕ
-batch_words watcher events upto =
-    joined (codes "poll " ∷ decimal watcher ∷ codes ": " ∷ decimal events ∷ codes " events to @" ∷ decimal upto ∷ [])
+batch_words watcher events up_to =
+    joined (codes "poll " ∷ decimal watcher ∷ codes ": " ∷ decimal events ∷ codes " events to @" ∷ decimal up_to ∷ [])
 
 -- a watcher that was lost, and the first revision whose events are kept
 abbrev pub lost_words : ℕ → ℕ → List ℕ
@@ -73,15 +72,15 @@ reply_words event (Conflict runner key seen now) = compared_words (codes "CONFLI
 reply_words event (GaveUp runner attempts key seen now) = compared_words (codes "GAVE UP") key seen now
 reply_words event (Aborted runner text) = reported_words (codes "ABORT") text
 reply_words event (Faulted runner fault) = reported_words (codes "FAULT") (fault_name fault)
-reply_words event (Ended runner cause) = reported_words (codes "ENDED") (store_refusal_name cause)
-reply_words event (Txn answer) = txn_words answer.succeeded answer.revision
+reply_words event (Ended runner cause) = reported_words (codes "ENDED") (refusal_name cause)
+reply_words event (Txn succeeded revision answers) = txn_words succeeded revision
 reply_words event (Granted id) = named_words (codes "grant") id
 reply_words event (Kept id) = named_words (codes "keep") id
 reply_words event (Revoked id revision) = revoked_words id revision
 reply_words event (Advanced now expired) = advanced_words now (length expired)
 reply_words event (Compacted revision) = changed_words (codes "compact") revision
 reply_words event (Watching watcher) = named_words (codes "watch") watcher
-reply_words event (Batch watcher upto events) = batch_words watcher (length events) upto
+reply_words event (Batch watcher up_to events) = batch_words watcher (length events) up_to
 reply_words event (Lost watcher floor) = lost_words watcher floor
 reply_words event (Cancelled watcher) = named_words (codes "cancel") watcher
 
@@ -100,7 +99,7 @@ asked_word (event.WatchRange first end from) = codes "watch"
 asked_word (event.Poll watcher most) = codes "poll"
 asked_word (event.Cancel watcher) = codes "cancel"
 
-abbrev pub refused_words : WorldEvent → Refusal → List ℕ
+abbrev pub refused_words : WorldEvent → EventRefusal → List ℕ
 refused_words event cause = joined (codes "REFUSED " ∷ asked_word event ∷ codes ": " ∷ shown (refusal_name cause) ∷ [])
 
 abbrev pub words_of : WorldEvent → Result Reply Denied → List ℕ

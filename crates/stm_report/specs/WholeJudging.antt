@@ -2,7 +2,7 @@
 use Rattle.std.specs.Prelude.{◌≡◌, ◌⊎◌, ℕ, ◌≤◌, List, length, Bool, true, false, Option, Result, Ok, Err, IfSome}
 use Rattle.stm_json.specs.declared.limits.TheConstants.{MOST_BYTES}
 use Rattle.stm_texts.specs.Reading.{scenario_in}
-use Rattle.stm_report_lines.specs.declared.report.Report.{Report}
+use Rattle.stm_events.specs.declared.line.Report.{Report}
 use Rattle.stm_report_lines.specs.Reading.{report_in}
 use Rattle.stm_report.specs.Script.{IsReportOf}
 use Rattle.stm_check.specs.declared.sources.CheckFault.{CheckFault}

@@ -3,9 +3,8 @@ ghost use Rattle.std.specs.Prelude.{◌≡◌, ℕ, false, map, IfOk};
 ghost use Rattle.serde_json.specs.Data.{no_members};
 ghost use Rattle.serde_json.specs.View.{view, items_view, members_view};
 ghost use Rattle.serde_json.specs.Written.{has_float};
-ghost use Rattle.stm_report_lines.specs.Lines.{IsOfRunner, reply_reported, line_reported};
-ghost use Rattle.stm_report_lines.specs.declared.line.ReportLine.TheVariants as lines;
-ghost use Rattle.stm_report.specs.FormatFields.{members_named, object_of, line_fields, line_object};
+ghost use Rattle.stm_events.specs.declared.line.ReportLine.TheVariants as lines;
+ghost use Rattle.stm_report.specs.FormatFields.{members_named, object_of, reply_fields, event_fields, line_object};
 
 use serde_json::{Map, Value as Json};
 use std::alloc::{AllocError, Global};
@@ -42,10 +41,9 @@ fn object_of(alloc: Global, line: Json, names: &[&str]) -> Result<Json, AllocErr
     }
 }
 
-/// The names of the fields of the line of a runner's event.
-fn runner_fields(reply: &Reply) -> &'static [&'static str]
-    requires { IsOfRunner reply.now }
-    ensures { (n : ℕ) → map (λ name. name.now) result.now ≡ line_fields (reply_reported n reply.now) }
+/// The names of the fields of the line of an event that was taken.
+fn reply_fields(reply: &Reply) -> &'static [&'static str]
+    ensures { map (λ name. name.now) result.now ≡ reply_fields reply.now }
 {
     match reply {
         Reply::Started { .. } => &["event", "kind", "runner"],
@@ -61,15 +59,6 @@ fn runner_fields(reply: &Reply) -> &'static [&'static str]
         Reply::Aborted { .. } => &["event", "kind", "runner", "text"],
         Reply::Faulted { .. } => &["event", "kind", "runner", "fault"],
         Reply::Ended { .. } => &["event", "kind", "runner", "cause"],
-        _ => unreachable!(),
-    }
-}
-
-/// The names of the fields of the line of an event that was taken.
-fn reply_fields(reply: &Reply) -> &'static [&'static str]
-    ensures { (n : ℕ) → map (λ name. name.now) result.now ≡ line_fields (reply_reported n reply.now) }
-{
-    match reply {
         Reply::Txn { .. } => &["event", "kind", "succeeded", "revision", "answers"],
         Reply::Granted { .. } => &["event", "kind", "lease"],
         Reply::Kept { .. } => &["event", "kind", "lease"],
@@ -80,13 +69,12 @@ fn reply_fields(reply: &Reply) -> &'static [&'static str]
         Reply::Batch { .. } => &["event", "kind", "watcher", "upto", "events"],
         Reply::Lost { .. } => &["event", "kind", "watcher", "floor"],
         Reply::Cancelled { .. } => &["event", "kind", "watcher"],
-        _ => runner_fields(reply),
     }
 }
 
 /// The names of the fields of the line of an event with its reply.
 fn event_fields(reply: &Result<Reply, Denied>) -> &'static [&'static str]
-    ensures { (n : ℕ) → map (λ name. name.now) result.now ≡ line_fields (line_reported n reply.now) }
+    ensures { map (λ name. name.now) result.now ≡ event_fields reply.now }
 {
     match reply {
         Ok(reply) => reply_fields(reply),
@@ -100,7 +88,7 @@ pub(crate) fn event_object(
     number: u64,
     reply: &Result<Reply, Denied>,
 ) -> Result<Json, AllocError>
-    ensures object { IfOk result (λ v. view v ≡ line_object (line_reported number reply.now)) }
+    ensures object { IfOk result (λ v. view v ≡ line_object (lines.Event number reply.now)) }
     ensures no_float { IfOk result (λ v. has_float (view v) ≡ false) }
 {
     let line = event_json(alloc, number, reply)?;

@@ -1,15 +1,15 @@
 //! What a row says of an event and its reply.
 ghost use Rattle.std.specs.Prelude.{◌≡◌, codes, IfOk};
 ghost use Rattle.stm_texts.specs.Grammar.{level_text};
-ghost use Rattle.stm_report_lines.specs.Lines.{IsOfRunner};
 ghost use Rattle.stm_report.specs.FormatWords.{named_words, reported_words, changed_words, start_words, listed_words, fetched_words, commit_words, compared_words};
 ghost use Rattle.stm_report.specs.FormatWords.{txn_words, revoked_words, advanced_words, batch_words, lost_words, reply_words, asked_word, refused_words, words_of};
 
 use crate::format_pieces::{Piece, said};
 use std::alloc::{AllocError, Global};
+use stm_events::EventRefusal;
 use stm_history::Sequence;
 use stm_program::Level;
-use stm_retry::{Denied, Refusal, Reply, WorldEvent};
+use stm_retry::{Denied, Reply, WorldEvent};
 
 /// The name of a level.
 fn level_name(level: Level) -> &'static str
@@ -162,8 +162,8 @@ fn advanced(alloc: Global, now: u64, expired: u64) -> Result<Sequence<u8>, Alloc
 }
 
 /// The words of a poll.
-fn batch(alloc: Global, watcher: u64, events: u64, upto: u64) -> Result<Sequence<u8>, AllocError>
-    ensures { IfOk result (λ words. words ≡ batch_words watcher events upto) }
+fn batch(alloc: Global, watcher: u64, events: u64, up_to: u64) -> Result<Sequence<u8>, AllocError>
+    ensures { IfOk result (λ words. words ≡ batch_words watcher events up_to) }
 {
     let pieces = [
         Piece::Say("poll "),
@@ -171,7 +171,7 @@ fn batch(alloc: Global, watcher: u64, events: u64, upto: u64) -> Result<Sequence
         Piece::Say(": "),
         Piece::Number(events),
         Piece::Say(" events to @"),
-        Piece::Number(upto),
+        Piece::Number(up_to),
     ];
     said(alloc, &pieces)
 }
@@ -189,13 +189,8 @@ fn lost(alloc: Global, watcher: u64, floor: u64) -> Result<Sequence<u8>, AllocEr
     said(alloc, &pieces)
 }
 
-/// The words of a runner's event that was taken.
-fn runner_words(
-    alloc: Global,
-    event: &WorldEvent,
-    reply: &Reply,
-) -> Result<Sequence<u8>, AllocError>
-    requires { IsOfRunner reply.now }
+/// The words of an event that was taken.
+fn taken_words(alloc: Global, event: &WorldEvent, reply: &Reply) -> Result<Sequence<u8>, AllocError>
     ensures { IfOk result (λ words. words ≡ reply_words event.now reply.now) }
 {
     match reply {
@@ -215,7 +210,7 @@ fn runner_words(
             revision,
             attempts,
             ..
-        } => committed(alloc, *revision, *attempts as u64),
+        } => committed(alloc, *revision, *attempts),
         Reply::Conflict { key, seen, now, .. } => {
             compared(alloc, "CONFLICT", key.as_str(), *seen, *now)
         }
@@ -225,16 +220,11 @@ fn runner_words(
         Reply::Aborted { text, .. } => reported(alloc, "ABORT", text.as_str()),
         Reply::Faulted { fault, .. } => reported(alloc, "FAULT", fault.name()),
         Reply::Ended { cause, .. } => reported(alloc, "ENDED", cause.name()),
-        _ => unreachable!(),
-    }
-}
-
-/// The words of an event that was taken.
-fn taken_words(alloc: Global, event: &WorldEvent, reply: &Reply) -> Result<Sequence<u8>, AllocError>
-    ensures { IfOk result (λ words. words ≡ reply_words event.now reply.now) }
-{
-    match reply {
-        Reply::Txn { answer } => transacted(alloc, answer.succeeded, answer.revision),
+        Reply::Txn {
+            succeeded,
+            revision,
+            ..
+        } => transacted(alloc, *succeeded, *revision),
         Reply::Granted { id } => named(alloc, "grant", *id),
         Reply::Kept { id } => named(alloc, "keep", *id),
         Reply::Revoked { id, revision } => revoked(alloc, *id, *revision),
@@ -243,12 +233,11 @@ fn taken_words(alloc: Global, event: &WorldEvent, reply: &Reply) -> Result<Seque
         Reply::Watching { watcher } => named(alloc, "watch", *watcher),
         Reply::Batch {
             watcher,
-            upto,
+            up_to,
             events,
-        } => batch(alloc, *watcher, events.len() as u64, *upto),
+        } => batch(alloc, *watcher, events.len() as u64, *up_to),
         Reply::Lost { watcher, floor } => lost(alloc, *watcher, *floor),
         Reply::Cancelled { watcher } => named(alloc, "cancel", *watcher),
-        _ => runner_words(alloc, event, reply),
     }
 }
 
@@ -273,7 +262,11 @@ fn asked_word(event: &WorldEvent) -> &'static str
 }
 
 /// The words of an event that was refused.
-fn refused(alloc: Global, event: &WorldEvent, cause: Refusal) -> Result<Sequence<u8>, AllocError>
+fn refused(
+    alloc: Global,
+    event: &WorldEvent,
+    cause: EventRefusal,
+) -> Result<Sequence<u8>, AllocError>
     ensures { IfOk result (λ words. words ≡ refused_words event.now cause) }
 {
     let pieces = [

@@ -6,8 +6,7 @@ ghost use Rattle.stm_history.specs.History.{key_now};
 ghost use Rattle.stm_leases.specs.Live.{Live};
 ghost use Rattle.stm_entries.specs.LiveLeases.{HasLeases};
 ghost use Rattle.stm_check.specs.StoreLines.{key_lines_of, key_lines, lease_lines};
-ghost use Rattle.stm_report_lines.specs.Lines.{line_reported};
-ghost use Rattle.stm_report_lines.specs.declared.line.ReportLine.TheVariants as lines;
+ghost use Rattle.stm_events.specs.declared.line.ReportLine.TheVariants as lines;
 ghost use Rattle.stm_report.specs.Forms.{formed, formed_text, json_text};
 ghost use Rattle.stm_report.specs.Report.{event_lines, report_of, IsReport};
 
@@ -30,7 +29,7 @@ fn event_line(
     number: u64,
     reply: &Result<Reply, Denied>,
 ) -> Result<Json, AllocError>
-    ensures line { IfOk result (λ v. view v ≡ formed form (line_reported number reply.now)) }
+    ensures line { IfOk result (λ v. view v ≡ formed form (lines.Event number reply.now)) }
     ensures no_float { IfOk result (λ v. has_float (view v) ≡ false) }
 {
     match form {

@@ -1,7 +1,7 @@
 -- What stands at the end of a report.
 use Rattle.std.specs.Prelude.{List, [], ◌∷◌}
-use Rattle.stm_report_lines.specs.declared.line.ReportLine.{ReportLine}
-use Rattle.stm_report_lines.specs.declared.line.ReportLine.TheVariants.{Key, Lease, End}
+use Rattle.stm_events.specs.declared.line.ReportLine.{ReportLine}
+use Rattle.stm_events.specs.declared.line.ReportLine.TheVariants.{Key, Lease, End}
 
 abbrev pub IsFinalKind : ReportLine → Type 0
 IsFinalKind (Key key state) = Unit {0}

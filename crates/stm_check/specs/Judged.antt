@@ -2,11 +2,11 @@
 use Rattle.std.specs.Prelude.{◌≡◌, ℕ, suc, List, [], ◌∷◌}
 use Rattle.stm_events.specs.declared.event.WorldEvent.{WorldEvent}
 use Rattle.stm_texts.specs.declared.scenario.Scenario.{Scenario}
-use Rattle.stm_report_lines.specs.declared.line.ReportLine.{ReportLine}
-use Rattle.stm_report_lines.specs.declared.report.Report.{Report}
+use Rattle.stm_events.specs.declared.line.ReportLine.{ReportLine}
+use Rattle.stm_events.specs.declared.line.Report.{Report}
 use Rattle.stm_check.specs.declared.checking.Checked.{Checked}
 use Rattle.stm_check.specs.declared.checking.Checked.TheVariants.{Yes, No}
-use Rattle.stm_check.specs.Point.{Point, after}
+use Rattle.stm_check.specs.Point.{Point, after_line}
 use Rattle.stm_check.specs.Wrong.{IsRight, AreRight, IsOff, IsFirstWrong, opens_at}
 
 -- yes where no line is wrong, else the first wrong line with its cause: from this point on, the first line of this number
@@ -23,7 +23,7 @@ IsJudged s r checked = IsJudgedFrom 1 (opens_at s) s.events r.lines checked
 abbrev pub AreRightEvents : ℕ → Point → List WorldEvent → List ReportLine → Type 0
 AreRightEvents n p [] lines = Unit {0}
 AreRightEvents n p (event ∷ events) [] = ⊥
-AreRightEvents n p (event ∷ events) (l ∷ lines) = IsRight n p event l × AreRightEvents (suc n) (after p event l) events lines
+AreRightEvents n p (event ∷ events) (l ∷ lines) = IsRight n p event l × AreRightEvents (suc n) (after_line p event l) events lines
 
 -- the first wrong line is among those of these events
 abbrev pub IsWrongEvent : ℕ → Point → List WorldEvent → List ReportLine → Checked → Type 0

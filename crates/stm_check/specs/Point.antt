@@ -4,7 +4,7 @@
 -- The store is the replay of the entries that the lines reported. A moment is no part of a replay, and is kept beside it, in seconds; nor is
 -- the floor, which compactions raise: what they drop in a store stays here, where answers that were given before are looked up. Watchers change
 -- no store, and a check has none.
-use Rattle.std.specs.Prelude.{ℕ, ◌+◌, nat_lt, if◌then◌else◌, List, [], ◌∷◌, map, length, Option, Some, None}
+use Rattle.std.specs.Prelude.{ℕ, ◌+◌, nat_lt, if◌then◌else◌, List, [], ◌∷◌, map, length, Option, Some, None, Result, Ok, Err}
 use Rattle.stm_history.specs.declared.key_state.ReadAnswer.{ReadAnswer}
 use Rattle.stm_history.specs.History.{History, now, key_at}
 use Rattle.stm_outcome.specs.declared.txn.Txn.{Txn as StoreTxn}
@@ -17,9 +17,12 @@ use Rattle.stm_entries.specs.Replay.{replay}
 use Rattle.stm_events.specs.declared.event.WorldEvent.{WorldEvent}
 use Rattle.stm_events.specs.declared.event.WorldEvent.TheVariants.{Step, Txn, Grant, Keep, Revoke, Advance, Compact}
 use Rattle.stm_events.specs.Replies.{store_after_call}
-use Rattle.stm_report_lines.specs.declared.line.ReportLine.{ReportLine}
-use Rattle.stm_report_lines.specs.declared.line.ReportLine.TheVariants as line
-use Rattle.stm_report_lines.specs.declared.line.ReportedAnswer.{ReportedAnswer}
+use Rattle.stm_events.specs.declared.line.ReportLine.{ReportLine}
+use Rattle.stm_events.specs.declared.line.ReportLine.TheVariants as line
+use Rattle.stm_events.specs.declared.refusal.Denied.{Denied}
+use Rattle.stm_events.specs.declared.reply.CommittedRead.{CommittedRead}
+use Rattle.stm_events.specs.declared.reply.Reply.{Reply}
+use Rattle.stm_events.specs.declared.reply.Reply.TheVariants as reply
 use Rattle.stm_check.specs.declared.runner.Runner.{Runner}
 use Rattle.stm_check.specs.Runners.{running, runners_after}
 
@@ -33,56 +36,56 @@ pub record Point : Type 0 where
 abbrev pub beginning : Setup → Point
 beginning start = record { standing = opening start; entries = 0; runners = [] }
 
--- ---- what a right line adds
+-- ---- what the reply to an event adds
 
--- an answer that a line reports, as a read of the history gives it
-abbrev pub read_in : History → ReportedAnswer → ReadAnswer
+-- an answer that a commit reports, as a read of the history gives it
+abbrev pub read_in : History → CommittedRead → ReadAnswer
 read_in h a = record { key = a.key; kv = key_at h a.key a.of_rev; of_rev = a.of_rev; revision = a.of_rev }
 
-abbrev pub reads_in : History → List ReportedAnswer → List ReadAnswer
+abbrev pub reads_in : History → List CommittedRead → List ReadAnswer
 reads_in h answers = map (read_in h) answers
 
-abbrev pub committed_entry : History → ReportLine → Runner → List Entry
-committed_entry h (line.Committed n runner revision attempts output trace answers) r =
+abbrev pub committed_entry : History → Result Reply Denied → Runner → List Entry
+committed_entry h (Ok (reply.Committed runner revision attempts output trace answers)) r =
     Program r.program r.level (reads_in h answers) output trace revision ∷ []
 committed_entry h other r = []
 
-abbrev pub commit_entries : History → ReportLine → Option Runner → List Entry
-commit_entries h l None = []
-commit_entries h l (Some r) = committed_entry h l r
+abbrev pub commit_entries : History → Result Reply Denied → Option Runner → List Entry
+commit_entries h replied None = []
+commit_entries h replied (Some r) = committed_entry h replied r
 
 -- another client's transaction is entered where the revision went up
-abbrev pub txn_entries : ℕ → StoreTxn → ReportLine → List Entry
-txn_entries before txn (line.Txn n succeeded revision answers) = if nat_lt before revision then Foreign txn ∷ [] else []
+abbrev pub txn_entries : ℕ → StoreTxn → Result Reply Denied → List Entry
+txn_entries before txn (Ok (reply.Txn succeeded revision answers)) = if nat_lt before revision then Foreign txn ∷ [] else []
 txn_entries before txn other = []
 
-abbrev pub grant_entries : ℕ → ℕ → ℕ → ReportLine → List Entry
-grant_entries id ttl moment (line.Granted n reported) = GrantEntry id ttl moment ∷ []
+abbrev pub grant_entries : ℕ → ℕ → ℕ → Result Reply Denied → List Entry
+grant_entries id ttl moment (Ok (reply.Granted reported)) = GrantEntry id ttl moment ∷ []
 grant_entries id ttl moment other = []
 
-abbrev pub keep_entries : ℕ → ℕ → ReportLine → List Entry
-keep_entries id moment (line.Kept n reported) = Renew id moment ∷ []
+abbrev pub keep_entries : ℕ → ℕ → Result Reply Denied → List Entry
+keep_entries id moment (Ok (reply.Kept reported)) = Renew id moment ∷ []
 keep_entries id moment other = []
 
-abbrev pub revoke_entries : ℕ → ReportLine → List Entry
-revoke_entries id (line.Revoked n reported revision) = RevokeEntry id ∷ []
+abbrev pub revoke_entries : ℕ → Result Reply Denied → List Entry
+revoke_entries id (Ok (reply.Revoked reported revision)) = RevokeEntry id ∷ []
 revoke_entries id other = []
 
 -- each expiry is entered, also of an advance that was refused then
-abbrev pub advance_entries : ReportLine → List Entry
-advance_entries (line.Advanced n reported expired) = expiries expired
-advance_entries (line.Refused n cause expired) = expiries expired
+abbrev pub advance_entries : Result Reply Denied → List Entry
+advance_entries (Ok (reply.Advanced reported expired)) = expiries expired
+advance_entries (Err refused) = expiries refused.expired
 advance_entries other = []
 
--- what the line of an event reports as entries: a start, a compaction and what is about watchers are none
-abbrev pub entries_reported : Standing → List Runner → WorldEvent → ReportLine → List Entry
-entries_reported s runners (Step id) l = commit_entries s.history l (running id runners)
-entries_reported s runners (Txn txn) l = txn_entries (now s.history) txn l
-entries_reported s runners (Grant id ttl) l = grant_entries id ttl s.moment l
-entries_reported s runners (Keep id) l = keep_entries id s.moment l
-entries_reported s runners (Revoke id) l = revoke_entries id l
-entries_reported s runners (Advance moment) l = advance_entries l
-entries_reported s runners other l = []
+-- what the reply to an event reports as entries: a start, a compaction and what is about watchers are none
+abbrev pub entries_reported : Standing → List Runner → WorldEvent → Result Reply Denied → List Entry
+entries_reported s runners (Step id) replied = commit_entries s.history replied (running id runners)
+entries_reported s runners (Txn txn) replied = txn_entries (now s.history) txn replied
+entries_reported s runners (Grant id ttl) replied = grant_entries id ttl s.moment replied
+entries_reported s runners (Keep id) replied = keep_entries id s.moment replied
+entries_reported s runners (Revoke id) replied = revoke_entries id replied
+entries_reported s runners (Advance moment) replied = advance_entries replied
+entries_reported s runners other replied = []
 
 -- only an advance moves the moment, unless it would go back
 abbrev pub moment_after : Standing → WorldEvent → ℕ
@@ -97,20 +100,30 @@ with_replayed r moment s = record s { history = r.history; live = r.live; moment
 abbrev pub led_by : List Entry → Standing → ℕ → Standing
 led_by entries s moment = with_replayed (replay entries (without_moment s)) moment s
 
--- a compaction that was reported raises the floor, and no other line does
-abbrev pub raised_by : WorldEvent → ReportLine → Standing → Standing
-raised_by (Compact revision) (line.Compacted n reported) s = store_after_call s (raised s revision)
-raised_by other l s = s
+-- a compaction that was reported raises the floor, and no other reply does
+abbrev pub raised_by : WorldEvent → Result Reply Denied → Standing → Standing
+raised_by (Compact revision) (Ok (reply.Compacted reported)) s = store_after_call s (raised s revision)
+raised_by other replied s = s
 
--- the store after the line of an event
-abbrev pub standing_after : Standing → List Runner → WorldEvent → ReportLine → Standing
-standing_after s runners event l =
-    with_replayed (replay (entries_reported s runners event l) (without_moment s)) (moment_after s event) (raised_by event l s)
+-- the store after the reply to an event
+abbrev pub standing_after : Standing → List Runner → WorldEvent → Result Reply Denied → Standing
+standing_after s runners event replied =
+    with_replayed (replay (entries_reported s runners event replied) (without_moment s)) (moment_after s event) (raised_by event replied s)
 
--- the point after the line of an event
-abbrev pub after : Point → WorldEvent → ReportLine → Point
-after p event l = record {
-  standing = standing_after p.standing p.runners event l;
-  entries = p.entries + length (entries_reported p.standing p.runners event l);
-  runners = runners_after event l p.runners;
+-- the point after the reply to an event
+abbrev pub after : Point → WorldEvent → Result Reply Denied → Point
+after p event replied = record {
+  standing = standing_after p.standing p.runners event replied;
+  entries = p.entries + length (entries_reported p.standing p.runners event replied);
+  runners = runners_after event replied p.runners;
 }
+
+-- ---- lines in the place of an event: only one of an event has a reply
+
+abbrev pub entries_of_line : Point → WorldEvent → ReportLine → List Entry
+entries_of_line p event (line.Event n replied) = entries_reported p.standing p.runners event replied
+entries_of_line p event other = []
+
+abbrev pub after_line : Point → WorldEvent → ReportLine → Point
+after_line p event (line.Event n replied) = after p event replied
+after_line p event other = p

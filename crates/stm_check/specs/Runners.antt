@@ -1,12 +1,13 @@
 -- The runners at a point of a report: they are numbered from 1 in the order of their starts.
-use Rattle.std.specs.Prelude.{ℕ, ◌+◌, ◌-◌, nat_eq, false, true, if◌then◌else◌, List, [], ◌∷◌, ◌++◌, length, Option, Some, None}
+use Rattle.std.specs.Prelude.{ℕ, ◌+◌, ◌-◌, nat_eq, false, true, if◌then◌else◌, List, [], ◌∷◌, ◌++◌, length, Option, Some, None, Result, Ok}
 use Rattle.std.specs.Prelude.{slice_get, slice_set}
 use Rattle.stm_program.specs.Syntax.{ProgramTree}
 use Rattle.stm_program.specs.declared.level.Level.{Level}
 use Rattle.stm_events.specs.declared.event.WorldEvent.{WorldEvent}
 use Rattle.stm_events.specs.declared.event.WorldEvent.TheVariants.{Start, Step}
-use Rattle.stm_report_lines.specs.declared.line.ReportLine.{ReportLine}
-use Rattle.stm_report_lines.specs.declared.line.ReportLine.TheVariants as line
+use Rattle.stm_events.specs.declared.refusal.Denied.{Denied}
+use Rattle.stm_events.specs.declared.reply.Reply.{Reply}
+use Rattle.stm_events.specs.declared.reply.Reply.TheVariants as reply
 use Rattle.stm_check.specs.declared.runner.Runner.{Runner}
 
 abbrev pub next_runner : List Runner → ℕ
@@ -24,7 +25,7 @@ unless_over (Some r) = if r.is_over then None else Some r
 abbrev pub running : ℕ → List Runner → Option Runner
 running id runners = unless_over (started_in id runners)
 
--- ---- what a right line reports of them
+-- ---- what the reply to an event says of them
 
 -- a run that has sent no commit
 abbrev pub begun : ProgramTree → Level → ℕ → Runner
@@ -40,26 +41,26 @@ abbrev pub put_back : ℕ → (Runner → Runner) → List Runner → Option Run
 put_back id change runners None = runners
 put_back id change runners (Some r) = slice_set runners (id - 1) (change r)
 
--- a runner changed by one of its lines
+-- a runner changed by the reply to one of its steps
 abbrev pub with_runner : ℕ → (Runner → Runner) → List Runner → List Runner
 with_runner id change runners = put_back id change runners (started_in id runners)
 
 -- a conflict is counted, and a run ends by a commit, its last conflict, an abort, a fault or a refusal
-abbrev pub after_step : ℕ → ReportLine → List Runner → List Runner
-after_step id (line.Conflict n runner key seen now) runners = with_runner id with_conflict runners
-after_step id (line.Committed n runner revision attempts output trace answers) runners = with_runner id ended runners
-after_step id (line.GaveUp n runner attempts key seen now) runners = with_runner id ended runners
-after_step id (line.Aborted n runner text) runners = with_runner id ended runners
-after_step id (line.Faulted n runner fault) runners = with_runner id ended runners
-after_step id (line.Ended n runner cause) runners = with_runner id ended runners
+abbrev pub after_step : ℕ → Result Reply Denied → List Runner → List Runner
+after_step id (Ok (reply.Conflict runner key seen now)) runners = with_runner id with_conflict runners
+after_step id (Ok (reply.Committed runner revision attempts output trace answers)) runners = with_runner id ended runners
+after_step id (Ok (reply.GaveUp runner attempts key seen now)) runners = with_runner id ended runners
+after_step id (Ok (reply.Aborted runner text)) runners = with_runner id ended runners
+after_step id (Ok (reply.Faulted runner fault)) runners = with_runner id ended runners
+after_step id (Ok (reply.Ended runner cause)) runners = with_runner id ended runners
 after_step id other runners = runners
 
--- a started line adds a runner
-abbrev pub after_start : Runner → ReportLine → List Runner → List Runner
-after_start r (line.Started n runner) runners = runners ++ r ∷ []
+-- a start that was taken adds a runner
+abbrev pub after_start : Runner → Result Reply Denied → List Runner → List Runner
+after_start r (Ok (reply.Started runner)) runners = runners ++ r ∷ []
 after_start r other runners = runners
 
-abbrev pub runners_after : WorldEvent → ReportLine → List Runner → List Runner
-runners_after (Start program level limit) l runners = after_start (begun program level limit) l runners
-runners_after (Step id) l runners = after_step id l runners
-runners_after event l runners = runners
+abbrev pub runners_after : WorldEvent → Result Reply Denied → List Runner → List Runner
+runners_after (Start program level limit) replied runners = after_start (begun program level limit) replied runners
+runners_after (Step id) replied runners = after_step id replied runners
+runners_after event replied runners = runners

@@ -14,7 +14,7 @@ use Rattle.stm_txn.specs.Standing.{Standing, with_history}
 use Rattle.stm_entries.specs.Alone.{seen_at, applied_run, history_left}
 use Rattle.stm_entries.specs.Replayed.{without_moment}
 use Rattle.stm_events.specs.FirstReads.{keys_first_read}
-use Rattle.stm_report_lines.specs.declared.line.ReportedAnswer.{ReportedAnswer}
+use Rattle.stm_events.specs.declared.reply.CommittedRead.{CommittedRead}
 use Rattle.stm_check.specs.Point.{reads_in}
 use Rattle.stm_check.specs.Replays.{AnswersFit, keys_reported}
 
@@ -26,17 +26,17 @@ run_in (Ended run) = Some run
 run_in (Wants key trace) = None
 
 -- the run is the program's, alone on this history, or on the answers at ReadCommitted, which are then those that it looked up
-pub record IsRunReported (level : Level) (h : History) (program : ProgramTree) (answers : List ReportedAnswer) (run : Run) : Type 0 where
+pub record IsRunReported (level : Level) (h : History) (program : ProgramTree) (answers : List CommittedRead) (run : Run) : Type 0 where
   pub is_run : run_over (seen_at level (reads_in h answers) h) program.statements ≡ Ended run
   pub answers_fit : AnswersFit level h (keys_first_read program.prefetch run.reads) answers
 
 -- such a run was found, or there is none
-abbrev pub IsFound : Level → History → ProgramTree → List ReportedAnswer → Option Run → Type 0
+abbrev pub IsFound : Level → History → ProgramTree → List CommittedRead → Option Run → Type 0
 IsFound level h program answers (Some run) = IsRunReported level h program answers run
 IsFound level h program answers None = (run : Run) → ¬ IsRunReported level h program answers run
 
 -- the run on these look-ups is this one, and these answers are of the keys that are read first, or there is no such run
-abbrev pub IsRunOn : Lookup → ProgramTree → List ReportedAnswer → Option Run → Type 0
+abbrev pub IsRunOn : Lookup → ProgramTree → List CommittedRead → Option Run → Type 0
 IsRunOn look program answers (Some run) =
     (run_over look program.statements ≡ Ended run) × (keys_reported answers ≡ keys_first_read program.prefetch run.reads)
 IsRunOn look program answers None =

@@ -4,7 +4,7 @@ use Rattle.stm_devices.specs.declared.transfer.TheConstants.{MOST_READ}
 use Rattle.stm_texts.specs.declared.scenario.Scenario.{Scenario}
 use Rattle.stm_texts.specs.Reading.{scenario_in}
 use Rattle.stm_texts.specs.Opens.{IsOpening}
-use Rattle.stm_report_lines.specs.declared.report.Report.{Report}
+use Rattle.stm_events.specs.declared.line.Report.{Report}
 use Rattle.stm_report_lines.specs.Reading.{report_in}
 use Rattle.stm_check.specs.declared.checking.Checked.{Checked}
 use Rattle.stm_check.specs.declared.sources.CheckFault.{CheckFault}

@@ -4,24 +4,30 @@ use Rattle.stm_entries.specs.declared.entry.Entry.{Entry}
 use Rattle.stm_events.specs.declared.event.WorldEvent.{WorldEvent}
 use Rattle.stm_texts.specs.declared.scenario.Scenario.{Scenario}
 use Rattle.stm_texts.specs.Opens.{setup_of}
-use Rattle.stm_report_lines.specs.declared.line.ReportLine.{ReportLine}
-use Rattle.stm_report_lines.specs.declared.report.Report.{Report}
+use Rattle.stm_events.specs.declared.line.ReportLine.{ReportLine}
+use Rattle.stm_events.specs.declared.line.ReportLine.TheVariants as line
+use Rattle.stm_events.specs.declared.line.Report.{Report}
 use Rattle.stm_check.specs.declared.cause.WrongCause.{WrongCause}
 use Rattle.stm_check.specs.declared.cause.WrongCause.TheVariants.{Count, Event, Replay, Final}
-use Rattle.stm_check.specs.Point.{Point, beginning, entries_reported, after}
+use Rattle.stm_check.specs.Point.{Point, beginning, entries_of_line, after_line}
 use Rattle.stm_check.specs.StoreLines.{final_lines}
 use Rattle.stm_check.specs.Fits.{fits}
 use Rattle.stm_check.specs.Replays.{Replays}
 
 -- ---- one line in the place of an event
 
+-- the reply of the line is what the replay gives
+abbrev pub IsReplayed : Point → WorldEvent → ReportLine → Type 0
+IsReplayed p event (line.Event n replied) = Replays p.standing p.runners event replied
+IsReplayed p event other = ⊥
+
 abbrev pub IsRight : ℕ → Point → WorldEvent → ReportLine → Type 0
-IsRight n p event l = (fits n p.runners event l ≡ true) × Replays n p.standing p.runners event l
+IsRight n p event l = (fits n p.runners event l ≡ true) × IsReplayed p event l
 
 -- Event comes before Replay
 abbrev pub IsWrong : ℕ → Point → WorldEvent → ReportLine → WrongCause → Type 0
 IsWrong n p event l Event = fits n p.runners event l ≡ false
-IsWrong n p event l Replay = (fits n p.runners event l ≡ true) × (¬ Replays n p.standing p.runners event l)
+IsWrong n p event l Replay = (fits n p.runners event l ≡ true) × (¬ IsReplayed p event l)
 IsWrong n p event l other = ⊥
 
 -- ---- no line is wrong
@@ -30,7 +36,7 @@ IsWrong n p event l other = ⊥
 abbrev pub AreRight : ℕ → Point → List WorldEvent → List ReportLine → Type 0
 AreRight n p [] lines = lines ≡ final_lines p
 AreRight n p (event ∷ events) [] = ⊥
-AreRight n p (event ∷ events) (l ∷ lines) = IsRight n p event l × AreRight (suc n) (after p event l) events lines
+AreRight n p (event ∷ events) (l ∷ lines) = IsRight n p event l × AreRight (suc n) (after_line p event l) events lines
 
 -- ---- the first wrong line
 
@@ -48,7 +54,7 @@ IsFirstWrong n p [] lines wrong cause = IsOff n (final_lines p) lines wrong caus
 IsFirstWrong n p (event ∷ events) [] wrong cause = (wrong ≡ n) × (cause ≡ Count)
 IsFirstWrong n p (event ∷ events) (l ∷ lines) wrong cause =
     ((wrong ≡ n) × IsWrong n p event l cause)
-    ⊎ (IsRight n p event l × IsFirstWrong (suc n) (after p event l) events lines wrong cause)
+    ⊎ (IsRight n p event l × IsFirstWrong (suc n) (after_line p event l) events lines wrong cause)
 
 -- ---- a report beside a scenario, which says what the store opens with
 
@@ -65,11 +71,11 @@ HasNoWrongLine s r = AreRight 1 (opens_at s) s.events r.lines
 abbrev pub point_after : Point → List WorldEvent → List ReportLine → Point
 point_after p [] lines = p
 point_after p (event ∷ events) [] = p
-point_after p (event ∷ events) (l ∷ lines) = point_after (after p event l) events lines
+point_after p (event ∷ events) (l ∷ lines) = point_after (after_line p event l) events lines
 
 -- the entries that the lines of these events report
 abbrev pub entries_along : Point → List WorldEvent → List ReportLine → List Entry
 entries_along p [] lines = []
 entries_along p (event ∷ events) [] = []
 entries_along p (event ∷ events) (l ∷ lines) =
-    entries_reported p.standing p.runners event l ++ entries_along (after p event l) events lines
+    entries_of_line p event l ++ entries_along (after_line p event l) events lines

@@ -3,31 +3,41 @@
 use std::alloc::{AllocError, Global};
 use std::process::Abort;
 use std::test::Fail;
-use stm_report_lines::{BadInput, ReadError, ReportLine, ReportedOp, read_report};
+use stm_report_lines::{BadInput, Denied, OpReply, ReadError, Reply, ReportLine, read_report};
+
+/// The word of the line of a reply.
+fn reply_word(reply: &Reply) -> &'static str {
+    match reply {
+        Reply::Started { .. } => "started",
+        Reply::Prefetched { .. } => "prefetched",
+        Reply::Fetched { .. } => "fetched",
+        Reply::Committed { .. } => "committed",
+        Reply::Conflict { .. } => "conflict",
+        Reply::GaveUp { .. } => "gaveup",
+        Reply::Aborted { .. } => "aborted",
+        Reply::Faulted { .. } => "faulted",
+        Reply::Ended { .. } => "ended",
+        Reply::Txn { .. } => "txn",
+        Reply::Granted { .. } => "granted",
+        Reply::Kept { .. } => "kept",
+        Reply::Revoked { .. } => "revoked",
+        Reply::Advanced { .. } => "advanced",
+        Reply::Compacted { .. } => "compacted",
+        Reply::Watching { .. } => "watching",
+        Reply::Cancelled { .. } => "cancelled",
+        Reply::Batch { .. } => "batch",
+        Reply::Lost { .. } => "lost",
+    }
+}
 
 /// The word of a line.
 fn word(line: &ReportLine) -> &'static str {
     match line {
-        ReportLine::Started { .. } => "started",
-        ReportLine::Prefetched { .. } => "prefetched",
-        ReportLine::Fetched { .. } => "fetched",
-        ReportLine::Committed { .. } => "committed",
-        ReportLine::Conflict { .. } => "conflict",
-        ReportLine::GaveUp { .. } => "gaveup",
-        ReportLine::Aborted { .. } => "aborted",
-        ReportLine::Faulted { .. } => "faulted",
-        ReportLine::Ended { .. } => "ended",
-        ReportLine::Txn { .. } => "txn",
-        ReportLine::Granted { .. } => "granted",
-        ReportLine::Kept { .. } => "kept",
-        ReportLine::Revoked { .. } => "revoked",
-        ReportLine::Advanced { .. } => "advanced",
-        ReportLine::Compacted { .. } => "compacted",
-        ReportLine::Watching { .. } => "watching",
-        ReportLine::Cancelled { .. } => "cancelled",
-        ReportLine::Batch { .. } => "batch",
-        ReportLine::Lost { .. } => "lost",
-        ReportLine::Refused { .. } => "refused",
+        ReportLine::Event {
+            reply: Ok(reply),
+            ..
+        } => reply_word(reply),
+        ReportLine::Event { reply: Err(_), .. } => "refused",
         ReportLine::Key { .. } => "key",
         ReportLine::Lease { .. } => "lease",
         ReportLine::End { .. } => "end",
@@ -206,16 +216,16 @@ const WRITE_SKEW: &str = "[1,\"txn\",true,2,[[\"put\"]]]
 [\"end\",4,4]
 ";
 
-fn report_op(reported: &mut String, op: &ReportedOp) -> Result<(), AllocError> {
+fn report_op(reported: &mut String, op: &OpReply) -> Result<(), AllocError> {
     match op {
-        ReportedOp::Get { .. } => reported.push_str(" get"),
-        ReportedOp::Put => reported.push_str(" put"),
-        ReportedOp::Del { count } => write!(reported, " del {count}"),
+        OpReply::Get { .. } => reported.push_str(" get"),
+        OpReply::Put => reported.push_str(" put"),
+        OpReply::Del { count } => write!(reported, " del {count}"),
     }
 }
 
 /// What a transaction did, and how many keys each delete deleted.
-fn report_ops(reported: &mut String, ops: &[ReportedOp]) -> Result<(), AllocError> {
+fn report_ops(reported: &mut String, ops: &[OpReply]) -> Result<(), AllocError> {
     for op in ops {
         report_op(reported, op)?;
     }
@@ -223,10 +233,18 @@ fn report_ops(reported: &mut String, ops: &[ReportedOp]) -> Result<(), AllocErro
 }
 
 /// What the word of a line does not say: the operations of a transaction, and the name of a refusal.
+fn report_reply(reported: &mut String, reply: &Result<Reply, Denied>) -> Result<(), AllocError> {
+    match reply {
+        Ok(Reply::Txn { answers, .. }) => report_ops(reported, answers.as_slice()),
+        Ok(_) => Ok(()),
+        Err(denied) => write!(reported, " {}", denied.cause.name()),
+    }
+}
+
+/// The same of each line: nothing of one that is no event's.
 fn report_more(reported: &mut String, line: &ReportLine) -> Result<(), AllocError> {
     match line {
-        ReportLine::Txn { answers, .. } => report_ops(reported, answers.as_slice()),
-        ReportLine::Refused { cause, .. } => write!(reported, " {}", cause.name()),
+        ReportLine::Event { reply, .. } => report_reply(reported, reply),
         _ => Ok(()),
     }
 }

@@ -7,7 +7,6 @@ pub mod Elements
 pub mod Parts
 pub mod Bytes
 pub mod Reading
-pub mod Rests
 pub mod Grammar
 pub mod FirstFault
 pub mod ReadBack

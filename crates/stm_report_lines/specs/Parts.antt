@@ -14,13 +14,13 @@ use Rattle.stm_steps.specs.declared.trace_item.TraceItem.{TraceItem}
 use Rattle.stm_steps.specs.declared.trace_item.TraceItem.TheVariants as trace
 use Rattle.stm_outcome.specs.declared.advance.Expired.{Expired}
 use Rattle.stm_json.specs.Parts.{on_text, text_of, same}
-use Rattle.stm_report_lines.specs.declared.causes.RefusalName.{RefusalName}
-use Rattle.stm_report_lines.specs.declared.line.ReportedAnswer.{ReportedAnswer}
 use Rattle.stm_keys.specs.declared.event.Event.{Event}
 use Rattle.stm_keys.specs.declared.event.Event.TheVariants as event
-use Rattle.stm_report_lines.specs.declared.line.ReportedOp.{ReportedOp}
-use Rattle.stm_report_lines.specs.declared.line.ReportedOp.TheVariants as op
+use Rattle.stm_events.specs.declared.refusal.EventRefusal.{EventRefusal}
+use Rattle.stm_events.specs.declared.reply.CommittedRead.{CommittedRead}
 use Rattle.stm_events.specs.declared.reply.KeyRead.{KeyRead}
+use Rattle.stm_events.specs.declared.reply.OpReply.{OpReply}
+use Rattle.stm_events.specs.declared.reply.OpReply.TheVariants as op
 use Rattle.stm_report_lines.specs.Elements.{five_of, six_of}
 use Rattle.stm_report_lines.specs.Words.{named, fault_words, refusal_words}
 
@@ -39,7 +39,7 @@ flag_of d = if_there (as_bool d)
 unfoldable pub fault_of : Data → Outcome Fault
 fault_of d = on_text (λ w. if_there (named fault_words w)) (as_str d)
 
-unfoldable pub cause_of : Data → Outcome RefusalName
+unfoldable pub cause_of : Data → Outcome EventRefusal
 cause_of d = on_text (λ w. if_there (named refusal_words w)) (as_str d)
 
 -- a text, or else a whole number of 64 bits with a sign
@@ -106,35 +106,35 @@ trace_worded (Some p) =
 unfoldable pub trace_of : Data → Outcome TraceItem
 trace_of d = trace_worded (worded d)
 
-abbrev pub answer_with : List ℕ → Option (List ℕ) → ℕ → ℕ → ReportedAnswer
+abbrev pub answer_with : List ℕ → Option (List ℕ) → ℕ → ℕ → CommittedRead
 answer_with key value mod_rev of_rev = record { key = key; value = value; mod_rev = mod_rev; of_rev = of_rev }
 
-abbrev pub answer_parts : Option (Data × Data × Data × Data) → Outcome ReportedAnswer
+abbrev pub answer_parts : Option (Data × Data × Data × Data) → Outcome CommittedRead
 answer_parts None = bad Shape
 answer_parts (Some p) =
     within 0 (text_of p.0) >>= λ key. within 1 (text_or_null_of p.1) >>= λ value. within 2 (number_of p.2) >>= λ mod_rev.
     within 3 (number_of p.3) >>= λ of_rev. Ok (answer_with key value mod_rev of_rev)
 
-abbrev pub answer_array : Option Items → Outcome ReportedAnswer
+abbrev pub answer_array : Option Items → Outcome CommittedRead
 answer_array None = bad Shape
 answer_array (Some ds) = answer_parts (four_of ds)
 
-unfoldable pub answer_of : Data → Outcome ReportedAnswer
+unfoldable pub answer_of : Data → Outcome CommittedRead
 answer_of d = answer_array (as_array d)
 
-abbrev pub op_get_of : Option (Data × Data) → Outcome ReportedOp
+abbrev pub op_get_of : Option (Data × Data) → Outcome OpReply
 op_get_of None = bad Shape
 op_get_of (Some p) = within 1 (number_of p.0) >>= λ revision. within 2 (state_or_null_of p.1) >>= λ kv. Ok (op.Get revision kv)
 
-abbrev pub op_put_of : Items → Outcome ReportedOp
+abbrev pub op_put_of : Items → Outcome OpReply
 op_put_of no_items = Ok op.Put
 op_put_of (item d ds) = bad Shape
 
-abbrev pub op_del_of : Option Data → Outcome ReportedOp
+abbrev pub op_del_of : Option Data → Outcome OpReply
 op_del_of None = bad Shape
 op_del_of (Some d) = within 1 (number_up_to 1 d) >>= λ count. Ok (op.Del count)
 
-abbrev pub op_worded : Option (List ℕ × Items) → Outcome ReportedOp
+abbrev pub op_worded : Option (List ℕ × Items) → Outcome OpReply
 op_worded None = bad Shape
 op_worded (Some p) =
     if same p.0 (codes "get") then op_get_of (two_of p.1)
@@ -142,7 +142,7 @@ op_worded (Some p) =
     else (if same p.0 (codes "del") then op_del_of (one_of p.1)
     else bad Shape))
 
-unfoldable pub op_of : Data → Outcome ReportedOp
+unfoldable pub op_of : Data → Outcome OpReply
 op_of d = op_worded (worded d)
 
 abbrev pub read_with : List ℕ → ℕ → KeyRead

@@ -1,6 +1,6 @@
 -- Reading a report: the lines that bytes spell, or the first fault. A value is looked at before its elements, and these from
 -- the first to the last.
-use Rattle.std.specs.Prelude.{ℕ, suc, List, [], ◌∷◌, length, Option, Some, None, Ok, if◌then◌else◌, nat_lt}
+use Rattle.std.specs.Prelude.{ℕ, suc, List, [], ◌∷◌, length, Option, Some, None, Result, Ok, Err, if◌then◌else◌, ◌==◌, nat_lt}
 use Rattle.serde_json.specs.Data.{Data, Items, no_items, item}
 use Rattle.serde_json.specs.Find.{as_str, as_array}
 use Rattle.stm_json.specs.declared.cause.Cause.TheVariants.{NotJson, Shape, TooLong}
@@ -10,14 +10,18 @@ use Rattle.stm_steps.specs.declared.value.Value.{Value}
 use Rattle.stm_steps.specs.declared.trace_item.TraceItem.{TraceItem}
 use Rattle.stm_outcome.specs.declared.advance.Expired.{Expired}
 use Rattle.stm_json.specs.Parts.{text_of, list_of}
-use Rattle.stm_report_lines.specs.declared.line.ReportLine.{ReportLine}
-use Rattle.stm_report_lines.specs.declared.line.ReportLine.TheVariants.{Started, Prefetched, Committed, Aborted, Faulted, Ended, Txn, Granted}
-use Rattle.stm_report_lines.specs.declared.line.ReportLine.TheVariants.{Kept, Revoked, Advanced, Compacted, Watching, Cancelled, Batch, Lost, Refused, Key, Lease, End}
-use Rattle.stm_report_lines.specs.declared.line.ReportedAnswer.{ReportedAnswer}
 use Rattle.stm_keys.specs.declared.event.Event.{Event}
-use Rattle.stm_report_lines.specs.declared.line.ReportedOp.{ReportedOp}
+use Rattle.stm_events.specs.declared.line.Report.{Report}
+use Rattle.stm_events.specs.declared.line.ReportLine.{ReportLine}
+use Rattle.stm_events.specs.declared.line.ReportLine.TheVariants as line
+use Rattle.stm_events.specs.declared.refusal.Denied.{Denied}
+use Rattle.stm_events.specs.declared.refusal.EventRefusal.{EventRefusal}
+use Rattle.stm_events.specs.declared.reply.CommittedRead.{CommittedRead}
 use Rattle.stm_events.specs.declared.reply.KeyRead.{KeyRead}
-use Rattle.stm_report_lines.specs.declared.report.Report.{Report}
+use Rattle.stm_events.specs.declared.reply.OpReply.{OpReply}
+use Rattle.stm_events.specs.declared.reply.Reply.{Reply}
+use Rattle.stm_events.specs.declared.reply.Reply.TheVariants.{Started, Prefetched, Fetched, Committed, Conflict, GaveUp, Aborted, Faulted, Ended}
+use Rattle.stm_events.specs.declared.reply.Reply.TheVariants.{Txn, Granted, Kept, Revoked, Advanced, Compacted, Watching, Cancelled, Batch, Lost}
 use Rattle.stm_json.specs.declared.limits.TheConstants.{MOST_BYTES}
 use Rattle.stm_report_lines.specs.declared.words.EventWord.{EventWord}
 use Rattle.stm_report_lines.specs.declared.words.EventWord.TheVariants as event
@@ -25,10 +29,9 @@ use Rattle.stm_report_lines.specs.declared.words.StandingWord.{StandingWord}
 use Rattle.stm_report_lines.specs.declared.words.StandingWord.TheVariants as standing
 use Rattle.stm_json.specs.Bytes.{data_of}
 use Rattle.stm_report_lines.specs.Bytes.{parts_of}
-use Rattle.stm_report_lines.specs.Elements.{five_of, six_of}
-use Rattle.stm_report_lines.specs.Rests.{fetched_rest, conflict_rest, gave_up_rest}
+use Rattle.stm_report_lines.specs.Elements.{count, five_of, six_of}
 use Rattle.stm_report_lines.specs.Parts.{number_of, flag_of, fault_of, cause_of, keyed_of, value_of, trace_of, answer_of, op_of, read_of, expired_of, event_of}
-use Rattle.stm_report_lines.specs.Words.{named, event_words, standing_words}
+use Rattle.stm_report_lines.specs.Words.{named, event_words, elements_after, standing_words}
 
 -- ---- lists
 
@@ -38,10 +41,10 @@ values_of d = list_of value_of (as_array d)
 abbrev pub traces_of : Data → Outcome (List TraceItem)
 traces_of d = list_of trace_of (as_array d)
 
-abbrev pub answers_of : Data → Outcome (List ReportedAnswer)
+abbrev pub answers_of : Data → Outcome (List CommittedRead)
 answers_of d = list_of answer_of (as_array d)
 
-abbrev pub ops_of : Data → Outcome (List ReportedOp)
+abbrev pub ops_of : Data → Outcome (List OpReply)
 ops_of d = list_of op_of (as_array d)
 
 abbrev pub key_reads_of : Data → Outcome (List KeyRead)
@@ -53,143 +56,150 @@ expireds_of d = list_of expired_of (as_array d)
 abbrev pub events_of : Data → Outcome (List Event)
 events_of d = list_of event_of (as_array d)
 
--- ---- lines of events: the number, and the elements after the word
+-- ---- the reply to an event, or its refusal: the elements after the word
 
-abbrev pub named_of : Data → Option Data → Outcome (ℕ × ℕ)
-named_of n None = bad Shape
-named_of n (Some d) = within 0 (number_of n) >>= λ number. within 2 (number_of d) >>= λ id. Ok (number, id)
+abbrev pub EventReply : Type 0
+EventReply = Result Reply Denied
 
-abbrev pub started_of : Data → Option Data → Outcome ReportLine
-started_of n o = named_of n o >>= λ p. Ok (Started p.0 p.1)
+abbrev pub started_of : Option Data → Outcome EventReply
+started_of None = bad Shape
+started_of (Some d) = within 2 (number_of d) >>= λ runner. Ok (Ok (Started runner))
 
-abbrev pub granted_of : Data → Option Data → Outcome ReportLine
-granted_of n o = named_of n o >>= λ p. Ok (Granted p.0 p.1)
+abbrev pub prefetched_of : Option (Data × Data × Data) → Outcome EventReply
+prefetched_of None = bad Shape
+prefetched_of (Some p) =
+    within 2 (number_of p.0) >>= λ runner. within 3 (number_of p.1) >>= λ revision. within 4 (key_reads_of p.2) >>= λ reads.
+    Ok (Ok (Prefetched runner revision reads))
 
-abbrev pub kept_of : Data → Option Data → Outcome ReportLine
-kept_of n o = named_of n o >>= λ p. Ok (Kept p.0 p.1)
+abbrev pub fetched_of : Option (Data × Data × Data × Data × Data) → Outcome EventReply
+fetched_of None = bad Shape
+fetched_of (Some p) =
+    within 2 (number_of p.0) >>= λ runner. within 3 (text_of p.1) >>= λ key. within 4 (number_of p.2) >>= λ mod_rev.
+    within 5 (number_of p.3) >>= λ of_rev. within 6 (number_of p.4) >>= λ revision. Ok (Ok (Fetched runner key mod_rev of_rev revision))
 
-abbrev pub compacted_of : Data → Option Data → Outcome ReportLine
-compacted_of n o = named_of n o >>= λ p. Ok (Compacted p.0 p.1)
+abbrev pub committed_of : Option (Data × Data × Data × Data × Data × Data) → Outcome EventReply
+committed_of None = bad Shape
+committed_of (Some p) =
+    within 2 (number_of p.0) >>= λ runner. within 3 (number_of p.1) >>= λ revision. within 4 (number_of p.2) >>= λ attempts.
+    within 5 (values_of p.3) >>= λ output. within 6 (traces_of p.4) >>= λ trace. within 7 (answers_of p.5) >>= λ answers.
+    Ok (Ok (Committed runner revision attempts output trace answers))
 
-abbrev pub watching_of : Data → Option Data → Outcome ReportLine
-watching_of n o = named_of n o >>= λ p. Ok (Watching p.0 p.1)
+abbrev pub conflict_of : Option (Data × Data × Data × Data) → Outcome EventReply
+conflict_of None = bad Shape
+conflict_of (Some p) =
+    within 2 (number_of p.0) >>= λ runner. within 3 (text_of p.1) >>= λ key. within 4 (number_of p.2) >>= λ seen.
+    within 5 (number_of p.3) >>= λ now. Ok (Ok (Conflict runner key seen now))
 
-abbrev pub cancelled_of : Data → Option Data → Outcome ReportLine
-cancelled_of n o = named_of n o >>= λ p. Ok (Cancelled p.0 p.1)
+abbrev pub gave_up_of : Option (Data × Data × Data × Data × Data) → Outcome EventReply
+gave_up_of None = bad Shape
+gave_up_of (Some p) =
+    within 2 (number_of p.0) >>= λ runner. within 3 (number_of p.1) >>= λ attempts. within 4 (text_of p.2) >>= λ key.
+    within 5 (number_of p.3) >>= λ seen. within 6 (number_of p.4) >>= λ now. Ok (Ok (GaveUp runner attempts key seen now))
 
-abbrev pub prefetched_of : Data → Option (Data × Data × Data) → Outcome ReportLine
-prefetched_of n None = bad Shape
-prefetched_of n (Some p) =
-    within 0 (number_of n) >>= λ number. within 2 (number_of p.0) >>= λ runner. within 3 (number_of p.1) >>= λ revision.
-    within 4 (key_reads_of p.2) >>= λ reads. Ok (Prefetched number runner revision reads)
+abbrev pub aborted_of : Option (Data × Data) → Outcome EventReply
+aborted_of None = bad Shape
+aborted_of (Some p) = within 2 (number_of p.0) >>= λ runner. within 3 (text_of p.1) >>= λ text. Ok (Ok (Aborted runner text))
 
-abbrev pub fetched_of : Data → Option (Data × Data × Data × Data × Data) → Outcome ReportLine
-fetched_of n None = bad Shape
-fetched_of n (Some p) =
-    within 0 (number_of n) >>= λ number. within 2 (number_of p.0) >>= λ runner. fetched_rest number runner p.1 p.2 p.3 p.4
+abbrev pub faulted_of : Option (Data × Data) → Outcome EventReply
+faulted_of None = bad Shape
+faulted_of (Some p) = within 2 (number_of p.0) >>= λ runner. within 3 (fault_of p.1) >>= λ fault. Ok (Ok (Faulted runner fault))
 
-abbrev pub committed_of : Data → Option (Data × Data × Data × Data × Data × Data) → Outcome ReportLine
-committed_of n None = bad Shape
-committed_of n (Some p) =
-    within 0 (number_of n) >>= λ number. within 2 (number_of p.0) >>= λ runner. within 3 (number_of p.1) >>= λ revision.
-    within 4 (number_of p.2) >>= λ attempts. within 5 (values_of p.3) >>= λ output.
-    within 6 (traces_of p.4) >>= λ trace. within 7 (answers_of p.5) >>= λ answers. Ok (Committed number runner revision attempts output trace answers)
+abbrev pub ended_of : Option (Data × Data) → Outcome EventReply
+ended_of None = bad Shape
+ended_of (Some p) = within 2 (number_of p.0) >>= λ runner. within 3 (cause_of p.1) >>= λ cause. Ok (Ok (Ended runner cause))
 
-abbrev pub conflict_of : Data → Option (Data × Data × Data × Data) → Outcome ReportLine
-conflict_of n None = bad Shape
-conflict_of n (Some p) =
-    within 0 (number_of n) >>= λ number. within 2 (number_of p.0) >>= λ runner. conflict_rest number runner p.1 p.2 p.3
+abbrev pub txn_of : Option (Data × Data × Data) → Outcome EventReply
+txn_of None = bad Shape
+txn_of (Some p) =
+    within 2 (flag_of p.0) >>= λ succeeded. within 3 (number_of p.1) >>= λ revision. within 4 (ops_of p.2) >>= λ answers.
+    Ok (Ok (Txn succeeded revision answers))
 
-abbrev pub gave_up_of : Data → Option (Data × Data × Data × Data × Data) → Outcome ReportLine
-gave_up_of n None = bad Shape
-gave_up_of n (Some p) =
-    within 0 (number_of n) >>= λ number. within 2 (number_of p.0) >>= λ runner. within 3 (number_of p.1) >>= λ attempts.
-    gave_up_rest number runner attempts p.2 p.3 p.4
+abbrev pub granted_of : Option Data → Outcome EventReply
+granted_of None = bad Shape
+granted_of (Some d) = within 2 (number_of d) >>= λ id. Ok (Ok (Granted id))
 
-abbrev pub aborted_of : Data → Option (Data × Data) → Outcome ReportLine
-aborted_of n None = bad Shape
-aborted_of n (Some p) =
-    within 0 (number_of n) >>= λ number. within 2 (number_of p.0) >>= λ runner. within 3 (text_of p.1) >>= λ text. Ok (Aborted number runner text)
+abbrev pub kept_of : Option Data → Outcome EventReply
+kept_of None = bad Shape
+kept_of (Some d) = within 2 (number_of d) >>= λ id. Ok (Ok (Kept id))
 
-abbrev pub faulted_of : Data → Option (Data × Data) → Outcome ReportLine
-faulted_of n None = bad Shape
-faulted_of n (Some p) =
-    within 0 (number_of n) >>= λ number. within 2 (number_of p.0) >>= λ runner. within 3 (fault_of p.1) >>= λ fault. Ok (Faulted number runner fault)
+abbrev pub revoked_of : Option (Data × Data) → Outcome EventReply
+revoked_of None = bad Shape
+revoked_of (Some p) = within 2 (number_of p.0) >>= λ id. within 3 (number_of p.1) >>= λ revision. Ok (Ok (Revoked id revision))
 
-abbrev pub ended_of : Data → Option (Data × Data) → Outcome ReportLine
-ended_of n None = bad Shape
-ended_of n (Some p) =
-    within 0 (number_of n) >>= λ number. within 2 (number_of p.0) >>= λ runner. within 3 (cause_of p.1) >>= λ cause. Ok (Ended number runner cause)
+abbrev pub advanced_of : Option (Data × Data) → Outcome EventReply
+advanced_of None = bad Shape
+advanced_of (Some p) = within 2 (number_of p.0) >>= λ now. within 3 (expireds_of p.1) >>= λ expired. Ok (Ok (Advanced now expired))
 
-abbrev pub txn_of : Data → Option (Data × Data × Data) → Outcome ReportLine
-txn_of n None = bad Shape
-txn_of n (Some p) =
-    within 0 (number_of n) >>= λ number. within 2 (flag_of p.0) >>= λ succeeded.
-    within 3 (number_of p.1) >>= λ revision. within 4 (ops_of p.2) >>= λ answers. Ok (Txn number succeeded revision answers)
+abbrev pub compacted_of : Option Data → Outcome EventReply
+compacted_of None = bad Shape
+compacted_of (Some d) = within 2 (number_of d) >>= λ revision. Ok (Ok (Compacted revision))
 
-abbrev pub revoked_of : Data → Option (Data × Data) → Outcome ReportLine
-revoked_of n None = bad Shape
-revoked_of n (Some p) =
-    within 0 (number_of n) >>= λ number. within 2 (number_of p.0) >>= λ id. within 3 (number_of p.1) >>= λ revision. Ok (Revoked number id revision)
+abbrev pub watching_of : Option Data → Outcome EventReply
+watching_of None = bad Shape
+watching_of (Some d) = within 2 (number_of d) >>= λ watcher. Ok (Ok (Watching watcher))
 
-abbrev pub advanced_of : Data → Option (Data × Data) → Outcome ReportLine
-advanced_of n None = bad Shape
-advanced_of n (Some p) =
-    within 0 (number_of n) >>= λ number. within 2 (number_of p.0) >>= λ now. within 3 (expireds_of p.1) >>= λ expired.
-    Ok (Advanced number now expired)
+abbrev pub cancelled_of : Option Data → Outcome EventReply
+cancelled_of None = bad Shape
+cancelled_of (Some d) = within 2 (number_of d) >>= λ watcher. Ok (Ok (Cancelled watcher))
 
-abbrev pub batch_of : Data → Option (Data × Data × Data) → Outcome ReportLine
-batch_of n None = bad Shape
-batch_of n (Some p) =
-    within 0 (number_of n) >>= λ number. within 2 (number_of p.0) >>= λ id. within 3 (number_of p.1) >>= λ up_to.
-    within 4 (events_of p.2) >>= λ events. Ok (Batch number id up_to events)
+abbrev pub batch_of : Option (Data × Data × Data) → Outcome EventReply
+batch_of None = bad Shape
+batch_of (Some p) =
+    within 2 (number_of p.0) >>= λ watcher. within 3 (number_of p.1) >>= λ up_to. within 4 (events_of p.2) >>= λ events.
+    Ok (Ok (Batch watcher up_to events))
 
-abbrev pub lost_of : Data → Option (Data × Data) → Outcome ReportLine
-lost_of n None = bad Shape
-lost_of n (Some p) =
-    within 0 (number_of n) >>= λ number. within 2 (number_of p.0) >>= λ id. within 3 (number_of p.1) >>= λ floor. Ok (Lost number id floor)
+abbrev pub lost_of : Option (Data × Data) → Outcome EventReply
+lost_of None = bad Shape
+lost_of (Some p) = within 2 (number_of p.0) >>= λ watcher. within 3 (number_of p.1) >>= λ floor. Ok (Ok (Lost watcher floor))
 
-abbrev pub refused_of : Data → Option (Data × Data) → Outcome ReportLine
-refused_of n None = bad Shape
-refused_of n (Some p) =
-    within 0 (number_of n) >>= λ number. within 2 (cause_of p.0) >>= λ cause. within 3 (expireds_of p.1) >>= λ expired.
-    Ok (Refused number cause expired)
+abbrev pub denied_with : EventRefusal → List Expired → Denied
+denied_with cause expired = record { cause = cause; expired = expired }
+
+abbrev pub refused_of : Option (Data × Data) → Outcome EventReply
+refused_of None = bad Shape
+refused_of (Some p) = within 2 (cause_of p.0) >>= λ cause. within 3 (expireds_of p.1) >>= λ expired. Ok (Err (denied_with cause expired))
+
+abbrev pub event_reply_of : EventWord → Items → Outcome EventReply
+event_reply_of event.Started ds = started_of (one_of ds)
+event_reply_of event.Prefetched ds = prefetched_of (three_of ds)
+event_reply_of event.Fetched ds = fetched_of (five_of ds)
+event_reply_of event.Committed ds = committed_of (six_of ds)
+event_reply_of event.Conflict ds = conflict_of (four_of ds)
+event_reply_of event.GaveUp ds = gave_up_of (five_of ds)
+event_reply_of event.Aborted ds = aborted_of (two_of ds)
+event_reply_of event.Faulted ds = faulted_of (two_of ds)
+event_reply_of event.Ended ds = ended_of (two_of ds)
+event_reply_of event.Txn ds = txn_of (three_of ds)
+event_reply_of event.Granted ds = granted_of (one_of ds)
+event_reply_of event.Kept ds = kept_of (one_of ds)
+event_reply_of event.Revoked ds = revoked_of (two_of ds)
+event_reply_of event.Advanced ds = advanced_of (two_of ds)
+event_reply_of event.Compacted ds = compacted_of (one_of ds)
+event_reply_of event.Watching ds = watching_of (one_of ds)
+event_reply_of event.Cancelled ds = cancelled_of (one_of ds)
+event_reply_of event.Batch ds = batch_of (three_of ds)
+event_reply_of event.Lost ds = lost_of (two_of ds)
+event_reply_of event.Refused ds = refused_of (two_of ds)
+
+-- ---- lines of events: the number, the word, and as many elements as come after this word
 
 abbrev pub event_line_of : EventWord → Data → Items → Outcome ReportLine
-event_line_of event.Started n ds = started_of n (one_of ds)
-event_line_of event.Prefetched n ds = prefetched_of n (three_of ds)
-event_line_of event.Fetched n ds = fetched_of n (five_of ds)
-event_line_of event.Committed n ds = committed_of n (six_of ds)
-event_line_of event.Conflict n ds = conflict_of n (four_of ds)
-event_line_of event.GaveUp n ds = gave_up_of n (five_of ds)
-event_line_of event.Aborted n ds = aborted_of n (two_of ds)
-event_line_of event.Faulted n ds = faulted_of n (two_of ds)
-event_line_of event.Ended n ds = ended_of n (two_of ds)
-event_line_of event.Txn n ds = txn_of n (three_of ds)
-event_line_of event.Granted n ds = granted_of n (one_of ds)
-event_line_of event.Kept n ds = kept_of n (one_of ds)
-event_line_of event.Revoked n ds = revoked_of n (two_of ds)
-event_line_of event.Advanced n ds = advanced_of n (two_of ds)
-event_line_of event.Compacted n ds = compacted_of n (one_of ds)
-event_line_of event.Watching n ds = watching_of n (one_of ds)
-event_line_of event.Cancelled n ds = cancelled_of n (one_of ds)
-event_line_of event.Batch n ds = batch_of n (three_of ds)
-event_line_of event.Lost n ds = lost_of n (two_of ds)
-event_line_of event.Refused n ds = refused_of n (two_of ds)
+event_line_of w n ds =
+    if count ds == elements_after w then (within 0 (number_of n) >>= λ number. event_reply_of w ds >>= λ reply. Ok (line.Event number reply)) else bad Shape
 
 -- ---- lines of what is left at the end: the elements after the word
 
 abbrev pub key_of : Option (Data × Data × Data × Data × Data × Data) → Outcome ReportLine
-key_of o = keyed_of o >>= λ p. Ok (Key p.0 p.1)
+key_of o = keyed_of o >>= λ p. Ok (line.Key p.0 p.1)
 
 abbrev pub lease_of : Option (Data × Data × Data) → Outcome ReportLine
 lease_of None = bad Shape
 lease_of (Some p) =
-    within 1 (number_of p.0) >>= λ id. within 2 (number_of p.1) >>= λ ttl. within 3 (number_of p.2) >>= λ renewed. Ok (Lease id ttl renewed)
+    within 1 (number_of p.0) >>= λ id. within 2 (number_of p.1) >>= λ ttl. within 3 (number_of p.2) >>= λ renewed. Ok (line.Lease id ttl renewed)
 
 abbrev pub end_of : Option (Data × Data) → Outcome ReportLine
 end_of None = bad Shape
-end_of (Some p) = within 1 (number_of p.0) >>= λ revision. within 2 (number_of p.1) >>= λ entries. Ok (End revision entries)
+end_of (Some p) = within 1 (number_of p.0) >>= λ revision. within 2 (number_of p.1) >>= λ entries. Ok (line.End revision entries)
 
 abbrev pub standing_line_of : StandingWord → Items → Outcome ReportLine
 standing_line_of standing.Key ds = key_of (six_of ds)

@@ -3,8 +3,8 @@ use Rattle.std.specs.Prelude.{ℕ, List, [], ◌∷◌, Option, Some, None, if�
 use Rattle.stm_steps.specs.declared.fault.Fault.{Fault}
 use Rattle.stm_steps.specs.declared.fault.Fault.TheVariants.{Kind, Overflow, ZeroDivisor, NotANumber, LoopTooLong, TurnLimit, TextTooLong, EmptyKey}
 use Rattle.stm_json.specs.Parts.{same}
-use Rattle.stm_report_lines.specs.declared.causes.RefusalName.{RefusalName}
-use Rattle.stm_report_lines.specs.declared.causes.RefusalName.TheVariants as cause
+use Rattle.stm_events.specs.declared.refusal.EventRefusal.{EventRefusal}
+use Rattle.stm_events.specs.declared.refusal.EventRefusal.TheVariants as cause
 use Rattle.stm_report_lines.specs.declared.words.EventWord.{EventWord}
 use Rattle.stm_report_lines.specs.declared.words.EventWord.TheVariants.{Started, Prefetched, Fetched, Committed, Conflict, GaveUp, Aborted, Faulted, Ended}
 use Rattle.stm_report_lines.specs.declared.words.EventWord.TheVariants.{Txn, Granted, Kept, Revoked, Advanced, Compacted, Watching, Cancelled, Batch, Lost, Refused}
@@ -40,6 +40,29 @@ event_words =
     ∷ (codes "refused", Refused)
     ∷ []
 
+-- how many elements come after the word
+abbrev pub elements_after : EventWord → ℕ
+elements_after Started = 1
+elements_after Prefetched = 3
+elements_after Fetched = 5
+elements_after Committed = 6
+elements_after Conflict = 4
+elements_after GaveUp = 5
+elements_after Aborted = 2
+elements_after Faulted = 2
+elements_after Ended = 2
+elements_after Txn = 3
+elements_after Granted = 1
+elements_after Kept = 1
+elements_after Revoked = 2
+elements_after Advanced = 2
+elements_after Compacted = 1
+elements_after Watching = 1
+elements_after Cancelled = 1
+elements_after Batch = 3
+elements_after Lost = 2
+elements_after Refused = 2
+
 abbrev pub standing_words : List (List ℕ × StandingWord)
 standing_words = (codes "key", Key) ∷ (codes "lease", Lease) ∷ (codes "end", End) ∷ []
 
@@ -56,7 +79,7 @@ fault_words =
     ∷ []
 
 -- a program's faults, and the other refusals
-abbrev pub refusal_words : List (List ℕ × RefusalName)
+abbrev pub refusal_words : List (List ℕ × EventRefusal)
 refusal_words =
     (codes "Kind", cause.Kind)
     ∷ (codes "Overflow", cause.Overflow)

@@ -8,11 +8,11 @@ ghost use Rattle.stm_report_lines.specs.Words.{named, standing_words};
 
 use crate::elements::front_word;
 use crate::event_lines::event_line;
-use crate::line::ReportLine;
 use crate::parts::keyed;
 use crate::words::{StandingWord, event_word, standing_word};
 use serde_json::Value as Json;
 use std::alloc::Global;
+use stm_events::ReportLine;
 use stm_json::{Cause, ReadError, fault, number_part, three, two};
 
 fn key(alloc: Global, elements: &[Json]) -> Result<ReportLine, ReadError>

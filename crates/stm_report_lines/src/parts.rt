@@ -12,14 +12,14 @@ ghost use Rattle.stm_report_lines.specs.Parts.{flag_of, fault_of, cause_of, valu
 ghost use Rattle.stm_report_lines.specs.Parts.{trace_get_of, trace_rev_of, trace_of, answer_parts, answer_of, op_get_of, op_del_of, op_put_of, op_of};
 ghost use Rattle.stm_report_lines.specs.Parts.{read_parts, read_of, expired_parts, expired_of, event_put_of, event_delete_of, event_of};
 
-use crate::causes::RefusalName;
 use crate::elements::{five, six};
-use crate::line::{ReportedAnswer, ReportedOp};
 use crate::words::{fault_named, refusal_name};
 use serde_json::Value as Json;
 use std::alloc::Global;
-use stm_events::{Event, Expired, Fault, KeyRead, TraceItem, Value};
-use stm_history::{KeyState, Sequence, Text};
+use stm_events::{
+    CommittedRead, Event, EventRefusal, Expired, Fault, KeyRead, KeyState, OpReply, Sequence, Text,
+    TraceItem, Value,
+};
 use stm_json::{
     Cause, ReadError, fault, four, number_part, number_within, one, text, text_part, two, whole,
     within, worded_array,
@@ -64,7 +64,7 @@ pub(crate) fn fault_part(alloc: Global, index: usize, value: &Json) -> Result<Fa
 }
 
 #[tactic(auto, unfolding(crate::specs::Parts::cause_of))]
-fn refusal(alloc: Global, value: &Json) -> Result<RefusalName, ReadError>
+fn refusal(alloc: Global, value: &Json) -> Result<EventRefusal, ReadError>
     ensures { Returns (λ c. c) result (cause_of (view value.now)) }
 {
     let Some(word) = value.as_str() else {
@@ -81,7 +81,7 @@ pub(crate) fn refusal_part(
     alloc: Global,
     index: usize,
     value: &Json,
-) -> Result<RefusalName, ReadError>
+) -> Result<EventRefusal, ReadError>
     ensures { Returns (λ c. c) result (within_list index (cause_of (view value.now))) }
 {
     within(alloc, index, refusal(alloc, value))
@@ -279,7 +279,7 @@ impl Element for TraceItem {
 }
 
 /// An answer, from the four elements that spell it.
-fn answer(alloc: Global, elements: &[Json]) -> Result<ReportedAnswer, ReadError>
+fn answer(alloc: Global, elements: &[Json]) -> Result<CommittedRead, ReadError>
     ensures { Returns (λ a. a) result (answer_parts (four_of (items_view elements.now))) }
 {
     let Some((key, value, mod_rev, of_rev)) = four(elements) else {
@@ -289,7 +289,7 @@ fn answer(alloc: Global, elements: &[Json]) -> Result<ReportedAnswer, ReadError>
     let value = within(alloc, 1, text_or_null(alloc, value))?;
     let mod_rev = number_part(alloc, 2, mod_rev)?;
     let of_rev = number_part(alloc, 3, of_rev)?;
-    Ok(ReportedAnswer {
+    Ok(CommittedRead {
         key,
         value,
         mod_rev,
@@ -297,11 +297,11 @@ fn answer(alloc: Global, elements: &[Json]) -> Result<ReportedAnswer, ReadError>
     })
 }
 
-impl Element for ReportedAnswer {
+impl Element for CommittedRead {
     ghost reading = { answer_of };
 
     #[tactic(auto, unfolding(crate::specs::Parts::answer_of))]
-    fn read(alloc: Global, value: &Json) -> Result<ReportedAnswer, ReadError> {
+    fn read(alloc: Global, value: &Json) -> Result<CommittedRead, ReadError> {
         match value.as_array() {
             Some(elements) => answer(alloc, elements.as_slice()),
             None => Err(fault(alloc, Cause::Shape)),
@@ -310,7 +310,7 @@ impl Element for ReportedAnswer {
 }
 
 /// What a read answered, from the elements after its word.
-fn op_get(alloc: Global, elements: &[Json]) -> Result<ReportedOp, ReadError>
+fn op_get(alloc: Global, elements: &[Json]) -> Result<OpReply, ReadError>
     ensures { Returns (λ o. o) result (op_get_of (two_of (items_view elements.now))) }
 {
     let Some((revision, kv)) = two(elements) else {
@@ -318,35 +318,35 @@ fn op_get(alloc: Global, elements: &[Json]) -> Result<ReportedOp, ReadError>
     };
     let revision = number_part(alloc, 1, revision)?;
     let kv = within(alloc, 2, state_or_null(alloc, kv))?;
-    Ok(ReportedOp::Get { revision, kv })
+    Ok(OpReply::Get { revision, kv })
 }
 
 /// What a put answered: there are no elements after its word.
-fn op_put(alloc: Global, elements: &[Json]) -> Result<ReportedOp, ReadError>
+fn op_put(alloc: Global, elements: &[Json]) -> Result<OpReply, ReadError>
     ensures { Returns (λ o. o) result (op_put_of (items_view elements.now)) }
 {
     match elements.split_first() {
-        None => Ok(ReportedOp::Put),
+        None => Ok(OpReply::Put),
         Some(_) => Err(fault(alloc, Cause::Shape)),
     }
 }
 
 /// What a delete answered, from the elements after its word.
-fn op_del(alloc: Global, elements: &[Json]) -> Result<ReportedOp, ReadError>
+fn op_del(alloc: Global, elements: &[Json]) -> Result<OpReply, ReadError>
     ensures { Returns (λ o. o) result (op_del_of (one_of (items_view elements.now))) }
 {
     let Some(count) = one(elements) else {
         return Err(fault(alloc, Cause::Shape));
     };
     let count = within(alloc, 1, number_within(alloc, 1, count))?;
-    Ok(ReportedOp::Del { count })
+    Ok(OpReply::Del { count })
 }
 
-impl Element for ReportedOp {
+impl Element for OpReply {
     ghost reading = { op_of };
 
     #[tactic(auto, unfolding(crate::specs::Parts::op_of))]
-    fn read(alloc: Global, value: &Json) -> Result<ReportedOp, ReadError> {
+    fn read(alloc: Global, value: &Json) -> Result<OpReply, ReadError> {
         let Some((word, elements)) = worded_array(value) else {
             return Err(fault(alloc, Cause::Shape));
         };

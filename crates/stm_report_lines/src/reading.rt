@@ -8,12 +8,10 @@ ghost use Rattle.stm_json.specs.Faults.{IsFirstFault};
 ghost use Rattle.stm_report_lines.specs.Grammar.{SpellsReport};
 ghost use Rattle.stm_report_lines.specs.Reading.{line_in, rest_of, lines_from, report_in};
 
-use crate::line::ReportLine;
 use crate::lines::line;
-use crate::report::Report;
 use serde_json::Value as Json;
 use std::alloc::Global;
-use stm_history::Sequence;
+use stm_events::{Report, ReportLine, Sequence};
 use stm_json::{Cause, MOST_BYTES, ReadError, fault, within};
 
 /// The line that bytes spell, or their first fault.
@@ -112,7 +110,7 @@ fn report_of_bytes(alloc: Global, bytes: &[u8]) -> Result<Report, ReadError>
 /// whatever they are, and the place is then empty. Then the lines are looked at in order, and what comes after
 /// the last line feed is a `Shape`; such places begin with the number of the line, from 0. A line is looked at as
 /// JSON first, then its word and its length, and then its elements in order. Or it fails as `OutOfMemory`, where a
-/// growth was refused.
+/// allocation failed.
 pub fn read_report(alloc: Global, bytes: &[u8]) -> Result<Report, ReadError>
     ensures exact { Returns (λ r. r) result (report_in bytes.now) }
     // What is read is spelled so.

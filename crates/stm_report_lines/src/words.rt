@@ -1,9 +1,8 @@
 //! The words that distinguish the lines, and the names of faults and refusals.
 ghost use Rattle.std.specs.Prelude.{◌≡◌, map};
-ghost use Rattle.stm_report_lines.specs.Words.{named, event_words, standing_words, fault_words, refusal_words};
+ghost use Rattle.stm_report_lines.specs.Words.{named, event_words, elements_after as number_after, standing_words, fault_words, refusal_words};
 
-use crate::causes::RefusalName;
-use stm_meaning::Fault;
+use stm_events::{EventRefusal, Fault};
 
 /// The word of an event's line, which comes after the number.
 #[derive(Clone, Copy, Debug, PartialEq, Eq)]
@@ -108,6 +107,34 @@ pub(crate) fn event_word(word: &str) -> Option<EventWord>
     found(&EVENT_WORDS, word)
 }
 
+/// How many elements come after the word of an event's line.
+pub(crate) fn elements_after(word: EventWord) -> usize
+    ensures { result ≡ number_after word }
+{
+    match word {
+        EventWord::Started => 1,
+        EventWord::Prefetched => 3,
+        EventWord::Fetched => 5,
+        EventWord::Committed => 6,
+        EventWord::Conflict => 4,
+        EventWord::GaveUp => 5,
+        EventWord::Aborted => 2,
+        EventWord::Faulted => 2,
+        EventWord::Ended => 2,
+        EventWord::Txn => 3,
+        EventWord::Granted => 1,
+        EventWord::Kept => 1,
+        EventWord::Revoked => 2,
+        EventWord::Advanced => 2,
+        EventWord::Compacted => 1,
+        EventWord::Watching => 1,
+        EventWord::Cancelled => 1,
+        EventWord::Batch => 3,
+        EventWord::Lost => 2,
+        EventWord::Refused => 2,
+    }
+}
+
 /// The words of the lines of the end.
 static STANDING_WORDS: [(&str, StandingWord); 3] = [
     ("key", StandingWord::Key),
@@ -142,36 +169,36 @@ pub(crate) fn fault_named(word: &str) -> Option<Fault>
 }
 
 /// The names of refusals.
-static REFUSAL_NAMES: [(&str, RefusalName); 25] = [
-    ("Kind", RefusalName::Kind),
-    ("Overflow", RefusalName::Overflow),
-    ("ZeroDivisor", RefusalName::ZeroDivisor),
-    ("NotANumber", RefusalName::NotANumber),
-    ("LoopTooLong", RefusalName::LoopTooLong),
-    ("TurnLimit", RefusalName::TurnLimit),
-    ("TextTooLong", RefusalName::TextTooLong),
-    ("EmptyKey", RefusalName::EmptyKey),
-    ("OutOfMemory", RefusalName::OutOfMemory),
-    ("BadProgram", RefusalName::BadProgram),
-    ("FutureRevision", RefusalName::FutureRevision),
-    ("Compacted", RefusalName::Compacted),
-    ("RevisionsUsedUp", RefusalName::RevisionsUsedUp),
-    ("LeaseExists", RefusalName::LeaseExists),
-    ("TtlOutOfRange", RefusalName::TtlOutOfRange),
-    ("LeaseIdOutOfRange", RefusalName::LeaseIdOutOfRange),
-    ("LeaseNotFound", RefusalName::LeaseNotFound),
-    ("NoWatcher", RefusalName::NoWatcher),
-    ("TooManyOps", RefusalName::TooManyOps),
-    ("DuplicateKey", RefusalName::DuplicateKey),
-    ("TimeGoesBack", RefusalName::TimeGoesBack),
-    ("BadLimit", RefusalName::BadLimit),
-    ("NoRunner", RefusalName::NoRunner),
-    ("Behind", RefusalName::Behind),
-    ("Unvouched", RefusalName::Unvouched),
+static REFUSAL_NAMES: [(&str, EventRefusal); 25] = [
+    ("Kind", EventRefusal::Kind),
+    ("Overflow", EventRefusal::Overflow),
+    ("ZeroDivisor", EventRefusal::ZeroDivisor),
+    ("NotANumber", EventRefusal::NotANumber),
+    ("LoopTooLong", EventRefusal::LoopTooLong),
+    ("TurnLimit", EventRefusal::TurnLimit),
+    ("TextTooLong", EventRefusal::TextTooLong),
+    ("EmptyKey", EventRefusal::EmptyKey),
+    ("OutOfMemory", EventRefusal::OutOfMemory),
+    ("BadProgram", EventRefusal::BadProgram),
+    ("FutureRevision", EventRefusal::FutureRevision),
+    ("Compacted", EventRefusal::Compacted),
+    ("RevisionsUsedUp", EventRefusal::RevisionsUsedUp),
+    ("LeaseExists", EventRefusal::LeaseExists),
+    ("TtlOutOfRange", EventRefusal::TtlOutOfRange),
+    ("LeaseIdOutOfRange", EventRefusal::LeaseIdOutOfRange),
+    ("LeaseNotFound", EventRefusal::LeaseNotFound),
+    ("NoWatcher", EventRefusal::NoWatcher),
+    ("TooManyOps", EventRefusal::TooManyOps),
+    ("DuplicateKey", EventRefusal::DuplicateKey),
+    ("TimeGoesBack", EventRefusal::TimeGoesBack),
+    ("BadLimit", EventRefusal::BadLimit),
+    ("NoRunner", EventRefusal::NoRunner),
+    ("Behind", EventRefusal::Behind),
+    ("Unvouched", EventRefusal::Unvouched),
 ];
 
 /// The refusal of a name, if there is one.
-pub(crate) fn refusal_name(word: &str) -> Option<RefusalName>
+pub(crate) fn refusal_name(word: &str) -> Option<EventRefusal>
     ensures { result ≡ named refusal_words word.now }
 {
     found(&REFUSAL_NAMES, word)

@@ -11,8 +11,8 @@ mod outcome;
 
 pub use moves::Move;
 pub use outcome::{KeyValue, Outcome, RunnerEnd};
+pub use stm_events::EventRefusal;
 pub use stm_history::{Sequence, Text};
 pub use stm_meaning::{Fault, Value};
 pub use stm_program::{Level, Program};
-pub use stm_txn::Refusal as StoreRefusal;
 pub use stm_world::WorldEvent;

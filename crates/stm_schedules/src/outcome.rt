@@ -1,7 +1,7 @@
 //! What a whole schedule comes to.
+use stm_events::EventRefusal;
 use stm_history::{Sequence, Text};
 use stm_meaning::{Fault, Value};
-use stm_txn::Refusal;
 
 /// How the run of a runner ended.
 #[derive(Debug, Drop)]
@@ -15,7 +15,7 @@ pub enum RunnerEnd {
     /// Its program was ended by a fault.
     Faulted { fault: Fault },
     /// The store refused its commit, or, as compacted, the fetch of a key at the base of its attempt.
-    Ended { cause: Refusal },
+    Ended { cause: EventRefusal },
 }
 
 /// A key that is present, with its value.

@@ -14,7 +14,7 @@ use Rattle.stm_compile.specs.Committed.{committed}
 use Rattle.stm_events.specs.declared.event.WorldEvent.{WorldEvent}
 use Rattle.stm_events.specs.declared.event.WorldEvent.TheVariants.{Step}
 use Rattle.stm_events.specs.declared.reply.Reply.TheVariants.{Ended}
-use Rattle.stm_events.specs.declared.refusal.Refusal.TheVariants.{Store}
+use Rattle.stm_events.specs.declared.refusal.EventRefusal.TheVariants.{OutOfMemory as OutOfMemoryEvent}
 use Rattle.stm_world.specs.Log.{Line}
 use Rattle.stm_world.specs.Right.{IsRight}
 
@@ -33,5 +33,5 @@ pub record NeverOutOfMemory : Type 0 where
   pub commit : (terms : Terms) (level : Level) (reads : List ReadAnswer) (run : Run) → committed terms level reads run ≢ Err OutOfMemory
   -- so no right reply refuses an event as out of memory, or ends a run by it
   pub refusal : (start : Setup) (log : List Line) (event : WorldEvent) (expired : List Expired)
-      → IsRight start log event (Err (record { cause = Store OutOfMemory; expired = expired })) → ⊥
-  pub end : (start : Setup) (log : List Line) (id runner : ℕ) → IsRight start log (Step id) (Ok (Ended runner OutOfMemory)) → ⊥
+      → IsRight start log event (Err (record { cause = OutOfMemoryEvent; expired = expired })) → ⊥
+  pub end : (start : Setup) (log : List Line) (id runner : ℕ) → IsRight start log (Step id) (Ok (Ended runner OutOfMemoryEvent)) → ⊥

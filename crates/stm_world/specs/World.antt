@@ -139,7 +139,7 @@ entry_of task reads run revision = Program task.program task.level (answers_kept
 abbrev pub take_commit : ℕ → Runner → List ReadAnswer → Run → Done → World → Stepped
 take_commit id r reads run done w = record {
   reply = Ok (Committed id (now done.history) (r.failures + 1) run.output run.trace
-  (map committed_read (answers_kept r.task.level reads)));
+      (map committed_read (answers_kept r.task.level reads)));
   next = record {
     standing = with_history w.standing done.history;
     runners = with_slot id Over w.runners;

@@ -11,7 +11,6 @@ use Rattle.stm_steps.specs.declared.run.Answered.TheVariants.{Ended, Wants}
 use Rattle.stm_steps.specs.declared.trace_item.TraceItem.{TraceItem}
 use Rattle.stm_steps.specs.declared.value.Value.{Value}
 use Rattle.stm_meaning.specs.Meaning.{run_over}
-use Rattle.stm_outcome.specs.declared.refusal.Refusal.{Refusal as StoreRefusal}
 use Rattle.stm_outcome.specs.Outcome.{Done as StoreDone}
 use Rattle.stm_outcome.specs.Terms.{is_below_floor}
 use Rattle.stm_keys.specs.declared.event.Event.{Event}
@@ -28,6 +27,8 @@ use Rattle.stm_events.specs.declared.event.WorldEvent.TheVariants.{Start, Step, 
 use Rattle.stm_events.specs.declared.reply.Reply.{Reply}
 use Rattle.stm_events.specs.declared.reply.Reply.TheVariants.{Started, Prefetched, Fetched, Committed, Conflict, GaveUp, Aborted, Faulted, Ended as EndedReply, Batch, Compacted, Lost}
 use Rattle.stm_events.specs.declared.reply.KeyRead.{KeyRead}
+use Rattle.stm_events.specs.declared.reply.CommittedRead.{CommittedRead}
+use Rattle.stm_events.specs.declared.refusal.EventRefusal.{EventRefusal}
 use Rattle.stm_events.specs.declared.refusal.Denied.{Denied}
 use Rattle.stm_world.specs.Task.{Task}
 use Rattle.stm_world.specs.Log.{Line, begun, running, failures, store, known_after_log}
@@ -109,7 +110,7 @@ pub record WrongLogs : Type 0 where
       → is_below_floor (store start log).floor (at_of task.level (known_after_log start id task log).reads) ≡ true
       → IsRight start log (Step id) (Ok (Fetched id key mod_rev of_rev revision)) → ⊥
   -- at one that is not, the store refuses no fetch
-  pub refused_fetch : (start : Setup) (log : List Line) (id : ℕ) (task : Task) (key : List ℕ) (trace : List TraceItem) (cause : StoreRefusal)
+  pub refused_fetch : (start : Setup) (log : List Line) (id : ℕ) (task : Task) (key : List ℕ) (trace : List TraceItem) (cause : EventRefusal)
       → running id log ≡ Some task → is_due task.program.prefetch (known_after_log start id task log).reads ≡ false
       → run_on task.program (known_after_log start id task log).reads ≡ Wants key trace
       → is_below_floor (store start log).floor (at_of task.level (known_after_log start id task log).reads) ≡ false
@@ -141,7 +142,7 @@ pub record WrongLogs : Type 0 where
       → running id log ≡ Some task → is_due task.program.prefetch (known_after_log start id task log).reads ≡ true
       → IsRight start log (Step id) (Ok (GaveUp id attempts key seen now_modified)) → ⊥
   -- and a list that has no more keys than the store takes operations is not refused
-  pub refused_list : (start : Setup) (log : List Line) (id : ℕ) (task : Task) (cause : StoreRefusal) → running id log ≡ Some task
+  pub refused_list : (start : Setup) (log : List Line) (id : ℕ) (task : Task) (cause : EventRefusal) → running id log ≡ Some task
       → is_due task.program.prefetch (known_after_log start id task log).reads ≡ true → length task.program.prefetch ≤ (store start log).limit
       → IsRight start log (Step id) (Ok (EndedReply id cause)) → ⊥
   -- no compaction goes back

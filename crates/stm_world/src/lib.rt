@@ -9,6 +9,6 @@ pub mod laws;
 
 pub use stm_entries::Entry;
 pub use stm_events::{
-    Denied, Event, Expired, Fault, KeyRead, Level, Program, ReadAnswer, Refusal, Reply, Sequence,
-    StoreRefusal, Text, TraceItem, Txn, TxnAnswer, Value, WorldEvent,
+    CommittedRead, Denied, Event, EventRefusal, Expired, Fault, KeyRead, Level, OpReply, Program,
+    Reply, Sequence, StoreRefusal, Text, TraceItem, Txn, Value, WorldEvent,
 };

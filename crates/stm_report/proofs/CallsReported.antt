@@ -32,7 +32,7 @@ use Rattle.stm_txn.specs.Standing.{terms_of, compaction_refusal, with_floor, flo
 use Rattle.stm_entries.specs.declared.entry.Entry.{Entry}
 use Rattle.stm_entries.specs.declared.entry.Entry.TheVariants.{Foreign}
 use Rattle.stm_entries.specs.Entered.{if_changed, expiries}
-use Rattle.stm_report_lines.specs.declared.line.ReportLine.{ReportLine}
+use Rattle.stm_events.specs.declared.line.ReportLine.{ReportLine}
 use Rattle.stm_report_lines.specs.declared.line.ReportLine.TheVariants.{Compacted as CompactedLine}
 use Rattle.stm_events.specs.declared.event.WorldEvent.TheVariants.{Txn, Grant, Keep, Revoke, Advance as AdvanceEvent, Compact}
 use Rattle.stm_events.specs.declared.reply.Reply.{Reply}

@@ -13,7 +13,7 @@ use Rattle.stm_world.proofs.Headlines.{headline}
 use Rattle.stm_world.proofs.Logs.{one_log}
 use Rattle.stm_world.proofs.OneReply.{one_right_reply}
 use Rattle.stm_world.proofs.RunnerSteps.{CommitLaws}
-use Rattle.stm_report_lines.specs.declared.line.ReportLine.{ReportLine}
+use Rattle.stm_events.specs.declared.line.ReportLine.{ReportLine}
 use Rattle.stm_check.specs.StoreLines.{end_lines}
 use Rattle.stm_check.specs.Wrong.{AreRight}
 use Rattle.stm_texts.specs.declared.scenario.Scenario.{Scenario}

@@ -12,10 +12,9 @@ use Rattle.stm_events.specs.declared.reply.Reply.{Reply}
 use Rattle.stm_events.specs.declared.reply.Reply.TheVariants.{Started, Prefetched, Fetched, Committed, Conflict, GaveUp, Aborted, Faulted, Ended}
 use Rattle.stm_events.specs.declared.reply.Reply.TheVariants.{Txn, Granted, Kept, Revoked, Advanced, Compacted, Watching, Batch, Lost, Cancelled}
 use Rattle.stm_events.specs.declared.refusal.Denied.{Denied}
-use Rattle.stm_events.specs.declared.refusal.Refusal.{Refusal}
+use Rattle.stm_events.specs.declared.refusal.EventRefusal.{EventRefusal}
 use Rattle.stm_events.specs.Names.{refusal_name}
 use Rattle.stm_meaning.specs.Faults.{fault_name}
-use Rattle.stm_outcome.specs.Names.{refusal_name as store_refusal_name}
 use Rattle.stm_report.specs.declared.format_row.Lane.{Lane}
 use Rattle.stm_report.specs.declared.format_row.Lane.TheVariants.{Store, Runner}
 use Rattle.stm_report.specs.declared.format_pieces.TheConstants.{MOST_SHOWN, KEPT, MOST_COLUMNS}
@@ -158,17 +157,17 @@ advanced_without now expired =
     joined_without (codes "advance to " ∷ decimal now ∷ codes ", " ∷ decimal expired ∷ codes " expired" ∷ [])
     (refl, (decimal_without now, (refl, (decimal_without expired, (refl, tt)))))
 
-batch_without : (watcher events upto : ℕ) → has 10 (batch_words watcher events upto) ≡ false
-batch_without watcher events upto =
-    joined_without (codes "poll " ∷ decimal watcher ∷ codes ": " ∷ decimal events ∷ codes " events to @" ∷ decimal upto ∷ [])
-    (refl, (decimal_without watcher, (refl, (decimal_without events, (refl, (decimal_without upto, tt))))))
+batch_without : (watcher events up_to : ℕ) → has 10 (batch_words watcher events up_to) ≡ false
+batch_without watcher events up_to =
+    joined_without (codes "poll " ∷ decimal watcher ∷ codes ": " ∷ decimal events ∷ codes " events to @" ∷ decimal up_to ∷ [])
+    (refl, (decimal_without watcher, (refl, (decimal_without events, (refl, (decimal_without up_to, tt))))))
 
 lost_without : (watcher floor : ℕ) → has 10 (lost_words watcher floor) ≡ false
 lost_without watcher floor =
     joined_without (codes "LOST watcher " ∷ decimal watcher ∷ codes ": kept from @" ∷ decimal floor ∷ [])
     (refl, (decimal_without watcher, (refl, (decimal_without floor, tt))))
 
-refused_without : (e : WorldEvent) (cause : Refusal) → has 10 (refused_words e cause) ≡ false
+refused_without : (e : WorldEvent) (cause : EventRefusal) → has 10 (refused_words e cause) ≡ false
 refused_without e cause =
     joined_without (codes "REFUSED " ∷ asked_word e ∷ codes ": " ∷ shown (refusal_name cause) ∷ [])
     (refl, (asked_without e, (refl, (shown_without (refusal_name cause), tt))))
@@ -182,15 +181,15 @@ reply_without e (Conflict runner key seen now) = compared_without (codes "CONFLI
 reply_without e (GaveUp runner attempts key seen now) = compared_without (codes "GAVE UP") key seen now refl
 reply_without e (Aborted runner text) = reported_without (codes "ABORT") text refl
 reply_without e (Faulted runner fault) = reported_without (codes "FAULT") (fault_name fault) refl
-reply_without e (Ended runner cause) = reported_without (codes "ENDED") (store_refusal_name cause) refl
-reply_without e (Txn answer) = txn_without answer.succeeded answer.revision
+reply_without e (Ended runner cause) = reported_without (codes "ENDED") (refusal_name cause) refl
+reply_without e (Txn succeeded revision answers) = txn_without succeeded revision
 reply_without e (Granted id) = named_without (codes "grant") id refl
 reply_without e (Kept id) = named_without (codes "keep") id refl
 reply_without e (Revoked id revision) = revoked_without id revision
 reply_without e (Advanced now expired) = advanced_without now (length expired)
 reply_without e (Compacted revision) = compacted_without revision
 reply_without e (Watching watcher) = named_without (codes "watch") watcher refl
-reply_without e (Batch watcher upto events) = batch_without watcher (length events) upto
+reply_without e (Batch watcher up_to events) = batch_without watcher (length events) up_to
 reply_without e (Lost watcher floor) = lost_without watcher floor
 reply_without e (Cancelled watcher) = named_without (codes "cancel") watcher refl
 

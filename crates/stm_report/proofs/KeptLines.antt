@@ -4,7 +4,7 @@ use Rattle.stm_history.specs.declared.key_state.KeyState.{KeyState}
 use Rattle.stm_history.specs.History.{History, now, key_now}
 use Rattle.stm_history.specs.Cut.{cut}
 use Rattle.stm_history.proofs.CutLaws.{cut_keeps_keys_now}
-use Rattle.stm_report_lines.specs.declared.line.ReportLine.{ReportLine}
+use Rattle.stm_events.specs.declared.line.ReportLine.{ReportLine}
 use Rattle.stm_check.specs.StoreLines.{key_lines_of, key_lines}
 
 pub same_lines : (h : History) (number : ℕ) → number ≤ now h → (keys : List (List ℕ)) → key_lines (cut number h) keys ≡ key_lines h keys

@@ -5,8 +5,8 @@ use Rattle.std.proofs.lemmas.List.{drop_all}
 use Rattle.serde_json.specs.Data.{Data}
 use Rattle.stm_history.specs.declared.key_state.KeyState.{KeyState}
 use Rattle.stm_history.specs.History.{History, key_now}
-use Rattle.stm_report_lines.specs.declared.line.ReportLine.TheVariants.{Key}
-use Rattle.stm_report_lines.specs.declared.line.ReportLine.{ReportLine}
+use Rattle.stm_events.specs.declared.line.ReportLine.TheVariants.{Key}
+use Rattle.stm_events.specs.declared.line.ReportLine.{ReportLine}
 use Rattle.stm_report_lines.specs.LineData.{line_data}
 use Rattle.stm_check.specs.StoreLines.{key_lines_of, key_lines}
 use Rattle.stm_report_lines.specs.Text.{line_text, text_of}

@@ -1,6 +1,6 @@
 -- Written JSON has no line feed, so a text is cut into the lines that it was made of.
 use Rattle.std.proofs.Common.{◌≡◌, ℕ, suc, ◌+◌, ◌/◌, ◌%◌, ◌^◌, ◌<◌, Bool, true, false, cond, List, [], ◌∷◌, ◌++◌, ℤ, pos, negsuc, decimal, refl, sym}
-use Rattle.std.proofs.Common.{Some, ◌∙◌, ap, subst, arith, append_assoc, eqb-true, length, take, drop, get_or, IsUtf8}
+use Rattle.std.proofs.Common.{◌∙◌, ap, subst, arith, append_assoc, eqb-true, length, take, drop, get_or, IsUtf8}
 use Rattle.std.proofs.lemmas.Bool.{ltb-true, ne_eqb}
 use Rattle.std.proofs.lemmas.Fmt.{decimal_is_IsNumeral}
 use Rattle.std.proofs.lemmas.List.Splits.{slice_split-cons_yes, slice_split-cons_no}
@@ -13,16 +13,18 @@ use Rattle.std.specs.List.{onto_first}
 use Rattle.std.specs.Str.Parse.{AllDigits}
 use Rattle.json.specs.Print.{escape_letter, escape_byte, escape}
 use Rattle.serde_json.specs.Data.{Num, Data, null, boolean, number, string, array, object, Items, no_items, item}
-use Rattle.serde_json.specs.Find.{as_integer, of_integer}
+use Rattle.serde_json.specs.Find.{of_integer}
 use Rattle.serde_json.specs.Written.{number_text, compact_text, items_text, comma_if}
 use Rattle.stm_json.specs.Elements.{is_64_bit}
-use Rattle.stm_report_lines.specs.declared.line.ReportLine.{ReportLine}
+use Rattle.stm_events.specs.declared.line.ReportLine.{ReportLine}
 use Rattle.stm_report_lines.specs.Bytes.{is_line_feed, parts_of}
-use Rattle.stm_report_lines.specs.Grammar.{Spells, SpellsItems, SpellsParts}
+use Rattle.stm_report_lines.specs.Grammar.{SpellsParts}
 use Rattle.stm_report_lines.specs.LineData.{line_data}
 use Rattle.stm_report_lines.specs.Text.{text_of}
 use Rattle.stm_report_lines.proofs.ReportLaws.{report_reads}
-use Rattle.stm_report.specs.ReadBack.{IsPlain, ArePlain, AreReadable, ReportsAreReadBack}
+use Rattle.stm_report_lines.proofs.ReadBack.{spells_itself}
+use Rattle.stm_report_lines.specs.ReadBack.{IsPlain, ArePlain}
+use Rattle.stm_report.specs.ReadBack.{AreReadable, ReportsAreReadBack}
 use Rattle.stm_report_lines.proofs.Shallow.{line_is_shallow}
 use Rattle.stm_report.proofs.Written.{written_is_read}
 
@@ -112,25 +114,6 @@ mutual
       both (comma_if later) (compact_text d ++ items_text true ds) (comma_none later)
       (both (compact_text d) (items_text true ds) (data_none d one) (items_none true ds others))
 
--- ---- plain data spell themselves
-
-as_whole : (z : ℤ) → as_integer (of_integer z) ≡ Some z
-as_whole (pos n) = refl
-as_whole (negsuc n) = refl
-
-mutual
-  spell : (d : Data) → IsPlain d → Spells d d
-  spell null plain = refl
-  spell (boolean b) plain = refl
-  spell (number m) (z, is, fits) = let whole : as_integer m ≡ Some z = ap as_integer is ∙ as_whole z in (z, (m, refl, whole), whole, fits)
-  spell (string s) plain = refl
-  spell (array ds) plain = (ds, refl, spell_all ds plain)
-  spell (object ms) plain = absurd plain
-
-  spell_all : (ds : Items) → ArePlain ds → SpellsItems ds ds
-  spell_all no_items plain = refl
-  spell_all (item d ds) (one, others) = (d, ds, refl, spell d one, spell_all ds others)
-
 -- ---- the lines
 
 -- what stands before a line feed, what it is, and what stands from it on
@@ -175,7 +158,7 @@ parts_spell (l ∷ lines) (one, others) utf8 =
       c,
       parts_of (text_of lines),
       ap parts_of whole ∙ cut_after c (text_of lines) (data_none (line_data l) one.0),
-      (line_data l, written_is_read (line_data l) one.0 halves.0 (line_is_shallow l), (spell (line_data l) one.0, one.1)),
+      (line_data l, written_is_read (line_data l) one.0 halves.0 (line_is_shallow l), (spells_itself (line_data l) one.0, one.1)),
       parts_spell lines others halves.1,
     )
 

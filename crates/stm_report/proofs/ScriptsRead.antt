@@ -14,7 +14,7 @@ use Rattle.stm_texts.specs.declared.events.TheConstants.{MOST_EVENTS}
 use Rattle.stm_texts.specs.Reading.{scenario_in}
 use Rattle.stm_texts.specs.Opens.{setup_of}
 use Rattle.stm_txn.specs.Standing.{Setup}
-use Rattle.stm_report_lines.specs.declared.report.Report.{Report}
+use Rattle.stm_events.specs.declared.line.Report.{Report}
 use Rattle.stm_report_lines.specs.Reading.{report_in}
 use Rattle.stm_report_lines.proofs.ReportLaws.{report_means}
 use Rattle.stm_check.specs.declared.checking.Checked.{Checked}

@@ -36,16 +36,16 @@ use Rattle.stm_entries.specs.declared.entry.Entry.TheVariants.{Foreign, Grant as
 use Rattle.stm_entries.specs.Alone.{history_left}
 use Rattle.stm_entries.specs.Entered.{if_taken, if_changed, expiries}
 use Rattle.stm_events.specs.declared.reply.Reply.{Reply}
-use Rattle.stm_events.specs.declared.reply.Reply.TheVariants.{Txn as TxnDone, Granted, Kept, Revoked, Compacted, Watching as WatchingReply}
+use Rattle.stm_events.specs.declared.reply.Reply.TheVariants.{Granted, Kept, Revoked, Compacted, Watching as WatchingReply}
 use Rattle.stm_events.specs.declared.reply.Reply.TheVariants.{Cancelled}
 use Rattle.stm_events.specs.declared.refusal.Denied.{Denied}
-use Rattle.stm_events.specs.Replies.{reply_to, store_after_call, advance_reply, poll_reply, store_after_poll}
+use Rattle.stm_events.specs.Replies.{txn_reply, reply_to, store_after_call, advance_reply, poll_reply, store_after_poll}
 use Rattle.stm_world.specs.World.{World}
 use Rattle.stm_world.specs.World.{called, quietly_called}
 use Rattle.stm_world.specs.Sound.{IsSound}
 use Rattle.stm_report.proofs.SmallStores.{IsSmall, HistoryFits, outcome_fits, granted_in_range, with_small, ended_small, ExpiresSmall, advance_small}
 use Rattle.stm_report.proofs.SmallStores.{WatcherFits, WatchersFit, watchers_more, watchers_set, watching_fits, upto_fits}
-use Rattle.stm_report.proofs.SmallReplies.{Few, AnswerToFits, WorldFits, low_fits, StepFits}
+use Rattle.stm_report.proofs.SmallReplies.{Few, AnswerToFits, WorldFits, low_fits, txn_reply_fits, StepFits}
 
 -- ---- the calls of the store
 
@@ -107,7 +107,7 @@ changed_by true txn k = omega arith
 changed_by false txn k = omega arith
 
 pub txn_by : (n : ℕ) (w : World) (txn : StoreTxn) (o : Result Done StoreRefusal) → WorldFits n w → outcome (terms_of w.standing) txn ≡ o →
-    AnswerToFits (reply_to TxnDone (step_of w.standing o))
+    AnswerToFits (reply_to txn_reply (step_of w.standing o))
     × CallFits n w.standing (store_after_call w.standing (step_of w.standing o)) (if_changed w.standing (store_after_call w.standing (step_of w.standing o)) txn)
 txn_by n w txn (Err cause) fits is =
     let watching : length w.standing.watchers ≤ n = fits.watching in (
@@ -125,7 +125,7 @@ txn_by n w txn (Ok done) fits is =
     let watching : length s.watchers ≤ n = fits.watching in
     let next : Standing = with_history s done.history in
     let made : transacted s txn ≡ Ok record { answer = done.answer; next = next } = ap (step_of s) is in (
-      numbers_fit s next txn done.answer small.history.1 small.history.0 small.live made,
+      txn_reply_fits done.answer (numbers_fit s next txn done.answer small.history.1 small.history.0 small.live made),
       record {
         small = record {
           history = subst (λ (x : Result Done StoreRefusal). HistoryFits (history_left s.history x)) is (outcome_fits s txn small.live small.history);

@@ -2,7 +2,7 @@
 use Rattle.std.proofs.Common.{◌≡◌, ℕ, suc, ◌+◌, ◌^◌, ◌≤◌, Bool, true, false, cond, List, [], ◌∷◌, ◌++◌, length, map, refl, sym, ap, ◌∙◌, subst, arith}
 use Rattle.std.proofs.Common.{Option, Some, None, Ok, Err, IfSome, ℤ, pos, negsuc, lt-ltb}
 use Rattle.std.proofs.lemmas.Bool.{leb-true}
-use Rattle.std.specs.Prelude.{Result, T, nat_le, nat_eq, option_map, ◌&&◌}
+use Rattle.std.specs.Prelude.{Result, T, nat_le, nat_eq, ◌&&◌}
 use Rattle.std.specs.FinMap as finmap
 use Rattle.std.specs.FinMap.Entries.{find, below_all, is_sorted}
 use Rattle.std.specs.Ordering.{nat_cmp, is_lt, eq_by_cmp}
@@ -15,9 +15,8 @@ use Rattle.stm_history.proofs.HistoryLaws.{last_revision_is_now}
 use Rattle.stm_leases.specs.declared.bounds.TheConstants.{HIGHEST_TTL}
 use Rattle.serde_json.specs.View.{items_of}
 use Rattle.stm_history.specs.declared.key_state.KeyState.{KeyState}
-use Rattle.stm_history.specs.declared.key_state.ReadAnswer.{ReadAnswer}
 use Rattle.stm_history.specs.declared.revisions.TheConstants.{HIGHEST_REVISION, HIGHEST_NUMBER}
-use Rattle.stm_history.specs.History.{History, now, key_now, mod_of}
+use Rattle.stm_history.specs.History.{History, now, key_now}
 use Rattle.stm_json.specs.Elements.{is_64_bit}
 use Rattle.stm_steps.specs.declared.value.Value.{Value}
 use Rattle.stm_steps.specs.declared.value.Value.TheVariants.{Text, Number}
@@ -28,9 +27,7 @@ use Rattle.stm_leases.specs.LeaseLog.{Term}
 use Rattle.stm_keys.specs.declared.event.Event.{Event}
 use Rattle.stm_keys.specs.declared.event.Event.TheVariants as event
 use Rattle.stm_outcome.specs.declared.advance.Expired.{Expired}
-use Rattle.stm_outcome.specs.declared.answer.OpAnswer.{OpAnswer}
-use Rattle.stm_outcome.specs.declared.answer.OpAnswer.TheVariants as answer
-use Rattle.stm_outcome.specs.Numbers.{StateFits, EventsFit, OpsFit, AllExpiredFit}
+use Rattle.stm_outcome.specs.Numbers.{StateFits, EventsFit, AllExpiredFit}
 use Rattle.stm_txn.specs.LeaseKeys.{keys_named}
 use Rattle.stm_txn.specs.Standing.{Standing}
 use Rattle.stm_txn.proofs.Fitting.{states_fit}
@@ -38,18 +35,21 @@ use Rattle.stm_events.specs.declared.reply.Reply.{Reply}
 use Rattle.stm_events.specs.declared.reply.Reply.TheVariants.{Started, Prefetched, Fetched, Committed, Conflict, GaveUp, Aborted, Faulted, Ended}
 use Rattle.stm_events.specs.declared.reply.Reply.TheVariants.{Txn, Granted, Kept, Revoked, Advanced, Compacted, Watching, Batch, Lost, Cancelled}
 use Rattle.stm_events.specs.declared.reply.KeyRead.{KeyRead}
+use Rattle.stm_events.specs.declared.reply.CommittedRead.{CommittedRead}
+use Rattle.stm_events.specs.declared.reply.OpReply.{OpReply}
+use Rattle.stm_events.specs.declared.reply.OpReply.TheVariants as op
 use Rattle.stm_events.specs.declared.refusal.Denied.{Denied}
-use Rattle.stm_report_lines.specs.declared.line.ReportLine.{ReportLine}
-use Rattle.stm_report_lines.specs.declared.line.ReportLine.TheVariants.{End}
+use Rattle.stm_events.specs.declared.line.ReportLine.{ReportLine}
+use Rattle.stm_events.specs.declared.line.ReportLine.TheVariants.{Event as EventLine, End}
 use Rattle.stm_report_lines.specs.Grammar.{AllCountsFit}
 use Rattle.stm_report_lines.specs.LineData.{whole, value_data, trace_data, text_or_null, answer_data, state_data, state_or_null, op_data, read_data, expired_data, event_data}
-use Rattle.stm_report_lines.specs.Lines.{answer_reported, op_reported, line_reported}
 use Rattle.stm_check.specs.StoreLines.{key_lines_of, key_lines, lease_line, lease_lines, end_lines}
 use Rattle.stm_report.specs.Report.{event_lines}
-use Rattle.stm_report.specs.ReadBack.{IsPlain, ArePlain, AreReadable}
+use Rattle.stm_report_lines.specs.ReadBack.{IsPlain, ArePlain}
+use Rattle.stm_report.specs.ReadBack.{AreReadable}
 use Rattle.stm_report.proofs.SmallRuns.{ValueFits, ValuesFit, ItemsFit}
 use Rattle.stm_report.proofs.SmallStores.{IsSmall, HistoryFits}
-use Rattle.stm_report.proofs.SmallReplies.{KeyReadsFit, AnswersFit, AnswerToFits, RepliesFit}
+use Rattle.stm_report.proofs.SmallReplies.{KeyReadsFit, CommittedReadsFit, OpRepliesFit, AnswerToFits, RepliesFit}
 
 abbrev Few : ℕ → Type 0
 Few n = n ≤ HIGHEST_NUMBER
@@ -80,12 +80,9 @@ text_plain : (o : Option (List ℕ)) → IsPlain (text_or_null o)
 text_plain None = tt
 text_plain (Some t) = tt
 
-answers_plain : (xs : List ReadAnswer) → AnswersFit xs → ArePlain (items_of (map answer_data (map answer_reported xs)))
+answers_plain : (xs : List CommittedRead) → CommittedReadsFit xs → ArePlain (items_of (map answer_data xs))
 answers_plain [] fits = tt
-answers_plain (a ∷ xs) fits = (
-  (tt, (text_plain (option_map (λ (s : KeyState). s.value) a.kv), (plain (mod_of a.kv) fits.0.0, (plain a.of_rev fits.0.1, tt)))),
-  answers_plain xs fits.1,
-)
+answers_plain (a ∷ xs) fits = ((tt, (text_plain a.value, (plain a.mod_rev fits.0.0, (plain a.of_rev fits.0.1, tt)))), answers_plain xs fits.1)
 
 state_plain : (s : KeyState) → StateFits s → IsPlain (state_data s)
 state_plain s fits =
@@ -98,18 +95,17 @@ state_or_null_plain (Some s) fits = state_plain s fits
 at_most_one : (n : ℕ) → n ≤ 1 → Few n
 at_most_one n few = omega (arith, few)
 
-ops_plain : (xs : List OpAnswer) → OpsFit xs → ArePlain (items_of (map op_data (map op_reported xs)))
+ops_plain : (xs : List OpReply) → OpRepliesFit xs → ArePlain (items_of (map op_data xs))
 ops_plain [] fits = tt
-ops_plain (answer.Get a ∷ xs) fits =
-    ((tt, (plain a.revision fits.0.revision, (state_or_null_plain a.kv fits.0.state, tt))), ops_plain xs fits.1)
-ops_plain (answer.Put ∷ xs) fits = ((tt, tt), ops_plain xs fits.1)
-ops_plain (answer.Del count ∷ xs) fits = ((tt, (plain count (at_most_one count fits.0), tt)), ops_plain xs fits.1)
+ops_plain (op.Get revision kv ∷ xs) fits = ((tt, (plain revision fits.0.0, (state_or_null_plain kv fits.0.1, tt))), ops_plain xs fits.1)
+ops_plain (op.Put ∷ xs) fits = ((tt, tt), ops_plain xs fits.1)
+ops_plain (op.Del count ∷ xs) fits = ((tt, (plain count (at_most_one count fits.0), tt)), ops_plain xs fits.1)
 
-counts_fit : (xs : List OpAnswer) → OpsFit xs → AllCountsFit (map op_reported xs)
+counts_fit : (xs : List OpReply) → OpRepliesFit xs → AllCountsFit xs
 counts_fit [] fits = tt
-counts_fit (answer.Get a ∷ xs) fits = (tt, counts_fit xs fits.1)
-counts_fit (answer.Put ∷ xs) fits = (tt, counts_fit xs fits.1)
-counts_fit (answer.Del count ∷ xs) fits = (fits.0, counts_fit xs fits.1)
+counts_fit (op.Get revision kv ∷ xs) fits = (tt, counts_fit xs fits.1)
+counts_fit (op.Put ∷ xs) fits = (tt, counts_fit xs fits.1)
+counts_fit (op.Del count ∷ xs) fits = (fits.0, counts_fit xs fits.1)
 
 reads_plain : (xs : List KeyRead) → KeyReadsFit xs → ArePlain (items_of (map read_data xs))
 reads_plain [] fits = tt
@@ -141,7 +137,7 @@ events_plain (event.Delete key revision ∷ xs) fits = ((tt, (tt, (plain revisio
 
 -- ---- the lines of events
 
-line_plain : (n : ℕ) (reply : Result Reply Denied) → Few n → AnswerToFits reply → AreReadable (line_reported n reply ∷ [])
+line_plain : (n : ℕ) (reply : Result Reply Denied) → Few n → AnswerToFits reply → AreReadable (EventLine n reply ∷ [])
 line_plain n (Ok (Started runner)) few fits = (((plain n few, (tt, (plain runner fits, tt))), tt), tt)
 line_plain n (Ok (Prefetched runner revision reads)) few fits =
     (((plain n few, (tt, (plain runner fits.0, (plain revision fits.1, (reads_plain reads fits.2, tt))))), tt), tt)
@@ -179,16 +175,16 @@ line_plain n (Ok (GaveUp runner attempts key seen now_modified)) few fits =
 line_plain n (Ok (Aborted runner text)) few fits = (((plain n few, (tt, (plain runner fits, (tt, tt)))), tt), tt)
 line_plain n (Ok (Faulted runner fault)) few fits = (((plain n few, (tt, (plain runner fits, (tt, tt)))), tt), tt)
 line_plain n (Ok (Ended runner cause)) few fits = (((plain n few, (tt, (plain runner fits, (tt, tt)))), tt), tt)
-line_plain n (Ok (Txn a)) few fits =
-    (((plain n few, (tt, (tt, (plain a.revision fits.revision, (ops_plain a.answers fits.answers, tt))))), counts_fit a.answers fits.answers), tt)
+line_plain n (Ok (Txn succeeded revision answers)) few fits =
+    (((plain n few, (tt, (tt, (plain revision fits.0, (ops_plain answers fits.1, tt))))), counts_fit answers fits.1), tt)
 line_plain n (Ok (Granted id)) few fits = (((plain n few, (tt, (plain id fits, tt))), tt), tt)
 line_plain n (Ok (Kept id)) few fits = (((plain n few, (tt, (plain id fits, tt))), tt), tt)
 line_plain n (Ok (Revoked id revision)) few fits = (((plain n few, (tt, (plain id fits.0, (plain revision fits.1, tt)))), tt), tt)
 line_plain n (Ok (Advanced moment expired)) few fits = (((plain n few, (tt, (plain moment fits.0, (expireds_plain expired fits.1, tt)))), tt), tt)
 line_plain n (Ok (Compacted revision)) few fits = (((plain n few, (tt, (plain revision fits, tt))), tt), tt)
 line_plain n (Ok (Watching watcher)) few fits = (((plain n few, (tt, (plain watcher fits, tt))), tt), tt)
-line_plain n (Ok (Batch watcher upto events)) few fits =
-    (((plain n few, (tt, (plain watcher fits.0, (plain upto fits.1, (events_plain events fits.2, tt))))), tt), tt)
+line_plain n (Ok (Batch watcher up_to events)) few fits =
+    (((plain n few, (tt, (plain watcher fits.0, (plain up_to fits.1, (events_plain events fits.2, tt))))), tt), tt)
 line_plain n (Ok (Lost watcher floor)) few fits = (((plain n few, (tt, (plain watcher fits.0, (plain floor fits.1, tt)))), tt), tt)
 line_plain n (Ok (Cancelled watcher)) few fits = (((plain n few, (tt, (plain watcher fits, tt))), tt), tt)
 line_plain n (Err denied) few fits = (((plain n few, (tt, (tt, (expireds_plain denied.expired fits, tt)))), tt), tt)

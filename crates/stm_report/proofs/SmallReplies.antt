@@ -13,10 +13,12 @@ use Rattle.stm_history.specs.History.{History, now, key_at, key_now, mod_of, num
 use Rattle.stm_history.proofs.HistoryLaws.{mod_is_reached}
 use Rattle.stm_program.specs.Limits.{BlockInRange}
 use Rattle.stm_program.specs.declared.write.Write.{Write}
-use Rattle.stm_program.specs.declared.level.Level.{Level}
 use Rattle.stm_steps.specs.Answer.{Answer}
 use Rattle.stm_outcome.specs.declared.answer.FailedCompare.{FailedCompare}
-use Rattle.stm_outcome.specs.Numbers.{StateFits, EventsFit, AnswerFits, AllExpiredFit}
+use Rattle.stm_outcome.specs.declared.answer.OpAnswer.{OpAnswer}
+use Rattle.stm_outcome.specs.declared.answer.OpAnswer.TheVariants as answer
+use Rattle.stm_outcome.specs.declared.answer.TxnAnswer.{TxnAnswer}
+use Rattle.stm_outcome.specs.Numbers.{StateFits, EventsFit, OpsFit, AnswerFits, AllExpiredFit}
 use Rattle.stm_txn.specs.Standing.{opening}
 use Rattle.stm_txn.proofs.Fitting.{states_fit}
 use Rattle.stm_compile.specs.Answers.{answer_in, said, look_up, AreTrue}
@@ -27,11 +29,14 @@ use Rattle.stm_events.specs.declared.event.WorldEvent.TheVariants.{Start, Step, 
 use Rattle.stm_events.specs.declared.event.WorldEvent.TheVariants.{WatchKey, WatchRange, Poll, Cancel, Compact}
 use Rattle.stm_events.specs.declared.reply.Reply.{Reply}
 use Rattle.stm_events.specs.declared.reply.KeyRead.{KeyRead}
+use Rattle.stm_events.specs.declared.reply.CommittedRead.{CommittedRead}
+use Rattle.stm_events.specs.declared.reply.OpReply.{OpReply}
+use Rattle.stm_events.specs.declared.reply.OpReply.TheVariants as op
 use Rattle.stm_events.specs.declared.reply.Reply.TheVariants.{Started, Prefetched, Fetched, Committed, Conflict, GaveUp, Aborted, Faulted, Ended}
 use Rattle.stm_events.specs.declared.reply.Reply.TheVariants.{Txn as TxnDone, Granted, Kept, Revoked, Advanced, Compacted, Watching as WatchingReply, Batch as BatchReply}
 use Rattle.stm_events.specs.declared.reply.Reply.TheVariants.{Lost, Cancelled}
 use Rattle.stm_events.specs.declared.refusal.Denied.{Denied}
-use Rattle.stm_events.specs.Replies.{denied}
+use Rattle.stm_events.specs.Replies.{committed_read, op_reply, txn_reply}
 use Rattle.stm_world.specs.Task.{modified_now}
 use Rattle.stm_world.specs.World.{World, Runner, Slot, Stepped, runner_at}
 use Rattle.stm_world.specs.Sound.{IsSound}
@@ -48,30 +53,45 @@ abbrev pub KeyReadsFit : List KeyRead → Type 0
 KeyReadsFit [] = Unit {0}
 KeyReadsFit (r ∷ rs) = (r.mod_rev ≤ HIGHEST_NUMBER) × KeyReadsFit rs
 
--- what a commit's answers show
+-- what answers show
 abbrev pub AnswersFit : List ReadAnswer → Type 0
 AnswersFit [] = Unit {0}
 AnswersFit (a ∷ rest) = ((mod_of a.kv ≤ HIGHEST_NUMBER) × (a.of_rev ≤ HIGHEST_NUMBER)) × AnswersFit rest
+
+-- what is reported of a commit's answers
+abbrev pub CommittedReadsFit : List CommittedRead → Type 0
+CommittedReadsFit [] = Unit {0}
+CommittedReadsFit (r ∷ rest) = ((r.mod_rev ≤ HIGHEST_NUMBER) × (r.of_rev ≤ HIGHEST_NUMBER)) × CommittedReadsFit rest
+
+-- what is reported of a transaction's answers
+abbrev pub OpReplyFits : OpReply → Type 0
+OpReplyFits (op.Get revision kv) = (revision ≤ HIGHEST_NUMBER) × IfSome kv StateFits
+OpReplyFits op.Put = Unit {0}
+OpReplyFits (op.Del count) = count ≤ 1
+
+abbrev pub OpRepliesFit : List OpReply → Type 0
+OpRepliesFit [] = Unit {0}
+OpRepliesFit (o ∷ os) = OpReplyFits o × OpRepliesFit os
 
 abbrev pub ReplyFits : Reply → Type 0
 ReplyFits (Started runner) = Few runner
 ReplyFits (Prefetched runner revision reads) = Few runner × Few revision × KeyReadsFit reads
 ReplyFits (Fetched runner key mod_rev of_rev revision) = Few runner × Few mod_rev × Few of_rev × Few revision
 ReplyFits (Committed runner revision attempts output trace answers) =
-    Few runner × Few revision × Few attempts × ValuesFit output × ItemsFit trace × AnswersFit answers
+    Few runner × Few revision × Few attempts × ValuesFit output × ItemsFit trace × CommittedReadsFit answers
 ReplyFits (Conflict runner key seen now_modified) = Few runner × Few seen × Few now_modified
 ReplyFits (GaveUp runner attempts key seen now_modified) = Few runner × Few attempts × Few seen × Few now_modified
 ReplyFits (Aborted runner text) = Few runner
 ReplyFits (Faulted runner fault) = Few runner
 ReplyFits (Ended runner cause) = Few runner
-ReplyFits (TxnDone answer) = AnswerFits answer
+ReplyFits (TxnDone succeeded revision answers) = Few revision × OpRepliesFit answers
 ReplyFits (Granted id) = Few id
 ReplyFits (Kept id) = Few id
 ReplyFits (Revoked id revision) = Few id × Few revision
 ReplyFits (Advanced moment expired) = Few moment × AllExpiredFit expired
 ReplyFits (Compacted revision) = Few revision
 ReplyFits (WatchingReply watcher) = Few watcher
-ReplyFits (BatchReply watcher upto events) = Few watcher × Few upto × EventsFit events
+ReplyFits (BatchReply watcher up_to events) = Few watcher × Few up_to × EventsFit events
 ReplyFits (Lost watcher floor) = Few watcher × Few floor
 ReplyFits (Cancelled watcher) = Few watcher
 
@@ -161,9 +181,22 @@ pub keys_fit : (h : History) (keys : List (List ℕ)) → HistoryFits h → KeyR
 keys_fit h [] fits = tt
 keys_fit h (key ∷ keys) fits = (mod_now_fits h key fits, keys_fit h keys fits)
 
-pub kept_by_level : (level : Level) (answers : List ReadAnswer) (b : Bool) → AnswersFit answers → AnswersFit (cond b [] answers)
-kept_by_level level answers true fits = tt
-kept_by_level level answers false fits = fits
+committed_reads_fit : (answers : List ReadAnswer) → AnswersFit answers → CommittedReadsFit (map committed_read answers)
+committed_reads_fit [] fits = tt
+committed_reads_fit (a ∷ rest) fits = (fits.0, committed_reads_fit rest fits.1)
+
+pub kept_by_level : (answers : List ReadAnswer) (b : Bool) → AnswersFit answers → CommittedReadsFit (map committed_read (cond b [] answers))
+kept_by_level answers true fits = tt
+kept_by_level answers false fits = committed_reads_fit answers fits
+
+op_replies_fit : (answers : List OpAnswer) → OpsFit answers → OpRepliesFit (map op_reply answers)
+op_replies_fit [] fits = tt
+op_replies_fit (answer.Get a ∷ rest) fits = ((fits.0.revision, fits.0.state), op_replies_fit rest fits.1)
+op_replies_fit (answer.Put ∷ rest) fits = (tt, op_replies_fit rest fits.1)
+op_replies_fit (answer.Del count ∷ rest) fits = (fits.0, op_replies_fit rest fits.1)
+
+pub txn_reply_fits : (a : TxnAnswer) → AnswerFits a → ReplyFits (txn_reply a)
+txn_reply_fits a fits = (fits.revision, op_replies_fit a.answers fits.answers)
 
 -- ---- what a failed compare is about
 

@@ -16,10 +16,10 @@ use Rattle.stm_events.specs.declared.event.WorldEvent.{WorldEvent}
 use Rattle.stm_events.specs.declared.event.WorldEvent.TheVariants.{Start, Step, Txn, Grant, Keep, Revoke, Advance as AdvanceTo}
 use Rattle.stm_events.specs.declared.event.WorldEvent.TheVariants.{WatchKey, WatchRange, Poll, Cancel, Compact}
 use Rattle.stm_events.specs.declared.reply.Reply.{Reply}
-use Rattle.stm_events.specs.declared.reply.Reply.TheVariants.{Txn as TxnDone, Granted, Kept, Revoked, Compacted, Watching as WatchingReply}
+use Rattle.stm_events.specs.declared.reply.Reply.TheVariants.{Granted, Kept, Revoked, Compacted, Watching as WatchingReply}
 use Rattle.stm_events.specs.declared.reply.Reply.TheVariants.{Cancelled}
 use Rattle.stm_events.specs.declared.refusal.Denied.{Denied}
-use Rattle.stm_events.specs.Replies.{reply_to, store_after_call, advance_reply, poll_reply, store_after_poll}
+use Rattle.stm_events.specs.Replies.{txn_reply, reply_to, store_after_call, advance_reply, poll_reply, store_after_poll}
 use Rattle.std.specs.Ordering.{nat_cmp}
 use Rattle.stm_history.specs.declared.revisions.TheConstants.{HIGHEST_REVISION}
 use Rattle.stm_leases.specs.LeaseLog.{Term}
@@ -46,7 +46,7 @@ step_fits n (Txn txn) w fits room asks =
     let s : Standing = w.standing in
     let next : Standing = store_after_call s (transacted s txn) in
     let call = txn_by n w txn (outcome (terms_of s) txn) fits refl in
-    called_fits n w (reply_to TxnDone (transacted s txn)) next (if_changed s next txn) fits call.0 call.1 (step_is_sound (Txn txn) w fits.sound)
+    called_fits n w (reply_to txn_reply (transacted s txn)) next (if_changed s next txn) fits call.0 call.1 (step_is_sound (Txn txn) w fits.sound)
 step_fits n (Grant id ttl) w fits room asks =
     let s : Standing = w.standing in
     let o = granted s id ttl in

@@ -19,7 +19,7 @@ use Rattle.serde_json.proofs.Numbers.{number_of-decimal, number_of-negative}
 use Rattle.serde_json.proofs.Texts.{print-outline}
 use Rattle.stm_json.specs.Bytes.{data_of}
 use Rattle.stm_json.specs.Elements.{is_64_bit}
-use Rattle.stm_report.specs.ReadBack.{IsPlain, ArePlain}
+use Rattle.stm_report_lines.specs.ReadBack.{IsPlain, ArePlain}
 
 -- ---- numbers
 

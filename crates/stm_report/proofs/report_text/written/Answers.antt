@@ -11,8 +11,8 @@ use Rattle.stm_entries.specs.declared.entry.Entry.{Entry}
 use Rattle.stm_entries.specs.Replayed.{Replayed, opening}
 use Rattle.stm_entries.specs.Replay.{replay}
 use Rattle.stm_entries.specs.LiveLeases.{HasLeases}
-use Rattle.stm_report_lines.specs.declared.line.ReportLine.{ReportLine}
-use Rattle.stm_report_lines.specs.declared.line.ReportLine.TheVariants.{End}
+use Rattle.stm_events.specs.declared.line.ReportLine.{ReportLine}
+use Rattle.stm_events.specs.declared.line.ReportLine.TheVariants.{End}
 use Rattle.stm_check.specs.StoreLines.{key_lines, lease_lines}
 use Rattle.stm_check.proofs.FinalLemmas.{present_lines}
 use Rattle.stm_report_lines.specs.Text.{line_text}

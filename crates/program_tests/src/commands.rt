@@ -4,7 +4,7 @@ use crate::devices::{Faults, NONE, Taker, reader_of, writer_of};
 use std::alloc::Global;
 use std::process::Abort;
 use stm_commands::{
-    Format, Kept, RecipeWords, Std, check_explained_to, check_to, check_whole_to, recipe_to,
+    Format, KeptSource, RecipeWords, Std, check_explained_to, check_to, check_whole_to, recipe_to,
     script_explained_to, script_to,
 };
 
@@ -35,7 +35,7 @@ pub fn script(alloc: Global, scenario: &[u8], is_endless: bool, faults: Faults) 
 /// Runs a scenario, which is named `s.json`. What is wrong with it is explained.
 pub fn script_explained(alloc: Global, scenario: &[u8]) -> Left {
     let source = Std::new(reader_of(scenario, false, NONE.scenario));
-    let mut input = Kept::new(alloc, "s.json", source);
+    let mut input = KeptSource::new(alloc, "s.json", source);
     let mut out = Std::new(writer_of(alloc, NONE.out));
     let mut err = Std::new(writer_of(alloc, NONE.err));
     let status = script_explained_to(alloc, Format::Lines, &mut input, &mut out, &mut err);
@@ -51,9 +51,9 @@ pub fn script_explained(alloc: Global, scenario: &[u8]) -> Left {
 /// Checks a report beside a scenario, which are named `r.txt` and `s.json`. What is wrong with them is explained.
 pub fn check_explained(alloc: Global, scenario: &str, report: &str) -> Left {
     let source = Std::new(reader_of(scenario.as_bytes(), false, NONE.scenario));
-    let mut scenario = Kept::new(alloc, "s.json", source);
+    let mut scenario = KeptSource::new(alloc, "s.json", source);
     let source = Std::new(reader_of(report.as_bytes(), false, NONE.report));
-    let mut report = Kept::new(alloc, "r.txt", source);
+    let mut report = KeptSource::new(alloc, "r.txt", source);
     let mut out = Std::new(writer_of(alloc, NONE.out));
     let mut err = Std::new(writer_of(alloc, NONE.err));
     let status = check_explained_to(alloc, &mut scenario, &mut report, &mut out, &mut err);

@@ -10,14 +10,14 @@ use crate::scripting::report_explained as report_script;
 use crate::whole_checking::{answer as whole_answer, say};
 use std::alloc::Global;
 use stm_check::CheckFault;
-use stm_explain::{Input, Kept, write_text};
+use stm_explain::{Input, KeptSource, write_text};
 use stm_faulted_runs::{Named, faults_explained};
 use stm_report::{Format, ScriptFault, Sink, Source, script_as};
 
 // ---- explanations
 
 /// The explanation of what is wrong with a scenario; none of another fault.
-fn script_explanation<S>(alloc: Global, input: &Kept<'_, S>, fault: &ScriptFault) -> String
+fn script_explanation<S>(alloc: Global, input: &KeptSource<'_, S>, fault: &ScriptFault) -> String
     ensures { IsExplained (string_bytes result) }
 {
     match fault {
@@ -29,8 +29,8 @@ fn script_explanation<S>(alloc: Global, input: &Kept<'_, S>, fault: &ScriptFault
 /// The explanation of what is wrong with a scenario or a report; none of another fault.
 fn check_explanation<S, R>(
     alloc: Global,
-    scenario: &Kept<'_, S>,
-    report: &Kept<'_, R>,
+    scenario: &KeptSource<'_, S>,
+    report: &KeptSource<'_, R>,
     fault: &CheckFault,
 ) -> String
     ensures { IsExplained (string_bytes result) }
@@ -53,7 +53,7 @@ fn lines_of_runs(alloc: Global, name: &str, text: &str) -> String
 }
 
 /// The explanations of the runs of a scenario that came to a fault; none where an allocation failed, now or before.
-fn runs_explained<S>(alloc: Global, input: &Kept<'_, S>) -> String
+fn runs_explained<S>(alloc: Global, input: &KeptSource<'_, S>) -> String
     ensures { OrNothing (ExplainsRun input.now.name.now input.now.bytes.items (scenario_in input.now.bytes.items)) (string_bytes result) }
 {
     match input.text() {
@@ -65,7 +65,7 @@ fn runs_explained<S>(alloc: Global, input: &Kept<'_, S>) -> String
 // ---- runs that came to a fault
 
 /// Explains the runs of a scenario that came to a fault, and gives the status of a good end.
-fn report_runs<S, E: Sink>(alloc: Global, input: &Kept<'_, S>, err: &mut E) -> u8
+fn report_runs<S, E: Sink>(alloc: Global, input: &KeptSource<'_, S>, err: &mut E) -> u8
     requires { E.failed err.old ≡ false }
     ensures status { result ≡ 0 }
     ensures says { SaysRuns input.now.name.now input.now.bytes.items (E.held err.old) (E.held err.new) (E.failed err.new) }
@@ -83,7 +83,7 @@ fn report_runs<S, E: Sink>(alloc: Global, input: &Kept<'_, S>, err: &mut E) -> u
 pub fn script_explained_to<S: Source, W: Sink, E: Sink>(
     alloc: Global,
     format: Format,
-    input: &mut Kept<'_, S>,
+    input: &mut KeptSource<'_, S>,
     out: &mut W,
     err: &mut E,
 ) -> u8
@@ -112,8 +112,8 @@ pub fn script_explained_to<S: Source, W: Sink, E: Sink>(
 /// `NAME:LINE:COLUMN: WORDS`, or nothing where an allocation failed for it.
 pub fn check_explained_to<S: Source, R: Source, W: Sink, E: Sink>(
     alloc: Global,
-    scenario: &mut Kept<'_, S>,
-    report: &mut Kept<'_, R>,
+    scenario: &mut KeptSource<'_, S>,
+    report: &mut KeptSource<'_, R>,
     out: &mut W,
     err: &mut E,
 ) -> u8
@@ -148,8 +148,8 @@ pub fn check_explained_to<S: Source, R: Source, W: Sink, E: Sink>(
 /// `NAME:LINE:COLUMN: WORDS`, or nothing where an allocation failed for it.
 pub fn check_whole_explained_to<S: Source, R: Source, W: Sink, E: Sink>(
     alloc: Global,
-    scenario: &mut Kept<'_, S>,
-    report: &mut Kept<'_, R>,
+    scenario: &mut KeptSource<'_, S>,
+    report: &mut KeptSource<'_, R>,
     out: &mut W,
     err: &mut E,
 ) -> u8

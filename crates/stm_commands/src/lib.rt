@@ -13,7 +13,7 @@ pub use explaining::{check_explained_to, check_whole_explained_to, script_explai
 pub use formats::{NO_FORMAT, no_format_to, script_as_to};
 pub use recipes::{USAGE, recipe_to};
 pub use scripting::script_to;
-pub use stm_explain::{Input, Kept};
+pub use stm_explain::{Input, KeptSource};
 pub use stm_recipe_lines::RecipeWords;
 pub use stm_report::{BadInput, DeviceFault, Format, Sink, Source, Std};
 pub use whole_checking::check_whole_to;

@@ -7,7 +7,7 @@
 mod allowed;
 mod explaining;
 mod forms;
-mod kept;
+mod kept_source;
 mod laws;
 mod marked;
 mod messages;
@@ -22,7 +22,7 @@ pub use forms::{
     COMPARES, CONDITIONS, EVENTS, EXPRESSIONS, FIRST_ELEMENTS, Input, LEVELS, LINES, OPERATIONS,
     ORDERS, Part, STATEMENTS,
 };
-pub use kept::Kept;
+pub use kept_source::KeptSource;
 pub use laws::words_are_those_of_readers;
 pub use marked::Marked;
 pub use messages::{Message, write_text};

@@ -4,8 +4,8 @@ use Rattle.std.specs.Io.KnownBytes.{Appends, Keeps}
 use Rattle.stm_devices.specs.Transfers.{WritesFront}
 use Rattle.stm_program.specs.declared.level.Level.{Level}
 use Rattle.stm_exploring.specs.declared.printed.Printed.{Printed}
-use Rattle.stm_exploring.specs.declared.printed.Verdict.{Verdict}
-use Rattle.stm_exploring.specs.declared.printed.Verdict.TheVariants.{Kept, Broken, Open}
+use Rattle.stm_exploring.specs.declared.printed.SearchAnswer.{SearchAnswer}
+use Rattle.stm_exploring.specs.declared.printed.SearchAnswer.TheVariants.{Kept, Broken, Open}
 use Rattle.stm_exploring.specs.declared.reading.ExploreFault.{ExploreFault}
 use Rattle.stm_exploring.specs.declared.reading.ExploreFault.TheVariants.{OutOfMemory, BadScenario, BadProgram, Device}
 use Rattle.stm_exploring.specs.Exploring.{Sources, Searches, Gathers}
@@ -13,7 +13,7 @@ use Rattle.stm_explain.specs.Saying.{bad_input, memory_fault, device_fault, Repo
 
 -- ---- answers and faults
 
-abbrev pub verdict_status : Verdict → ℕ
+abbrev pub verdict_status : SearchAnswer → ℕ
 verdict_status Kept = 0
 verdict_status Broken = 1
 verdict_status Open = 4
@@ -40,7 +40,7 @@ pub record Sunk : Type 0 where
   pub failed : Bool
 
 -- What was written of what a search answered: what it prints, a front of that where the sink has failed, and of a fault nothing.
-abbrev pub Writes : Result Printed ExploreFault → Option (List ℕ) → Option (List ℕ) → Bool → Result Verdict ExploreFault → Type 0
+abbrev pub Writes : Result Printed ExploreFault → Option (List ℕ) → Option (List ℕ) → Bool → Result SearchAnswer ExploreFault → Type 0
 Writes (Ok p) before after failed (Ok verdict) = (verdict ≡ p.verdict) × (failed ≡ false) × Appends before after p.text
 Writes (Ok p) before after failed (Err fault) = (fault ≡ Device) × (failed ≡ true) × WritesFront before after p.text
 Writes (Err fault) before after failed result = (result ≡ Err fault) × (failed ≡ false) × Keeps before after
@@ -50,7 +50,7 @@ abbrev pub SaysOf : Option (List ℕ) → Option (List ℕ) → Bool → Explore
 SaysOf before after failed fault status = Reports (fault_status fault) (fault_message fault) before after failed status
 
 -- the status of an answer, with nothing said, or that of a fault, with what is said of it
-abbrev pub EndsBy : Sunk → Result Verdict ExploreFault → ℕ → Type 0
+abbrev pub EndsBy : Sunk → Result SearchAnswer ExploreFault → ℕ → Type 0
 EndsBy err (Ok verdict) status = (status ≡ verdict_status verdict) × (err.failed ≡ false) × Keeps err.before err.after
 EndsBy err (Err fault) status = SaysOf err.before err.after err.failed fault status
 
@@ -59,7 +59,7 @@ EndsBy err (Err fault) status = SaysOf err.before err.after err.failed fault sta
 -- its end, by what a search answered
 abbrev pub Finishes : Result Printed ExploreFault → Sunk → Sunk → ℕ → Type 0
 Finishes searched out err status =
-    (ended : Result Verdict ExploreFault) × Writes searched out.before out.after out.failed ended × EndsBy err ended status
+    (ended : Result SearchAnswer ExploreFault) × Writes searched out.before out.after out.failed ended × EndsBy err ended status
 
 -- with a rule
 abbrev pub Explores : Option Level → Sources → Sunk → Sunk → ℕ → Type 0

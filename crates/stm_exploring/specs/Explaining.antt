@@ -9,8 +9,8 @@ use Rattle.stm_faulted_runs.specs.Lines.{OrNothing}
 use Rattle.stm_faulted_runs.specs.Rules.{ExplainsRule}
 use Rattle.stm_program.specs.declared.level.Level.{Level}
 use Rattle.stm_exploring.specs.declared.printed.Printed.{Printed}
-use Rattle.stm_exploring.specs.declared.printed.Verdict.{Verdict}
-use Rattle.stm_exploring.specs.declared.printed.Verdict.TheVariants.{Broken}
+use Rattle.stm_exploring.specs.declared.printed.SearchAnswer.{SearchAnswer}
+use Rattle.stm_exploring.specs.declared.printed.SearchAnswer.TheVariants.{Broken}
 use Rattle.stm_exploring.specs.declared.reading.ExploreFault.{ExploreFault}
 use Rattle.stm_exploring.specs.Exploring.{Sources, Searches, Gathers}
 use Rattle.stm_exploring.specs.Command.{Sunk, Writes, verdict_status, fault_status, fault_message}
@@ -32,11 +32,11 @@ ExplainsSearched name text (Ok printed) said = ExplainsOnSchedule name text prin
 ExplainsSearched name text (Err fault) said = ⊥
 
 -- after what is printed of a rule that is broken stands this, and else nothing
-abbrev pub SaysOfVerdict : Verdict → List ℕ → Option (List ℕ) → Option (List ℕ) → Bool → Type 0
+abbrev pub SaysOfVerdict : SearchAnswer → List ℕ → Option (List ℕ) → Option (List ℕ) → Bool → Type 0
 SaysOfVerdict Broken more before after failed = Says before after failed more
 SaysOfVerdict other more before after failed = (failed ≡ false) × Keeps before after
 
-abbrev pub RuleEndsBy : List ℕ → List ℕ → Result Printed ExploreFault → Sunk → Result Verdict ExploreFault → ℕ → Type 0
+abbrev pub RuleEndsBy : List ℕ → List ℕ → Result Printed ExploreFault → Sunk → Result SearchAnswer ExploreFault → ℕ → Type 0
 RuleEndsBy name text searched err (Ok verdict) status =
     (status ≡ verdict_status verdict) × (more : List ℕ) × OrNothing (ExplainsSearched name text searched) more
     × SaysOfVerdict verdict more err.before err.after err.failed
@@ -44,20 +44,20 @@ RuleEndsBy name text searched err (Err fault) status = SaysMoreOf err.before err
 
 abbrev pub RuleFinishes : List ℕ → List ℕ → Result Printed ExploreFault → Sunk → Sunk → ℕ → Type 0
 RuleFinishes name text searched out err status =
-    (ended : Result Verdict ExploreFault) × Writes searched out.before out.after out.failed ended × RuleEndsBy name text searched err ended status
+    (ended : Result SearchAnswer ExploreFault) × Writes searched out.before out.after out.failed ended × RuleEndsBy name text searched err ended status
 
 -- with a rule, which was kept under this name as this text: it is explained where it is broken by a fault
 abbrev pub Explores : Option Level → List ℕ → List ℕ → Sources → Sunk → Sunk → ℕ → Type 0
 Explores level name text sources out err status =
     (searched : Result Printed ExploreFault) × Searches level sources searched × RuleFinishes name text searched out err status
 
-abbrev pub EndsBy : Sunk → Result Verdict ExploreFault → ℕ → Type 0
+abbrev pub EndsBy : Sunk → Result SearchAnswer ExploreFault → ℕ → Type 0
 EndsBy err (Ok verdict) status = (status ≡ verdict_status verdict) × (err.failed ≡ false) × Keeps err.before err.after
 EndsBy err (Err fault) status = SaysMoreOf err.before err.after err.failed fault status
 
 abbrev pub Finishes : Result Printed ExploreFault → Sunk → Sunk → ℕ → Type 0
 Finishes gathered out err status =
-    (ended : Result Verdict ExploreFault) × Writes gathered out.before out.after out.failed ended × EndsBy err ended status
+    (ended : Result SearchAnswer ExploreFault) × Writes gathered out.before out.after out.failed ended × EndsBy err ended status
 
 -- without one
 abbrev pub GoesThrough : Option Level → Option (List ℕ) → Bool → Sunk → Sunk → ℕ → Type 0

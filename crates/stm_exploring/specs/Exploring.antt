@@ -20,8 +20,8 @@ use Rattle.stm_explore.specs.declared.exploring.Explored.{Explored}
 use Rattle.stm_explore.specs.declared.exploring.Explored.TheVariants.{Always, Broken, Open}
 use Rattle.stm_exploring.specs.declared.reading.ExploreFault.{ExploreFault}
 use Rattle.stm_exploring.specs.declared.reading.ExploreFault.TheVariants.{OutOfMemory, BadScenario, BadProgram, Device}
-use Rattle.stm_exploring.specs.declared.printed.Verdict.{Verdict}
-use Rattle.stm_exploring.specs.declared.printed.Verdict.TheVariants as verdict
+use Rattle.stm_exploring.specs.declared.printed.SearchAnswer.{SearchAnswer}
+use Rattle.stm_exploring.specs.declared.printed.SearchAnswer.TheVariants as verdict
 use Rattle.stm_exploring.specs.declared.printed.Printed.{Printed}
 use Rattle.stm_exploring.specs.Asking.{asked, place_of, ends_of}
 use Rattle.stm_exploring.specs.Lines.{count_line, answer_text, outcomes_text}
@@ -68,7 +68,7 @@ ReadsProgram known failed (Err Device) = failed ≡ true
 
 -- ---- whether a rule is kept
 
-abbrev pub verdict_of : Explored → Verdict
+abbrev pub verdict_of : Explored → SearchAnswer
 verdict_of (Always longest) = verdict.Kept
 verdict_of (Broken moves end) = verdict.Broken
 verdict_of (Open kept) = verdict.Open
@@ -113,7 +113,7 @@ abbrev pub gathered_text : Outcomes → List ℕ
 gathered_text (Found outcomes) = outcomes_text outcomes
 gathered_text (OpenAt gone_through) = line_text (count_line (codes "open") gone_through)
 
-abbrev pub verdict_of_outcomes : Outcomes → Verdict
+abbrev pub verdict_of_outcomes : Outcomes → SearchAnswer
 verdict_of_outcomes (Found outcomes) = verdict.Kept
 verdict_of_outcomes (OpenAt gone_through) = verdict.Open
 

@@ -7,7 +7,7 @@ ghost use Rattle.stm_exploring.specs.Explaining.{SaysMoreOf};
 
 use crate::exploring::explore_sources;
 use crate::outcomes::outcomes_of_source;
-use crate::printed::{Printed, Verdict};
+use crate::printed::{Printed, SearchAnswer};
 use crate::reading::ExploreFault;
 use std::alloc::Global;
 use stm_devices::{Sink, Source};
@@ -16,13 +16,13 @@ use stm_explore::{Budget, Observer};
 use stm_program::Level;
 
 /// The status of what a search came to.
-pub(crate) fn status_of(verdict: Verdict) -> u8
+pub(crate) fn status_of(verdict: SearchAnswer) -> u8
     ensures { result ≡ verdict_status verdict }
 {
     match verdict {
-        Verdict::Kept => 0,
-        Verdict::Broken => 1,
-        Verdict::Open => 4,
+        SearchAnswer::Kept => 0,
+        SearchAnswer::Broken => 1,
+        SearchAnswer::Open => 4,
     }
 }
 
@@ -30,7 +30,7 @@ pub(crate) fn status_of(verdict: Verdict) -> u8
 pub(crate) fn write<W: Sink>(
     out: &mut W,
     searched: Result<Printed, ExploreFault>,
-) -> Result<Verdict, ExploreFault>
+) -> Result<SearchAnswer, ExploreFault>
     requires { W.failed out.old ≡ false }
     ensures { Writes searched (W.held out.old) (W.held out.new) (W.failed out.new) result }
 {

@@ -11,11 +11,11 @@ ghost use Rattle.stm_exploring.specs.Explaining.{SaysOfVerdict, schedule_in, Exp
 use crate::command::{report_explained, status_of, write};
 use crate::exploring::explore_sources;
 use crate::outcomes::outcomes_of_source;
-use crate::printed::{Printed, Verdict};
+use crate::printed::{Printed, SearchAnswer};
 use crate::reading::ExploreFault;
 use std::alloc::Global;
 use stm_devices::{Sink, Source};
-use stm_explain::{Input, Kept, write_text};
+use stm_explain::{Input, KeptSource, write_text};
 use stm_explore::{Budget, Observer};
 use stm_faulted_runs::{Named, rule_explained};
 use stm_program::Level;
@@ -23,8 +23,8 @@ use stm_program::Level;
 /// The explanation of what is wrong with a scenario or with the program of a rule; none of another fault.
 fn rule_explanation<S, R>(
     alloc: Global,
-    scenario: &Kept<'_, S>,
-    keeps: &Kept<'_, R>,
+    scenario: &KeptSource<'_, S>,
+    keeps: &KeptSource<'_, R>,
     fault: &ExploreFault,
 ) -> String
     ensures { IsExplained (string_bytes result) }
@@ -37,7 +37,11 @@ fn rule_explanation<S, R>(
 }
 
 /// The explanation of what is wrong with a scenario that is searched without a rule; none of another fault.
-fn search_explanation<S>(alloc: Global, scenario: &Kept<'_, S>, fault: &ExploreFault) -> String
+fn search_explanation<S>(
+    alloc: Global,
+    scenario: &KeptSource<'_, S>,
+    fault: &ExploreFault,
+) -> String
     ensures { IsExplained (string_bytes result) }
 {
     match fault {
@@ -78,7 +82,7 @@ fn line_by_printed(alloc: Global, name: &str, text: &str, printed: &str) -> Stri
 
 /// The explanation of a broken rule that comes to a fault after its schedule, by what is printed of that; none where an allocation failed, now
 /// or before.
-fn rule_on<R>(alloc: Global, keeps: &Kept<'_, R>, printed: &str) -> String
+fn rule_on<R>(alloc: Global, keeps: &KeptSource<'_, R>, printed: &str) -> String
     ensures { OrNothing (ExplainsOnSchedule keeps.now.name.now keeps.now.bytes.items printed.now) (string_bytes result) }
 {
     match keeps.text() {
@@ -90,15 +94,15 @@ fn rule_on<R>(alloc: Global, keeps: &Kept<'_, R>, printed: &str) -> String
 /// The explanation of what a search came to: of a broken rule that comes to a fault.
 fn searched_explanation<R>(
     alloc: Global,
-    keeps: &Kept<'_, R>,
+    keeps: &KeptSource<'_, R>,
     searched: &Result<Printed, ExploreFault>,
 ) -> String
     ensures { OrNothing (ExplainsSearched keeps.now.name.now keeps.now.bytes.items searched.now) (string_bytes result) }
 {
     match searched {
         Ok(printed) => match printed.verdict {
-            Verdict::Broken => rule_on(alloc, keeps, printed.text.as_str()),
-            Verdict::Kept | Verdict::Open => String::new(alloc),
+            SearchAnswer::Broken => rule_on(alloc, keeps, printed.text.as_str()),
+            SearchAnswer::Kept | SearchAnswer::Open => String::new(alloc),
         },
         Err(_) => String::new(alloc),
     }
@@ -113,14 +117,14 @@ fn say_rule<E: Sink>(err: &mut E, more: &str)
 }
 
 /// Says of what a search came to what explains it, and gives the status.
-fn report_verdict<E: Sink>(err: &mut E, verdict: Verdict, more: &str) -> u8
+fn report_verdict<E: Sink>(err: &mut E, verdict: SearchAnswer, more: &str) -> u8
     requires { E.failed err.old ≡ false }
     ensures status { result ≡ verdict_status verdict }
     ensures says { SaysOfVerdict verdict more.now (E.held err.old) (E.held err.new) (E.failed err.new) }
 {
     match verdict {
-        Verdict::Broken => say_rule(err, more),
-        Verdict::Kept | Verdict::Open => {}
+        SearchAnswer::Broken => say_rule(err, more),
+        SearchAnswer::Kept | SearchAnswer::Open => {}
     }
     status_of(verdict)
 }
@@ -130,8 +134,8 @@ fn report_verdict<E: Sink>(err: &mut E, verdict: Verdict, more: &str) -> u8
 /// refused for these.
 pub fn explore_explained_to<S: Source, R: Source, W: Sink, E: Sink, O: Observer>(
     alloc: Global,
-    scenario: &mut Kept<'_, S>,
-    keeps: &mut Kept<'_, R>,
+    scenario: &mut KeptSource<'_, S>,
+    keeps: &mut KeptSource<'_, R>,
     level: Option<Level>,
     budget: &mut Budget<O>,
     out: &mut W,
@@ -166,7 +170,7 @@ pub fn explore_explained_to<S: Source, R: Source, W: Sink, E: Sink, O: Observer>
 /// `NAME:LINE:COLUMN: WORDS`, or nothing where an allocation failed for it.
 pub fn outcomes_explained_to<S: Source, W: Sink, E: Sink, O: Observer>(
     alloc: Global,
-    scenario: &mut Kept<'_, S>,
+    scenario: &mut KeptSource<'_, S>,
     level: Option<Level>,
     budget: &mut Budget<O>,
     out: &mut W,

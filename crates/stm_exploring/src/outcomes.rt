@@ -10,7 +10,7 @@ ghost use Rattle.stm_exploring.specs.Exploring.{gathered_text, verdict_of_outcom
 
 use crate::lines::count_text;
 use crate::outcome_lines::outcomes_text;
-use crate::printed::{Printed, Verdict};
+use crate::printed::{Printed, SearchAnswer};
 use crate::reading::{ExploreFault, scenario_of};
 use crate::setup::{run_setup, setup_and_others};
 use std::alloc::{AllocError, Global};
@@ -32,12 +32,12 @@ fn gathered_text(alloc: Global, gathered: &Outcomes) -> Result<String, AllocErro
 }
 
 /// Whether all whole schedules were gone through.
-fn verdict_of(gathered: &Outcomes) -> Verdict
+fn verdict_of(gathered: &Outcomes) -> SearchAnswer
     ensures { result ≡ verdict_of_outcomes gathered.now }
 {
     match gathered {
-        Outcomes::Found { .. } => Verdict::Kept,
-        Outcomes::Open { .. } => Verdict::Open,
+        Outcomes::Found { .. } => SearchAnswer::Kept,
+        Outcomes::Open { .. } => SearchAnswer::Open,
     }
 }
 

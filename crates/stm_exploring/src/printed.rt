@@ -3,7 +3,7 @@ use stm_history::Text;
 
 /// What a search came to.
 #[derive(Clone, Copy, Debug, PartialEq, Eq)]
-pub enum Verdict {
+pub enum SearchAnswer {
     /// The rule is kept after every schedule, or, without one, all whole schedules were gone through.
     Kept,
     /// The rule is not kept after some schedule.
@@ -16,7 +16,7 @@ pub enum Verdict {
 #[derive(Debug, Drop)]
 pub struct Printed {
     /// What it came to.
-    pub verdict: Verdict,
+    pub verdict: SearchAnswer,
     /// The lines.
     pub text: Text,
 }

@@ -9,7 +9,7 @@ ghost use Rattle.stm_exploring.specs.Exploring.{verdict_of, printed, IsAnswer, I
 ghost use Rattle.stm_exploring.specs.Lines.{broken_line, answer_text};
 
 use crate::lines::{count_text, push_broken};
-use crate::printed::{Printed, Verdict};
+use crate::printed::{Printed, SearchAnswer};
 use crate::schedule_lines::push_scheduled;
 use crate::setup::{run_setup, setup_and_others};
 use std::alloc::{AllocError, Global};
@@ -53,13 +53,13 @@ fn answer_text(
 }
 
 /// What an answer comes to.
-fn verdict_of(explored: &Explored) -> Verdict
+fn verdict_of(explored: &Explored) -> SearchAnswer
     ensures { result ≡ verdict_of explored.now }
 {
     match explored {
-        Explored::Always { .. } => Verdict::Kept,
-        Explored::Broken { .. } => Verdict::Broken,
-        Explored::Open { .. } => Verdict::Open,
+        Explored::Always { .. } => SearchAnswer::Kept,
+        Explored::Broken { .. } => SearchAnswer::Broken,
+        Explored::Open { .. } => SearchAnswer::Open,
     }
 }
 

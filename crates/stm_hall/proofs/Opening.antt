@@ -30,7 +30,7 @@ use Rattle.stm_entries.specs.Laws.{AddsTo}
 use Rattle.stm_entries.proofs.Adding.{replay_only_adds}
 use Rattle.stm_entries.proofs.Replaying.{replay_goes_on}
 use Rattle.stm_journal.specs.JournalState.{JournalState, made_over, gone_on}
-use Rattle.stm_hall.specs.Locked.{cut_at, is_expiry_of, has_expired, Opening, opening_of, StandsIn, IsEntryThere, AreEntriesThere, IsLocked}
+use Rattle.stm_hall.specs.Locked.{cut_at, is_expiry_of, has_expired, StartingStore, opening_of, StandsIn, IsEntryThere, AreEntriesThere, IsLocked}
 use Rattle.stm_hall.specs.Laws.{GoesOn, HallsOpenAsTheirStore}
 
 -- ---- the history that it began with
@@ -121,7 +121,7 @@ pub locked_by : (hall : JournalState) (from : Replayed) → now from.history ≡
 locked_by hall from counter replays there =
     record { from = from; opens = opens_by hall from counter replays there; counter = counter; replays = replays; entries = there }
 
-opening_from : Replayed → Opening
+opening_from : Replayed → StartingStore
 opening_from r = record { history = r.history; is_live = λ id. is_live_in r.live id }
 
 opening_is : (hall : JournalState) (r : Replayed) → StandsIn (opening_of hall) r → opening_from r ≡ opening_of hall

@@ -45,20 +45,20 @@ has_expired id [] = false
 has_expired id (e ∷ es) = is_expiry_of id e || has_expired id es
 
 -- a store by its history and by which leases are live, whatever their terms are
-pub record Opening : Type 0 where
+pub record StartingStore : Type 0 where
   pub history : History
   pub is_live : ℕ → Bool
 
 -- The opening state of a hall: its history up to the revision that it began with, and the leases that are live now or expired
 -- since. A hall grants, renews and revokes nothing.
-abbrev pub opening_of : JournalState → Opening
+abbrev pub opening_of : JournalState → StartingStore
 opening_of hall = record {
   history = cut_at hall.start hall.standing.history;
   is_live = λ id. is_live_in hall.standing.live id || has_expired id hall.entries;
 }
 
 -- a store has this history, and these leases are live in it
-pub record StandsIn (opening : Opening) (r : Replayed) : Type 0 where
+pub record StandsIn (opening : StartingStore) (r : Replayed) : Type 0 where
   pub history : r.history ≡ opening.history
   pub live : (id : ℕ) → is_live_in r.live id ≡ opening.is_live id
 

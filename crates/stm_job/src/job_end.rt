@@ -1,5 +1,5 @@
 //! How a job ends.
-use crate::store_refusal::StoreRefusal;
+use crate::lasting_refusal::LastingRefusal;
 use stm_history::{ReadAnswer, Sequence, Text};
 use stm_meaning::Fault;
 
@@ -55,7 +55,7 @@ impl JobEnd {
 #[derive(Debug, Drop)]
 pub enum JobRefusal {
     /// The store refused it, and memory had not run out.
-    Store(StoreRefusal),
+    Store(LastingRefusal),
     /// The store's counter is below a revision that the worker has seen.
     Behind {
         /// The greatest revision that an answer carried.

@@ -7,11 +7,11 @@ mod drawing;
 mod gathered;
 mod job;
 mod job_end;
+mod lasting_refusal;
 pub mod laws;
-mod store_refusal;
 
 pub use drawing::{JobSeat, JobTable, Size, View};
 pub use gathered::{FaultCause, Gathered, RunFault};
 pub use job::Job;
 pub use job_end::{JobEnd, JobRefusal};
-pub use store_refusal::StoreRefusal;
+pub use lasting_refusal::LastingRefusal;

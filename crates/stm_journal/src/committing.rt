@@ -79,7 +79,7 @@ fn write(
 }
 
 /// Reports the commit of an attempt of which this compare fails. Nothing is written.
-fn report(
+fn turn_down_trusted(
     alloc: Global,
     store: &Store,
     ready: &Ready,
@@ -110,7 +110,7 @@ pub(crate) fn commit_trusted(
     match check(store, &ready) {
         Ok(None) => write(alloc, store, entries, ready),
         Ok(Some(failed)) => {
-            let reported = report(alloc, store, &ready, failed);
+            let reported = turn_down_trusted(alloc, store, &ready, failed);
             drop(ready);
             reported
         }

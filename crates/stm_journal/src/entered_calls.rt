@@ -102,7 +102,7 @@ fn enter_txn(entries: &mut Vec<Entry>, copy: Option<Txn>)
 }
 
 /// Makes another client's transaction, which is an entry where it changed something.
-pub(crate) fn make_txn(
+pub(crate) fn make_and_enter_txn(
     store: &mut Store,
     entries: &mut Vec<Entry>,
     txn: &Txn,

@@ -39,7 +39,7 @@ fn revision_seen(reads: &ReadSet, writes: &WriteBuffer, place: usize) -> u64
 }
 
 /// The verdict on an attempt of which this compare failed, where its keys were read again with these answers. Out of memory is its only refusal.
-fn report(
+fn failed_verdict(
     alloc: Global,
     ready: &Ready,
     failed: FailedCompare,
@@ -72,5 +72,5 @@ pub(crate) fn fail(
     let keys = store.keys();
     let _counter = keys.revision();
     let again = read_again(alloc, keys, ready.level, &ready.answers)?;
-    report(alloc, ready, failed, again)
+    failed_verdict(alloc, ready, failed, again)
 }

@@ -5,7 +5,7 @@ ghost use Rattle.stm_watch.specs.declared.watched.Watched.TheVariants.{Key, Rang
 ghost use Rattle.stm_outcome.specs.Commits.{AreNamed};
 ghost use Rattle.stm_outcome.specs.Numbers.{AnswerFits, ReadFits};
 ghost use Rattle.stm_outcome.specs.Terms.{most_operations};
-ghost use Rattle.stm_txn.specs.Standing.{Returns, reported, watched, polled, poll_refused, cancelled, compacted};
+ghost use Rattle.stm_txn.specs.Standing.{Returns, as_defined, watched, polled, poll_refused, cancelled, compacted};
 ghost use Rattle.stm_attempt.specs.ReadyRun.{IsRunOnItsAnswers};
 ghost use Rattle.stm_journal.specs.JournalState.{made_over, with_store, JournalReturns};
 ghost use Rattle.stm_journal.specs.Fetched.{fetch_of, fetch_reported, IsFetch, fetch_all_reported, IsRefusalOfAll};
@@ -235,7 +235,7 @@ impl Journal {
         ensures few { self.old.standing.limit ≤ most_operations }
     {
         let _few = self.store.limit();
-        entered_calls::make_txn(&mut self.store, &mut self.entries, txn)
+        entered_calls::make_and_enter_txn(&mut self.store, &mut self.entries, txn)
     }
 
     /// Grants a lease at the store's moment, and enters that.
@@ -309,7 +309,7 @@ impl Journal {
 
     /// Cancels a watcher, as the store's `cancel` does.
     pub fn cancel(&mut self, id: u64) -> Result<(), Refusal>
-        ensures step { cancelled self.old.standing id ≡ reported result self.new.standing }
+        ensures step { cancelled self.old.standing id ≡ as_defined result self.new.standing }
         ensures same { self.new ≡ with_store self.old self.new.standing }
         ensures err { OnErr result (self.new ≡ self.old) }
     {
@@ -318,7 +318,7 @@ impl Journal {
 
     /// Compacts the store at a revision, as its `compact` does. The entries stay.
     pub fn compact(&mut self, revision: u64) -> Result<(), Refusal>
-        ensures step { compacted self.old.standing revision ≡ reported result self.new.standing }
+        ensures step { compacted self.old.standing revision ≡ as_defined result self.new.standing }
         ensures same { self.new ≡ with_store self.old self.new.standing }
         ensures err { OnErr result (self.new ≡ self.old) }
     {

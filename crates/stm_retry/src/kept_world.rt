@@ -7,7 +7,7 @@ ghost use Rattle.stm_retry.specs.StepReturns.{as_reply};
 ghost use Rattle.stm_retry.specs.Kept.{KeptReturns, BasesAreReached};
 
 use crate::slots::Slot;
-use crate::store_calls::{advance, grant, keep, make_txn, revoke};
+use crate::store_calls::{advance, grant, keep, reply_to_txn, revoke};
 use crate::watch_calls::{cancel, compact, poll, watch_key, watch_range};
 use std::alloc::{AllocError, Global};
 use std::marker::Model;
@@ -94,7 +94,7 @@ impl KeptWorld {
                 let outcome = self.step_runner(alloc, *runner);
                 to_reply(alloc, outcome)
             }
-            WorldEvent::Txn { txn } => make_txn(alloc, &mut self.journal, txn),
+            WorldEvent::Txn { txn } => reply_to_txn(alloc, &mut self.journal, txn),
             WorldEvent::Grant { id, ttl } => grant(alloc, &mut self.journal, *id, *ttl),
             WorldEvent::Keep { id } => keep(alloc, &mut self.journal, *id),
             WorldEvent::Revoke { id } => revoke(alloc, &mut self.journal, *id),

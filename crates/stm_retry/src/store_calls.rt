@@ -20,7 +20,7 @@ pub(crate) fn refuse(alloc: Global, cause: StoreRefusal) -> Result<Reply, Denied
 }
 
 /// Makes another client's transaction.
-pub(crate) fn make_txn(alloc: Global, journal: &mut Journal, txn: &Txn) -> Result<Reply, Denied>
+pub(crate) fn reply_to_txn(alloc: Global, journal: &mut Journal, txn: &Txn) -> Result<Reply, Denied>
     ensures { CallReturns (TxnEvent txn.now) result journal.old journal.new }
 {
     match journal.make_txn(txn) {

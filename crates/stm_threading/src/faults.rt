@@ -7,7 +7,7 @@ ghost use Rattle.stm_threading.specs.Threading.{faulted_job, faulted_jobs, SaysJ
 
 use std::alloc::{AllocError, Global};
 use stm_devices::Sink;
-use stm_explain::{Kept, write_text};
+use stm_explain::{KeptSource, write_text};
 use stm_faulted_runs::{FaultedJob, Named, jobs_explained};
 use stm_job::JobEnd;
 
@@ -60,7 +60,7 @@ fn lines_of_jobs(alloc: Global, name: &str, text: &str, ends: &[JobEnd]) -> Stri
 }
 
 /// The explanations of the jobs of a scenario that came to a fault; none where an allocation failed, now or before.
-fn jobs_of_input<S>(alloc: Global, input: &Kept<'_, S>, ends: &[JobEnd]) -> String
+fn jobs_of_input<S>(alloc: Global, input: &KeptSource<'_, S>, ends: &[JobEnd]) -> String
     ensures { OrNothing (ExplainsJobs input.now.name.now input.now.bytes.items (scenario_in input.now.bytes.items) (faulted_jobs 0 ends.now)) (string_bytes result) }
 {
     match input.text() {
@@ -70,7 +70,12 @@ fn jobs_of_input<S>(alloc: Global, input: &Kept<'_, S>, ends: &[JobEnd]) -> Stri
 }
 
 /// Explains the jobs of an input that came to a fault, of those that ended so, and gives the status of a good end.
-fn report_jobs<S, E: Sink>(alloc: Global, input: &Kept<'_, S>, ends: &[JobEnd], err: &mut E) -> u8
+fn report_jobs<S, E: Sink>(
+    alloc: Global,
+    input: &KeptSource<'_, S>,
+    ends: &[JobEnd],
+    err: &mut E,
+) -> u8
     requires { E.failed err.old ≡ false }
     ensures status { result ≡ 0 }
     ensures says { SaysJobs input.now.name.now input.now.bytes.items ends.now (E.held err.old) (E.held err.new) (E.failed err.new) }
@@ -84,7 +89,7 @@ fn report_jobs<S, E: Sink>(alloc: Global, input: &Kept<'_, S>, ends: &[JobEnd], 
 pub(crate) fn report_ends<S, E: Sink>(
     alloc: Global,
     explain: bool,
-    input: &Kept<'_, S>,
+    input: &KeptSource<'_, S>,
     ends: &[JobEnd],
     err: &mut E,
 ) -> u8

@@ -10,6 +10,6 @@ mod threading;
 pub use running::{JobsFault, run_jobs};
 pub use shown::Printing;
 pub use stm_devices::{DeviceFault, Sink, Source, Std};
-pub use stm_explain::Kept;
+pub use stm_explain::KeptSource;
 pub use stm_workers::MOST_WORKERS;
 pub use threading::{ThreadsOptions, threads_as_to, threads_to};

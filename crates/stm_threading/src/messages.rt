@@ -6,7 +6,7 @@ ghost use Rattle.stm_threading.specs.Threading.{fault_status, fault_message, Say
 use crate::running::JobsFault;
 use std::alloc::Global;
 use stm_devices::Sink;
-use stm_explain::{Input, Kept, Message};
+use stm_explain::{Input, KeptSource, Message};
 
 /// What is said of a fault.
 fn message(fault: &JobsFault) -> Message<'_>
@@ -34,7 +34,7 @@ pub(crate) fn report_fault<E: Sink>(err: &mut E, fault: &JobsFault) -> u8
 }
 
 /// The explanation of what is wrong with a scenario of jobs; none of another fault.
-fn explanation<S>(alloc: Global, input: &Kept<'_, S>, fault: &JobsFault) -> String
+fn explanation<S>(alloc: Global, input: &KeptSource<'_, S>, fault: &JobsFault) -> String
     ensures { IsExplained (string_bytes result) }
 {
     match fault {
@@ -56,7 +56,7 @@ fn report_explained<E: Sink>(err: &mut E, fault: &JobsFault, more: &str) -> u8
 pub(crate) fn report_by<S, E: Sink>(
     alloc: Global,
     explain: bool,
-    input: &Kept<'_, S>,
+    input: &KeptSource<'_, S>,
     fault: &JobsFault,
     err: &mut E,
 ) -> u8

@@ -13,7 +13,7 @@ use std::alloc::Global;
 use std::sync::Wait;
 use std::thread::Threads;
 use stm_devices::{Sink, Source};
-use stm_explain::Kept;
+use stm_explain::KeptSource;
 
 /// How the command `threads` runs, and what it prints.
 #[derive(Debug, Clone, Copy, PartialEq, Eq)]
@@ -73,7 +73,7 @@ pub fn threads_as_to<R: Threads + Wait + Sync, S: Source, W: Sink, E: Sink>(
     rt: &R,
     alloc: Global,
     options: ThreadsOptions,
-    input: &mut Kept<'_, S>,
+    input: &mut KeptSource<'_, S>,
     out: &mut W,
     err: &mut E,
 ) -> u8

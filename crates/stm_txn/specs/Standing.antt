@@ -96,9 +96,9 @@ abbrev pub with_history : Standing → History → Standing
 with_history s h = record s { history = h }
 
 -- a call that takes no memory comes to exactly this
-abbrev pub reported : {A : Type 0} → Result A Refusal → Standing → Result (Step A) Refusal
-reported (Ok answer) next = Ok record { answer = answer; next = next }
-reported (Err refusal) next = Err refusal
+abbrev pub as_defined : {A : Type 0} → Result A Refusal → Standing → Result (Step A) Refusal
+as_defined (Ok answer) next = Ok record { answer = answer; next = next }
+as_defined (Err refusal) next = Err refusal
 
 -- a transaction, which leaves leases, moment and watchers
 abbrev pub step_of : Standing → Result Done Refusal → Result (Step TxnAnswer) Refusal

@@ -54,7 +54,7 @@ fn deletions(alloc: Global, keys: Vec<String>) -> Result<Vec<Change>, AllocError
 impl Store {
     ghost use Rattle.stm_txn.specs.LeaseKeys.{deletions_of};
     ghost use Rattle.stm_outcome.specs.Numbers.{ExpiredFits, AllExpiredFit};
-    ghost use Rattle.stm_txn.specs.Standing.{IsRefusalOf, Returns, refusal_of, granted, kept_alive, reported, ended, revoked};
+    ghost use Rattle.stm_txn.specs.Standing.{IsRefusalOf, Returns, refusal_of, granted, kept_alive, as_defined, ended, revoked};
     ghost use Rattle.stm_txn.specs.Standing.{expired_in, expire_all, at_moment, advanced, HasCome, IsCutShort, with_expiries};
 
     /// Grants a lease of the caller's id, for `ttl` seconds from the store's moment on.
@@ -74,7 +74,7 @@ impl Store {
 
     /// Renews a live lease at the store's moment, also one that is due. `LeaseNotFound` changes nothing.
     pub fn keep_alive(&mut self, id: u64) -> Result<(), Refusal>
-        ensures step { kept_alive self.old.standing id ≡ reported result self.new.standing }
+        ensures step { kept_alive self.old.standing id ≡ as_defined result self.new.standing }
         ensures log { OnOk result ((log : List LogItem) → StandsFor self.old.standing.live log → StandsFor self.new.standing.live (Renew id self.old.standing.moment ∷ log)) }
         ensures present { self.new.present ≡ self.old.present }
         ensures err { OnErr result (self.new ≡ self.old) }

@@ -109,7 +109,7 @@ impl Store {
     ghost use Rattle.stm_txn.specs.Leasing.{attached_of, AttachedToLive, lease_now};
     ghost use Rattle.stm_outcome.specs.Outcome.{with_changes, answer_of};
     ghost use Rattle.stm_outcome.specs.Numbers.{AnswerFits, StatesFit};
-    ghost use Rattle.stm_txn.specs.Standing.{opening, at_revision, IsRefusalOf, Returns, refusal_of, transacted, made, written, reported};
+    ghost use Rattle.stm_txn.specs.Standing.{opening, at_revision, IsRefusalOf, Returns, refusal_of, transacted, made, written, as_defined};
     ghost use Rattle.stm_txn.specs.Standing.{terms_of, raised, compacted};
 
     /// An empty store at revision 1 and moment 0, which takes up to `MOST_OPERATIONS` operations. A failed allocation is its only refusal.
@@ -472,7 +472,7 @@ impl Store {
     /// `Compacted` is answered where the revision is not above the floor, `FutureRevision` where it is above the counter,
     /// and nothing changes then. It takes no memory. (etcd's API reference, "Compact".)
     pub fn compact(&mut self, revision: u64) -> Result<(), Refusal>
-        ensures step { compacted self.old.standing revision ≡ reported result self.new.standing }
+        ensures step { compacted self.old.standing revision ≡ as_defined result self.new.standing }
         ensures present { self.new.present ≡ self.old.present }
         ensures err { OnErr result (self.new ≡ self.old) }
     {
@@ -489,7 +489,7 @@ impl Store {
     /// Makes a revision the floor as `compact` does, with its refusals and its lost watchers, but drops nothing: the keys
     /// at every revision are still there for `Keys::look_back`.
     pub fn raise_floor(&mut self, revision: u64) -> Result<(), Refusal>
-        ensures step { raised self.old.standing revision ≡ reported result self.new.standing }
+        ensures step { raised self.old.standing revision ≡ as_defined result self.new.standing }
         ensures present { self.new.present ≡ self.old.present }
         ensures err { OnErr result (self.new ≡ self.old) }
     {

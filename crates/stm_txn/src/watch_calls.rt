@@ -31,7 +31,7 @@ fn reported_poll(polled: Result<Batch, PollRefusal>) -> Result<Batch, Refusal>
 
 impl Store {
     ghost use Rattle.stm_outcome.specs.Numbers.{EventsFit};
-    ghost use Rattle.stm_txn.specs.Standing.{Returns, reported};
+    ghost use Rattle.stm_txn.specs.Standing.{Returns, as_defined};
     ghost use Rattle.stm_txn.specs.Standing.{watched, polled, poll_refused, cancelled};
     ghost use Rattle.stm_watch.specs.declared.watched.Watched.TheVariants.{Key, Range};
     ghost use Rattle.stm_watch.specs.Calls.{IsNextPending};
@@ -65,7 +65,7 @@ impl Store {
     /// Cancels a watcher. It takes no memory. `NoWatcher` is answered where there is none with this number, or it was
     /// cancelled, and changes nothing.
     pub fn cancel(&mut self, id: u64) -> Result<(), Refusal>
-        ensures step { cancelled self.old.standing id ≡ reported result self.new.standing }
+        ensures step { cancelled self.old.standing id ≡ as_defined result self.new.standing }
         ensures present { self.new.present ≡ self.old.present }
         ensures err { OnErr result (self.new ≡ self.old) }
     {

@@ -12,19 +12,19 @@ use stm_keys::{Event, Keys, Sequence};
 
 /// A batch, and the first revision of which events are pending after it.
 #[derive(Drop)]
-pub(crate) struct Gathered {
+pub(crate) struct PolledBatch {
     pub(crate) batch: Batch,
     pub(crate) next: Option<u64>,
 }
 
-impl Gathered {
+impl PolledBatch {
     /// The batch with these events, after which none are pending.
-    fn all(events: Vec<Event>, upto: u64) -> Gathered
+    fn all(events: Vec<Event>, upto: u64) -> PolledBatch
         ensures events { result.batch.events ≡ events.items }
         ensures upto { result.batch.upto ≡ upto }
         ensures next { result.next ≡ None }
     {
-        Gathered {
+        PolledBatch {
             batch: Batch {
                 events: Sequence::of(events),
                 upto,
@@ -48,7 +48,7 @@ pub(crate) fn gather(
     keys: &Keys,
     watcher: &Watcher,
     most: u64,
-) -> Result<Gathered, AllocError>
+) -> Result<PolledBatch, AllocError>
     requires { IsFollowed keys.now.history watcher.now }
     ensures batch { IfOk result (λ g. g.batch ≡ batch_of most keys.now.history (followed watcher.now)) }
     ensures next { IfOk result (λ g. g.next ≡ first_pending keys.now.history (after_poll most keys.now.history (followed watcher.now))) }
@@ -59,7 +59,7 @@ pub(crate) fn gather(
     let mut count = 0;
     while count < most {
         let Some(number) = next else {
-            return Ok(Gathered::all(events, reported_all(keys, watcher)));
+            return Ok(PolledBatch::all(events, reported_all(keys, watcher)));
         };
         let mut reported = copy_matching(alloc, &watcher.watched, keys.events_at(number))?;
         events.append(&mut reported)?;
@@ -68,10 +68,10 @@ pub(crate) fn gather(
         count += 1;
     }
     if next.is_none() {
-        return Ok(Gathered::all(events, reported_all(keys, watcher)));
+        return Ok(PolledBatch::all(events, reported_all(keys, watcher)));
     }
     let events = Sequence::of(events);
-    Ok(Gathered {
+    Ok(PolledBatch {
         batch: Batch { events, upto },
         next,
     })

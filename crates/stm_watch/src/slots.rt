@@ -4,7 +4,7 @@ ghost use Rattle.stm_watch.specs.Touch.{wants, touch_at};
 ghost use Rattle.stm_watch.specs.Slots.{IsFollowed, SlotPolls, PlacePolls, made_ready};
 
 use crate::copies::copy_watchers;
-use crate::gather::{Gathered, gather};
+use crate::gather::{PolledBatch, gather};
 use crate::watched::Watcher;
 use crate::watchers::Batch;
 use std::alloc::{AllocError, Global};
@@ -50,7 +50,7 @@ pub(crate) fn poll_slot(
     ensures { SlotPolls keys.now.history most slot.old result slot.new }
 {
     let Some(watcher) = slot else { unreachable!() };
-    let Gathered { batch, next } = gather(alloc, keys, watcher, most)?;
+    let PolledBatch { batch, next } = gather(alloc, keys, watcher, most)?;
     watcher.seen = batch.upto;
     watcher.first = next;
     Ok(batch)

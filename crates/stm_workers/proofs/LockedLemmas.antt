@@ -22,7 +22,7 @@ use Rattle.stm_entries.specs.declared.entry.Entry.TheVariants.{Program, Foreign,
 use Rattle.stm_journal.specs.declared.verdict.Verdict.{Verdict}
 use Rattle.stm_journal.specs.declared.refusal.CommitRefusal.{CommitRefusal}
 use Rattle.stm_journal.specs.JournalState.{JournalState, JournalStep, journal_of}
-use Rattle.stm_hall.specs.Locked.{Opening}
+use Rattle.stm_hall.specs.Locked.{StartingStore}
 use Rattle.stm_hall.specs.Laws.{GoesOn}
 use Rattle.stm_journal.specs.Verdicts.{txn_of, entry_of, first_unvouched, taken, taken_by_store, refused_by_store, unless_unvouched, by_compares, unless_at_fault, verdict_of}
 use Rattle.stm_hall.proofs.Opening.{goes_nowhere, gone_front, goes_on_by, goes_on_twice}
@@ -35,7 +35,7 @@ use Rattle.stm_workers.specs.Calls.{IsRunOfJob}
 
 pub has_gone_on : (before after : JournalState) → GoesOn before after → HasGoneOn before after
 has_gone_on before after g =
-    (gone_front before after g, g.start, ap (λ (o : Opening). o.history) g.opening, λ id. ap (λ (o : Opening). o.is_live id) g.opening)
+    (gone_front before after g, g.start, ap (λ (o : StartingStore). o.history) g.opening, λ id. ap (λ (o : StartingStore). o.is_live id) g.opening)
 
 pub goes_on : (before after : JournalState) → HasGoneOn before after → GoesOn before after
 goes_on before after g = goes_on_by before after g.0 g.1 g.2 g.3

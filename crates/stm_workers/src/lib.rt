@@ -26,6 +26,6 @@ pub use run::{MOST_WORKERS, run_workers};
 pub use start_point::StartPoint;
 pub use stm_hall::{CommitRefusal, FetchRefusal, Hall, ReadAnswer, Sequence, Text, Verdict};
 pub use stm_job::{
-    FaultCause, Gathered, Job, JobEnd, JobRefusal, JobSeat, JobTable, RunFault, StoreRefusal,
+    FaultCause, Gathered, Job, JobEnd, JobRefusal, JobSeat, JobTable, LastingRefusal, RunFault,
 };
 pub use stm_meaning::Fault;

@@ -66,7 +66,7 @@ fn run_on<R: RunOfJobs + Send + Sync, W: Threads + Wait + Sync, G: Gate + Sync>(
     let locked = locked.into_inner();
     match employed {
         Ok(collected) => {
-            let (mut share, ended, seat) = collected.parts();
+            let (mut share, ended, seat) = collected.into_pieces();
             (place_ends(alloc, ended, seat), locked.close(&mut share))
         }
         Err(fault) => (Err(fault), locked.into_hall()),

@@ -10,7 +10,7 @@ ghost use Rattle.stm_workers.specs.Attempts.{end_reported, reads_reported, fetch
 use std::alloc::AllocError;
 use stm_hall::{CommitRefusal, FetchRefusal};
 use stm_history::{ReadAnswer, Sequence, Text};
-use stm_job::{JobEnd, JobRefusal, StoreRefusal};
+use stm_job::{JobEnd, JobRefusal, LastingRefusal};
 use stm_meaning::{End, Fault, Run};
 use stm_txn::Refusal;
 
@@ -61,7 +61,7 @@ impl Stop {
         if is_out_of_memory(cause) {
             return Stop::OutOfMemory;
         }
-        Stop::Refused(JobRefusal::Store(StoreRefusal::of(cause)))
+        Stop::Refused(JobRefusal::Store(LastingRefusal::of(cause)))
     }
 
     /// A fetch that the hall refused.

@@ -164,7 +164,7 @@ impl<R: RunOfJobs> Collected<R> {
     }
 
     /// The whole share, the ends of all jobs, and the seat that has drawn them: each job once.
-    pub fn parts(self) -> (Share<R>, Vec<EndOf>, JobSeat)
+    pub fn into_pieces(self) -> (Share<R>, Vec<EndOf>, JobSeat)
         ensures share { (result.0.parts ≡ R.size.seats) × (result.0.amount ≡ committed_in result.1.items) }
         ensures each_once { EachOnce R.size.jobs (jobs_of result.1.items) }
         ensures drawn { HasDrawnAll R.size result.2 }

@@ -8,7 +8,7 @@ use std::io;
 use std::io::Input;
 use std::rt::Files;
 use stm_commands::{
-    Format, Kept, Std, check_explained_to, check_whole_explained_to, script_explained_to,
+    Format, KeptSource, Std, check_explained_to, check_whole_explained_to, script_explained_to,
 };
 use stm_exploring::{Level, explore_explained_to, outcomes_explained_to};
 
@@ -21,11 +21,11 @@ fn name_of(path: &str) -> &str {
 pub(crate) fn kept<'a, R: Files + Input + AllocGlobal>(
     rt: &R,
     path: &'a str,
-) -> Kept<'a, Std<Noting<Opened<R::File, R::Reader>>>>
+) -> KeptSource<'a, Std<Noting<Opened<R::File, R::Reader>>>>
     ensures { result.source.failed ≡ false }
 {
     let source = Std::new(Noting::new(open(rt, path)));
-    Kept::new(rt.alloc(), name_of(path), source)
+    KeptSource::new(rt.alloc(), name_of(path), source)
 }
 
 /// Says of an input that could not be read why the system refused it.

@@ -25,21 +25,21 @@ returns-in-Ok-None-clause-verdict c =
     sent_as_taken s c.write.new.store.standing es c.write.new.entries.items c.args.ready c.write.result is_clear c.write.ensures.verdict
 
 -- a compare fails
-pub report-reported-requires-clause-right : goal.report-reported-requires-clause-right
-report-reported-requires-clause-right c =
+pub turn_down_trusted-reported-requires-clause-right : goal.turn_down_trusted-reported-requires-clause-right
+turn_down_trusted-reported-requires-clause-right c =
     let found : checked c.args.store.now.standing c.args.ready ≡ Ok (Some c.in-Ok-Some.failed) =
     sym c.check.ensures ∙ c.in-Ok-Some.is ∙ ap (λ (o : Option FailedCompare). Ok o) c.in-Ok-Some.field-0-is in
     (checked_clear c.args.store.now.standing c.args.ready (Some c.in-Ok-Some.failed) found).0
 
-pub report-reported-requires-clause-fails : goal.report-reported-requires-clause-fails
-report-reported-requires-clause-fails c =
+pub turn_down_trusted-reported-requires-clause-fails : goal.turn_down_trusted-reported-requires-clause-fails
+turn_down_trusted-reported-requires-clause-fails c =
     let found : checked c.args.store.now.standing c.args.ready ≡ Ok (Some c.in-Ok-Some.failed) =
     sym c.check.ensures ∙ c.in-Ok-Some.is ∙ ap (λ (o : Option FailedCompare). Ok o) c.in-Ok-Some.field-0-is in
     (checked_clear c.args.store.now.standing c.args.ready (Some c.in-Ok-Some.failed) found).1
 
 pub returns-in-Ok-Some-clause-verdict : goal.returns-in-Ok-Some-clause-verdict
 returns-in-Ok-Some-clause-verdict c =
-    sent_there c.args.store.now.standing c.args.entries.now.items c.args.ready c.report-reported.result c.report-reported.ensures.verdict
+    sent_there c.args.store.now.standing c.args.entries.now.items c.args.ready c.turn_down_trusted-reported.result c.turn_down_trusted-reported.ensures.verdict
 
 -- its transaction is wrong as a whole
 pub returns-in-Err-clause-verdict : goal.returns-in-Err-clause-verdict

@@ -15,8 +15,8 @@ use Rattle.stm_journal.proofs.Sending.{place_seen}
 use Rattle.stm_journal.proofs.failing.fail.Goals as goal
 
 -- the compare is about a key of the attempt
-pub report-requires : goal.report-requires
-report-requires c =
+pub failed_verdict-requires : goal.failed_verdict-requires
+failed_verdict-requires c =
     place_seen c.args.ready.now (txn_of c.args.ready.now) c.args.failed.index refl
     (failed_within c.args.store.now.standing.history (txn_of c.args.ready.now).compares c.args.failed c.requires)
 
@@ -28,7 +28,7 @@ returns-clause-verdict c =
     let inside : ReadyRun = ready_parts r.program r.level r.answers r.output r.trace r.writes in
     let again : c.in_ok-again.again.items ≡ map (answer_now h) (reread_keys ready.level ready.answers) =
     read_so h c.keys-keys.result.now.history inside ready c.in_ok-again.again.items c.in_ok-again.ensures c.keys-keys.ensures.history c.ready.view_is in
-    IfOk-weaker c.report.result _ _ (λ verdict reported. reported ∙ ap (failed_with ready c.args.failed) again) c.report.ensures
+    IfOk-weaker c.failed_verdict.result _ _ (λ verdict reported. reported ∙ ap (failed_with ready c.args.failed) again) c.failed_verdict.ensures
 
 -- its answers are of keys that differ
 pub returns-clause-answers : goal.returns-clause-answers
@@ -44,6 +44,6 @@ returns-clause-answers c =
     let bounded : now h ≤ HIGHEST_REVISION =
     subst (λ (x : History). now x ≤ HIGHEST_REVISION) c.keys-keys.ensures.history
     (subst (λ (n : ℕ). n ≤ HIGHEST_REVISION) c.revision-counter.ensures.value c.revision-counter.ensures.bounded) in
-    IfOk-weaker c.report.result _ _ (λ verdict reported.
+    IfOk-weaker c.failed_verdict.result _ _ (λ verdict reported.
     subst CanGoOn (sym (reported ∙ ap (failed_with ready c.args.failed) again))
-    (may_be_prefetched h ready.level ready.answers distinct bounded c.keys-keys.ensures.numbers)) c.report.ensures
+    (may_be_prefetched h ready.level ready.answers distinct bounded c.keys-keys.ensures.numbers)) c.failed_verdict.ensures

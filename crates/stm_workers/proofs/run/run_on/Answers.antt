@@ -14,7 +14,7 @@ use Rattle.stm_workers.proofs.run.run_on.Goals as goal
 
 -- each job has been drawn once
 pub place_ends-requires : goal.place_ends-requires
-place_ends-requires g c = each_of_many _ _ c.parts-share.ensures.each_once
+place_ends-requires g c = each_of_many _ _ c.into_pieces-share.ensures.each_once
 
 -- ---- the run came to its end
 
@@ -30,7 +30,7 @@ returns-in-Ok-clause-takes g c =
 
 pub returns-in-Ok-clause-places : goal.returns-in-Ok-clause-places
 returns-in-Ok-clause-places g c =
-    let all = an_end_each _ _ c.parts-share.ensures.each_once ∙ ap (λ (s : Size). s.jobs) c.requires.table.2 in
+    let all = an_end_each _ _ c.into_pieces-share.ensures.each_once ∙ ap (λ (s : Size). s.jobs) c.requires.table.2 in
     IfOk-weaker c.place_ends.result _ _ (λ placed same. (same.0 ∙ all, same.1 ∙ all)) c.place_ends.ensures.length
 
 pub returns-in-Ok-clause-commits : goal.returns-in-Ok-clause-commits
@@ -38,20 +38,20 @@ returns-in-Ok-clause-commits g c =
     IfOk-weaker c.place_ends.result _ _
     (λ placed same.
     run_commits c.args.hall g.R.RunOfJobs.before c.close.result _ _ (count_by is_committed placed.ends.items) c.requires.hall c.close.ensures.counted
-    c.parts-share.ensures.share.1 same) c.place_ends.ensures.counted
+    c.into_pieces-share.ensures.share.1 same) c.place_ends.ensures.counted
 
 pub returns-in-Ok-clause-ran : goal.returns-in-Ok-clause-ran
 returns-in-Ok-clause-ran g c =
     IfOk-weaker c.place_ends.result _ _
     (λ placed reported.
     reported c.args.hall c.args.jobs.now
-    (subst (λ (h : JournalState). All (HasItsRun h c.args.jobs.now) c.parts-share.result.1.items) (sym c.requires.hall)
-    (subst (λ (js : List Job). All (HasItsRun g.R.RunOfJobs.before js) c.parts-share.result.1.items) (sym c.requires.jobs) c.parts-share.ensures.ran)))
+    (subst (λ (h : JournalState). All (HasItsRun h c.args.jobs.now) c.into_pieces-share.result.1.items) (sym c.requires.hall)
+    (subst (λ (js : List Job). All (HasItsRun g.R.RunOfJobs.before js) c.into_pieces-share.result.1.items) (sym c.requires.jobs) c.into_pieces-share.ensures.ran)))
     c.place_ends.ensures.ran
 
 pub returns-in-Ok-clause-drawn : goal.returns-in-Ok-clause-drawn
 returns-in-Ok-clause-drawn g c =
-    let all = subst (λ (s : Size). HasDrawnAll s c.parts-share.result.2) c.requires.table.2 c.parts-share.ensures.drawn in
+    let all = subst (λ (s : Size). HasDrawnAll s c.into_pieces-share.result.2) c.requires.table.2 c.into_pieces-share.ensures.drawn in
     IfOk-weaker c.place_ends.result _ _ (λ placed same. subst (λ (seat : JobSeat). HasDrawnAll (size_of (length c.args.jobs.now) (c.args.workers + 1)) seat) (sym same) all) c.place_ends.ensures.seat
 
 -- ---- it was given up

@@ -10,7 +10,7 @@ use stm_json::BadInput;
 
 /// A source with the name of its file, which keeps what was read of it. It reads as the source itself does.
 #[derive(Drop)]
-pub struct Kept<'a, S> {
+pub struct KeptSource<'a, S> {
     /// The name, as people know it.
     pub name: &'a str,
     /// The source.
@@ -21,12 +21,12 @@ pub struct Kept<'a, S> {
     pub is_cut: bool,
 }
 
-impl<'a, S> Kept<'a, S> {
+impl<'a, S> KeptSource<'a, S> {
     /// A source of which nothing has been read yet.
-    pub fn new(alloc: Global, name: &'a str, source: S) -> Kept<'a, S>
+    pub fn new(alloc: Global, name: &'a str, source: S) -> KeptSource<'a, S>
         ensures { result.source ≡ source }
     {
-        Kept {
+        KeptSource {
             name,
             source,
             bytes: Vec::new(alloc),
@@ -70,7 +70,7 @@ impl<'a, S> Kept<'a, S> {
     }
 }
 
-impl<'a, S: Source> Source for Kept<'a, S> {
+impl<'a, S: Source> Source for KeptSource<'a, S> {
     ghost left = { λ k. S.left k.source };
 
     ghost failed = { λ k. S.failed k.source };

@@ -1,7 +1,7 @@
 use Rattle.std.proofs.Common.{◌∙◌, Err, ap}
 use Rattle.std.proofs.lemmas.Result.{err_from_is_err_and}
 use Rattle.stm_journal.proofs.CauseLemmas.{sent_failed, sent_out}
-use Rattle.stm_journal.proofs.committing.report.Goals as goal
+use Rattle.stm_journal.proofs.committing.turn_down_trusted.Goals as goal
 
 pub returns-clause-verdict : goal.returns-clause-verdict
 returns-clause-verdict c =

@@ -3,7 +3,7 @@ use Rattle.stm_txn.specs.Standing.{Standing}
 use Rattle.stm_txn.specs.Store.{StoreView}
 use Rattle.stm_journal.specs.JournalState.{journal_of}
 use Rattle.stm_journal.proofs.CallLemmas.{same_journal, reports_wanted, reports_refused}
-use Rattle.stm_journal.proofs.entered_calls.make_txn.Goals as goal
+use Rattle.stm_journal.proofs.entered_calls.make_and_enter_txn.Goals as goal
 
 pub returns-in_default : goal.returns-in_default
 returns-in_default c = λ start.

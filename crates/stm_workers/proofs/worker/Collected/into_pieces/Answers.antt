@@ -1,5 +1,5 @@
 use Rattle.stm_workers.proofs.SeatLemmas.{all_drawn, all_ended}
-use Rattle.stm_workers.proofs.worker.Collected.parts.Goals as goal
+use Rattle.stm_workers.proofs.worker.Collected.into_pieces.Goals as goal
 
 pub returns-clause-drawn : goal.returns-clause-drawn
 returns-clause-drawn g c =

@@ -6,7 +6,7 @@ use Rattle.stm_events.specs.declared.event.WorldEvent.TheVariants.{Txn}
 use Rattle.stm_events.specs.declared.reply.Reply.TheVariants.{Txn as TxnDone}
 use Rattle.stm_world.proofs.Wants.{transacted_never}
 use Rattle.stm_retry.proofs.CallLemmas.{call_taken, call_refused, txn_is_call, txn_never}
-use Rattle.stm_retry.proofs.store_calls.make_txn.Goals as goal
+use Rattle.stm_retry.proofs.store_calls.reply_to_txn.Goals as goal
 
 pub returns-in-Ok : goal.returns-in-Ok
 returns-in-Ok c =

@@ -1,3 +1,4 @@
 pub mod Entered
 pub mod Calls
+pub mod Refusals
 pub mod ReportedReads

@@ -2,7 +2,6 @@
 use Rattle.std.proofs.Common.{◌≡◌, refl, inl, inr, ℕ, List, [], ◌∷◌, ◌++◌, take, Some, None, Ok, true}
 use Rattle.std.specs.Prelude.{codes, pos}
 use Rattle.std.specs.Fmt.{digits}
-use Rattle.stm_history.specs.declared.key_state.ReadAnswer.{ReadAnswer}
 use Rattle.stm_program.specs.Syntax.{Block, of_statements}
 use Rattle.stm_program.specs.Writes.{last_write, latest_writes}
 use Rattle.stm_program.specs.declared.level.Level.{Level}
@@ -16,7 +15,8 @@ use Rattle.stm_steps.specs.declared.value.Value.TheVariants.{Text}
 use Rattle.stm_meaning.specs.Meaning.{evaluate, holds, run_block, run_over}
 use Rattle.stm_outcome.specs.declared.txn.Txn.{Txn}
 use Rattle.stm_outcome.specs.declared.txn.Op.TheVariants.{Put}
-use Rattle.stm_outcome.specs.declared.answer.OpAnswer.TheVariants.{Put as PutAnswer}
+use Rattle.stm_events.specs.declared.reply.CommittedRead.{CommittedRead}
+use Rattle.stm_events.specs.declared.reply.OpReply.TheVariants.{Put as PutReply}
 use Rattle.stm_txn.specs.Standing.{at_revision}
 use Rattle.stm_attempt.specs.Settled.{settle}
 use Rattle.stm_entries.specs.declared.entry.Entry.{Entry}
@@ -54,7 +54,7 @@ paying =
 
 -- the transfer has read b as 5, its commit fails, and its next attempt pays to the 12 that b has then
 transfer_is_made_again : replies_to paying (opened (at_revision 1))
-    ≡ Ok (TxnDone (record { succeeded = true; revision = 2; answers = PutAnswer ∷ PutAnswer ∷ []; failed = None })) ∷ Ok (Started 1) ∷ Ok (Started 2)
+    ≡ Ok (TxnDone true 2 (PutReply ∷ PutReply ∷ [])) ∷ Ok (Started 1) ∷ Ok (Started 2)
     ∷ Ok (Fetched 1 (codes "a") 2 2 2) ∷ Ok (Fetched 2 (codes "b") 2 2 2) ∷ Ok (Committed 2 3 1 [] (seen.Get (codes "b") (codes "5") ∷ []) [])
     ∷ Ok (Fetched 1 (codes "b") 2 2 3) ∷ Ok (Conflict 1 (codes "b") 2 3)
     ∷ Ok (Committed 1 4 2 [] (seen.Get (codes "a") (codes "10") ∷ seen.Get (codes "b") (codes "12") ∷ []) []) ∷ []
@@ -160,11 +160,11 @@ of_emptying = (
 in_order : Kept (codes "q") [] (codes "A" ∷ codes "B" ∷ []) (codes "A" ∷ codes "B" ∷ []) (history_after (at_revision 1) (emptying Serializable ++ Step 4 ∷ Step 4 ∷ []))
 in_order = recipes_in_worlds.items (at_revision 1) (emptying Serializable ++ Step 4 ∷ Step 4 ∷ []) (codes "q") queue_entries some emptying_enters of_emptying
 
-abbrev reported_to_both : List ReadAnswer
+abbrev reported_to_both : List CommittedRead
 reported_to_both =
-    record { key = codes "q/head"; kv = None; of_rev = 3; revision = 3 }
-    ∷ record { key = codes "q/tail"; kv = Some (record { value = codes "2"; create_rev = 2; mod_rev = 3; version = 2; lease = 0 }); of_rev = 3; revision = 3 }
-    ∷ record { key = codes "q/0"; kv = Some (record { value = codes "A"; create_rev = 2; mod_rev = 2; version = 1; lease = 0 }); of_rev = 3; revision = 3 }
+    record { key = codes "q/head"; value = None; mod_rev = 0; of_rev = 3 }
+    ∷ record { key = codes "q/tail"; value = Some (codes "2"); mod_rev = 3; of_rev = 3 }
+    ∷ record { key = codes "q/0"; value = Some (codes "A"); mod_rev = 2; of_rev = 3 }
     ∷ []
 
 -- At ReadCommitted nothing is compared, and both take the first item: no law speaks of such commits.

@@ -13,7 +13,6 @@ use Rattle.stm_steps.specs.declared.run.Answered.{Answered}
 use Rattle.stm_steps.specs.declared.run.Answered.TheVariants.{Ended as EndedRun, Wants}
 use Rattle.stm_outcome.specs.declared.answer.FailedCompare.{FailedCompare}
 use Rattle.stm_outcome.specs.declared.refusal.Refusal.{Refusal as StoreRefusal}
-use Rattle.stm_outcome.specs.declared.refusal.Refusal.TheVariants.{TooManyOps as TooManyOpsRefusal, Compacted as CompactedRefusal}
 use Rattle.stm_outcome.specs.Outcome.{Done}
 use Rattle.stm_outcome.specs.Commits.{revision_read}
 use Rattle.stm_txn.specs.Standing.{Standing, terms_of}
@@ -29,8 +28,8 @@ use Rattle.stm_events.specs.declared.event.WorldEvent.TheVariants.{Step}
 use Rattle.stm_events.specs.declared.reply.Reply.{Reply}
 use Rattle.stm_events.specs.declared.reply.Reply.TheVariants.{Prefetched, Fetched, Committed, Conflict, GaveUp, Aborted, Faulted, Ended}
 use Rattle.stm_events.specs.declared.refusal.Denied.{Denied}
-use Rattle.stm_events.specs.declared.refusal.Refusal.TheVariants.{NoRunner}
-use Rattle.stm_events.specs.Replies.{denied}
+use Rattle.stm_events.specs.declared.refusal.EventRefusal.TheVariants.{NoRunner, TooManyOps as TooManyOpsRefusal, Compacted as CompactedRefusal}
+use Rattle.stm_events.specs.Replies.{refusal_of, denied}
 use Rattle.stm_world.specs.Task.{answer_at, modified_now, after_list, after_fetch, after_conflict}
 use Rattle.stm_world.specs.World.{World, Runner, Slot, Over, Live, Stepped, runner_at, with_slot, replied, fetch, fetch_list, entry_of, decided}
 use Rattle.stm_world.specs.World.{commit_reported, commit, finish, step_on, step_live, step_runner, step}
@@ -166,9 +165,9 @@ reported_does : (id : ℕ) (r : Runner) (reads : List ReadAnswer) (run : Run) (o
     Does id s (commit_reported id r reads run o)
 reported_does id r reads run (Ok done) s = decided_does id r reads run done done.answer.failed s
 reported_does id r reads run (Err cause) s = inl (record {
-  reply = Ok (Ended id cause);
+  reply = Ok (Ended id (refusal_of cause));
   slot = Some Over;
-  end = Some (EndedEnd cause);
+  end = Some (EndedEnd (refusal_of cause));
   is = λ slots entries. refl;
   reported = refl;
   known = λ ends. refl;

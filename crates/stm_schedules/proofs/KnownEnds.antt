@@ -12,10 +12,10 @@ use Rattle.stm_events.specs.declared.event.WorldEvent.{WorldEvent}
 use Rattle.stm_events.specs.declared.event.WorldEvent.TheVariants.{Start, Step, Txn, Grant, Keep, Revoke, Advance}
 use Rattle.stm_events.specs.declared.event.WorldEvent.TheVariants.{WatchKey, WatchRange, Poll, Cancel, Compact}
 use Rattle.stm_events.specs.declared.reply.Reply.{Reply}
-use Rattle.stm_events.specs.declared.reply.Reply.TheVariants.{Started, Txn as TxnDone, Granted, Kept, Revoked, Watching, Cancelled, Compacted}
+use Rattle.stm_events.specs.declared.reply.Reply.TheVariants.{Started, Granted, Kept, Revoked, Watching, Cancelled, Compacted}
 use Rattle.stm_events.specs.declared.refusal.Denied.{Denied}
-use Rattle.stm_events.specs.declared.refusal.Refusal.TheVariants.{BadLimit}
-use Rattle.stm_events.specs.Replies.{reply_to, advance_reply}
+use Rattle.stm_events.specs.declared.refusal.EventRefusal.TheVariants.{BadLimit}
+use Rattle.stm_events.specs.Replies.{txn_reply, reply_to, advance_reply}
 use Rattle.stm_world.specs.World.{World, Runner, Slot, Over, Live, Stepped, live_in, runner_at, with_slot, refused, begin, start_runner, step_runner, step, world_after, replies_to, opened}
 use Rattle.stm_world.specs.Task.{Task}
 use Rattle.stm_world.proofs.Slots.{other_number}
@@ -131,7 +131,7 @@ by_call report o w ends each known = subst (λ (es : Ends). AreKnown w.runners e
 known_event : (e : WorldEvent) (w : World) (ends : Ends) → AreKnown w.runners ends → StaysKnown ends (step e w)
 known_event (Start program level limit) w ends known = known_start (record { program = program; level = level; limit = limit }) w ends known
 known_event (Step id) w ends known = known_step id (runner_at id w.runners) w ends refl known
-known_event (Txn txn) w ends known = by_call TxnDone (transacted w.standing txn) w ends (λ x. refl) known
+known_event (Txn txn) w ends known = by_call txn_reply (transacted w.standing txn) w ends (λ x. refl) known
 known_event (Grant id ttl) w ends known = by_call (λ _. Granted id) (granted w.standing id ttl) w ends (λ x. refl) known
 known_event (Keep id) w ends known = by_call (λ _. Kept id) (kept_alive w.standing id) w ends (λ x. refl) known
 known_event (Revoke id) w ends known = by_call (Revoked id) (revoked w.standing id) w ends (λ x. refl) known

@@ -17,7 +17,6 @@ use Rattle.stm_outcome.specs.Commits.{revision_read}
 use Rattle.stm_txn.specs.Standing.{Standing, transacted, granted, kept_alive, revoked, advanced, Advance as StoreAdvance, terms_of}
 use Rattle.stm_txn.specs.Standing.{watched, polled, cancelled, raised}
 use Rattle.stm_outcome.specs.Terms.{is_below_floor}
-use Rattle.stm_outcome.specs.declared.refusal.Refusal.TheVariants.{TooManyOps as TooManyOpsRefusal, Compacted as CompactedRefusal}
 use Rattle.stm_watch.specs.declared.watched.Watched.TheVariants.{Key, Range}
 use Rattle.stm_compile.specs.Committed.{committed}
 use Rattle.stm_compile.specs.Conflicts.{Seen, seen_by, seen_in}
@@ -35,7 +34,6 @@ use Rattle.stm_events.specs.declared.event.WorldEvent.TheVariants.{Start, Step, 
 use Rattle.stm_events.specs.declared.event.WorldEvent.TheVariants.{WatchKey, WatchRange, Poll, Cancel, Compact}
 use Rattle.stm_events.specs.declared.reply.Reply.{Reply}
 use Rattle.stm_events.specs.declared.reply.Reply.TheVariants.{Started, Prefetched, Fetched, Conflict, GaveUp, Aborted, Faulted, Ended}
-use Rattle.stm_events.specs.declared.refusal.Refusal.TheVariants.{BadLimit}
 use Rattle.stm_events.specs.Replies.{store_after_call, store_after_poll}
 use Rattle.stm_world.specs.Task.{Task, answer_at, modified_now, after_list, after_fetch, after_conflict}
 use Rattle.stm_world.specs.World.{World, Runner, Slot, Over, Live, runner_at, with_slot, refused, replied, begin, start_runner, fetch, fetch_list, entry_of}
@@ -54,9 +52,9 @@ use Rattle.stm_entries.proofs.Replaying.{replay_goes_on, all_legal}
 use Rattle.stm_entries.specs.Entered.{if_taken, if_changed, expiries}
 use Rattle.stm_events.specs.declared.reply.Reply.{Reply}
 use Rattle.stm_events.specs.declared.refusal.Denied.{Denied}
-use Rattle.stm_events.specs.Replies.{denied, reply_to, advance_reply, poll_reply}
-use Rattle.stm_events.specs.declared.refusal.Refusal.TheVariants.{NoRunner}
-use Rattle.stm_events.specs.declared.reply.Reply.TheVariants.{Txn as TxnDone, Granted, Kept, Revoked, Watching, Cancelled, Compacted}
+use Rattle.stm_events.specs.Replies.{txn_reply, refusal_of, denied, reply_to, advance_reply, poll_reply}
+use Rattle.stm_events.specs.declared.refusal.EventRefusal.TheVariants.{BadLimit, NoRunner, TooManyOps as TooManyOpsRefusal, Compacted as CompactedRefusal}
+use Rattle.stm_events.specs.declared.reply.Reply.TheVariants.{Granted, Kept, Revoked, Watching, Cancelled, Compacted}
 use Rattle.stm_world.specs.World.{Stepped, world_after}
 use Rattle.stm_world.specs.Appended.{HasAppended, EventsAppend}
 use Rattle.stm_world.proofs.SoundSteps.{world_with}
@@ -140,7 +138,7 @@ decided_appends w id r run done (Some failed) x comes_to some =
 commit_by : (w : World) (id : ℕ) (r : Runner) (run : Run) (o : Result Done StoreRefusal) → IsDone w r run →
     committed (terms_of w.standing) r.task.level r.known.reads run ≡ o → Appends w (commit_reported id r r.known.reads run o w)
 commit_by w id r run (Ok done) x is = decided_appends w id r run done done.answer.failed x is refl
-commit_by w id r run (Err cause) x is = ended_appends w id (Ended id cause)
+commit_by w id r run (Err cause) x is = ended_appends w id (Ended id (refusal_of cause))
 
 commit_appends : (w : World) (id : ℕ) (r : Runner) (run : Run) → IsDone w r run → Appends w (commit id r r.known.reads run w)
 unfolding commit
@@ -192,7 +190,7 @@ event_appends (Step id) w sound = runner_by w id (runner_at id w.runners) sound 
 event_appends (Txn txn) w sound =
     let s : Standing = w.standing in
     let next : Standing = store_after_call s (transacted s txn) in
-    called_appends w (reply_to TxnDone (transacted s txn)) next (if_changed s next txn) (txn_follows s txn sound.limit)
+    called_appends w (reply_to txn_reply (transacted s txn)) next (if_changed s next txn) (txn_follows s txn sound.limit)
 event_appends (Grant lease ttl) w sound =
     let s : Standing = w.standing in
     let o = granted s lease ttl in

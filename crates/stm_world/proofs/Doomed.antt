@@ -120,7 +120,7 @@ reply_is_real start log id task (Ok (Committed runner revision attempts output t
 reply_is_real start log id task (Ok (Aborted runner text)) runs right = tt
 reply_is_real start log id task (Ok (Faulted runner fault)) runs right = tt
 reply_is_real start log id task (Ok (Ended runner cause)) runs right = tt
-reply_is_real start log id task (Ok (TxnDone answer)) runs right = tt
+reply_is_real start log id task (Ok (TxnDone succeeded revision answers)) runs right = tt
 reply_is_real start log id task (Ok (Granted lease)) runs right = tt
 reply_is_real start log id task (Ok (Kept lease)) runs right = tt
 reply_is_real start log id task (Ok (Revoked lease revision)) runs right = tt
@@ -207,7 +207,7 @@ reply_is_of_one_state start log id task (Ok (Committed runner revision attempts 
 reply_is_of_one_state start log id task (Ok (Conflict runner key seen now)) w f some runs right = tt
 reply_is_of_one_state start log id task (Ok (GaveUp runner attempts key seen now)) w f some runs right = tt
 reply_is_of_one_state start log id task (Ok (Ended runner cause)) w f some runs right = tt
-reply_is_of_one_state start log id task (Ok (TxnDone answer)) w f some runs right = tt
+reply_is_of_one_state start log id task (Ok (TxnDone succeeded revision answers)) w f some runs right = tt
 reply_is_of_one_state start log id task (Ok (Granted lease)) w f some runs right = tt
 reply_is_of_one_state start log id task (Ok (Kept lease)) w f some runs right = tt
 reply_is_of_one_state start log id task (Ok (Revoked lease revision)) w f some runs right = tt

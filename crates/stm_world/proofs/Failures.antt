@@ -100,7 +100,7 @@ failed_by id failed conflicts over (Ok (Committed runner revision attempts outpu
 failed_by id failed conflicts over (Ok (Aborted runner text)) on none = on (of_both (nat_eq runner id) over none).1
 failed_by id failed conflicts over (Ok (Faulted runner fault)) on none = on (of_both (nat_eq runner id) over none).1
 failed_by id failed conflicts over (Ok (Ended runner cause)) on none = on (of_both (nat_eq runner id) over none).1
-failed_by id failed conflicts over (Ok (TxnDone answer)) on none = on none
+failed_by id failed conflicts over (Ok (TxnDone succeeded revision answers)) on none = on none
 failed_by id failed conflicts over (Ok (Granted lease)) on none = on none
 failed_by id failed conflicts over (Ok (Kept lease)) on none = on none
 failed_by id failed conflicts over (Ok (Revoked lease revision)) on none = on none
@@ -304,7 +304,7 @@ step_moves_on start log id task (Ok (Ended runner cause)) runs right all =
     (λ other is. about_others id other (Ended id cause) is refl)
     (ends_by start log id task (Ended id cause) runs (same_number id) refl refl (all id) grows))
 step_moves_on start log id task (Ok (Started runner)) runs right all = absurd right
-step_moves_on start log id task (Ok (TxnDone answer)) runs right all = absurd right
+step_moves_on start log id task (Ok (TxnDone succeeded revision answers)) runs right all = absurd right
 step_moves_on start log id task (Ok (Granted lease)) runs right all = absurd right
 step_moves_on start log id task (Ok (Kept lease)) runs right all = absurd right
 step_moves_on start log id task (Ok (Revoked lease revision)) runs right all = absurd right

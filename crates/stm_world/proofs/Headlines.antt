@@ -21,10 +21,10 @@ use Rattle.stm_events.specs.declared.event.WorldEvent.{WorldEvent}
 use Rattle.stm_events.specs.declared.event.WorldEvent.TheVariants.{Start, Step, Txn, Grant, Keep, Revoke, Advance}
 use Rattle.stm_events.specs.declared.event.WorldEvent.TheVariants.{WatchKey, WatchRange, Poll, Cancel, Compact}
 use Rattle.stm_events.specs.declared.reply.Reply.{Reply}
-use Rattle.stm_events.specs.declared.reply.Reply.TheVariants.{Started, Txn as TxnDone, Granted, Kept, Revoked, Watching, Cancelled, Compacted, Lost}
-use Rattle.stm_events.specs.declared.refusal.Refusal.TheVariants.{BadLimit, NoRunner}
+use Rattle.stm_events.specs.declared.reply.Reply.TheVariants.{Started, Granted, Kept, Revoked, Watching, Cancelled, Compacted, Lost}
+use Rattle.stm_events.specs.declared.refusal.EventRefusal.TheVariants.{BadLimit, NoRunner}
 use Rattle.stm_events.specs.declared.refusal.Denied.{Denied}
-use Rattle.stm_events.specs.Replies.{denied, reply_to, store_after_call, advance_reply, batch_reply, poll_reply}
+use Rattle.stm_events.specs.Replies.{txn_reply, denied, reply_to, store_after_call, advance_reply, batch_reply, poll_reply}
 use Rattle.stm_world.specs.Task.{Task}
 use Rattle.stm_world.specs.Log.{Line, begun, running, started, store, runner_started, if_reported, expired_reported, entries_reported, known_after_log}
 use Rattle.stm_world.specs.Right.{RunnerIsRight}
@@ -179,8 +179,8 @@ event_follows start log runners entries (Txn txn) laws f =
     let o = transacted s txn in
     record {
       standing = refl;
-      follows = no_runner_touched start log runners entries (if_changed s (store_after_call s o) txn) (Txn txn) (reply_to (TxnDone) o) f refl
-          (no_number (TxnDone) o (λ x. refl)) (λ id. by_call id (TxnDone) o (λ x. by_reply id (TxnDone x) refl)) refl
+      follows = no_runner_touched start log runners entries (if_changed s (store_after_call s o) txn) (Txn txn) (reply_to txn_reply o) f refl
+          (no_number txn_reply o (λ x. refl)) (λ id. by_call id txn_reply o (λ x. by_reply id (txn_reply x) refl)) refl
           (txn_follows s txn (store_limit start log));
     }
 event_follows start log runners entries (Grant lease ttl) laws f =

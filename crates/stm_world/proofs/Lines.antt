@@ -11,10 +11,10 @@ use Rattle.stm_events.specs.declared.event.WorldEvent.{WorldEvent}
 use Rattle.stm_events.specs.declared.event.WorldEvent.TheVariants.{Start, Step, Txn, Grant, Keep, Revoke, Advance}
 use Rattle.stm_events.specs.declared.event.WorldEvent.TheVariants.{WatchKey, WatchRange, Poll, Cancel, Compact}
 use Rattle.stm_events.specs.declared.reply.Reply.{Reply}
-use Rattle.stm_events.specs.declared.reply.Reply.TheVariants.{Started, Txn as TxnDone, Granted, Kept, Revoked, Watching, Cancelled, Compacted, Lost}
-use Rattle.stm_events.specs.declared.refusal.Refusal.TheVariants.{NoRunner}
+use Rattle.stm_events.specs.declared.reply.Reply.TheVariants.{Started, Granted, Kept, Revoked, Watching, Cancelled, Compacted, Lost}
+use Rattle.stm_events.specs.declared.refusal.EventRefusal.TheVariants.{NoRunner}
 use Rattle.stm_events.specs.declared.refusal.Denied.{Denied}
-use Rattle.stm_events.specs.Replies.{denied, reply_to, advance_reply, batch_reply, poll_reply}
+use Rattle.stm_events.specs.Replies.{txn_reply, denied, reply_to, advance_reply, batch_reply, poll_reply}
 use Rattle.stm_world.specs.Task.{Task}
 use Rattle.stm_world.specs.Log.{Line, running, started, store}
 use Rattle.stm_world.specs.Right.{IsRight, StepIsRight, RunnerIsRight, StartIsRight, situation}
@@ -96,8 +96,8 @@ by_event start log P nothing begins stepped (Start program level limit) reply ri
 by_event start log P nothing begins stepped (Step id) reply right =
     runner_judged start log id (P (Step id)) (running id log) refl (nothing (Step id)) (stepped id) reply right
 by_event start log P nothing begins stepped (Txn txn) reply right = subst (P (Txn txn)) (sym right)
-    (nothing (Txn txn) (reply_to TxnDone (transacted (store start log) txn))
-    (nothing_by_call TxnDone (transacted (store start log) txn) (λ x. record { no_failure = refl; no_stop = refl; untouched = λ id. by_reply id (TxnDone x) refl })))
+    (nothing (Txn txn) (reply_to txn_reply (transacted (store start log) txn))
+    (nothing_by_call txn_reply (transacted (store start log) txn) (λ x. record { no_failure = refl; no_stop = refl; untouched = λ id. by_reply id (txn_reply x) refl })))
 by_event start log P nothing begins stepped (Grant lease ttl) reply right = subst (P (Grant lease ttl)) (sym right)
     (nothing (Grant lease ttl) (reply_to (λ _. Granted lease) (granted (store start log) lease ttl))
     (nothing_by_call (λ _. Granted lease) (granted (store start log) lease ttl) (λ x. record { no_failure = refl; no_stop = refl; untouched = λ id. by_reply id (Granted lease) refl })))

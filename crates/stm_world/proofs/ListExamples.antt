@@ -1,8 +1,6 @@
 -- Worked examples of programs with lists and of a store with a limit, computed by the definitions.
 use Rattle.std.proofs.Common.{◌≡◌, refl, ℕ, true, List, [], ◌∷◌, ◌++◌, Some, None, Ok}
 use Rattle.std.specs.Prelude.{codes, Result}
-use Rattle.stm_history.specs.declared.key_state.KeyState.{KeyState}
-use Rattle.stm_history.specs.declared.key_state.ReadAnswer.{ReadAnswer}
 use Rattle.stm_program.specs.Syntax.{ProgramTree, Statement, End as EndBlock, Then, Text, Get, Put as PutStatement, Emit}
 use Rattle.stm_program.specs.Writes.{last_write, latest_writes}
 use Rattle.stm_program.specs.declared.level.Level.{Level}
@@ -16,8 +14,9 @@ use Rattle.stm_steps.specs.declared.trace_item.TraceItem.TheVariants as seen
 use Rattle.stm_meaning.specs.Meaning.{evaluate, run_block, run_over}
 use Rattle.stm_attempt.specs.Settled.{settle}
 use Rattle.stm_outcome.specs.declared.txn.Op.TheVariants.{Put}
-use Rattle.stm_outcome.specs.declared.answer.OpAnswer.TheVariants.{Put as PutAnswer}
-use Rattle.stm_outcome.specs.declared.refusal.Refusal.TheVariants.{TooManyOps}
+use Rattle.stm_events.specs.declared.reply.CommittedRead.{CommittedRead}
+use Rattle.stm_events.specs.declared.reply.OpReply.TheVariants.{Put as PutReply}
+use Rattle.stm_events.specs.declared.refusal.EventRefusal.TheVariants.{TooManyOps}
 use Rattle.stm_txn.specs.Standing.{at_revision}
 use Rattle.stm_events.specs.declared.event.WorldEvent.{WorldEvent}
 use Rattle.stm_events.specs.declared.event.WorldEvent.TheVariants.{Start, Step, Txn}
@@ -32,7 +31,7 @@ abbrev put : List ℕ → WorldEvent
 put key = Txn (record { compares = []; success = Put key (codes "1") 0 ∷ []; failure = [] })
 
 abbrev is_put : ℕ → Result Reply Denied
-is_put revision = Ok (TxnDone (record { succeeded = true; revision = revision; answers = PutAnswer ∷ []; failed = None }))
+is_put revision = Ok (TxnDone true revision (PutReply ∷ []))
 
 abbrev read : List ℕ → ℕ → KeyRead
 read key mod_rev = record { key = key; mod_rev = mod_rev }
@@ -68,12 +67,9 @@ list_is_fetched_again : replies_to (raced RepeatableReads ++ Step 1 ∷ []) (ope
 unfolding start_runner fetch commit step_live settle run_over run_block evaluate key_in get_key last_write latest_writes fresh
 list_is_fetched_again = refl
 
-abbrev first_put : ℕ → KeyState
-first_put revision = record { value = codes "1"; create_rev = revision; mod_rev = revision; version = 1; lease = 0 }
-
-abbrev both_answers : List ReadAnswer
+abbrev both_answers : List CommittedRead
 both_answers =
-    record { key = codes "p"; kv = Some (first_put 2); of_rev = 2; revision = 2 } ∷ record { key = codes "q"; kv = None; of_rev = 2; revision = 2 } ∷ []
+    record { key = codes "p"; value = Some (codes "1"); mod_rev = 2; of_rev = 2 } ∷ record { key = codes "q"; value = None; mod_rev = 0; of_rev = 2 } ∷ []
 
 -- at read committed both are among the answers that are reported
 list_is_reported : replies_to (raced ReadCommitted) (opened (at_revision 1))

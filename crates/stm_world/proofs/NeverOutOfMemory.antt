@@ -1,5 +1,5 @@
 -- Nothing that is defined is refused as out of memory.
-use Rattle.std.proofs.Common.{◌≡◌, ◌≢◌, inl, inr, ℕ, Bool, true, false, cond, List, map, length, Option, Some, None, Result, Ok, Err, sym, ap}
+use Rattle.std.proofs.Common.{◌≡◌, ◌≢◌, inl, inr, ℕ, Bool, true, false, cond, List, map, length, Option, Some, None, Result, Ok, Err, sym, ap, subst}
 use Rattle.std.specs.Prelude.{nat_eq, nat_le, nat_lt, not}
 use Rattle.std.specs.List.{list_any}
 use Rattle.std.specs.FinMap as finmap
@@ -37,11 +37,12 @@ use Rattle.stm_events.specs.declared.event.WorldEvent.{WorldEvent}
 use Rattle.stm_events.specs.declared.event.WorldEvent.TheVariants.{Start, Step, Txn, Grant, Keep, Revoke, Advance}
 use Rattle.stm_events.specs.declared.event.WorldEvent.TheVariants.{WatchKey, WatchRange, Poll, Cancel, Compact}
 use Rattle.stm_events.specs.declared.reply.Reply.{Reply}
-use Rattle.stm_events.specs.declared.reply.Reply.TheVariants.{Ended, Txn as TxnDone, Granted, Kept, Revoked, Watching as WatchingReply, Cancelled, Compacted}
+use Rattle.stm_events.specs.declared.reply.Reply.TheVariants.{Ended, Granted, Kept, Revoked, Watching as WatchingReply, Cancelled, Compacted}
 use Rattle.stm_events.specs.declared.refusal.Denied.{Denied}
-use Rattle.stm_events.specs.declared.refusal.Refusal.{Refusal as WorldRefusal}
-use Rattle.stm_events.specs.declared.refusal.Refusal.TheVariants.{Store, BadLimit, NoRunner}
-use Rattle.stm_events.specs.Replies.{reply_to, advance_reply}
+use Rattle.stm_events.specs.declared.refusal.EventRefusal.{EventRefusal}
+use Rattle.stm_events.specs.declared.refusal.EventRefusal.TheVariants.{OutOfMemory as OutOfMemoryEvent, BadLimit, NoRunner}
+use Rattle.stm_events.proofs.Refusals.{one_cause}
+use Rattle.stm_events.specs.Replies.{txn_reply, refusal_of, reply_to, advance_reply}
 use Rattle.stm_world.specs.Task.{Task}
 use Rattle.stm_world.specs.Log.{Line, running, store}
 use Rattle.stm_world.specs.Right.{Situation, Commits, IsRefused, RunnerIsRight, IsRight, situation}
@@ -150,30 +151,30 @@ no_cause None never is = absurd (cc)
 no_cause (Some cause) never is = let same : cause ≡ OutOfMemory = cc in never same
 
 -- the cause of a refusal, and another one where a reply is none
-abbrev cause_of : Result Reply Denied → WorldRefusal
+abbrev cause_of : Result Reply Denied → EventRefusal
 cause_of (Ok reply) = NoRunner
 cause_of (Err refusal) = refusal.cause
 
 -- a refusal as out of memory
 abbrev wanting : List Expired → Result Reply Denied
-wanting expired = Err (record { cause = Store OutOfMemory; expired = expired })
+wanting expired = Err (record { cause = OutOfMemoryEvent; expired = expired })
 
-call_for : {A : Type 0} (report : A → Reply) (o : Result (StoreStep A) Refusal) → NeverWants o → Store OutOfMemory ≡ cause_of (reply_to report o) → ⊥
+call_for : {A : Type 0} (report : A → Reply) (o : Result (StoreStep A) Refusal) → NeverWants o → OutOfMemoryEvent ≡ cause_of (reply_to report o) → ⊥
 call_for report (Ok done) never is = absurd (cc)
-call_for report (Err cause) never is = let same : OutOfMemory ≡ cause = cc in never (sym same)
+call_for report (Err cause) never is = never (one_cause cause OutOfMemory (sym is))
 
-advance_for : (moment : ℕ) (expired : List Expired) (o : Option Refusal) → NoOutOfMemory o → Store OutOfMemory ≡ cause_of (advance_reply moment expired o) → ⊥
+advance_for : (moment : ℕ) (expired : List Expired) (o : Option Refusal) → NoOutOfMemory o → OutOfMemoryEvent ≡ cause_of (advance_reply moment expired o) → ⊥
 advance_for moment expired None never is = absurd (cc)
-advance_for moment expired (Some cause) never is = let same : OutOfMemory ≡ cause = cc in never (sym same)
+advance_for moment expired (Some cause) never is = never (one_cause cause OutOfMemory (sym is))
 
 runner_for_want : (start : Setup) (log : List Line) (id : ℕ) (o : Option Task) (expired : List Expired) → RunnerIsRight start log id o (wanting expired) → ⊥
-runner_for_want start log id None expired right = let same : Store OutOfMemory ≡ NoRunner = ap cause_of right in absurd (cc)
+runner_for_want start log id None expired right = let same : OutOfMemoryEvent ≡ NoRunner = ap cause_of right in absurd (cc)
 runner_for_want start log id (Some task) expired right = right
 
 refusal : (start : Setup) (log : List Line) (event : WorldEvent) (expired : List Expired) → IsRight start log event (wanting expired) → ⊥
-refusal start log (Start program level limit) expired right = let same : Store OutOfMemory ≡ BadLimit = ap (λ (d : Denied). d.cause) right.0 in absurd (cc)
+refusal start log (Start program level limit) expired right = let same : OutOfMemoryEvent ≡ BadLimit = ap (λ (d : Denied). d.cause) right.0 in absurd (cc)
 refusal start log (Step id) expired right = runner_for_want start log id (running id log) expired right
-refusal start log (Txn txn) expired right = let s : Standing = store start log in call_for TxnDone (transacted s txn) (transacted_never s txn) (ap cause_of right)
+refusal start log (Txn txn) expired right = let s : Standing = store start log in call_for txn_reply (transacted s txn) (transacted_never s txn) (ap cause_of right)
 refusal start log (Grant id ttl) expired right =
     let s : Standing = store start log in call_for (λ _. Granted id) (granted s id ttl) (granted_never s id ttl) (ap cause_of right)
 refusal start log (Keep id) expired right =
@@ -190,7 +191,7 @@ refusal start log (WatchRange first end from) expired right =
     call_for WatchingReply (watched s (Range first end) from) (watched_never s (Range first end) from) (ap cause_of right)
 refusal start log (Poll watcher most) expired right =
     let s : Standing = store start log in
-    poll_reported (λ (r : Result Reply Denied). Store OutOfMemory ≡ cause_of r → ⊥) s watcher most (λ batch is. absurd (cc)) (λ is. absurd (cc))
+    poll_reported (λ (r : Result Reply Denied). OutOfMemoryEvent ≡ cause_of r → ⊥) s watcher most (λ batch is. absurd (cc)) (λ is. absurd (cc))
     (λ is. absurd (cc)) (ap cause_of right)
 refusal start log (Cancel watcher) expired right =
     let s : Standing = store start log in
@@ -209,9 +210,12 @@ refused_for at (inl c) = commits_for at c
 refused_for at (inr (inl (same, behind))) = absurd (cc)
 refused_for at (inr (inr (same, overfull))) = absurd (cc)
 
-end_for : (start : Setup) (log : List Line) (id runner : ℕ) (o : Option Task) → RunnerIsRight start log id o (Ok (Ended runner OutOfMemory)) → ⊥
+end_for : (start : Setup) (log : List Line) (id runner : ℕ) (o : Option Task) → RunnerIsRight start log id o (Ok (Ended runner OutOfMemoryEvent)) → ⊥
 end_for start log id runner None right = absurd (cc)
-end_for start log id runner (Some task) right = refused_for (situation start log id task) right.1
+end_for start log id runner (Some task) right =
+    let ended = right.1 in
+    refused_for (situation start log id task)
+    (subst (IsRefused (situation start log id task)) (one_cause ended.by_store OutOfMemory (sym ended.named)) ended.refused)
 
 pub never_out_of_memory : NeverOutOfMemory
 never_out_of_memory = record {

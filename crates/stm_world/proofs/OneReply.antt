@@ -30,6 +30,7 @@ use Rattle.stm_events.specs.declared.reply.Reply.{Reply}
 use Rattle.stm_events.specs.declared.reply.Reply.TheVariants.{Started, Prefetched, Fetched, Committed, Conflict, GaveUp, Aborted, Faulted, Ended}
 use Rattle.stm_events.specs.declared.reply.Reply.TheVariants.{Txn as TxnDone, Granted, Kept, Revoked, Advanced, Watching, Batch, Cancelled, Compacted, Lost}
 use Rattle.stm_events.specs.declared.refusal.Denied.{Denied}
+use Rattle.stm_events.specs.Replies.{committed_read, refusal_of}
 use Rattle.stm_world.specs.Task.{Task, modified_now}
 use Rattle.stm_entries.specs.Entered.{answers_kept}
 use Rattle.stm_world.specs.Log.{Line, IsLogOf, running, started}
@@ -45,13 +46,14 @@ by_limit at seen modified true = Conflict at.id seen.key seen.mod_rev modified
 by_limit at seen modified false = GaveUp at.id (at.failures + 1) seen.key seen.mod_rev modified
 
 abbrev by_compare : Situation → Run → Done → Option FailedCompare → Reply
-by_compare at run done None = Committed at.id (now done.history) (at.failures + 1) run.output run.trace (answers_kept at.task.level at.reads)
+by_compare at run done None = Committed at.id (now done.history) (at.failures + 1) run.output run.trace
+    (map committed_read (answers_kept at.task.level at.reads))
 by_compare at run done (Some failed) =
     by_limit at (seen_in (slice_get (seen_by at.reads (latest_writes run.writes)) failed.index)) failed.mod_rev (nat_lt (at.failures + 1) at.task.limit)
 
 abbrev by_commit : Situation → Run → Result Done StoreRefusal → Reply
 by_commit at run (Ok done) = by_compare at run done done.answer.failed
-by_commit at run (Err cause) = Ended at.id cause
+by_commit at run (Err cause) = Ended at.id (refusal_of cause)
 
 abbrev by_end : Situation → Run → End → Reply
 by_end at run DoneEnd = by_commit at run (committed (terms_of at.store) at.task.level at.reads run)
@@ -63,7 +65,7 @@ fetched_at at key of_rev = Fetched at.id key (mod_of (key_at at.store.history ke
 
 -- by whether the base is compacted
 abbrev by_base : Situation → List ℕ → Bool → Reply
-by_base at key true = Ended at.id CompactedRefusal
+by_base at key true = Ended at.id (refusal_of CompactedRefusal)
 by_base at key false = fetched_at at key (revision_read at.store.history (at_of at.task.level at.reads))
 
 abbrev by_run : Situation → Answered → Reply
@@ -72,7 +74,7 @@ by_run at (EndedRun run) = by_end at run run.end
 
 -- by whether the list has too many keys
 abbrev by_count : Situation → Bool → Reply
-by_count at true = Ended at.id TooManyOpsRefusal
+by_count at true = Ended at.id (refusal_of TooManyOpsRefusal)
 by_count at false = Prefetched at.id (now at.store.history) (map (modified_now at.store.history) at.task.program.prefetch)
 
 -- and by whether it is due
@@ -99,13 +101,13 @@ by_conflict at key seen now_modified c more left =
     ∙ ap (by_limit at c.conflict.seen c.failed.mod_rev) left
 
 -- so does the refusal of what the step asks of the store
-by_refusal : (at : Situation) (cause : StoreRefusal) → IsRefused at cause → reply_at at ≡ Ended at.id cause
+by_refusal : (at : Situation) (cause : StoreRefusal) → IsRefused at cause → reply_at at ≡ Ended at.id (refusal_of cause)
 by_refusal at cause (inl c) = by_outcome at (Err cause) c
 by_refusal at cause (inr (inr (same, overfull))) =
     ap (by_list at) overfull.due ∙ ap (by_count at) (lt-ltb at.store.limit (length at.task.program.prefetch) overfull.many)
-    ∙ ap (λ (e : StoreRefusal). Ended at.id e) (sym same)
+    ∙ ap (λ (e : StoreRefusal). Ended at.id (refusal_of e)) (sym same)
 by_refusal at cause (inr (inl (same, behind))) =
-    ap (by_list at) behind.has_list ∙ ap (by_run at) behind.wants ∙ ap (by_base at behind.key) behind.compacted ∙ ap (λ (e : StoreRefusal). Ended at.id e) (sym same)
+    ap (by_list at) behind.has_list ∙ ap (by_run at) behind.wants ∙ ap (by_base at behind.key) behind.compacted ∙ ap (λ (e : StoreRefusal). Ended at.id (refusal_of e)) (sym same)
 
 one_reply : (at : Situation) (reply : Reply) → ReplyIsRight at reply → reply ≡ reply_at at
 one_reply at (Prefetched runner revision reads) right =
@@ -137,9 +139,12 @@ one_reply at (Aborted runner text) right =
     ap (λ n. Aborted n text) right.0 ∙ sym (by_stop at right.1.run (AbortedEnd text) right.1.has_list right.1.is_run right.1.ended)
 one_reply at (Faulted runner fault) right =
     ap (λ n. Faulted n fault) right.0 ∙ sym (by_stop at right.1.run (FaultedEnd fault) right.1.has_list right.1.is_run right.1.ended)
-one_reply at (Ended runner cause) right = ap (λ n. Ended n cause) right.0 ∙ sym (by_refusal at cause right.1)
+one_reply at (Ended runner cause) right =
+    let ended = right.1 in
+    let reported : Ended runner cause ≡ Ended at.id (refusal_of ended.by_store) = (λ i. Ended (right.0 i) (ended.named i)) in
+    reported ∙ sym (by_refusal at ended.by_store ended.refused)
 one_reply at (Started runner) right = absurd right
-one_reply at (TxnDone answer) right = absurd right
+one_reply at (TxnDone succeeded revision answers) right = absurd right
 one_reply at (Granted lease) right = absurd right
 one_reply at (Kept lease) right = absurd right
 one_reply at (Revoked lease revision) right = absurd right

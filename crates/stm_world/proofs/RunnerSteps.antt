@@ -13,6 +13,8 @@ use Rattle.stm_steps.specs.declared.run.End.TheVariants.{Done as DoneEnd, Aborte
 use Rattle.stm_steps.specs.declared.run.Run.{Run}
 use Rattle.stm_steps.specs.declared.run.Answered.{Answered}
 use Rattle.stm_steps.specs.declared.run.Answered.TheVariants.{Ended as EndedRun, Wants}
+use Rattle.stm_meaning.specs.Answer.{Lookup}
+use Rattle.stm_meaning.specs.Meaning.{run_over}
 use Rattle.stm_outcome.specs.declared.answer.FailedCompare.{FailedCompare}
 use Rattle.stm_outcome.specs.declared.refusal.Refusal.{Refusal as StoreRefusal}
 use Rattle.stm_outcome.specs.Outcome.{Done}
@@ -31,11 +33,15 @@ use Rattle.stm_attempt.specs.Entering.{is_due}
 use Rattle.stm_attempt.specs.Fetches.{at_of}
 use Rattle.stm_entries.specs.declared.entry.Entry.{Entry}
 use Rattle.stm_entries.specs.Replayed.{Replayed, without_moment}
+use Rattle.stm_entries.specs.Alone.{left_by_run}
 use Rattle.stm_entries.specs.Entered.{answers_kept}
 use Rattle.stm_events.specs.declared.event.WorldEvent.TheVariants.{Step}
 use Rattle.stm_events.specs.declared.reply.Reply.{Reply}
 use Rattle.stm_events.specs.declared.reply.Reply.TheVariants.{Prefetched, Fetched, Committed, Conflict, GaveUp, Aborted, Faulted, Ended}
 use Rattle.stm_events.specs.declared.reply.KeyRead.{KeyRead}
+use Rattle.stm_events.specs.declared.reply.CommittedRead.{CommittedRead}
+use Rattle.stm_events.specs.Replies.{committed_read, refusal_of}
+use Rattle.stm_events.proofs.ReportedReads.{seen_at_again}
 use Rattle.stm_world.specs.Task.{Task, answer_at, modified_now, after_list, after_fetch, after_conflict}
 use Rattle.stm_world.specs.Log.{Line, begun, is_over, running, failures, is_id, runner_started, runner_ended, store, known_after_log, with_commit, commit_entry}
 use Rattle.stm_world.specs.Log.{line_entries}
@@ -193,13 +199,19 @@ fetch_follows start log runners entries id task key trace x listed wants readabl
 list_follows : (start : Setup) (log : List Line) (runners : List Slot) (entries : List Entry) (id : ℕ) (task : Task) (many : Bool) →
     Runs start log runners entries id task → is_due task.program.prefetch (known_after_log start id task log).reads ≡ true →
     nat_lt (store start log).limit (length task.program.prefetch) ≡ many →
-    FollowsStep start log (Step id) (cond many (replied (Ended id TooManyOpsRefusal) id Over (world_at start log runners entries))
+    FollowsStep start log (Step id) (cond many (replied (Ended id (refusal_of TooManyOpsRefusal)) id Over (world_at start log runners entries))
     (replied (Prefetched id (now (store start log).history) (map (modified_now (store start log).history) task.program.prefetch)) id
     (Live (record { task = task; failures = failures id log; known = after_list task (store start log).history (known_after_log start id task log) }))
     (world_at start log runners entries)))
 list_follows start log runners entries id task true x due is =
-    ended_follows start log runners entries id task (Ended id TooManyOpsRefusal) x
-    (refl, inr (inr (refl, record { due = due; many = ltb-true (store start log).limit (length task.program.prefetch) is }))) refl refl refl refl refl
+    ended_follows start log runners entries id task (Ended id (refusal_of TooManyOpsRefusal)) x (
+      refl,
+      record {
+        by_store = TooManyOpsRefusal;
+        named = refl;
+        refused = inr (inr (refl, record { due = due; many = ltb-true (store start log).limit (length task.program.prefetch) is }));
+      },
+    ) refl refl refl refl refl
 list_follows start log runners entries id task false x due is =
     let h : History = (store start log).history in
     let reads : List KeyRead = map (modified_now h) task.program.prefetch in
@@ -219,12 +231,18 @@ list_follows start log runners entries id task false x due is =
 base_follows : (start : Setup) (log : List Line) (runners : List Slot) (entries : List Entry) (id : ℕ) (task : Task) (key : List ℕ) (trace : List TraceItem)
     (below : Bool) → Runs start log runners entries id task → HasList (situation start log id task) → run_on task.program (known_after_log start id task log).reads ≡ Wants key trace →
     is_below_floor (store start log).floor (at_of task.level (known_after_log start id task log).reads) ≡ below →
-    FollowsStep start log (Step id) (cond below (replied (Ended id CompactedRefusal) id Over (world_at start log runners entries))
+    FollowsStep start log (Step id) (cond below (replied (Ended id (refusal_of CompactedRefusal)) id Over (world_at start log runners entries))
     (fetch id (runner_for start log id task) key
     (revision_read (store start log).history (at_of task.level (known_after_log start id task log).reads)) (world_at start log runners entries)))
 base_follows start log runners entries id task key trace true x listed wants is =
-    ended_follows start log runners entries id task (Ended id CompactedRefusal) x
-    (refl, inr (inl (refl, record { has_list = listed; key = key; trace = trace; wants = wants; compacted = is }))) refl refl refl refl refl
+    ended_follows start log runners entries id task (Ended id (refusal_of CompactedRefusal)) x (
+      refl,
+      record {
+        by_store = CompactedRefusal;
+        named = refl;
+        refused = inr (inl (refl, record { has_list = listed; key = key; trace = trace; wants = wants; compacted = is }));
+      },
+    ) refl refl refl refl refl
 base_follows start log runners entries id task key trace false x listed wants is = fetch_follows start log runners entries id task key trace x listed wants is
 
 -- ---- a commit that failed ----
@@ -288,12 +306,15 @@ taken_follows start log runners entries id task run done law x listed is_run is_
     let takes : Takes s task reads run done =
     record { truth = reads_truth start log runners entries id task x; is_run = is_run; is_done = is_done; comes_to = is; succeeds = none } in
     let came : Taken s task reads run done = taken s task reads run done law takes in
-    let answers : List ReadAnswer = answers_kept task.level reads in
+    let answers : List CommittedRead = map committed_read (answers_kept task.level reads) in
     let reply : Reply = Committed id (now done.history) (failures id log + 1) run.output run.trace answers in
     let after : List Line = with_line (Step id) (Ok reply) log in
     let begun_is : begun id log ≡ Some task = begun_by (is_over id log) (begun id log) task x.running in
     let same : store start after ≡ with_history s done.history =
-    ap (with_commit s answers) begun_is ∙ ap (λ (r : Replayed). with_history s r.history) came.replayed in
+    ap (with_commit s answers) begun_is
+    ∙ ap (λ (look : Lookup). with_history s (left_by_run (run_over look task.program.statements) (without_moment s)).history)
+    (seen_at_again task.level (answers_kept task.level reads) s.history)
+    ∙ ap (λ (r : Replayed). with_history s r.history) came.replayed in
     let entry : Entry = entry_of task reads run (now done.history) in
     let well : IsWellRun start (runner_for start log id task) = well_run start log runners entries id task x in
     let left : failures id log < task.limit = well.within in
@@ -320,7 +341,7 @@ taken_follows start log runners entries id task run done law x listed is_run is_
             },
           ))
           refl (λ other ne. by_reply other reply ne) (over_now start log id reply refl) (λ r impossible. absurd (cc)) (λ r impossible. absurd (cc))
-          (sym (ap (commit_entry (now done.history) run.output run.trace answers) begun_is))
+          (sym (ap (commit_entry (now done.history) run.output run.trace (λ (t : Task). (known_after_log start id t log).reads)) begun_is))
           (subst (λ (y : Standing). EntriesFollow s y (entry ∷ [])) (sym same) (commit_follows_entry s task reads run done takes came));
     }
 
@@ -381,8 +402,14 @@ commit_follows : (start : Setup) (log : List Line) (runners : List Slot) (entrie
 commit_follows start log runners entries id task run (Ok done) laws x listed is_run is_done is =
     decided_follows start log runners entries id task run done done.answer.failed laws x listed is_run is_done is refl
 commit_follows start log runners entries id task run (Err cause) laws x listed is_run is_done is =
-    ended_follows start log runners entries id task (Ended id cause) x
-    (refl, inl (record { has_list = listed; run = run; is_run = is_run; is_done = is_done; comes_to = is })) refl refl refl refl refl
+    ended_follows start log runners entries id task (Ended id (refusal_of cause)) x (
+      refl,
+      record {
+        by_store = cause;
+        named = refl;
+        refused = inl (record { has_list = listed; run = run; is_run = is_run; is_done = is_done; comes_to = is });
+      },
+    ) refl refl refl refl refl
 
 done_follows : (start : Setup) (log : List Line) (runners : List Slot) (entries : List Entry) (id : ℕ) (task : Task) (run : Run) →
     CommitLaws → Runs start log runners entries id task → HasList (situation start log id task) →

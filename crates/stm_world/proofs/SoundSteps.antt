@@ -18,7 +18,6 @@ use Rattle.stm_outcome.specs.Commits.{revision_read}
 use Rattle.stm_txn.specs.Standing.{Standing, with_history, transacted, granted, kept_alive, revoked, advanced, Advance as StoreAdvance}
 use Rattle.stm_txn.specs.Standing.{watched, polled, cancelled, raised}
 use Rattle.stm_outcome.specs.Terms.{most_operations, is_below_floor}
-use Rattle.stm_outcome.specs.declared.refusal.Refusal.TheVariants.{TooManyOps as TooManyOpsRefusal, Compacted as CompactedRefusal}
 use Rattle.stm_txn.specs.Standing.{terms_of}
 use Rattle.stm_watch.specs.declared.watched.Watched.TheVariants.{Key, Range}
 use Rattle.stm_compile.specs.Committed.{committed}
@@ -40,8 +39,8 @@ use Rattle.stm_events.specs.declared.event.WorldEvent.TheVariants.{Start, Step, 
 use Rattle.stm_events.specs.declared.event.WorldEvent.TheVariants.{WatchKey, WatchRange, Poll, Cancel, Compact}
 use Rattle.stm_events.specs.declared.reply.Reply.{Reply}
 use Rattle.stm_events.specs.declared.reply.Reply.TheVariants.{Started, Prefetched, Fetched, Conflict, GaveUp, Aborted, Faulted, Ended}
-use Rattle.stm_events.specs.declared.refusal.Refusal.TheVariants.{BadLimit}
-use Rattle.stm_events.specs.Replies.{store_after_call, store_after_poll}
+use Rattle.stm_events.specs.declared.refusal.EventRefusal.TheVariants.{BadLimit, TooManyOps as TooManyOpsRefusal, Compacted as CompactedRefusal}
+use Rattle.stm_events.specs.Replies.{refusal_of, store_after_call, store_after_poll}
 use Rattle.stm_world.specs.Task.{Task, answer_at, modified_now, after_list, after_fetch, after_conflict}
 use Rattle.stm_world.specs.World.{World, Runner, Slot, Over, Live, live_in, runner_at, with_slot, refused, replied, begin, start_runner, fetch, fetch_list, entry_of}
 use Rattle.stm_world.specs.World.{take_commit, decided, commit_reported, commit, finish, step_on, step_live, step_runner}
@@ -214,7 +213,7 @@ commit_by : (w : World) (id : ℕ) (r : Runner) (run : Run) (o : Result Done Sto
     committed (terms_of w.standing) r.task.level r.known.reads run ≡ o →
     IsSound (commit_reported id r r.known.reads run o w).next
 commit_by w id r run (Ok done) law x is = decided_sound w id r run done done.answer.failed law x is refl
-commit_by w id r run (Err cause) law x is = ended_sound w id r (Ended id cause) x.sound x.found
+commit_by w id r run (Err cause) law x is = ended_sound w id r (Ended id (refusal_of cause)) x.sound x.found
 
 commit_sound : (w : World) (id : ℕ) (r : Runner) (run : Run) → CommitIsTheRunNow → IsDone w id r run → IsSound (commit id r r.known.reads run w).next
 unfolding commit

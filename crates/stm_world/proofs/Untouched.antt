@@ -124,7 +124,7 @@ by_reply id (GaveUp runner attempts key seen now) other = record { not_started =
 by_reply id (Aborted runner text) other = record { not_started = refl; not_ended = other; no_conflict = refl; known = λ task h k. refl }
 by_reply id (Faulted runner fault) other = record { not_started = refl; not_ended = other; no_conflict = refl; known = λ task h k. refl }
 by_reply id (Ended runner cause) other = record { not_started = refl; not_ended = other; no_conflict = refl; known = λ task h k. refl }
-by_reply id (TxnDone answer) other = record { not_started = refl; not_ended = refl; no_conflict = refl; known = λ task h k. refl }
+by_reply id (TxnDone succeeded revision answers) other = record { not_started = refl; not_ended = refl; no_conflict = refl; known = λ task h k. refl }
 by_reply id (Granted lease) other = record { not_started = refl; not_ended = refl; no_conflict = refl; known = λ task h k. refl }
 by_reply id (Kept lease) other = record { not_started = refl; not_ended = refl; no_conflict = refl; known = λ task h k. refl }
 by_reply id (Revoked lease revision) other = record { not_started = refl; not_ended = refl; no_conflict = refl; known = λ task h k. refl }

@@ -12,13 +12,13 @@ use Rattle.stm_watch.specs.declared.refusal.PollRefusal.TheVariants.{Compacted a
 use Rattle.stm_watch.specs.Keys.{first_key}
 use Rattle.stm_watch.specs.Pending.{watching_from, batch_of, after_poll}
 use Rattle.stm_watch.specs.Calls.{poll_found, watcher_at, is_one_lost, Step as WatchStep, cancelled as without_watcher}
-use Rattle.stm_outcome.specs.declared.refusal.Refusal.TheVariants.{NoWatcher, Compacted as CompactedRefusal, FutureRevision}
+use Rattle.stm_outcome.specs.declared.refusal.Refusal.TheVariants.{Compacted as CompactedRefusal, FutureRevision}
+use Rattle.stm_events.specs.declared.refusal.EventRefusal.TheVariants.{NoWatcher}
 use Rattle.stm_txn.specs.Standing.{Standing, AreKeptFor, HasKept, with_watchers, watch_step, watched, poll_step, polled, cancel_step, cancelled}
 use Rattle.stm_txn.specs.Standing.{with_floor, floor_step, raised}
 use Rattle.stm_events.specs.declared.reply.Reply.{Reply}
 use Rattle.stm_events.specs.declared.reply.Reply.TheVariants.{Lost}
 use Rattle.stm_events.specs.declared.refusal.Denied.{Denied}
-use Rattle.stm_events.specs.declared.refusal.Refusal.TheVariants.{Store}
 use Rattle.stm_events.specs.Replies.{denied, batch_reply, poll_reply, store_after_call, store_after_poll}
 use Rattle.stm_world.proofs.KeptFor.{kept_set, kept_by_watch, kept_by_poll, kept_by_compaction}
 use Rattle.stm_world.proofs.Truth.{keeps_same}
@@ -32,7 +32,7 @@ by_lost P s id true step batch lost = lost
 by_lost P s id false step batch lost = batch
 
 by_place : (P : Result Reply Denied → Type 0) (s : Standing) (id most : ℕ) (o : Option Watching) → ((batch : Batch) → P (Ok (batch_reply id batch))) →
-    P (Ok (Lost id s.floor)) → P (denied (Store NoWatcher)) → P (poll_reply id s.floor (poll_step s (poll_found s.history id most s.watchers o)))
+    P (Ok (Lost id s.floor)) → P (denied NoWatcher) → P (poll_reply id s.floor (poll_step s (poll_found s.history id most s.watchers o)))
 by_place P s id most None batch lost none = none
 by_place P s id most (Some w) batch lost none =
     by_lost P s id w.lost (record { answer = batch_of most s.history w; next = slice_set s.watchers (id - 1) (Some (after_poll most s.history w)) })
@@ -40,7 +40,7 @@ by_place P s id most (Some w) batch lost none =
 
 -- what holds of each batch, of a watcher that is lost and of none holds of the reply to a poll
 pub poll_reported : (P : Result Reply Denied → Type 0) (s : Standing) (id most : ℕ) → ((batch : Batch) → P (Ok (batch_reply id batch))) →
-    P (Ok (Lost id s.floor)) → P (denied (Store NoWatcher)) → P (poll_reply id s.floor (polled s id most))
+    P (Ok (Lost id s.floor)) → P (denied NoWatcher) → P (poll_reply id s.floor (polled s id most))
 poll_reported P s id most batch lost none = by_place P s id most (watcher_at id s.watchers) batch lost none
 
 -- ---- what each call leaves

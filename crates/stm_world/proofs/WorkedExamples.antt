@@ -30,7 +30,7 @@ use Rattle.stm_attempt.specs.Settled.{settle}
 use Rattle.stm_outcome.specs.declared.txn.Op.{Op}
 use Rattle.stm_outcome.specs.declared.txn.Op.TheVariants.{Put}
 use Rattle.stm_outcome.specs.declared.answer.OpAnswer.TheVariants.{Put as PutAnswer}
-use Rattle.stm_outcome.specs.declared.refusal.Refusal.TheVariants.{NoWatcher, EmptyKey, FutureRevision, Compacted as CompactedRefusal}
+use Rattle.stm_events.specs.declared.refusal.EventRefusal.TheVariants.{NoWatcher, EmptyKey, FutureRevision, Compacted as CompactedRefusal}
 use Rattle.stm_entries.specs.declared.entry.Entry.{Entry}
 use Rattle.stm_entries.specs.declared.entry.Entry.TheVariants.{Program}
 use Rattle.stm_events.specs.declared.event.WorldEvent.{WorldEvent}
@@ -38,7 +38,7 @@ use Rattle.stm_events.specs.declared.event.WorldEvent.TheVariants.{Start, Step, 
 use Rattle.stm_events.specs.declared.reply.Reply.{Reply}
 use Rattle.stm_events.specs.declared.reply.Reply.TheVariants.{Started, Fetched, Committed, Conflict, GaveUp, Aborted, Faulted, Txn as TxnDone, Watching, Batch, Compacted, Lost}
 use Rattle.stm_events.specs.declared.refusal.Denied.{Denied}
-use Rattle.stm_events.specs.declared.refusal.Refusal.TheVariants.{Store}
+use Rattle.stm_events.specs.declared.reply.OpReply.TheVariants.{Put as PutReply}
 use Rattle.stm_events.specs.Replies.{denied}
 use Rattle.stm_world.specs.Task.{Task}
 use Rattle.stm_world.specs.Log.{Line, IsLogOf, store}
@@ -95,10 +95,10 @@ none_asked = refl
 one_asked : reply_after three_watchers (Poll 3 1) ≡ Ok (Batch 3 2 (PutEvent (codes "b") (first_put 2) ∷ []))
 one_asked = refl
 
-cancelled_is_gone : reply_after three_watchers (Poll 2 1) ≡ denied (Store NoWatcher)
+cancelled_is_gone : reply_after three_watchers (Poll 2 1) ≡ denied NoWatcher
 cancelled_is_gone = refl
 
-cancelled_twice : reply_after three_watchers (Cancel 2) ≡ denied (Store NoWatcher)
+cancelled_twice : reply_after three_watchers (Cancel 2) ≡ denied NoWatcher
 cancelled_twice = refl
 
 number_is_not_used_again : reply_after three_watchers (WatchKey (codes "c") 9) ≡ Ok (Watching 4)
@@ -107,7 +107,7 @@ number_is_not_used_again = refl
 start_is_waited_for : reply_after (WatchKey (codes "c") 9 ∷ puts (put (codes "b") ∷ []) ∷ []) (Poll 1 5) ≡ Ok (Batch 1 8 [])
 start_is_waited_for = refl
 
-key_is_empty : reply_after [] (WatchRange [] (codes "c") 0) ≡ denied (Store EmptyKey)
+key_is_empty : reply_after [] (WatchRange [] (codes "c") 0) ≡ denied EmptyKey
 key_is_empty = refl
 
 end_is_not_watched : reply_after (WatchRange (codes "a") (codes "b") 0 ∷ puts (put (codes "b") ∷ []) ∷ []) (Poll 1 1) ≡ Ok (Batch 1 2 [])
@@ -129,7 +129,7 @@ taken_at_three = refl
 first_is_lost : reply_after compacted_at_three (Poll 1 9) ≡ Ok (Lost 1 3)
 first_is_lost = refl
 
-lost_is_gone : reply_after (compacted_at_three ++ Poll 1 9 ∷ []) (Poll 1 9) ≡ denied (Store NoWatcher)
+lost_is_gone : reply_after (compacted_at_three ++ Poll 1 9 ∷ []) (Poll 1 9) ≡ denied NoWatcher
 lost_is_gone = refl
 
 second_is_not_lost : reply_after compacted_at_three (Poll 2 9) ≡ Ok (Batch 2 3 [])
@@ -141,10 +141,10 @@ lost_from_its_start = refl
 from_the_floor_on : reply_after (compacted_at_three ++ WatchKey (codes "b") 3 ∷ []) (Poll 3 9) ≡ Ok (Batch 3 3 (PutEvent (codes "b") (first_put 3) ∷ []))
 from_the_floor_on = refl
 
-not_again : reply_after compacted_at_three (Compact 3) ≡ denied (Store CompactedRefusal)
+not_again : reply_after compacted_at_three (Compact 3) ≡ denied CompactedRefusal
 not_again = refl
 
-not_yet : reply_after compacted_at_three (Compact 4) ≡ denied (Store FutureRevision)
+not_yet : reply_after compacted_at_three (Compact 4) ≡ denied FutureRevision
 not_yet = refl
 
 -- ---- attempts that come to nothing: both keys are put twice, and a runner reads one before, and one after
@@ -154,7 +154,7 @@ both_put value = puts (Put (codes "x") value 0 ∷ Put (codes "y") value 0 ∷ [
 
 abbrev both_are_put : ℕ → Result Reply Denied
 both_are_put revision =
-    Ok (TxnDone (record { succeeded = true; revision = revision; answers = PutAnswer ∷ PutAnswer ∷ []; failed = None }))
+    Ok (TxnDone true revision (PutReply ∷ PutReply ∷ []))
 
 abbrev number_in : List ℕ → Expression
 number_in key = NumOf (Get (Text key))
@@ -196,7 +196,7 @@ abbrev copy_to : List ℕ → ProgramTree
 copy_to key = of_statements (Then (PutStatement (Text key) (Get (Text (codes "x"))) 0) EndBlock)
 
 abbrev one_is_put : ℕ → Result Reply Denied
-one_is_put revision = Ok (TxnDone (record { succeeded = true; revision = revision; answers = PutAnswer ∷ []; failed = None }))
+one_is_put revision = Ok (TxnDone true revision (PutReply ∷ []))
 
 abbrev overwritten : Level → List WorldEvent
 overwritten level = both_put (codes "1") ∷ Start (copy_to (codes "y")) level 1 ∷ Step 1 ∷ puts (put (codes "y") ∷ []) ∷ Step 1 ∷ []

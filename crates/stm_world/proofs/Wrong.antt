@@ -4,7 +4,6 @@ use Rattle.std.proofs.Common.{refl, sym, ◌∙◌, ap, subst, arith}
 use Rattle.std.specs.Prelude.{nat_eq, nat_lt, slice_set, Result}
 use Rattle.std.proofs.lemmas.Bool.{le-leb}
 use Rattle.std.specs.Cmp.{unsigned_Decides}
-use Rattle.stm_history.specs.declared.key_state.ReadAnswer.{ReadAnswer}
 use Rattle.stm_program.specs.Syntax.{ProgramTree}
 use Rattle.stm_program.specs.declared.level.Level.{Level}
 use Rattle.stm_steps.specs.declared.run.End.TheVariants.{Done as DoneEnd, Aborted as AbortedEnd}
@@ -21,6 +20,8 @@ use Rattle.stm_attempt.specs.Settled.{run_on}
 use Rattle.stm_attempt.specs.Entering.{is_due}
 use Rattle.std.proofs.lemmas.List.{length-map}
 use Rattle.stm_events.specs.declared.reply.KeyRead.{KeyRead}
+use Rattle.stm_events.specs.declared.reply.CommittedRead.{CommittedRead}
+use Rattle.stm_events.specs.declared.refusal.EventRefusal.{EventRefusal}
 use Rattle.stm_attempt.specs.Fetches.{at_of}
 use Rattle.stm_history.specs.History.{now}
 use Rattle.stm_events.specs.declared.event.WorldEvent.{WorldEvent}
@@ -30,7 +31,7 @@ use Rattle.stm_events.specs.declared.reply.Reply.{Reply}
 use Rattle.stm_events.specs.declared.reply.Reply.TheVariants.{Started, Prefetched, Fetched, Committed, Conflict, GaveUp, Aborted, Faulted, Ended}
 use Rattle.stm_events.specs.declared.reply.Reply.TheVariants.{Txn as TxnDone, Granted, Kept, Revoked, Advanced, Watching as WatchingReply, Batch, Cancelled, Compacted, Lost}
 use Rattle.stm_events.specs.declared.refusal.Denied.{Denied}
-use Rattle.stm_events.specs.declared.refusal.Refusal.TheVariants.{NoRunner}
+use Rattle.stm_events.specs.declared.refusal.EventRefusal.TheVariants.{NoRunner}
 use Rattle.stm_outcome.specs.declared.advance.Expired.{Expired}
 use Rattle.stm_outcome.specs.declared.refusal.Refusal.{Refusal as StoreRefusal}
 use Rattle.stm_outcome.specs.declared.refusal.Refusal.TheVariants.{Compacted as CompactedRefusal, FutureRevision}
@@ -44,7 +45,7 @@ use Rattle.stm_watch.specs.declared.watched.Watched.TheVariants.{Key, Range}
 use Rattle.stm_watch.specs.Watching.{Watching}
 use Rattle.stm_watch.specs.Pending.{pending, pending_events, batch_of, after_poll}
 use Rattle.stm_watch.specs.Calls.{watcher_at, poll_found}
-use Rattle.stm_events.specs.Replies.{denied, reply_to, advance_reply, poll_reply}
+use Rattle.stm_events.specs.Replies.{txn_reply, denied, reply_to, advance_reply, poll_reply}
 use Rattle.stm_world.specs.Task.{Task, modified_now}
 use Rattle.stm_world.specs.Log.{Line, begun, running, failures, started, is_start, runner_started, is_id, task_in, store, known_after_log}
 use Rattle.stm_world.specs.Right.{IsRight, AreRight, RunnerIsRight, Situation, HasList, ReplyIsRight, EndsWith, IsCommitted, IsRefused, situation}
@@ -95,7 +96,7 @@ given_next start log (Start program level limit) (Ok reply) id right named =
 given_next start log (Start program level limit) (Err refusal) id right named = absurd (cc)
 given_next start log (Step runner) reply id right named = let none = runner_gives_none start log runner (running runner log) reply right in absurd (cc)
 given_next start log (Txn txn) reply id right named =
-    let none = ap runner_started right ∙ call_gives_none TxnDone (transacted (store start log) txn) (λ x. refl) in absurd (cc)
+    let none = ap runner_started right ∙ call_gives_none txn_reply (transacted (store start log) txn) (λ x. refl) in absurd (cc)
 given_next start log (Grant lease ttl) reply id right named =
     let none = ap runner_started right ∙ call_gives_none (λ _. Granted lease) (granted (store start log) lease ttl) (λ x. refl) in absurd (cc)
 given_next start log (Keep lease) reply id right named =
@@ -155,7 +156,7 @@ another at (GaveUp r attempts key seen now) runner named right = let same : r �
 another at (Aborted r text) runner named right = let same : r ≡ runner = cc in sym same ∙ right.0
 another at (Faulted r fault) runner named right = let same : r ≡ runner = cc in sym same ∙ right.0
 another at (Ended r cause) runner named right = let same : r ≡ runner = cc in sym same ∙ right.0
-another at (TxnDone answer) runner named right = absurd right
+another at (TxnDone succeeded revision answers) runner named right = absurd right
 another at (Granted lease) runner named right = absurd right
 another at (Kept lease) runner named right = absurd right
 another at (Revoked lease revision) runner named right = absurd right
@@ -281,14 +282,14 @@ not_refused at key trace cause listed wants above (inr (inl (same, behind))) =
 not_refused at key trace cause listed wants above (inr (inr (same, overfull))) =
     let both : true ≡ false = sym overfull.due ∙ listed in absurd (cc)
 
-refused_fetch : (start : Setup) (log : List Line) (id : ℕ) (task : Task) (key : List ℕ) (trace : List TraceItem) (cause : StoreRefusal)
+refused_fetch : (start : Setup) (log : List Line) (id : ℕ) (task : Task) (key : List ℕ) (trace : List TraceItem) (cause : EventRefusal)
     → running id log ≡ Some task → is_due task.program.prefetch (known_after_log start id task log).reads ≡ false
     → run_on task.program (known_after_log start id task log).reads ≡ Wants key trace
     → is_below_floor (store start log).floor (at_of task.level (known_after_log start id task log).reads) ≡ false
     → IsRight start log (Step id) (Ok (Ended id cause)) → ⊥
 refused_fetch start log id task key trace cause runs listed wants above right =
-    not_refused (situation start log id task) key trace cause listed wants above
-    (subst (λ (o : Option Task). RunnerIsRight start log id o (Ok (Ended id cause))) runs right).1
+    let ended = (subst (λ (o : Option Task). RunnerIsRight start log id o (Ok (Ended id cause))) runs right).1 in
+    not_refused (situation start log id task) key trace ended.by_store listed wants above ended.refused
 
 compacted_again : (start : Setup) (log : List Line) (revision at : ℕ) → revision ≤ (store start log).floor
     → IsRight start log (Compact revision) (Ok (Compacted at)) → ⊥
@@ -337,7 +338,7 @@ fault_before_list start log id task fault runs due right =
     let both : true ≡ false = sym due ∙ ends.has_list in absurd (cc)
 
 commit_before_list : (start : Setup) (log : List Line) (id : ℕ) (task : Task) (revision attempts : ℕ) (output : List Value) (trace : List TraceItem)
-    (answers : List ReadAnswer) → running id log ≡ Some task → is_due task.program.prefetch (known_after_log start id task log).reads ≡ true
+    (answers : List CommittedRead) → running id log ≡ Some task → is_due task.program.prefetch (known_after_log start id task log).reads ≡ true
     → IsRight start log (Step id) (Ok (Committed id revision attempts output trace answers)) → ⊥
 commit_before_list start log id task revision attempts output trace answers runs due right =
     let commit = (is_listed start log id task (Committed id revision attempts output trace answers) runs right).3 in
@@ -362,16 +363,17 @@ none_refused_list at cause due few (inl c) = let both : true ≡ false = sym due
 none_refused_list at cause due few (inr (inl (same, behind))) = let both : true ≡ false = sym due ∙ behind.has_list in absurd (cc)
 none_refused_list at cause due few (inr (inr (same, overfull))) = let many = overfull.many in omega (arith, few, many)
 
-refused_list : (start : Setup) (log : List Line) (id : ℕ) (task : Task) (cause : StoreRefusal) → running id log ≡ Some task
+refused_list : (start : Setup) (log : List Line) (id : ℕ) (task : Task) (cause : EventRefusal) → running id log ≡ Some task
     → is_due task.program.prefetch (known_after_log start id task log).reads ≡ true → length task.program.prefetch ≤ (store start log).limit
     → IsRight start log (Step id) (Ok (Ended id cause)) → ⊥
 refused_list start log id task cause runs due few right =
-    none_refused_list (situation start log id task) cause due few (is_listed start log id task (Ended id cause) runs right).1
+    let ended = (is_listed start log id task (Ended id cause) runs right).1 in
+    none_refused_list (situation start log id task) ended.by_store due few ended.refused
 
 -- ---- commits ----
 
 commit_beyond_limit : (start : Setup) (log : List Line) (id : ℕ) (task : Task) (revision attempts : ℕ) (output : List Value) (trace : List TraceItem)
-    (answers : List ReadAnswer) → running id log ≡ Some task → task.limit < attempts
+    (answers : List CommittedRead) → running id log ≡ Some task → task.limit < attempts
     → IsRight start log (Step id) (Ok (Committed id revision attempts output trace answers)) → ⊥
 commit_beyond_limit start log id task revision attempts output trace answers runs beyond right =
     let within = (is_listed start log id task (Committed id revision attempts output trace answers) runs right).2 in omega (arith, beyond, within)
@@ -381,7 +383,7 @@ conflict_of_the_last : (start : Setup) (log : List Line) (id : ℕ) (task : Task
 conflict_of_the_last start log id task key seen now_modified runs last right =
     let before = (is_listed start log id task (Conflict id key seen now_modified) runs right).1 in omega (arith, last, before)
 
-one_revision : (at : Situation) (run : Run) (alone : StoreDone) (revision : ℕ) (output : List Value) (trace : List TraceItem) (answers : List ReadAnswer)
+one_revision : (at : Situation) (run : Run) (alone : StoreDone) (revision : ℕ) (output : List Value) (trace : List TraceItem) (answers : List CommittedRead)
     → run_over (seen_at at.task.level at.reads at.store.history) at.task.program.statements ≡ EndedRun run
     → applied_run (without_moment at.store) run ≡ Ok alone → IsCommitted at revision output trace answers → revision ≡ now alone.history
 one_revision at run alone revision output trace answers is applies c =
@@ -392,7 +394,7 @@ one_revision at run alone revision output trace answers is applies c =
     c.reached ∙ sym (ap (λ (d : StoreDone). now d.history) done)
 
 another_revision : (start : Setup) (log : List Line) (id : ℕ) (task : Task) (run : Run) (alone : StoreDone) (revision attempts : ℕ) (output : List Value)
-    (trace : List TraceItem) (answers : List ReadAnswer) → running id log ≡ Some task
+    (trace : List TraceItem) (answers : List CommittedRead) → running id log ≡ Some task
     → run_over (seen_at task.level (known_after_log start id task log).reads (store start log).history) task.program.statements ≡ EndedRun run
     → applied_run (without_moment (store start log)) run ≡ Ok alone → revision ≢ now alone.history
     → IsRight start log (Step id) (Ok (Committed id revision attempts output trace answers)) → ⊥

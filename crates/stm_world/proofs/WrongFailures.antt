@@ -118,7 +118,7 @@ known_small number id task h (Ok (GaveUp runner attempts key seen now)) known op
 known_small number id task h (Ok (Aborted runner text)) known opens all = all
 known_small number id task h (Ok (Faulted runner fault)) known opens all = all
 known_small number id task h (Ok (Ended runner cause)) known opens all = all
-known_small number id task h (Ok (TxnDone answer)) known opens all = all
+known_small number id task h (Ok (TxnDone succeeded revision answers)) known opens all = all
 known_small number id task h (Ok (Granted lease)) known opens all = all
 known_small number id task h (Ok (Kept lease)) known opens all = all
 known_small number id task h (Ok (Revoked lease revision)) known opens all = all

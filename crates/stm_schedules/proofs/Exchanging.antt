@@ -29,7 +29,7 @@ use Rattle.stm_events.specs.declared.reply.Reply.{Reply}
 use Rattle.stm_events.specs.declared.reply.Reply.TheVariants.{Prefetched, Fetched, Committed, Conflict, GaveUp, Aborted, Faulted, Ended}
 use Rattle.stm_events.specs.declared.refusal.Denied.{Denied}
 use Rattle.stm_events.specs.declared.refusal.EventRefusal.TheVariants.{NoRunner, TooManyOps as TooManyOpsRefusal, Compacted as CompactedRefusal}
-use Rattle.stm_events.specs.Replies.{refusal_of, denied}
+use Rattle.stm_events.specs.Replies.{committed_read, refusal_of, denied}
 use Rattle.stm_world.specs.Task.{answer_at, modified_now, after_list, after_fetch, after_conflict}
 use Rattle.stm_world.specs.World.{World, Runner, Slot, Over, Live, Stepped, runner_at, with_slot, replied, fetch, fetch_list, entry_of, decided}
 use Rattle.stm_world.specs.World.{commit_reported, commit, finish, step_on, step_live, step_runner, step}
@@ -150,7 +150,8 @@ decided_does : (id : ℕ) (r : Runner) (reads : List ReadAnswer) (run : Run) (do
     Does id s (decided id r reads run done o)
 decided_does id r reads run done None s = inr (record {
   entry = entry_of r.task reads run (now done.history);
-  reply = Ok (Committed id (now done.history) (r.failures + 1) run.output run.trace (answers_kept r.task.level reads));
+  reply = Ok (Committed id (now done.history) (r.failures + 1) run.output run.trace
+      (map committed_read (answers_kept r.task.level reads)));
   end = CommittedEnd run.output;
   is = λ slots entries. refl;
   reports = λ slots entries. refl;

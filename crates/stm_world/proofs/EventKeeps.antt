@@ -3,7 +3,6 @@
 use Rattle.std.proofs.Common.{◌≡◌, ◌≤◌, ℕ, List, [], ◌∷◌, map, Option, Some, None, Ok, Err, refl, sym, ◌∙◌, subst, arith}
 use Rattle.std.proofs.Math.Nat.{min-le_right}
 use Rattle.std.specs.Prelude.{Result}
-use Rattle.stm_history.specs.declared.key_state.ReadAnswer.{ReadAnswer}
 use Rattle.stm_history.specs.Opening.{opening_at}
 use Rattle.stm_program.specs.Writes.{latest_writes}
 use Rattle.stm_steps.specs.declared.run.End.{End}
@@ -25,8 +24,10 @@ use Rattle.stm_events.specs.declared.event.WorldEvent.{WorldEvent}
 use Rattle.stm_events.specs.declared.event.WorldEvent.TheVariants.{Start, Step, Txn, Grant, Keep, Revoke, Advance}
 use Rattle.stm_events.specs.declared.event.WorldEvent.TheVariants.{WatchKey, WatchRange, Poll, Cancel, Compact}
 use Rattle.stm_events.specs.declared.reply.Reply.{Reply}
+use Rattle.stm_events.specs.declared.reply.CommittedRead.{CommittedRead}
 use Rattle.stm_events.specs.declared.reply.Reply.TheVariants.{Committed}
 use Rattle.stm_events.specs.declared.refusal.Denied.{Denied}
+use Rattle.stm_events.specs.Replies.{as_read}
 use Rattle.stm_world.specs.Task.{Task}
 use Rattle.stm_world.specs.Log.{Line, begun, with_commit, store_after_step, store_after, store}
 use Rattle.stm_world.proofs.Truth.{Keeps, keeps_same}
@@ -48,9 +49,9 @@ run_keeps : (r : Replayed) (answered : Answered) → Keeps r.history (left_by_ru
 run_keeps r (EndedRun run) = end_keeps r run run.end
 run_keeps r (Wants key trace) = keeps_same r.history
 
-commit_keeps : (s : Standing) (answers : List ReadAnswer) (o : Option Task) → Keeps s.history (with_commit s answers o).history
+commit_keeps : (s : Standing) (answers : List CommittedRead) (o : Option Task) → Keeps s.history (with_commit s answers o).history
 commit_keeps s answers None = keeps_same s.history
-commit_keeps s answers (Some task) = run_keeps (without_moment s) (run_over (seen_at task.level answers s.history) task.program.statements)
+commit_keeps s answers (Some task) = run_keeps (without_moment s) (run_over (seen_at task.level (map as_read answers) s.history) task.program.statements)
 
 step_keeps : (task_of : ℕ → Option Task) (s : Standing) (reply : Result Reply Denied) → Keeps s.history (store_after_step task_of s reply).history
 step_keeps task_of s (Ok (Committed runner revision attempts output trace answers)) = commit_keeps s answers (task_of runner)
@@ -95,9 +96,9 @@ run_kept : (s : Standing) (answered : Answered) → HasKept s → HasKept (with_
 run_kept s (EndedRun run) k = end_kept s run run.end k
 run_kept s (Wants key trace) k = record { reached = k.reached; watchers = k.watchers }
 
-commit_kept : (s : Standing) (answers : List ReadAnswer) (o : Option Task) → HasKept s → HasKept (with_commit s answers o)
+commit_kept : (s : Standing) (answers : List CommittedRead) (o : Option Task) → HasKept s → HasKept (with_commit s answers o)
 commit_kept s answers None k = k
-commit_kept s answers (Some task) k = run_kept s (run_over (seen_at task.level answers s.history) task.program.statements) k
+commit_kept s answers (Some task) k = run_kept s (run_over (seen_at task.level (map as_read answers) s.history) task.program.statements) k
 
 step_kept : (task_of : ℕ → Option Task) (s : Standing) (reply : Result Reply Denied) → HasKept s → HasKept (store_after_step task_of s reply)
 step_kept task_of s (Ok (Committed runner revision attempts output trace answers)) k = commit_kept s answers (task_of runner) k
@@ -121,7 +122,7 @@ event_kept task_of (Compact revision) reply s k = (compact_follows s revision).k
 
 -- ---- the floor goes down nowhere
 
-commit_floor : (s : Standing) (answers : List ReadAnswer) (o : Option Task) → s.floor ≤ (with_commit s answers o).floor
+commit_floor : (s : Standing) (answers : List CommittedRead) (o : Option Task) → s.floor ≤ (with_commit s answers o).floor
 commit_floor s answers None = floor_stays s
 commit_floor s answers (Some task) = floor_stays s
 
@@ -147,7 +148,7 @@ event_floor task_of (Compact revision) reply s = (compact_follows s revision).fl
 
 -- ---- the limit stays
 
-commit_limit : (s : Standing) (answers : List ReadAnswer) (o : Option Task) → (with_commit s answers o).limit ≡ s.limit
+commit_limit : (s : Standing) (answers : List CommittedRead) (o : Option Task) → (with_commit s answers o).limit ≡ s.limit
 commit_limit s answers None = refl
 commit_limit s answers (Some task) = refl
 

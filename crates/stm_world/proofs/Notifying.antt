@@ -4,7 +4,6 @@ use Rattle.std.proofs.Common.{Bool, true, false, cond, refl, sym, ◌∙◌, ap,
 use Rattle.std.proofs.lemmas.List.{length-set, length-append, length-map, get_or-set_same, get_or-set_other}
 use Rattle.std.specs.Prelude.{nat_eq, nat_lt, nat_le, option_map, Result, ◌||◌}
 use Rattle.std.specs.FinMap as finmap
-use Rattle.stm_history.specs.declared.key_state.ReadAnswer.{ReadAnswer}
 use Rattle.stm_history.specs.History.{History, now}
 use Rattle.stm_leases.specs.LeaseLog.{Term}
 use Rattle.stm_leases.specs.Live.{is_live_in, grant_refusal}
@@ -34,6 +33,7 @@ use Rattle.stm_events.specs.declared.event.WorldEvent.{WorldEvent}
 use Rattle.stm_events.specs.declared.event.WorldEvent.TheVariants.{Start, Step, Txn, Grant, Keep, Revoke, Advance}
 use Rattle.stm_events.specs.declared.event.WorldEvent.TheVariants.{WatchKey, WatchRange, Poll, Cancel, Compact}
 use Rattle.stm_events.specs.declared.reply.Reply.{Reply}
+use Rattle.stm_events.specs.declared.reply.CommittedRead.{CommittedRead}
 use Rattle.stm_events.specs.declared.reply.Reply.TheVariants.{Committed, Watching as WatchingReply, Cancelled}
 use Rattle.stm_events.specs.declared.refusal.Denied.{Denied}
 use Rattle.stm_events.specs.Replies.{reply_to, batch_reply, poll_reply, store_after_call, store_after_poll}
@@ -52,7 +52,7 @@ use Rattle.stm_events.proofs.Calls.{granted_by, kept_by, revoked_by, advance_end
 
 -- ---- the watchers stay at an event that is about no watcher
 
-commit_stays : (s : Standing) (answers : List ReadAnswer) (o : Option Task) → (with_commit s answers o).watchers ≡ s.watchers
+commit_stays : (s : Standing) (answers : List CommittedRead) (o : Option Task) → (with_commit s answers o).watchers ≡ s.watchers
 commit_stays s answers None = refl
 commit_stays s answers (Some task) = refl
 

@@ -1,4 +1,4 @@
--- The lines of calls: each is the one that a check looks for, and leads to the store that the call leaves.
+-- The replies to calls: each is the one that a check looks for, and leads to the store that the call leaves.
 --
 -- A check has no watchers, and a call of the store but a poll, a watch or a cancellation does not look at them.
 use Rattle.std.proofs.Common.{◌≡◌, ◌≤◌, ℕ, zero, suc, Bool, true, false, cond, List, [], ◌∷◌, length, Option, Some, None, Ok, Err, refl, sym, ◌∙◌}
@@ -32,16 +32,12 @@ use Rattle.stm_txn.specs.Standing.{terms_of, compaction_refusal, with_floor, flo
 use Rattle.stm_entries.specs.declared.entry.Entry.{Entry}
 use Rattle.stm_entries.specs.declared.entry.Entry.TheVariants.{Foreign}
 use Rattle.stm_entries.specs.Entered.{if_changed, expiries}
-use Rattle.stm_events.specs.declared.line.ReportLine.{ReportLine}
-use Rattle.stm_report_lines.specs.declared.line.ReportLine.TheVariants.{Compacted as CompactedLine}
 use Rattle.stm_events.specs.declared.event.WorldEvent.TheVariants.{Txn, Grant, Keep, Revoke, Advance as AdvanceEvent, Compact}
 use Rattle.stm_events.specs.declared.reply.Reply.{Reply}
-use Rattle.stm_events.specs.declared.reply.Reply.TheVariants.{Txn as TxnDone, Granted, Kept, Revoked, Compacted, Lost}
+use Rattle.stm_events.specs.declared.reply.Reply.TheVariants.{Granted, Kept, Revoked, Compacted, Lost}
 use Rattle.stm_events.specs.declared.refusal.Denied.{Denied}
-use Rattle.stm_events.specs.declared.refusal.Refusal.TheVariants.{Store}
-use Rattle.stm_events.specs.Replies.{denied, reply_to, store_after_call, store_after_poll, advance_reply, batch_reply, poll_reply}
+use Rattle.stm_events.specs.Replies.{txn_reply, refusal_of, denied, reply_to, store_after_call, store_after_poll, advance_reply, batch_reply, poll_reply}
 use Rattle.stm_world.specs.Log.{if_reported, expired_reported}
-use Rattle.stm_report_lines.specs.Lines.{line_reported}
 use Rattle.stm_check.specs.declared.runner.Runner.{Runner}
 use Rattle.stm_check.specs.Fits.{can_have}
 use Rattle.stm_check.specs.Point.{led_by, moment_after, standing_after, txn_entries, grant_entries, keep_entries, revoke_entries, advance_entries}
@@ -52,47 +48,47 @@ use Rattle.stm_check.proofs.CallLemmas.{line_keeps}
 abbrev pub unwatched : Standing → Standing
 unwatched s = record s { watchers = [] }
 
--- What the line of a call is for a check: it can stand there, it is the one that the call comes to on the store without its watchers, and
+-- What the reply to a call is for a check: it can stand there, it is the one that the call comes to on the store without its watchers, and
 -- it leads to the store that the call leaves.
-pub record CallIsRight (s next : Standing) (can : Bool) (wanted l : ReportLine) (reported : List Entry) (moment entered : ℕ) : Type 0 where
+pub record CallIsRight (s next : Standing) (can : Bool) (wanted reply : Result Reply Denied) (reported : List Entry) (moment entered : ℕ) : Type 0 where
   pub fits : can ≡ true
-  pub is_line : wanted ≡ l
+  pub is_replayed : wanted ≡ reply
   pub store : led_by reported (unwatched s) moment ≡ unwatched next
   pub count : length reported ≡ entered
 
 -- what holds of the reply to a call, taken or refused
 pub by_reply : {A : Type 0} (P : Result Reply Denied → Type 0) (report : A → Reply) (r : Result (Step A) StoreRefusal) → ((x : A) → P (Ok (report x))) →
-    ((cause : StoreRefusal) → P (denied (Store cause))) → P (reply_to report r)
+    ((cause : StoreRefusal) → P (denied (refusal_of cause))) → P (reply_to report r)
 by_reply P report (Ok done) taken refused = taken done.answer
 by_reply P report (Err cause) taken refused = refused cause
 
 -- ---- transactions
 
-txn_same : (n : ℕ) (s : Standing) (o : Result Done StoreRefusal) →
-    line_reported n (reply_to TxnDone (step_of (unwatched s) o)) ≡ line_reported n (reply_to TxnDone (step_of s o))
-txn_same n s (Ok done) = refl
-txn_same n s (Err cause) = refl
+txn_same : (s : Standing) (o : Result Done StoreRefusal) →
+    reply_to txn_reply (step_of (unwatched s) o) ≡ reply_to txn_reply (step_of s o)
+txn_same s (Ok done) = refl
+txn_same s (Err cause) = refl
 
-txn_store : (n : ℕ) (s : Standing) (txn : StoreTxn) (r : Result (Step TxnAnswer) StoreRefusal) → s.limit ≤ most_operations → transacted s txn ≡ r →
-    led_by (txn_entries (now s.history) txn (line_reported n (reply_to TxnDone r))) (unwatched s) s.moment ≡ unwatched (store_after_call s r)
-txn_store n s txn (Ok step) few is = ap unwatched (sym (txn_led n s step.next txn step.answer few is))
-txn_store n s txn (Err cause) few is = refl
+txn_store : (s : Standing) (txn : StoreTxn) (r : Result (Step TxnAnswer) StoreRefusal) → s.limit ≤ most_operations → transacted s txn ≡ r →
+    led_by (txn_entries (now s.history) txn (reply_to txn_reply r)) (unwatched s) s.moment ≡ unwatched (store_after_call s r)
+txn_store s txn (Ok step) few is = ap unwatched (sym (txn_led s step.next txn step.answer few is))
+txn_store s txn (Err cause) few is = refl
 
-txn_count : (n : ℕ) (s : Standing) (txn : StoreTxn) (r : Result (Step TxnAnswer) StoreRefusal) → StepIsTransacted s r →
-    length (txn_entries (now s.history) txn (line_reported n (reply_to TxnDone r))) ≡ length (if_changed s (store_after_call s r) txn)
-txn_count n s txn (Ok step) came = ap (λ revision. length (cond (nat_lt (now s.history) revision) (Foreign txn ∷ []) [])) came.counter
-txn_count n s txn (Err cause) came = ap (λ (b : Bool). length (cond b (Foreign txn ∷ []) [])) (sym (le-ltb (now s.history) (now s.history) (omega arith)))
+txn_count : (s : Standing) (txn : StoreTxn) (r : Result (Step TxnAnswer) StoreRefusal) → StepIsTransacted s r →
+    length (txn_entries (now s.history) txn (reply_to txn_reply r)) ≡ length (if_changed s (store_after_call s r) txn)
+txn_count s txn (Ok step) came = ap (λ revision. length (cond (nat_lt (now s.history) revision) (Foreign txn ∷ []) [])) came.counter
+txn_count s txn (Err cause) came = ap (λ (b : Bool). length (cond b (Foreign txn ∷ []) [])) (sym (le-ltb (now s.history) (now s.history) (omega arith)))
 
-pub txn_right : (n : ℕ) (s : Standing) (rs : List Runner) (txn : StoreTxn) → s.limit ≤ most_operations →
+pub txn_right : (s : Standing) (rs : List Runner) (txn : StoreTxn) → s.limit ≤ most_operations →
     let r = transacted s txn in
-    let l : ReportLine = line_reported n (reply_to TxnDone r) in
-    CallIsRight s (store_after_call s r) (can_have rs (Txn txn) l) (line_reported n (reply_to TxnDone (transacted (unwatched s) txn))) l (txn_entries (now s.history) txn l) s.moment
+    let reply : Result Reply Denied = reply_to txn_reply r in
+    CallIsRight s (store_after_call s r) (can_have rs (Txn txn) reply) (reply_to txn_reply (transacted (unwatched s) txn)) reply (txn_entries (now s.history) txn reply) s.moment
     (length (if_changed s (store_after_call s r) txn))
-txn_right n s rs txn few = record {
-  fits = by_reply (λ x. can_have rs (Txn txn) (line_reported n x) ≡ true) TxnDone (transacted s txn) (λ x. refl) (λ cause. refl);
-  is_line = txn_same n s (outcome (terms_of s) txn);
-  store = txn_store n s txn (transacted s txn) few refl;
-  count = txn_count n s txn (transacted s txn) (is_transacted s txn);
+txn_right s rs txn few = record {
+  fits = by_reply (λ x. can_have rs (Txn txn) x ≡ true) txn_reply (transacted s txn) (λ x. refl) (λ cause. refl);
+  is_replayed = txn_same s (outcome (terms_of s) txn);
+  store = txn_store s txn (transacted s txn) few refl;
+  count = txn_count s txn (transacted s txn) (is_transacted s txn);
 }
 
 -- ---- grants
@@ -104,26 +100,26 @@ granted_by s id ttl o =
       | None ↦ Ok record { answer = tt; next = with_lease s id ttl }
     ]
 
-grant_same : (n : ℕ) (s : Standing) (id ttl : ℕ) (o : Option GrantError) →
-    line_reported n (reply_to (λ _. Granted id) (granted_by (unwatched s) id ttl o)) ≡ line_reported n (reply_to (λ _. Granted id) (granted_by s id ttl o))
-grant_same n s id ttl None = refl
-grant_same n s id ttl (Some cause) = refl
+grant_same : (s : Standing) (id ttl : ℕ) (o : Option GrantError) →
+    reply_to (λ _. Granted id) (granted_by (unwatched s) id ttl o) ≡ reply_to (λ _. Granted id) (granted_by s id ttl o)
+grant_same s id ttl None = refl
+grant_same s id ttl (Some cause) = refl
 
-grant_store : (n : ℕ) (s : Standing) (id ttl : ℕ) (r : Result (Step (Unit {0})) StoreRefusal) → granted s id ttl ≡ r →
-    led_by (grant_entries id ttl s.moment (line_reported n (reply_to (λ _. Granted id) r))) (unwatched s) s.moment ≡ unwatched (store_after_call s r)
-grant_store n s id ttl (Ok step) is = ap unwatched (sym (grant_led s step.next id ttl is))
-grant_store n s id ttl (Err cause) is = refl
+grant_store : (s : Standing) (id ttl : ℕ) (r : Result (Step (Unit {0})) StoreRefusal) → granted s id ttl ≡ r →
+    led_by (grant_entries id ttl s.moment (reply_to (λ _. Granted id) r)) (unwatched s) s.moment ≡ unwatched (store_after_call s r)
+grant_store s id ttl (Ok step) is = ap unwatched (sym (grant_led s step.next id ttl is))
+grant_store s id ttl (Err cause) is = refl
 
-pub grant_right : (n : ℕ) (s : Standing) (rs : List Runner) (id ttl : ℕ) (entry : Entry) →
+pub grant_right : (s : Standing) (rs : List Runner) (id ttl : ℕ) (entry : Entry) →
     let r = granted s id ttl in
-    let l : ReportLine = line_reported n (reply_to (λ _. Granted id) r) in
-    CallIsRight s (store_after_call s r) (can_have rs (Grant id ttl) l) (line_reported n (reply_to (λ _. Granted id) (granted (unwatched s) id ttl))) l (grant_entries id ttl s.moment l) s.moment
+    let reply : Result Reply Denied = reply_to (λ _. Granted id) r in
+    CallIsRight s (store_after_call s r) (can_have rs (Grant id ttl) reply) (reply_to (λ _. Granted id) (granted (unwatched s) id ttl)) reply (grant_entries id ttl s.moment reply) s.moment
     (length (if_reported (reply_to (λ _. Granted id) r) entry))
-grant_right n s rs id ttl entry = record {
-  fits = by_reply (λ x. can_have rs (Grant id ttl) (line_reported n x) ≡ true) (λ _. Granted id) (granted s id ttl) (λ x. refl) (λ cause. refl);
-  is_line = grant_same n s id ttl (grant_refusal s.live id ttl);
-  store = grant_store n s id ttl (granted s id ttl) refl;
-  count = by_reply (λ x. length (grant_entries id ttl s.moment (line_reported n x)) ≡ length (if_reported x entry)) (λ _. Granted id) (granted s id ttl) (λ x. refl)
+grant_right s rs id ttl entry = record {
+  fits = by_reply (λ x. can_have rs (Grant id ttl) x ≡ true) (λ _. Granted id) (granted s id ttl) (λ x. refl) (λ cause. refl);
+  is_replayed = grant_same s id ttl (grant_refusal s.live id ttl);
+  store = grant_store s id ttl (granted s id ttl) refl;
+  count = by_reply (λ x. length (grant_entries id ttl s.moment x) ≡ length (if_reported x entry)) (λ _. Granted id) (granted s id ttl) (λ x. refl)
       (λ cause. refl);
 }
 
@@ -136,26 +132,26 @@ kept_by s id o =
       | Some term ↦ Ok record { answer = tt; next = with_lease s id term.ttl }
     ]
 
-keep_same : (n : ℕ) (s : Standing) (id : ℕ) (o : Option Term) →
-    line_reported n (reply_to (λ _. Kept id) (kept_by (unwatched s) id o)) ≡ line_reported n (reply_to (λ _. Kept id) (kept_by s id o))
-keep_same n s id None = refl
-keep_same n s id (Some term) = refl
+keep_same : (s : Standing) (id : ℕ) (o : Option Term) →
+    reply_to (λ _. Kept id) (kept_by (unwatched s) id o) ≡ reply_to (λ _. Kept id) (kept_by s id o)
+keep_same s id None = refl
+keep_same s id (Some term) = refl
 
-keep_store : (n : ℕ) (s : Standing) (id : ℕ) (r : Result (Step (Unit {0})) StoreRefusal) → kept_alive s id ≡ r →
-    led_by (keep_entries id s.moment (line_reported n (reply_to (λ _. Kept id) r))) (unwatched s) s.moment ≡ unwatched (store_after_call s r)
-keep_store n s id (Ok step) is = ap unwatched (sym (keep_led s step.next id is))
-keep_store n s id (Err cause) is = refl
+keep_store : (s : Standing) (id : ℕ) (r : Result (Step (Unit {0})) StoreRefusal) → kept_alive s id ≡ r →
+    led_by (keep_entries id s.moment (reply_to (λ _. Kept id) r)) (unwatched s) s.moment ≡ unwatched (store_after_call s r)
+keep_store s id (Ok step) is = ap unwatched (sym (keep_led s step.next id is))
+keep_store s id (Err cause) is = refl
 
-pub keep_right : (n : ℕ) (s : Standing) (rs : List Runner) (id : ℕ) (entry : Entry) →
+pub keep_right : (s : Standing) (rs : List Runner) (id : ℕ) (entry : Entry) →
     let r = kept_alive s id in
-    let l : ReportLine = line_reported n (reply_to (λ _. Kept id) r) in
-    CallIsRight s (store_after_call s r) (can_have rs (Keep id) l) (line_reported n (reply_to (λ _. Kept id) (kept_alive (unwatched s) id))) l (keep_entries id s.moment l) s.moment
+    let reply : Result Reply Denied = reply_to (λ _. Kept id) r in
+    CallIsRight s (store_after_call s r) (can_have rs (Keep id) reply) (reply_to (λ _. Kept id) (kept_alive (unwatched s) id)) reply (keep_entries id s.moment reply) s.moment
     (length (if_reported (reply_to (λ _. Kept id) r) entry))
-keep_right n s rs id entry = record {
-  fits = by_reply (λ x. can_have rs (Keep id) (line_reported n x) ≡ true) (λ _. Kept id) (kept_alive s id) (λ x. refl) (λ cause. refl);
-  is_line = keep_same n s id (finmap.get s.live id);
-  store = keep_store n s id (kept_alive s id) refl;
-  count = by_reply (λ x. length (keep_entries id s.moment (line_reported n x)) ≡ length (if_reported x entry)) (λ _. Kept id) (kept_alive s id) (λ x. refl)
+keep_right s rs id entry = record {
+  fits = by_reply (λ x. can_have rs (Keep id) x ≡ true) (λ _. Kept id) (kept_alive s id) (λ x. refl) (λ cause. refl);
+  is_replayed = keep_same s id (finmap.get s.live id);
+  store = keep_store s id (kept_alive s id) refl;
+  count = by_reply (λ x. length (keep_entries id s.moment x) ≡ length (if_reported x entry)) (λ _. Kept id) (kept_alive s id) (λ x. refl)
       (λ cause. refl);
 }
 
@@ -164,27 +160,27 @@ keep_right n s rs id entry = record {
 abbrev revoked_by : Standing → ℕ → Bool → Bool → Result (Step ℕ) StoreRefusal
 revoked_by s id live used = cond live (with_revision (cond used (Err RevisionsUsedUp) (Ok (without_lease s id)))) (Err LeaseNotFound)
 
-revoke_same : (n : ℕ) (s : Standing) (id : ℕ) (live used : Bool) →
-    line_reported n (reply_to (Revoked id) (revoked_by (unwatched s) id live used)) ≡ line_reported n (reply_to (Revoked id) (revoked_by s id live used))
-revoke_same n s id false used = refl
-revoke_same n s id true true = refl
-revoke_same n s id true false = refl
+revoke_same : (s : Standing) (id : ℕ) (live used : Bool) →
+    reply_to (Revoked id) (revoked_by (unwatched s) id live used) ≡ reply_to (Revoked id) (revoked_by s id live used)
+revoke_same s id false used = refl
+revoke_same s id true true = refl
+revoke_same s id true false = refl
 
-revoke_store : (n : ℕ) (s : Standing) (id : ℕ) (r : Result (Step ℕ) StoreRefusal) → revoked s id ≡ r →
-    led_by (revoke_entries id (line_reported n (reply_to (Revoked id) r))) (unwatched s) s.moment ≡ unwatched (store_after_call s r)
-revoke_store n s id (Ok step) is = ap unwatched (sym (revoke_led s step.next id step.answer is))
-revoke_store n s id (Err cause) is = refl
+revoke_store : (s : Standing) (id : ℕ) (r : Result (Step ℕ) StoreRefusal) → revoked s id ≡ r →
+    led_by (revoke_entries id (reply_to (Revoked id) r)) (unwatched s) s.moment ≡ unwatched (store_after_call s r)
+revoke_store s id (Ok step) is = ap unwatched (sym (revoke_led s step.next id step.answer is))
+revoke_store s id (Err cause) is = refl
 
-pub revoke_right : (n : ℕ) (s : Standing) (rs : List Runner) (id : ℕ) (entry : Entry) →
+pub revoke_right : (s : Standing) (rs : List Runner) (id : ℕ) (entry : Entry) →
     let r = revoked s id in
-    let l : ReportLine = line_reported n (reply_to (Revoked id) r) in
-    CallIsRight s (store_after_call s r) (can_have rs (Revoke id) l) (line_reported n (reply_to (Revoked id) (revoked (unwatched s) id))) l (revoke_entries id l) s.moment
+    let reply : Result Reply Denied = reply_to (Revoked id) r in
+    CallIsRight s (store_after_call s r) (can_have rs (Revoke id) reply) (reply_to (Revoked id) (revoked (unwatched s) id)) reply (revoke_entries id reply) s.moment
     (length (if_reported (reply_to (Revoked id) r) entry))
-revoke_right n s rs id entry = record {
-  fits = by_reply (λ x. can_have rs (Revoke id) (line_reported n x) ≡ true) (Revoked id) (revoked s id) (λ x. refl) (λ cause. refl);
-  is_line = revoke_same n s id (is_live_in s.live id) (is_used_up s.history (deletions_of s.history id));
-  store = revoke_store n s id (revoked s id) refl;
-  count = by_reply (λ x. length (revoke_entries id (line_reported n x)) ≡ length (if_reported x entry)) (Revoked id) (revoked s id) (λ x. refl)
+revoke_right s rs id entry = record {
+  fits = by_reply (λ x. can_have rs (Revoke id) x ≡ true) (Revoked id) (revoked s id) (λ x. refl) (λ cause. refl);
+  is_replayed = revoke_same s id (is_live_in s.live id) (is_used_up s.history (deletions_of s.history id));
+  store = revoke_store s id (revoked s id) refl;
+  count = by_reply (λ x. length (revoke_entries id x) ≡ length (if_reported x entry)) (Revoked id) (revoked s id) (λ x. refl)
       (λ cause. refl);
 }
 
@@ -239,60 +235,60 @@ advance_by s moment false = expire_same (finmap.len s.live) (at_moment s moment)
 advance_same : (s : Standing) (moment : ℕ) → advanced (unwatched s) moment ≡ blind (advanced s moment)
 advance_same s moment = advance_by s moment (nat_lt moment s.moment)
 
-advance_fits : (n : ℕ) (rs : List Runner) (to moment : ℕ) (expired : List Expired) (cause : Option StoreRefusal) →
-    can_have rs (AdvanceEvent to) (line_reported n (advance_reply moment expired cause)) ≡ true
-advance_fits n rs to moment expired None = refl
-advance_fits n rs to moment expired (Some cause) = refl
+advance_fits : (rs : List Runner) (to moment : ℕ) (expired : List Expired) (cause : Option StoreRefusal) →
+    can_have rs (AdvanceEvent to) (advance_reply moment expired cause) ≡ true
+advance_fits rs to moment expired None = refl
+advance_fits rs to moment expired (Some cause) = refl
 
-advance_entered : (n moment : ℕ) (expired : List Expired) (cause : Option StoreRefusal) →
-    advance_entries (line_reported n (advance_reply moment expired cause)) ≡ expiries expired
-advance_entered n moment expired None = refl
-advance_entered n moment expired (Some cause) = refl
+advance_entered : (moment : ℕ) (expired : List Expired) (cause : Option StoreRefusal) →
+    advance_entries (advance_reply moment expired cause) ≡ expiries expired
+advance_entered moment expired None = refl
+advance_entered moment expired (Some cause) = refl
 
 expired_are_reported : (moment : ℕ) (expired : List Expired) (cause : Option StoreRefusal) → expired_reported (advance_reply moment expired cause) ≡ expired
 expired_are_reported moment expired None = refl
 expired_are_reported moment expired (Some cause) = refl
 
-pub advance_right : (n : ℕ) (s : Standing) (rs : List Runner) (moment : ℕ) →
+pub advance_right : (s : Standing) (rs : List Runner) (moment : ℕ) →
     let a : Advance = advanced s moment in
     let reply : Result Reply Denied = advance_reply moment a.expired a.cause in
-    CallIsRight s a.leaves (can_have rs (AdvanceEvent moment) (line_reported n reply)) (line_reported n (advance_reply moment (advanced (unwatched s) moment).expired (advanced (unwatched s) moment).cause)) (line_reported n reply)
-    (advance_entries (line_reported n reply)) (moment_after s (AdvanceEvent moment)) (length (expiries (expired_reported reply)))
-advance_right n s rs moment =
+    CallIsRight s a.leaves (can_have rs (AdvanceEvent moment) reply) (advance_reply moment (advanced (unwatched s) moment).expired (advanced (unwatched s) moment).cause) reply
+    (advance_entries reply) (moment_after s (AdvanceEvent moment)) (length (expiries (expired_reported reply)))
+advance_right s rs moment =
     let a : Advance = advanced s moment in
     record {
-      fits = advance_fits n rs moment moment a.expired a.cause;
-      is_line = ap (λ (x : Advance). line_reported n (advance_reply moment x.expired x.cause)) (advance_same s moment);
-      store = ap (λ (es : List Entry). led_by es (unwatched s) (moment_after s (AdvanceEvent moment))) (advance_entered n moment a.expired a.cause)
+      fits = advance_fits rs moment moment a.expired a.cause;
+      is_replayed = ap (λ (x : Advance). advance_reply moment x.expired x.cause) (advance_same s moment);
+      store = ap (λ (es : List Entry). led_by es (unwatched s) (moment_after s (AdvanceEvent moment))) (advance_entered moment a.expired a.cause)
           ∙ ap unwatched (sym (advance_led s a.leaves moment a.expired a.cause refl));
-      count = ap (λ (es : List Entry). length es) (advance_entered n moment a.expired a.cause)
+      count = ap (λ (es : List Entry). length es) (advance_entered moment a.expired a.cause)
           ∙ ap (λ (es : List Expired). length (expiries es)) (sym (expired_are_reported moment a.expired a.cause));
     }
 
 -- ---- compactions
 
-compact_by : (n : ℕ) (s : Standing) (revision : ℕ) (o : Option StoreRefusal) →
-    line_reported n (reply_to (λ _. Compacted revision) (floor_step o (with_floor (unwatched s) revision)))
-    ≡ line_reported n (reply_to (λ _. Compacted revision) (floor_step o (with_floor s revision)))
-compact_by n s revision None = refl
-compact_by n s revision (Some cause) = refl
+compact_by : (s : Standing) (revision : ℕ) (o : Option StoreRefusal) →
+    reply_to (λ _. Compacted revision) (floor_step o (with_floor (unwatched s) revision))
+    ≡ reply_to (λ _. Compacted revision) (floor_step o (with_floor s revision))
+compact_by s revision None = refl
+compact_by s revision (Some cause) = refl
 
-pub compact_same : (n : ℕ) (s : Standing) (revision : ℕ) →
-    line_reported n (reply_to (λ _. Compacted revision) (raised (unwatched s) revision)) ≡ line_reported n (reply_to (λ _. Compacted revision) (raised s revision))
-compact_same n s revision = compact_by n s revision (compaction_refusal s revision)
+pub compact_same : (s : Standing) (revision : ℕ) →
+    reply_to (λ _. Compacted revision) (raised (unwatched s) revision) ≡ reply_to (λ _. Compacted revision) (raised s revision)
+compact_same s revision = compact_by s revision (compaction_refusal s revision)
 
 raised_by_same : (s : Standing) (revision : ℕ) (o : Option StoreRefusal) →
     store_after_call (unwatched s) (floor_step o (with_floor (unwatched s) revision)) ≡ unwatched (store_after_call s (floor_step o (with_floor s revision)))
 raised_by_same s revision None = refl
 raised_by_same s revision (Some cause) = refl
 
-pub compact_store : (n : ℕ) (s : Standing) (rs : List Runner) (revision : ℕ) (r : Result (Step (Unit {0})) StoreRefusal) → raised s revision ≡ r →
-    standing_after (unwatched s) rs (Compact revision) (line_reported n (reply_to (λ _. Compacted revision) r)) ≡ unwatched (store_after_call s r)
-compact_store n s rs revision (Ok step) is =
-    line_keeps (unwatched s) revision (CompactedLine n revision)
+pub compact_store : (s : Standing) (rs : List Runner) (revision : ℕ) (r : Result (Step (Unit {0})) StoreRefusal) → raised s revision ≡ r →
+    standing_after (unwatched s) rs (Compact revision) (reply_to (λ _. Compacted revision) r) ≡ unwatched (store_after_call s r)
+compact_store s rs revision (Ok step) is =
+    line_keeps (unwatched s) revision (Ok (Compacted revision))
     ∙ raised_by_same s revision (compaction_refusal s revision)
     ∙ ap (λ (r : Result (Step (Unit {0})) StoreRefusal). unwatched (store_after_call s r)) is
-compact_store n s rs revision (Err cause) is = refl
+compact_store s rs revision (Err cause) is = refl
 
 -- ---- watchers, which a check has none of
 
@@ -307,7 +303,7 @@ poll_stays s watcher (Err cause) = refl
 
 -- what holds of the reply to a poll: a batch, a loss or a refusal
 pub by_poll : (P : Result Reply Denied → Type 0) (watcher floor : ℕ) (s : Standing) (o : Result (WatchStep Batch) PollRefusal) →
-    ((batch : Batch) → P (Ok (batch_reply watcher batch))) → P (Ok (Lost watcher floor)) → ((cause : StoreRefusal) → P (denied (Store cause))) →
+    ((batch : Batch) → P (Ok (batch_reply watcher batch))) → P (Ok (Lost watcher floor)) → ((cause : StoreRefusal) → P (denied (refusal_of cause))) →
     P (poll_reply watcher floor (poll_step s o))
 by_poll P watcher floor s (Ok step) batch lost refused = batch step.answer
 by_poll P watcher floor s (Err NoneToPoll) batch lost refused = refused NoWatcher

@@ -13,32 +13,32 @@ use Rattle.stm_watch.specs.Calls.{watch, poll, watcher_at}
 use Rattle.stm_entries.specs.declared.entry.Entry.{Entry}
 use Rattle.stm_entries.specs.declared.entry.Entry.TheVariants.{Program, Grant as GrantEntry, Renew, Revoke as RevokeEntry}
 use Rattle.stm_entries.specs.Replayed.{opening, without_moment}
+use Rattle.stm_entries.specs.Entered.{answers_kept}
 use Rattle.stm_entries.specs.Replay.{replay}
 use Rattle.stm_entries.specs.Legal.{AreLegal}
 use Rattle.stm_entries.proofs.Replaying.{rest_legal}
-use Rattle.stm_report_lines.specs.declared.causes.RefusalName.TheVariants.{NoRunner as NoRunnerReported}
 use Rattle.stm_events.specs.declared.line.ReportLine.{ReportLine}
-use Rattle.stm_report_lines.specs.declared.line.ReportLine.TheVariants.{Refused}
+use Rattle.stm_events.specs.declared.line.ReportLine.TheVariants.{Event}
 use Rattle.stm_events.specs.declared.event.WorldEvent.{WorldEvent}
 use Rattle.stm_events.specs.declared.event.WorldEvent.TheVariants.{Start, Step, Txn, Grant, Keep, Revoke, Advance, WatchKey, WatchRange, Poll, Cancel, Compact}
 use Rattle.stm_events.specs.declared.reply.Reply.{Reply}
 use Rattle.stm_events.specs.declared.reply.Reply.TheVariants.{Started, Prefetched, Fetched, Committed, Conflict, GaveUp, Aborted, Faulted, Ended}
-use Rattle.stm_events.specs.declared.reply.Reply.TheVariants.{Txn as TxnDone, Granted, Kept, Revoked, Watching, Cancelled, Compacted}
+use Rattle.stm_events.specs.declared.reply.Reply.TheVariants.{Granted, Kept, Revoked, Watching, Cancelled, Compacted}
 use Rattle.stm_events.specs.declared.refusal.Denied.{Denied}
-use Rattle.stm_events.specs.declared.refusal.Refusal.TheVariants.{BadLimit, NoRunner}
-use Rattle.stm_events.specs.Replies.{denied, reply_to, advance_reply, poll_reply}
+use Rattle.stm_events.specs.declared.refusal.EventRefusal.TheVariants.{BadLimit, NoRunner}
+use Rattle.stm_events.specs.declared.reply.CommittedRead.{CommittedRead}
+use Rattle.stm_events.specs.Replies.{committed_read, txn_reply, denied, reply_to, advance_reply, poll_reply}
 use Rattle.stm_world.specs.Task.{Task}
-use Rattle.stm_world.specs.Log.{Line, begun, is_over, running, started, failures, store, with_commit, commit_entry, line_entries, entries_reported}
-use Rattle.stm_world.specs.Right.{IsRight, StepIsRight, RunnerIsRight, StartIsRight, Situation, situation}
+use Rattle.stm_world.specs.Log.{Line, begun, is_over, running, started, failures, store, known_after_log, with_commit, commit_entry, line_entries, entries_reported}
+use Rattle.stm_world.specs.Right.{IsRight, IsCommitted, StepIsRight, RunnerIsRight, StartIsRight, Situation, situation}
 use Rattle.stm_world.specs.World.{World, opened, step, world_after, replies_to}
 use Rattle.stm_world.proofs.Following.{FollowsStep, with_line}
 use Rattle.stm_world.proofs.Headlines.{Follows, step_follows, opened_follows}
 use Rattle.stm_world.proofs.RunnerSteps.{CommitLaws}
 use Rattle.stm_world.proofs.Slots.{same_number, other_number}
 use Rattle.stm_world.proofs.Untouched.{IsFresh}
-use Rattle.stm_report_lines.specs.Lines.{line_reported, answer_reported}
 use Rattle.stm_check.specs.declared.runner.Runner.{Runner}
-use Rattle.stm_check.specs.Fits.{number_of, is_number, can_have, fits}
+use Rattle.stm_check.specs.Fits.{can_have, fits}
 use Rattle.stm_check.specs.Point.{Point, committed_entry, commit_entries, entries_reported as reported_entries, led_by, standing_after, after}
 use Rattle.stm_check.specs.Replays.{IsCommitOf, StepReplays, Replays}
 use Rattle.stm_check.specs.Runners.{running as running_in, runners_after}
@@ -59,34 +59,27 @@ point_at start log rs = record { standing = unwatched (store start log); entries
 
 -- The line of the next event is right, and the point after it is that of the longer log.
 record GoesOn (start : Setup) (n : ℕ) (log : List Line) (rs : List Runner) (event : WorldEvent) (reply : Result Reply Denied) : Type 0 where
-  is_right : IsRightLine n (point_at start log rs) event (line_reported n reply)
-  store_is : standing_after (unwatched (store start log)) rs event (line_reported n reply) ≡ unwatched (store start (with_line event reply log))
-  count_is : length (reported_entries (unwatched (store start log)) rs event (line_reported n reply))
+  is_right : IsRightLine n (point_at start log rs) event (Event n reply)
+  store_is : standing_after (unwatched (store start log)) rs event reply ≡ unwatched (store start (with_line event reply log))
+  count_is : length (reported_entries (unwatched (store start log)) rs event reply)
       ≡ length (line_entries start (record { event = event; reply = reply }) log)
-  runs : RunsAreReported (with_line event reply log) (runners_after event (line_reported n reply) rs)
+  runs : RunsAreReported (with_line event reply log) (runners_after event reply rs)
 
 next_point : (start : Setup) (n : ℕ) (log : List Line) (rs : List Runner) (event : WorldEvent) (reply : Result Reply Denied) → GoesOn start n log rs event reply →
-    after (point_at start log rs) event (line_reported n reply)
-    ≡ point_at start (with_line event reply log) (runners_after event (line_reported n reply) rs)
+    after (point_at start log rs) event reply
+    ≡ point_at start (with_line event reply log) (runners_after event reply rs)
 next_point start n log rs event reply g =
     let line : Line = record { event = event; reply = reply } in
-    let count : length (entries_reported start log) + length (reported_entries (unwatched (store start log)) rs event (line_reported n reply))
+    let count : length (entries_reported start log) + length (reported_entries (unwatched (store start log)) rs event reply)
     ≡ length (entries_reported start log ++ line_entries start line log) =
     ap (λ k. length (entries_reported start log) + k) g.count_is ∙ sym (length-append (entries_reported start log) (line_entries start line log)) in
-    λ i. record { standing = g.store_is i; entries = count i; runners = runners_after event (line_reported n reply) rs }
+    λ i. record { standing = g.store_is i; entries = count i; runners = runners_after event reply rs }
 
 -- ---- a line has the number of its event
 
-numbered : (n : ℕ) (reply : Result Reply Denied) → number_of (line_reported n reply) ≡ Some n
-numbered n (Err refusal) = refl
-numbered n (Ok (Started runner)) = refl
-numbered n (Ok _) = refl
-
-fits_there : (n : ℕ) (rs : List Runner) (event : WorldEvent) (reply : Result Reply Denied) → can_have rs event (line_reported n reply) ≡ true →
-    fits n rs event (line_reported n reply) ≡ true
-fits_there n rs event reply can =
-    ap (λ (o : Option ℕ). is_number n o && can_have rs event (line_reported n reply)) (numbered n reply)
-    ∙ ap (λ (b : Bool). b && can_have rs event (line_reported n reply)) (same_number n) ∙ can
+fits_there : (n : ℕ) (rs : List Runner) (event : WorldEvent) (reply : Result Reply Denied) → can_have rs event reply ≡ true →
+    fits n rs event (Event n reply) ≡ true
+fits_there n rs event reply can = ap (λ (b : Bool). b && can_have rs event reply) (same_number n) ∙ can
 
 -- ---- starts
 
@@ -110,7 +103,7 @@ started_goes start n log rs task reported fresh some = record {
 refused_start : (start : Setup) (n : ℕ) (log : List Line) (rs : List Runner) (task : Task) → RunsAreReported log rs → task.limit ≡ 0 →
     GoesOn start n log rs (Start task.program task.level task.limit) (denied BadLimit)
 refused_start start n log rs task reported none = record {
-  is_right = (fits_there n rs (Start task.program task.level task.limit) (denied BadLimit) refl, (none, refl, refl));
+  is_right = (fits_there n rs (Start task.program task.level task.limit) (denied BadLimit) refl, (none, refl));
   store_is = refl;
   count_is = refl;
   runs = same_runs (record { event = Start task.program task.level task.limit; reply = denied BadLimit }) log rs
@@ -129,10 +122,10 @@ start_goes start n log rs task (Err refusal) reported fresh right =
 
 -- ---- steps
 
--- a line that is no commit reports no entry
-no_entry : (h : History) (l : ReportLine) (o : Option Runner) → ((r : Runner) → committed_entry h l r ≡ []) → commit_entries h l o ≡ []
-no_entry h l None none = refl
-no_entry h l (Some r) none = none r
+-- a reply that is no commit reports no entry
+no_entry : (h : History) (reply : Result Reply Denied) (o : Option Runner) → ((r : Runner) → committed_entry h reply r ≡ []) → commit_entries h reply o ≡ []
+no_entry h reply None none = refl
+no_entry h reply (Some r) none = none r
 
 still : (s : Standing) (es : List Entry) → es ≡ [] → led_by es s s.moment ≡ s
 still s es none = ap (λ (x : List Entry). led_by x s s.moment) none
@@ -141,11 +134,11 @@ none_goes : (start : Setup) (n : ℕ) (log : List Line) (rs : List Runner) (id :
     GoesOn start n log rs (Step id) (denied NoRunner)
 none_goes start n log rs id reported none =
     let h : History = (store start log).history in
-    let l : ReportLine = Refused n NoRunnerReported [] in
-    let nothing : commit_entries h l (running_in id rs) ≡ [] = no_entry h l (running_in id rs) (λ r. refl) in
+    let reply : Result Reply Denied = denied NoRunner in
+    let nothing : commit_entries h reply (running_in id rs) ≡ [] = no_entry h reply (running_in id rs) (λ r. refl) in
     record {
-      is_right = (fits_there n rs (Step id) (denied NoRunner) refl, (reported.runs id ∙ ap (runs_with (failures id log)) none, refl, refl));
-      store_is = still (unwatched (store start log)) (commit_entries h l (running_in id rs)) nothing;
+      is_right = (fits_there n rs (Step id) (denied NoRunner) refl, (reported.runs id ∙ ap (runs_with (failures id log)) none, refl));
+      store_is = still (unwatched (store start log)) (commit_entries h reply (running_in id rs)) nothing;
       count_is = ap (λ (es : List Entry). length es) nothing;
       runs = same_runs (record { event = Step id; reply = denied NoRunner }) log rs (record { begins_is = refl; ends_is = refl; fails_is = refl }) reported;
     }
@@ -158,23 +151,22 @@ step_can log rs id runner task own goes =
     ∙ ap (λ (o : Option Runner). is_some o) goes.found
 
 -- a step that reports no entry
-record StepsOn (start : Setup) (n : ℕ) (log : List Line) (rs : List Runner) (id : ℕ) (reply : Reply) : Type 0 where
-  can : can_have rs (Step id) (line_reported n (Ok reply)) ≡ true
-  replays : StepReplays (unwatched (store start log)) (running_in id rs) (line_reported n (Ok reply))
-  none : (r : Runner) → committed_entry (store start log).history (line_reported n (Ok reply)) r ≡ []
+record StepsOn (start : Setup) (log : List Line) (rs : List Runner) (id : ℕ) (reply : Reply) : Type 0 where
+  can : can_have rs (Step id) (Ok reply) ≡ true
+  replays : StepReplays (unwatched (store start log)) (running_in id rs) (Ok reply)
+  none : (r : Runner) → committed_entry (store start log).history (Ok reply) r ≡ []
   store_stays : unwatched (store start log) ≡ unwatched (store start (with_line (Step id) (Ok reply) log))
   count_stays : 0 ≡ length (line_entries start (record { event = Step id; reply = Ok reply }) log)
-  runs_on : RunsAreReported (with_line (Step id) (Ok reply) log) (runners_after (Step id) (line_reported n (Ok reply)) rs)
+  runs_on : RunsAreReported (with_line (Step id) (Ok reply) log) (runners_after (Step id) (Ok reply) rs)
 
-steps_on : (start : Setup) (n : ℕ) (log : List Line) (rs : List Runner) (id : ℕ) (reply : Reply) → StepsOn start n log rs id reply →
+steps_on : (start : Setup) (n : ℕ) (log : List Line) (rs : List Runner) (id : ℕ) (reply : Reply) → StepsOn start log rs id reply →
     GoesOn start n log rs (Step id) (Ok reply)
 steps_on start n log rs id reply on =
     let h : History = (store start log).history in
-    let l : ReportLine = line_reported n (Ok reply) in
-    let nothing : commit_entries h l (running_in id rs) ≡ [] = no_entry h l (running_in id rs) on.none in
+    let nothing : commit_entries h (Ok reply) (running_in id rs) ≡ [] = no_entry h (Ok reply) (running_in id rs) on.none in
     record {
       is_right = (fits_there n rs (Step id) (Ok reply) on.can, on.replays);
-      store_is = still (unwatched (store start log)) (commit_entries h l (running_in id rs)) nothing ∙ on.store_stays;
+      store_is = still (unwatched (store start log)) (commit_entries h (Ok reply) (running_in id rs)) nothing ∙ on.store_stays;
       count_is = ap (λ (es : List Entry). length es) nothing ∙ on.count_stays;
       runs = on.runs_on;
     }
@@ -184,55 +176,64 @@ begun_by : (over : Bool) (o : Option Task) (task : Task) → cond over None o �
 begun_by true o task is = absurd (cc)
 begun_by false o task is = is
 
-legal_entry : (revision : ℕ) (output : List Value) (trace : List TraceItem) (answers : List ReadAnswer) (o : Option Task) (task : Task) (s : Standing) →
-    o ≡ Some task → AreLegal (commit_entry revision output trace answers o) (without_moment s) →
-    AreLegal (Program task.program task.level answers output trace revision ∷ []) (without_moment s)
-legal_entry revision output trace answers o task s is legal =
-    subst (λ (x : Option Task). AreLegal (commit_entry revision output trace answers x) (without_moment s)) is legal
+legal_entry : (revision : ℕ) (output : List Value) (trace : List TraceItem) (reads_of : Task → List ReadAnswer) (o : Option Task) (task : Task) (s : Standing) →
+    o ≡ Some task → AreLegal (commit_entry revision output trace reads_of o) (without_moment s) →
+    AreLegal (Program task.program task.level (answers_kept task.level (reads_of task)) output trace revision ∷ []) (without_moment s)
+legal_entry revision output trace reads_of o task s is legal =
+    subst (λ (x : Option Task). AreLegal (commit_entry revision output trace reads_of x) (without_moment s)) is legal
+
+-- what a commit has read, of which its entry has what is kept at its level
+abbrev reads_by : Setup → List Line → ℕ → Task → List ReadAnswer
+reads_by start log id task = (known_after_log start id task log).reads
 
 commit_goes : (start : Setup) (n : ℕ) (log : List Line) (rs : List Runner) (id revision attempts : ℕ) (task : Task) (output : List Value)
     (trace : List TraceItem) (answers : List ReadAnswer) → RunsAreReported log rs → Goes log rs id task → begun id log ≡ Some task →
     IsEntered (situation start log id task) revision attempts (failures id log) output trace answers →
-    GoesOn start n log rs (Step id) (Ok (Committed id revision attempts output trace answers))
+    GoesOn start n log rs (Step id) (Ok (Committed id revision attempts output trace (map committed_read answers)))
 commit_goes start n log rs id revision attempts task output trace answers reported goes was e =
     let at : Situation = situation start log id task in
     let s : Standing = store start log in
-    let reply : Reply = Committed id revision attempts output trace answers in
-    let l : ReportLine = line_reported n (Ok reply) in
+    let shown : List CommittedRead = map committed_read answers in
+    let reply : Reply = Committed id revision attempts output trace shown in
     let r : Runner = run_with (failures id log) task in
-    let entered : commit_entries s.history l (running_in id rs) ≡ committed_entry s.history l r =
-    ap (commit_entries s.history l) goes.found in
+    let entered : commit_entries s.history (Ok reply) (running_in id rs) ≡ committed_entry s.history (Ok reply) r =
+    ap (commit_entries s.history (Ok reply)) goes.found in
     record {
       is_right = (
         fits_there n rs (Step id) (Ok reply) (step_can log rs id id task refl goes),
-        subst (λ (o : Option Runner). IsCommitOf (unwatched s) o revision attempts output trace (map answer_reported answers)) (sym goes.found)
+        subst (λ (o : Option Runner). IsCommitOf (unwatched s) o revision attempts output trace shown) (sym goes.found)
             (commit_right at revision attempts (failures id log) output trace answers e),
       );
       store_is = ap (λ (es : List Entry). led_by es (unwatched s) s.moment) entered
           ∙ commit_store at revision attempts (failures id log) output trace answers e
-          ∙ sym (ap (λ (o : Option Task). unwatched (with_commit s answers o)) was);
+          ∙ sym (ap (λ (o : Option Task). unwatched (with_commit s shown o)) was);
       count_is = ap (λ (es : List Entry). length es) entered
-          ∙ sym (ap (λ (o : Option Task). length (commit_entry revision output trace answers o)) was);
+          ∙ sym (ap (λ (o : Option Task). length (commit_entry revision output trace (reads_by start log id) o)) was);
       runs = ended_runs (record { event = Step id; reply = Ok reply }) log rs id task (record { begins_is = refl; ends_is = refl; fails_is = refl }) goes reported;
     }
 
 commit_of : (start : Setup) (n : ℕ) (log : List Line) (rs : List Runner) (id runner revision attempts : ℕ) (task : Task) (output : List Value)
-    (trace : List TraceItem) (answers : List ReadAnswer) → RunsAreReported log rs → Goes log rs id task →
-    AreLegal (line_entries start (record { event = Step id; reply = Ok (Committed runner revision attempts output trace answers) }) log)
+    (trace : List TraceItem) (shown : List CommittedRead) → RunsAreReported log rs → Goes log rs id task →
+    AreLegal (line_entries start (record { event = Step id; reply = Ok (Committed runner revision attempts output trace shown) }) log)
     (without_moment (store start log)) →
-    StepIsRight (situation start log id task) (Ok (Committed runner revision attempts output trace answers)) →
-    GoesOn start n log rs (Step id) (Ok (Committed runner revision attempts output trace answers))
-commit_of start n log rs id runner revision attempts task output trace answers reported goes legal right =
+    StepIsRight (situation start log id task) (Ok (Committed runner revision attempts output trace shown)) →
+    GoesOn start n log rs (Step id) (Ok (Committed runner revision attempts output trace shown))
+commit_of start n log rs id runner revision attempts task output trace shown reported goes legal right =
+    let at : Situation = situation start log id task in
     let was : begun id log ≡ Some task = begun_by (is_over id log) (begun id log) task goes.runs in
-    let own : AreLegal (commit_entry revision output trace answers (begun id log)) (without_moment (store start log)) =
-    subst (λ k. AreLegal (commit_entry revision output trace answers (begun k log)) (without_moment (store start log))) right.0 legal in
-    subst (λ k. GoesOn start n log rs (Step id) (Ok (Committed k revision attempts output trace answers))) (sym right.0)
+    let own : AreLegal (commit_entry revision output trace (reads_by start log id) (begun id log)) (without_moment (store start log)) =
+    subst (λ k. AreLegal (commit_entry revision output trace (reads_by start log k) (begun k log)) (without_moment (store start log))) right.0 legal in
+    let commit : IsCommitted at revision output trace shown = right.3 in
+    let answers : List ReadAnswer = answers_kept task.level at.reads in
+    subst (λ k. GoesOn start n log rs (Step id) (Ok (Committed k revision attempts output trace shown))) (sym right.0)
+    (subst (λ (xs : List CommittedRead). GoesOn start n log rs (Step id) (Ok (Committed id revision attempts output trace xs))) (sym commit.reported)
     (commit_goes start n log rs id revision attempts task output trace answers reported goes was (record {
-      right = right.3;
-      legal = (legal_entry revision output trace answers (begun id log) task (store start log) was own).0;
+      right = subst (λ (xs : List CommittedRead). IsCommitted at revision output trace xs) commit.reported commit;
+      kept = refl;
+      legal = (legal_entry revision output trace (reads_by start log id) (begun id log) task (store start log) was own).0;
       attempt = right.1;
       may_be_sent = right.2;
-    }))
+    })))
 
 live_goes : (start : Setup) (n : ℕ) (log : List Line) (rs : List Runner) (id : ℕ) (task : Task) (reply : Result Reply Denied) → RunsAreReported log rs → Goes log rs id task →
     AreLegal (line_entries start (record { event = Step id; reply = reply }) log) (without_moment (store start log)) →
@@ -324,10 +325,10 @@ runner_goes start n log rs id (Some task) reply reported runs legal right =
 -- ---- calls
 
 call_goes : (start : Setup) (n : ℕ) (log : List Line) (rs : List Runner) (event : WorldEvent) (reply : Result Reply Denied) →
-    can_have rs event (line_reported n reply) ≡ true → Replays n (unwatched (store start log)) rs event (line_reported n reply) →
-    standing_after (unwatched (store start log)) rs event (line_reported n reply) ≡ unwatched (store start (with_line event reply log)) →
-    length (reported_entries (unwatched (store start log)) rs event (line_reported n reply)) ≡ length (line_entries start (record { event = event; reply = reply }) log) →
-    RunsAreReported (with_line event reply log) (runners_after event (line_reported n reply) rs) → GoesOn start n log rs event reply
+    can_have rs event reply ≡ true → Replays (unwatched (store start log)) rs event reply →
+    standing_after (unwatched (store start log)) rs event reply ≡ unwatched (store start (with_line event reply log)) →
+    length (reported_entries (unwatched (store start log)) rs event reply) ≡ length (line_entries start (record { event = event; reply = reply }) log) →
+    RunsAreReported (with_line event reply log) (runners_after event reply rs) → GoesOn start n log rs event reply
 call_goes start n log rs event reply can replays store_is count_is runs = record {
   is_right = (fits_there n rs event reply can, replays);
   store_is = store_is;
@@ -345,41 +346,41 @@ event_goes start n log rs (Step id) reply reported fresh legal right =
 event_goes start n log rs (Txn txn) reply reported fresh legal right =
     let s : Standing = store start log in
     let r = transacted s txn in
-    let c = txn_right n s rs txn (store_limit start log) in
+    let c = txn_right s rs txn (store_limit start log) in
     subst (λ (x : Result Reply Denied). GoesOn start n log rs (Txn txn) x) (sym right)
-    (call_goes start n log rs (Txn txn) (reply_to TxnDone r) c.fits c.is_line c.store c.count
-    (same_runs (record { event = Txn txn; reply = reply_to TxnDone r }) log rs
-    (says_nothing TxnDone r (λ x. record { begins_is = refl; ends_is = refl; fails_is = refl })) reported))
+    (call_goes start n log rs (Txn txn) (reply_to txn_reply r) c.fits c.is_replayed c.store c.count
+    (same_runs (record { event = Txn txn; reply = reply_to txn_reply r }) log rs
+    (says_nothing txn_reply r (λ x. record { begins_is = refl; ends_is = refl; fails_is = refl })) reported))
 event_goes start n log rs (Grant id ttl) reply reported fresh legal right =
     let s : Standing = store start log in
     let r = granted s id ttl in
-    let c = grant_right n s rs id ttl (GrantEntry id ttl s.moment) in
+    let c = grant_right s rs id ttl (GrantEntry id ttl s.moment) in
     subst (λ (x : Result Reply Denied). GoesOn start n log rs (Grant id ttl) x) (sym right)
-    (call_goes start n log rs (Grant id ttl) (reply_to (λ _. Granted id) r) c.fits c.is_line c.store c.count
+    (call_goes start n log rs (Grant id ttl) (reply_to (λ _. Granted id) r) c.fits c.is_replayed c.store c.count
     (same_runs (record { event = Grant id ttl; reply = reply_to (λ _. Granted id) r }) log rs
     (says_nothing (λ _. Granted id) r (λ x. record { begins_is = refl; ends_is = refl; fails_is = refl })) reported))
 event_goes start n log rs (Keep id) reply reported fresh legal right =
     let s : Standing = store start log in
     let r = kept_alive s id in
-    let c = keep_right n s rs id (Renew id s.moment) in
+    let c = keep_right s rs id (Renew id s.moment) in
     subst (λ (x : Result Reply Denied). GoesOn start n log rs (Keep id) x) (sym right)
-    (call_goes start n log rs (Keep id) (reply_to (λ _. Kept id) r) c.fits c.is_line c.store c.count
+    (call_goes start n log rs (Keep id) (reply_to (λ _. Kept id) r) c.fits c.is_replayed c.store c.count
     (same_runs (record { event = Keep id; reply = reply_to (λ _. Kept id) r }) log rs
     (says_nothing (λ _. Kept id) r (λ x. record { begins_is = refl; ends_is = refl; fails_is = refl })) reported))
 event_goes start n log rs (Revoke id) reply reported fresh legal right =
     let s : Standing = store start log in
     let r = revoked s id in
-    let c = revoke_right n s rs id (RevokeEntry id) in
+    let c = revoke_right s rs id (RevokeEntry id) in
     subst (λ (x : Result Reply Denied). GoesOn start n log rs (Revoke id) x) (sym right)
-    (call_goes start n log rs (Revoke id) (reply_to (Revoked id) r) c.fits c.is_line c.store c.count
+    (call_goes start n log rs (Revoke id) (reply_to (Revoked id) r) c.fits c.is_replayed c.store c.count
     (same_runs (record { event = Revoke id; reply = reply_to (Revoked id) r }) log rs
     (says_nothing (Revoked id) r (λ x. record { begins_is = refl; ends_is = refl; fails_is = refl })) reported))
 event_goes start n log rs (Advance moment) reply reported fresh legal right =
     let s : Standing = store start log in
     let a = advanced s moment in
-    let c = advance_right n s rs moment in
+    let c = advance_right s rs moment in
     subst (λ (x : Result Reply Denied). GoesOn start n log rs (Advance moment) x) (sym right)
-    (call_goes start n log rs (Advance moment) (advance_reply moment a.expired a.cause) c.fits c.is_line c.store c.count
+    (call_goes start n log rs (Advance moment) (advance_reply moment a.expired a.cause) c.fits c.is_replayed c.store c.count
     (same_runs (record { event = Advance moment; reply = advance_reply moment a.expired a.cause }) log rs
     (advance_says_nothing moment a.expired a.cause) reported))
 event_goes start n log rs (Compact revision) reply reported fresh legal right =
@@ -387,15 +388,15 @@ event_goes start n log rs (Compact revision) reply reported fresh legal right =
     let r = raised s revision in
     subst (λ (x : Result Reply Denied). GoesOn start n log rs (Compact revision) x) (sym right)
     (call_goes start n log rs (Compact revision) (reply_to (λ _. Compacted revision) r)
-    (by_reply (λ x. can_have rs (Compact revision) (line_reported n x) ≡ true) (λ _. Compacted revision) r (λ x. refl) (λ cause. refl))
-    (compact_same n s revision) (compact_store n s rs revision r refl) refl
+    (by_reply (λ x. can_have rs (Compact revision) x ≡ true) (λ _. Compacted revision) r (λ x. refl) (λ cause. refl))
+    (compact_same s revision) (compact_store s rs revision r refl) refl
     (same_runs (record { event = Compact revision; reply = reply_to (λ _. Compacted revision) r }) log rs
     (says_nothing (λ _. Compacted revision) r (λ x. record { begins_is = refl; ends_is = refl; fails_is = refl })) reported))
 event_goes start n log rs (WatchKey key from) reply reported fresh legal right =
     let s : Standing = store start log in
     let r = watched s (Key key) from in
     subst (λ (x : Result Reply Denied). GoesOn start n log rs (WatchKey key from) x) (sym right)
-    (call_goes start n log rs (WatchKey key from) (reply_to Watching r) (by_reply (λ x. can_have rs (WatchKey key from) (line_reported n x) ≡ true) Watching r (λ x. refl) (λ cause. refl)) tt
+    (call_goes start n log rs (WatchKey key from) (reply_to Watching r) (by_reply (λ x. can_have rs (WatchKey key from) x ≡ true) Watching r (λ x. refl) (λ cause. refl)) tt
     (watch_stays s (watch s.history s.floor (Key key) from s.watchers)) refl
     (same_runs (record { event = WatchKey key from; reply = reply_to Watching r }) log rs
     (says_nothing Watching r (λ x. record { begins_is = refl; ends_is = refl; fails_is = refl })) reported))
@@ -403,7 +404,7 @@ event_goes start n log rs (WatchRange first end from) reply reported fresh legal
     let s : Standing = store start log in
     let r = watched s (Range first end) from in
     subst (λ (x : Result Reply Denied). GoesOn start n log rs (WatchRange first end from) x) (sym right)
-    (call_goes start n log rs (WatchRange first end from) (reply_to Watching r) (by_reply (λ x. can_have rs (WatchRange first end from) (line_reported n x) ≡ true) Watching r (λ x. refl) (λ cause. refl)) tt
+    (call_goes start n log rs (WatchRange first end from) (reply_to Watching r) (by_reply (λ x. can_have rs (WatchRange first end from) x ≡ true) Watching r (λ x. refl) (λ cause. refl)) tt
     (watch_stays s (watch s.history s.floor (Range first end) from s.watchers)) refl
     (same_runs (record { event = WatchRange first end from; reply = reply_to Watching r }) log rs
     (says_nothing Watching r (λ x. record { begins_is = refl; ends_is = refl; fails_is = refl })) reported))
@@ -413,7 +414,7 @@ event_goes start n log rs (Poll watcher most) reply reported fresh legal right =
     let found = poll s.history watcher most s.watchers in
     subst (λ (x : Result Reply Denied). GoesOn start n log rs (Poll watcher most) x) (sym right)
     (call_goes start n log rs (Poll watcher most) (poll_reply watcher s.floor r)
-    (by_poll (λ x. can_have rs (Poll watcher most) (line_reported n x) ≡ true) watcher s.floor s found (λ x. same_number watcher) (same_number watcher) (λ cause. refl)) tt
+    (by_poll (λ x. can_have rs (Poll watcher most) x ≡ true) watcher s.floor s found (λ x. same_number watcher) (same_number watcher) (λ cause. refl)) tt
     (poll_stays s watcher found) refl
     (same_runs (record { event = Poll watcher most; reply = poll_reply watcher s.floor r }) log rs
     (by_poll (λ x. SaysNothing x) watcher s.floor s found (λ x. record { begins_is = refl; ends_is = refl; fails_is = refl })
@@ -422,7 +423,7 @@ event_goes start n log rs (Cancel watcher) reply reported fresh legal right =
     let s : Standing = store start log in
     let r = cancelled s watcher in
     subst (λ (x : Result Reply Denied). GoesOn start n log rs (Cancel watcher) x) (sym right)
-    (call_goes start n log rs (Cancel watcher) (reply_to (λ _. Cancelled watcher) r) (by_reply (λ x. can_have rs (Cancel watcher) (line_reported n x) ≡ true) (λ _. Cancelled watcher) r (λ x. same_number watcher) (λ cause. refl)) tt
+    (call_goes start n log rs (Cancel watcher) (reply_to (λ _. Cancelled watcher) r) (by_reply (λ x. can_have rs (Cancel watcher) x ≡ true) (λ _. Cancelled watcher) r (λ x. same_number watcher) (λ cause. refl)) tt
     (cancel_stays s watcher (watcher_at watcher s.watchers)) refl
     (same_runs (record { event = Cancel watcher; reply = reply_to (λ _. Cancelled watcher) r }) log rs
     (says_nothing (λ _. Cancelled watcher) r (λ x. record { begins_is = refl; ends_is = refl; fails_is = refl })) reported))
@@ -455,7 +456,7 @@ lines_right start n (e ∷ es) log w rs laws f reported =
     event_lines (suc n) (replies_to es next) ++ end_lines (world_after es next).standing (length (world_after es next).entries) in (
       g.is_right,
       subst (λ (p : Point). AreRight (suc n) p es lines) (sym (next_point start n log rs e reply g))
-          (lines_right start (suc n) es (with_line e reply log) next (runners_after e (line_reported n reply) rs) laws
+          (lines_right start (suc n) es (with_line e reply log) next (runners_after e reply rs) laws
           (record { standing = s.standing; at = s.follows }) g.runs),
     )
 

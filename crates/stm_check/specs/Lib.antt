@@ -6,7 +6,6 @@ pub mod Fits
 pub mod Replays
 pub mod Runs
 pub mod Wrong
-pub mod Finals
 pub mod Walks
 pub mod Judged
 pub mod Sources

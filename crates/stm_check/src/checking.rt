@@ -12,8 +12,7 @@ use crate::count::add_count;
 use crate::finals::{final_lines, first_off};
 use crate::walk::Walk;
 use std::alloc::{AllocError, Global};
-use stm_events::WorldEvent;
-use stm_report_lines::{Report, ReportLine};
+use stm_events::{Report, ReportLine, WorldEvent};
 use stm_texts::{Scenario, opens_with};
 
 /// What a check comes to.

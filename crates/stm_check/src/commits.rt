@@ -1,4 +1,4 @@
-//! Whether a line reports the commit that the replay of a runner's program is.
+//! Whether a commit that is reported is the one that the replay of a runner's program makes.
 ghost use Rattle.std.specs.Prelude.{◌≡◌, ◌≢◌, ◌↔◌, ◌+◌, ◌≤◌, [], ◌∷◌, ◌++◌, true, false, map, filter, string_bytes, None, Some, IsTrue, IfOk, OnOk, MatchOption};
 ghost use Rattle.stm_outcome.specs.declared.refusal.Refusal.TheVariants.{OutOfMemory};
 ghost use Rattle.stm_compile.specs.Answers.{look_up};
@@ -18,21 +18,22 @@ use crate::lookups::{KeysNow, are_truly_reported, reads_reported};
 use crate::runner::Runner;
 use std::alloc::{AllocError, Global};
 use stm_compile::{ReadSet, WriteBuffer};
+use stm_events::CommittedRead;
 use stm_history::{Sequence, Text};
 use stm_keys::Keys;
 use stm_meaning::{Answered, End, Run, TraceItem, Value, run_answered};
 use stm_program::{Program, Write, is_listed};
-use stm_report_lines::{ReportedAnswer, are_same_traces, are_same_values};
+use stm_report_lines::{are_same_traces, are_same_values};
 use stm_txn::{Change, Refusal, Store};
 
-/// What the line of a commit reports.
+/// What the reply to a step reports of its commit.
 #[derive(Clone, Copy)]
-pub(crate) struct CommitLine<'a> {
+pub(crate) struct ReportedCommit<'a> {
     pub(crate) revision: u64,
     pub(crate) attempts: u64,
     pub(crate) output: &'a [Value],
     pub(crate) trace: &'a [TraceItem],
-    pub(crate) answers: &'a [ReportedAnswer],
+    pub(crate) answers: &'a [CommittedRead],
 }
 
 /// Whether a commit is the next of its run, and one that the run may send.
@@ -43,14 +44,14 @@ fn is_next_attempt(runner: &Runner, attempts: u64) -> bool
 }
 
 /// Whether an answer is of a key.
-fn is_of_key(answer: &ReportedAnswer, key: &Text) -> bool
+fn is_of_key(answer: &CommittedRead, key: &Text) -> bool
     ensures { IsTrue result ↔ answer.now.key ≡ key.now }
 {
     answer.key == *key
 }
 
 /// Whether answers are of these keys, in this order.
-fn are_of_keys(answers: &[ReportedAnswer], keys: &[Text]) -> bool
+fn are_of_keys(answers: &[CommittedRead], keys: &[Text]) -> bool
     ensures { IsTrue result ↔ keys_reported answers.now ≡ keys.now }
 {
     if answers.len() != keys.len() {
@@ -79,7 +80,7 @@ fn run_now(
     alloc: Global,
     keys: &Keys,
     runner: &Runner,
-    answers: &[ReportedAnswer],
+    answers: &[CommittedRead],
 ) -> Result<Option<Run>, AllocError>
     requires { is_comparing runner.now.level ≡ true }
     ensures { IfOk result (IsFound runner.now.level keys.now.history runner.now.program answers.now) }
@@ -142,7 +143,7 @@ fn run_of_keys(
     alloc: Global,
     program: &Program,
     run: Run,
-    answers: &[ReportedAnswer],
+    answers: &[CommittedRead],
 ) -> Result<Option<Run>, AllocError>
     ensures { IfOk result (λ found. MatchOption found (keys_reported answers.now ≡ keys_first_read program.now.prefetch run.reads → ⊥)
         (λ same. (same ≡ run) × (keys_reported answers.now ≡ keys_first_read program.now.prefetch run.reads))) }
@@ -166,7 +167,7 @@ fn run_on_reads(
     alloc: Global,
     program: &Program,
     reads: &ReadSet,
-    answers: &[ReportedAnswer],
+    answers: &[CommittedRead],
 ) -> Result<Option<Run>, AllocError>
     ensures { IfOk result (IsRunOn (look_up reads.now) program.now answers.now) }
 {
@@ -181,7 +182,7 @@ fn run_on_reported(
     alloc: Global,
     keys: &Keys,
     runner: &Runner,
-    answers: &[ReportedAnswer],
+    answers: &[CommittedRead],
 ) -> Result<Option<Run>, AllocError>
     requires numbers { StatesFit keys.now.history }
     requires level { is_comparing runner.now.level ≡ false }
@@ -201,7 +202,7 @@ fn run_reported(
     alloc: Global,
     keys: &Keys,
     runner: &Runner,
-    answers: &[ReportedAnswer],
+    answers: &[CommittedRead],
 ) -> Result<Option<Run>, AllocError>
     requires { StatesFit keys.now.history }
     ensures { IfOk result (IsFound runner.now.level keys.now.history runner.now.program answers.now) }
@@ -214,7 +215,7 @@ fn run_reported(
 }
 
 /// Whether a run is done, with this output and trace.
-fn is_reported_run(run: &Run, reported: CommitLine<'_>) -> bool
+fn is_reported_run(run: &Run, reported: ReportedCommit<'_>) -> bool
     ensures { IsTrue result ↔ (run.now.end ≡ DoneEnd) × (run.now.output ≡ reported.entry.output.now) × (run.now.trace ≡ reported.entry.trace.now) }
 {
     run.end == End::Done
@@ -291,12 +292,12 @@ fn is_reached(reached: Option<u64>, revision: u64) -> bool
     }
 }
 
-/// Applies a run, and returns whether the line of a commit reports it.
+/// Applies a run, and returns whether its commit is the one that is reported.
 fn replay_run(
     alloc: Global,
     store: &mut Store,
     run: &Run,
-    reported: CommitLine<'_>,
+    reported: ReportedCommit<'_>,
 ) -> Result<bool, AllocError>
     ensures right { IfOk result (λ b. IsTrue b ↔ ((run.now.end ≡ DoneEnd) × (run.now.output ≡ reported.entry.output.now) × (run.now.trace ≡ reported.entry.trace.now))
         × (revision_reached (applied_run (without_moment store.old.standing) run.now) ≡ Some reported.entry.revision)) }
@@ -309,12 +310,12 @@ fn replay_run(
     Ok(is_reached(reached, reported.revision))
 }
 
-/// Applies the commit of a runner, and returns whether a line reports it.
+/// Applies the commit of a runner, and returns whether it is the one that is reported.
 pub(crate) fn replay_commit(
     alloc: Global,
     store: &mut Store,
     runner: &Runner,
-    reported: CommitLine<'_>,
+    reported: ReportedCommit<'_>,
 ) -> Result<bool, AllocError>
     ensures right { IfOk result (λ b. IsTrue b ↔ IsRightCommit store.old.standing runner.now reported.entry.revision reported.entry.attempts
         reported.entry.output.now reported.entry.trace.now reported.entry.answers.now) }

@@ -1,9 +1,8 @@
 //! The lines of the end.
-ghost use Rattle.std.specs.Prelude.{◌≡◌, ◌++◌, ◌+◌, ℕ, ◌↔◌, IsTrue, IfOk, IfSome, OnOk, None};
+ghost use Rattle.std.specs.Prelude.{◌≡◌, ◌++◌, ◌+◌, ℕ, IfOk, IfSome, OnOk, None};
 ghost use Rattle.stm_leases.specs.Live.{Live};
 ghost use Rattle.stm_history.specs.History.{key_now};
 ghost use Rattle.stm_entries.specs.LiveLeases.{HasLeases};
-ghost use Rattle.stm_check.specs.Finals.{AreFinal, IsFinalKind};
 ghost use Rattle.stm_check.specs.StoreLines.{key_lines_of, key_lines, lease_lines, final_lines as lines_of_end};
 ghost use Rattle.stm_check.specs.Walks.{point_of};
 ghost use Rattle.stm_check.specs.Wrong.{IsOff};
@@ -14,10 +13,11 @@ use crate::walk::Walk;
 use std::alloc::{AllocError, Global};
 use std::collections::BTreeMap;
 use stm_entries::LiveLease;
+use stm_events::ReportLine;
 use stm_history::Text;
 use stm_journal::present_keys;
 use stm_keys::Keys;
-use stm_report_lines::{ReportLine, is_end, is_key, is_lease};
+use stm_report_lines::are_same_lines;
 
 /// Adds the line of a key, if it is present.
 fn add_key(
@@ -83,22 +83,8 @@ pub(crate) fn final_lines(walk: &Walk) -> Result<Vec<ReportLine>, AllocError>
     Ok(lines)
 }
 
-/// Whether a line is this line of the end.
-fn is_final(wanted: &ReportLine, line: &ReportLine) -> bool
-    requires { IsFinalKind wanted.now }
-    ensures { IsTrue result ↔ wanted.now ≡ line.now }
-{
-    match wanted {
-        ReportLine::Key { key, state } => is_key(line, key, state),
-        ReportLine::Lease { id, ttl, renewed } => is_lease(line, *id, *ttl, *renewed),
-        ReportLine::End { revision, entries } => is_end(line, *revision, *entries),
-        _ => false,
-    }
-}
-
 /// The place of the first line that is not the one wanted there, and why it is wrong.
 pub(crate) fn first_off(wanted: &[ReportLine], lines: &[ReportLine]) -> Option<(usize, WrongCause)>
-    requires { AreFinal wanted.now }
     ensures same { result ≡ None → lines.now ≡ wanted.now }
     ensures off { IfSome result (λ off. (n : ℕ) → IsOff n wanted.now lines.now (n + off.0) off.1) }
 {
@@ -106,7 +92,7 @@ pub(crate) fn first_off(wanted: &[ReportLine], lines: &[ReportLine]) -> Option<(
         if index >= wanted.len() {
             return Some((index, WrongCause::Count));
         }
-        if !is_final(&wanted[index], line) {
+        if !are_same_lines(&wanted[index], line) {
             return Some((index, WrongCause::Final));
         }
     }

@@ -1,4 +1,4 @@
-//! The live leases, as the lines of a report say.
+//! The live leases, as the replies to events say.
 ghost use Rattle.std.specs.Prelude.{◌≡◌, List, OnOk};
 ghost use Rattle.stm_txn.specs.Standing.{Standing};
 ghost use Rattle.stm_entries.specs.Replayed.{Replayed, without_moment};
@@ -11,8 +11,7 @@ ghost use Rattle.stm_check.specs.Point.{advance_entries, entries_reported};
 use std::alloc::AllocError;
 use std::collections::BTreeMap;
 use stm_entries::{LiveLease, begin_lease, end_lease, renew_lease};
-use stm_events::WorldEvent;
-use stm_report_lines::ReportLine;
+use stm_events::{Denied, Reply, WorldEvent};
 use stm_txn::Expired;
 
 /// Leases expire.
@@ -24,30 +23,30 @@ fn expire(leases: &mut BTreeMap<u64, LiveLease>, expired: &[Expired])
     }
 }
 
-/// Takes over what the line of an advance reports of the live leases.
-fn note_advance(leases: &mut BTreeMap<u64, LiveLease>, line: &ReportLine)
-    ensures { (r : Replayed) → HasLeases leases.old r.live → HasLeases leases.new (replay (advance_entries line.now) r).live }
+/// Takes over what the reply to an advance reports of the live leases.
+fn note_advance(leases: &mut BTreeMap<u64, LiveLease>, reply: &Result<Reply, Denied>)
+    ensures { (r : Replayed) → HasLeases leases.old r.live → HasLeases leases.new (replay (advance_entries reply.now) r).live }
 {
-    match line {
-        ReportLine::Advanced { expired, .. } => expire(leases, expired.as_slice()),
-        ReportLine::Refused { expired, .. } => expire(leases, expired.as_slice()),
+    match reply {
+        Ok(Reply::Advanced { expired, .. }) => expire(leases, expired.as_slice()),
+        Err(denied) => expire(leases, denied.expired.as_slice()),
         _ => {}
     }
 }
 
-/// Takes over what the line of an event reports of the live leases; the moment before it was this.
+/// Takes over what the reply to an event reports of the live leases; the moment before it was this.
 pub(crate) fn note_leases(
     leases: &mut BTreeMap<u64, LiveLease>,
     moment: u64,
     event: &WorldEvent,
-    line: &ReportLine,
+    reply: &Result<Reply, Denied>,
 ) -> Result<(), AllocError>
     ensures { OnOk result ((s : Standing) (runners : List Run) → s.moment ≡ moment → HasLeases leases.old s.live
-        → HasLeases leases.new (replay (entries_reported s runners event.now line.now) (without_moment s)).live) }
+        → HasLeases leases.new (replay (entries_reported s runners event.now reply.now) (without_moment s)).live) }
 {
     match event {
-        WorldEvent::Grant { id, ttl } => match line {
-            ReportLine::Granted { .. } => {
+        WorldEvent::Grant { id, ttl } => match reply {
+            Ok(Reply::Granted { .. }) => {
                 let lease = LiveLease {
                     ttl: *ttl,
                     renewed: moment,
@@ -56,19 +55,19 @@ pub(crate) fn note_leases(
             }
             _ => Ok(()),
         },
-        WorldEvent::Keep { id } => match line {
-            ReportLine::Kept { .. } => renew_lease(leases, *id, moment),
+        WorldEvent::Keep { id } => match reply {
+            Ok(Reply::Kept { .. }) => renew_lease(leases, *id, moment),
             _ => Ok(()),
         },
-        WorldEvent::Revoke { id } => match line {
-            ReportLine::Revoked { .. } => {
+        WorldEvent::Revoke { id } => match reply {
+            Ok(Reply::Revoked { .. }) => {
                 end_lease(leases, *id);
                 Ok(())
             }
             _ => Ok(()),
         },
         WorldEvent::Advance { .. } => {
-            note_advance(leases, line);
+            note_advance(leases, reply);
             Ok(())
         }
         _ => Ok(()),

@@ -1,7 +1,7 @@
 //! When a report is wrong: the definition that reports are checked by, and the check.
 //!
-//! `specs/Wrong.antt` says which line is the first wrong one, and why. It knows the events of the scenario, the lines,
-//! the replay of entries, and which line the reply to a call of a store has; it knows nothing of a world's step.
+//! `specs/Wrong.antt` says which line is the first wrong one, and why. It knows the events of the scenario, the lines with their
+//! replies, the replay of entries, and the reply to a call of a store; it knows nothing of a world's step.
 #![tactic(auto)]
 
 mod cause;
@@ -22,5 +22,5 @@ pub use cause::WrongCause;
 pub use checking::{Checked, check};
 pub use runner::Runner;
 pub use sources::{CheckFault, bytes_of, check_sources};
-pub use stm_report_lines::{Report, ReportLine};
+pub use stm_events::{Report, ReportLine};
 pub use stm_texts::Scenario;

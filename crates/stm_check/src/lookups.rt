@@ -10,10 +10,10 @@ ghost use Rattle.stm_check.specs.Replays.{IsTrulyReported, AreTrulyReported};
 
 use std::alloc::{AllocError, Global};
 use stm_compile::ReadSet;
+use stm_events::CommittedRead;
 use stm_history::{KeyState, ReadAnswer, Text};
 use stm_keys::Keys;
 use stm_meaning::Lookup;
-use stm_report_lines::ReportedAnswer;
 
 /// The keys of a store as they are now.
 #[derive(Clone, Copy)]
@@ -65,7 +65,7 @@ fn mod_rev_of(state: Option<&KeyState>) -> u64
 }
 
 /// Whether an answer says what a key was at a revision that the store has reached.
-fn is_truly_reported(keys: &Keys, answer: &ReportedAnswer) -> bool
+fn is_truly_reported(keys: &Keys, answer: &CommittedRead) -> bool
     ensures { IsTrue result ↔ IsTrulyReported keys.now.history answer.now }
 {
     if answer.of_rev > keys.revision() {
@@ -76,7 +76,7 @@ fn is_truly_reported(keys: &Keys, answer: &ReportedAnswer) -> bool
 }
 
 /// Whether answers say what their keys were.
-pub(crate) fn are_truly_reported(keys: &Keys, answers: &[ReportedAnswer]) -> bool
+pub(crate) fn are_truly_reported(keys: &Keys, answers: &[CommittedRead]) -> bool
     ensures { IsTrue result ↔ AreTrulyReported keys.now.history answers.now }
 {
     for answer in answers {
@@ -101,7 +101,7 @@ fn copy_of(state: Option<&KeyState>) -> Result<Option<KeyState>, AllocError>
 }
 
 /// An answer, as a read of the store's history gives it.
-fn read_reported(keys: &Keys, answer: &ReportedAnswer) -> Result<ReadAnswer, AllocError>
+fn read_reported(keys: &Keys, answer: &CommittedRead) -> Result<ReadAnswer, AllocError>
     requires numbers { StatesFit keys.now.history }
     requires reached { answer.now.of_rev ≤ now keys.now.history }
     ensures read { IfOk result (λ read. read ≡ read_in keys.now.history answer.now) }
@@ -126,7 +126,7 @@ fn is_known(reads: &ReadSet, key: &Text) -> bool
 }
 
 /// Adds an answer as it was read, if there is none of its key.
-fn add_reported(reads: &mut ReadSet, keys: &Keys, answer: &ReportedAnswer) -> Result<(), AllocError>
+fn add_reported(reads: &mut ReadSet, keys: &Keys, answer: &CommittedRead) -> Result<(), AllocError>
     requires numbers { StatesFit keys.now.history }
     requires reached { answer.now.of_rev ≤ now keys.now.history }
     ensures { OnOk result ((so_far : List Read) → ((key : List ℕ) → answer_in key reads.old ≡ answer_in key so_far)
@@ -144,7 +144,7 @@ fn add_reported(reads: &mut ReadSet, keys: &Keys, answer: &ReportedAnswer) -> Re
 pub(crate) fn reads_reported(
     alloc: Global,
     keys: &Keys,
-    answers: &[ReportedAnswer],
+    answers: &[CommittedRead],
 ) -> Result<ReadSet, AllocError>
     requires numbers { StatesFit keys.now.history }
     requires truth { AreTrulyReported keys.now.history answers.now }

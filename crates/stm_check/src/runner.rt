@@ -1,14 +1,13 @@
-//! The runs of runners, as the lines of a report say.
+//! The runs of runners, as the replies to events say.
 ghost use Rattle.std.specs.Prelude.{◌≡◌, ◌++◌, ◌∷◌, [], is_some, option_copied, OnOk};
 ghost use Rattle.stm_check.specs.Runners.{next_runner, started_in, running, with_conflict, ended, with_runner, begun, after_step, runners_after};
 
 use std::alloc::AllocError;
-use stm_events::WorldEvent;
+use stm_events::{Denied, Reply, WorldEvent};
 use stm_program::{Level, Program};
-use stm_report_lines::ReportLine;
 
-/// A run of a runner: its program and level, how many commits it may send, how many conflicts its lines reported, and whether
-/// one of them ended it.
+/// A run of a runner: its program and level, how many commits it may send, how many conflicts it had, and whether it
+/// has ended.
 #[derive(Debug, Drop)]
 pub struct Runner {
     /// The program.
@@ -17,9 +16,9 @@ pub struct Runner {
     pub level: Level,
     /// How many commits the run may send.
     pub limit: u32,
-    /// How many conflicts its lines reported.
+    /// How many conflicts the replies to its steps reported.
     pub conflicts: u64,
-    /// Whether one of its lines ended it.
+    /// Whether one of them ended it.
     pub is_over: bool,
 }
 
@@ -120,39 +119,43 @@ fn end_run_of(runners: &mut Vec<Runner>, id: u64)
     runners[(id - 1) as usize].end();
 }
 
-/// Takes over what the line of a step reports of its runner.
-fn note_step(runners: &mut Vec<Runner>, id: u64, line: &ReportLine) -> Result<(), AllocError>
-    ensures { OnOk result (runners.new.items ≡ after_step id line.now runners.old.items) }
+/// Takes over what the reply to a step reports of its runner.
+fn note_step(
+    runners: &mut Vec<Runner>,
+    id: u64,
+    reply: &Result<Reply, Denied>,
+) -> Result<(), AllocError>
+    ensures { OnOk result (runners.new.items ≡ after_step id reply.now runners.old.items) }
 {
-    match line {
-        ReportLine::Conflict { .. } => count_conflict_of(runners, id),
-        ReportLine::Committed { .. } => Ok(end_run_of(runners, id)),
-        ReportLine::GaveUp { .. } => Ok(end_run_of(runners, id)),
-        ReportLine::Aborted { .. } => Ok(end_run_of(runners, id)),
-        ReportLine::Faulted { .. } => Ok(end_run_of(runners, id)),
-        ReportLine::Ended { .. } => Ok(end_run_of(runners, id)),
+    match reply {
+        Ok(Reply::Conflict { .. }) => count_conflict_of(runners, id),
+        Ok(Reply::Committed { .. }) => Ok(end_run_of(runners, id)),
+        Ok(Reply::GaveUp { .. }) => Ok(end_run_of(runners, id)),
+        Ok(Reply::Aborted { .. }) => Ok(end_run_of(runners, id)),
+        Ok(Reply::Faulted { .. }) => Ok(end_run_of(runners, id)),
+        Ok(Reply::Ended { .. }) => Ok(end_run_of(runners, id)),
         _ => Ok(()),
     }
 }
 
-/// Takes over what the line of an event reports of the runners.
+/// Takes over what the reply to an event reports of the runners.
 pub(crate) fn note(
     runners: &mut Vec<Runner>,
     event: &WorldEvent,
-    line: &ReportLine,
+    reply: &Result<Reply, Denied>,
 ) -> Result<(), AllocError>
-    ensures { OnOk result (runners.new.items ≡ runners_after event.now line.now runners.old.items) }
+    ensures { OnOk result (runners.new.items ≡ runners_after event.now reply.now runners.old.items) }
 {
     match event {
         WorldEvent::Start {
             program,
             level,
             limit,
-        } => match line {
-            ReportLine::Started { .. } => begin(runners, program, *level, *limit),
+        } => match reply {
+            Ok(Reply::Started { .. }) => begin(runners, program, *level, *limit),
             _ => Ok(()),
         },
-        WorldEvent::Step { runner } => note_step(runners, *runner, line),
+        WorldEvent::Step { runner } => note_step(runners, *runner, reply),
         _ => Ok(()),
     }
 }

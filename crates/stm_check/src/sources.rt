@@ -6,7 +6,8 @@ ghost use Rattle.stm_check.specs.Sources.{HasRead, ReadsScenario, ReadsReport, J
 use crate::checking::{Checked, check};
 use std::alloc::Global;
 use stm_devices::{ReadFault, Source, read_all};
-use stm_report_lines::{Report, read_report};
+use stm_events::Report;
+use stm_report_lines::read_report;
 use stm_texts::{BadInput, ReadError, Scenario, read_scenario};
 use thiserror::Error;
 

@@ -1,6 +1,6 @@
 //! What a check knows at a point of a report, and what the line of an event makes of it.
 ghost use Rattle.std.specs.Prelude.{◌≡◌, ◌↔◌, IsTrue, IfOk, IfSome, Some, None, option_copied};
-ghost use Rattle.stm_check.specs.Point.{commit_entries, led_by, standing_after, beginning, after};
+ghost use Rattle.stm_check.specs.Point.{commit_entries, led_by, standing_after, beginning, after, after_line};
 ghost use Rattle.stm_check.specs.Replays.{StartReplays, StepReplays, Replays};
 ghost use Rattle.stm_check.specs.Wrong.{IsRight, IsWrong};
 ghost use Rattle.stm_entries.specs.LiveLeases.{HasLeases};
@@ -8,19 +8,19 @@ ghost use Rattle.stm_check.specs.Walks.{point_of};
 ghost use Rattle.stm_texts.specs.Opens.{IsOpening, as_setup};
 
 use crate::cause::WrongCause;
-use crate::commits::{CommitLine, replay_commit};
+use crate::commits::{ReportedCommit, replay_commit};
 use crate::count::{add_count, count_reported};
-use crate::fits::fits;
+use crate::fits::can_have;
 use crate::leases::note_leases;
 use crate::replayed_calls::{
-    replay_advance, replay_compact, replay_grant, replay_keep, replay_revoke, replay_txn,
+    is_refused, replay_advance, replay_compact, replay_grant, replay_keep, replay_revoke,
+    replay_txn,
 };
 use crate::runner::{Runner, find_running, note};
 use std::alloc::{AllocError, Global};
 use std::collections::BTreeMap;
 use stm_entries::{LiveLease, no_leases};
-use stm_events::WorldEvent;
-use stm_report_lines::{RefusalName, ReportLine};
+use stm_events::{Denied, EventRefusal, Reply, ReportLine, WorldEvent};
 use stm_texts::Opening;
 use stm_txn::Store;
 
@@ -34,44 +34,42 @@ pub(crate) struct Walk {
     pub(crate) leases: BTreeMap<u64, LiveLease>,
 }
 
-/// Whether the line of a start is right, once it can stand there: one that may send no commit is refused as `BadLimit`.
-fn start_replays(limit: u32, line: &ReportLine) -> bool
-    ensures { IsTrue result ↔ StartReplays limit line.now }
+/// Whether the reply to a start is right, once it can have it: one that may send no commit is refused as `BadLimit`.
+fn start_replays(limit: u32, reply: &Result<Reply, Denied>) -> bool
+    ensures { IsTrue result ↔ StartReplays limit reply.now }
 {
-    match line {
-        ReportLine::Refused { cause, expired, .. } => {
-            limit == 0 && *cause == RefusalName::BadLimit && expired.len() == 0
-        }
-        _ => true,
+    match reply {
+        Ok(_) => true,
+        Err(_) => limit == 0 && is_refused(reply, EventRefusal::BadLimit, &[]),
     }
 }
 
-/// Whether the line of a step is right, once it can stand there. A commit is made.
+/// Whether the reply to a step is right, once it can have it. A commit is made.
 fn step_replays(
     alloc: Global,
     store: &mut Store,
     runner: Option<&Runner>,
-    line: &ReportLine,
+    reply: &Result<Reply, Denied>,
 ) -> Result<bool, AllocError>
-    ensures right { IfOk result (λ b. IsTrue b ↔ StepReplays store.old.standing (option_copied runner.entry) line.now) }
+    ensures right { IfOk result (λ b. IsTrue b ↔ StepReplays store.old.standing (option_copied runner.entry) reply.now) }
     ensures next { IfOk result (λ b. IsTrue b → store.new.standing
-        ≡ led_by (commit_entries store.old.standing.history line.now (option_copied runner.entry)) store.old.standing store.old.standing.moment) }
+        ≡ led_by (commit_entries store.old.standing.history reply.now (option_copied runner.entry)) store.old.standing store.old.standing.moment) }
 {
-    match line {
-        ReportLine::Refused { cause, expired, .. } => {
-            Ok(runner.is_none() && *cause == RefusalName::NoRunner && expired.len() == 0)
-        }
-        ReportLine::Committed {
-            revision,
-            attempts,
-            output,
-            trace,
-            answers,
-            ..
-        } => match runner {
+    match reply {
+        Err(_) => Ok(runner.is_none() && is_refused(reply, EventRefusal::NoRunner, &[])),
+        Ok(
+            Reply::Committed {
+                revision,
+                attempts,
+                output,
+                trace,
+                answers,
+                ..
+            },
+        ) => match runner {
             None => Ok(false),
             Some(runner) => {
-                let reported = CommitLine {
+                let reported = ReportedCommit {
                     revision: *revision,
                     attempts: *attempts,
                     output: output.as_slice(),
@@ -81,33 +79,32 @@ fn step_replays(
                 replay_commit(alloc, store, runner, reported)
             }
         },
-        _ => Ok(true),
+        Ok(_) => Ok(true),
     }
 }
 
-/// Whether the line of an event is right, once it can stand there. The event's call is made.
+/// Whether the reply to an event is right, once it can have it. The event's call is made.
 fn replays(
     alloc: Global,
     store: &mut Store,
     runners: &[Runner],
-    number: u64,
     event: &WorldEvent,
-    line: &ReportLine,
+    reply: &Result<Reply, Denied>,
 ) -> Result<bool, AllocError>
-    ensures right { IfOk result (λ b. IsTrue b ↔ Replays number store.old.standing runners.now event.now line.now) }
-    ensures next { IfOk result (λ b. IsTrue b → store.new.standing ≡ standing_after store.old.standing runners.now event.now line.now) }
+    ensures right { IfOk result (λ b. IsTrue b ↔ Replays store.old.standing runners.now event.now reply.now) }
+    ensures next { IfOk result (λ b. IsTrue b → store.new.standing ≡ standing_after store.old.standing runners.now event.now reply.now) }
 {
     match event {
-        WorldEvent::Start { limit, .. } => Ok(start_replays(*limit, line)),
+        WorldEvent::Start { limit, .. } => Ok(start_replays(*limit, reply)),
         WorldEvent::Step { runner } => {
-            step_replays(alloc, store, find_running(runners, *runner), line)
+            step_replays(alloc, store, find_running(runners, *runner), reply)
         }
-        WorldEvent::Txn { txn } => replay_txn(store, number, txn, line),
-        WorldEvent::Grant { id, ttl } => replay_grant(store, number, *id, *ttl, line),
-        WorldEvent::Keep { id } => replay_keep(store, number, *id, line),
-        WorldEvent::Revoke { id } => replay_revoke(store, number, *id, line),
-        WorldEvent::Advance { now } => replay_advance(store, number, *now, line),
-        WorldEvent::Compact { revision } => replay_compact(store, number, *revision, line),
+        WorldEvent::Txn { txn } => replay_txn(store, txn, reply),
+        WorldEvent::Grant { id, ttl } => replay_grant(store, *id, *ttl, reply),
+        WorldEvent::Keep { id } => replay_keep(store, *id, reply),
+        WorldEvent::Revoke { id } => replay_revoke(store, *id, reply),
+        WorldEvent::Advance { now } => replay_advance(store, *now, reply),
+        WorldEvent::Compact { revision } => replay_compact(store, *revision, reply),
         _ => Ok(true),
     }
 }
@@ -129,6 +126,34 @@ impl Walk {
         })
     }
 
+    /// Takes the reply to an event that can have it, and returns whether it is what the replay gives.
+    fn take_reply(
+        &mut self,
+        event: &WorldEvent,
+        reply: &Result<Reply, Denied>,
+    ) -> Result<bool, AllocError>
+        ensures right { IfOk result (λ b. IsTrue b ↔ Replays (point_of self.old).standing (point_of self.old).runners event.now reply.now) }
+        ensures next { IfOk result (λ b. IsTrue b → point_of self.new ≡ after (point_of self.old) event.now reply.now) }
+        ensures leases { IfOk result (λ b. IsTrue b → HasLeases self.old.leases self.old.store.standing.live
+            → HasLeases self.new.leases self.new.store.standing.live) }
+    {
+        let more = count_reported(&self.store, self.runners.as_slice(), event, reply);
+        let moment = self.store.moment();
+        if !replays(
+            self.alloc,
+            &mut self.store,
+            self.runners.as_slice(),
+            event,
+            reply,
+        )? {
+            return Ok(false);
+        }
+        self.entries = add_count(self.entries, more)?;
+        note(&mut self.runners, event, reply)?;
+        note_leases(&mut self.leases, moment, event, reply)?;
+        Ok(true)
+    }
+
     /// Takes the line of an event, and returns why it is wrong, if it is.
     pub(crate) fn take(
         &mut self,
@@ -138,28 +163,20 @@ impl Walk {
     ) -> Result<Option<WrongCause>, AllocError>
         ensures right { IfOk result (λ found. found ≡ None → IsRight number (point_of self.old) event.now line.now) }
         ensures wrong { IfOk result (λ found. IfSome found (IsWrong number (point_of self.old) event.now line.now)) }
-        ensures next { IfOk result (λ found. found ≡ None → point_of self.new ≡ after (point_of self.old) event.now line.now) }
+        ensures next { IfOk result (λ found. found ≡ None → point_of self.new ≡ after_line (point_of self.old) event.now line.now) }
         ensures leases { IfOk result (λ found. found ≡ None → HasLeases self.old.leases self.old.store.standing.live
             → HasLeases self.new.leases self.new.store.standing.live) }
     {
-        if !fits(number, self.runners.as_slice(), event, line) {
+        let ReportLine::Event { number: of, reply } = line else {
+            return Ok(Some(WrongCause::Event));
+        };
+        if *of != number || !can_have(self.runners.as_slice(), event, reply) {
             return Ok(Some(WrongCause::Event));
         }
-        let more = count_reported(&self.store, self.runners.as_slice(), event, line);
-        let moment = self.store.moment();
-        if !replays(
-            self.alloc,
-            &mut self.store,
-            self.runners.as_slice(),
-            number,
-            event,
-            line,
-        )? {
-            return Ok(Some(WrongCause::Replay));
+        if self.take_reply(event, reply)? {
+            Ok(None)
+        } else {
+            Ok(Some(WrongCause::Replay))
         }
-        self.entries = add_count(self.entries, more)?;
-        note(&mut self.runners, event, line)?;
-        note_leases(&mut self.leases, moment, event, line)?;
-        Ok(None)
     }
 }

@@ -1,4 +1,4 @@
-pub mod Lists
+pub mod SameLists
 pub mod SameLemmas
 pub mod Shallow
 pub mod WordLaws

@@ -6,26 +6,18 @@ use Rattle.stm_meaning.specs.Faults.{fault_name}
 use Rattle.stm_outcome.specs.declared.refusal.Refusal.{Refusal as StoreRefusal}
 use Rattle.stm_outcome.specs.declared.refusal.Refusal.TheVariants as store
 use Rattle.stm_outcome.specs.Names.{refusal_name as store_refusal_name}
-use Rattle.stm_events.specs.declared.refusal.Refusal.{Refusal}
-use Rattle.stm_events.specs.declared.refusal.Refusal.TheVariants.{Store, BadLimit, NoRunner}
+use Rattle.stm_events.specs.declared.refusal.EventRefusal.{EventRefusal}
+use Rattle.stm_events.specs.declared.refusal.EventRefusal.TheVariants as cause
 use Rattle.stm_events.specs.Names.{refusal_name}
-use Rattle.stm_report_lines.specs.declared.causes.RefusalName.{RefusalName}
-use Rattle.stm_report_lines.specs.declared.causes.RefusalName.TheVariants as cause
-use Rattle.stm_report_lines.specs.Names.{refusal_text}
-use Rattle.stm_report_lines.specs.Lines.{cause_reported, refusal_reported}
+use Rattle.stm_events.specs.Replies.{refusal_of}
 use Rattle.stm_report_lines.specs.RefusalNames.{NamesAgree}
 use Rattle.stm_report_lines.proofs.WordLaws.{refusal_named-text, refusal_named-is, fault_named-text, fault_named-is}
 
-causes : (c : StoreRefusal) → refusal_text (cause_reported c) ≡ store_refusal_name c
-causes store.OutOfMemory = refl
-causes _ = refl
+refusals : (c : StoreRefusal) → refusal_name (refusal_of c) ≡ store_refusal_name c
+refusals store.OutOfMemory = refl
+refusals _ = refl
 
-refusals : (r : Refusal) → refusal_text (refusal_reported r) ≡ refusal_name r
-refusals (Store c) = causes c
-refusals BadLimit = refl
-refusals NoRunner = refl
-
-faults : (f : Fault) → (c : RefusalName) × (refusal_text c ≡ fault_name f)
+faults : (f : Fault) → (c : EventRefusal) × (refusal_name c ≡ fault_name f)
 faults fault.Kind = (cause.Kind, refl)
 faults fault.Overflow = (cause.Overflow, refl)
 faults fault.ZeroDivisor = (cause.ZeroDivisor, refl)
@@ -38,7 +30,6 @@ faults fault.EmptyKey = (cause.EmptyKey, refl)
 pub names_agree : NamesAgree
 names_agree = record {
   refusals = refusals;
-  causes = causes;
   faults = faults;
   refusals_read = refusal_named-text;
   refusals_meant = refusal_named-is;

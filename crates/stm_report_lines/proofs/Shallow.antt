@@ -1,5 +1,5 @@
 -- The data of a line have no float, and are nested a few levels deep, far from what a reader of JSON takes.
-use Rattle.std.proofs.Common.{◌≡◌, ℕ, zero, suc, ◌≤◌, false, List, [], ◌∷◌, map, Option, Some, None, pos, negsuc, refl, arith}
+use Rattle.std.proofs.Common.{◌≡◌, ℕ, zero, suc, ◌≤◌, false, List, [], ◌∷◌, map, Option, Some, None, Result, Ok, Err, pos, negsuc, refl, arith}
 use Rattle.std.proofs.Math.Nat.{max-le}
 use Rattle.serde_json.specs.Data.{Data, null, boolean, number, string, array, object, Items, no_items, item, depth, items_depth}
 use Rattle.serde_json.specs.Find.{is_float}
@@ -12,16 +12,19 @@ use Rattle.stm_steps.specs.declared.value.Value.TheVariants.{Text, Number}
 use Rattle.stm_steps.specs.declared.trace_item.TraceItem.{TraceItem}
 use Rattle.stm_steps.specs.declared.trace_item.TraceItem.TheVariants as trace
 use Rattle.stm_outcome.specs.declared.advance.Expired.{Expired}
-use Rattle.stm_report_lines.specs.declared.line.ReportLine.{ReportLine}
-use Rattle.stm_report_lines.specs.declared.line.ReportLine.TheVariants.{Started, Prefetched, Fetched, Committed, Conflict, GaveUp, Aborted, Faulted, Ended, Txn, Granted}
-use Rattle.stm_report_lines.specs.declared.line.ReportLine.TheVariants.{Kept, Revoked, Advanced, Compacted, Watching, Cancelled, Batch, Lost, Refused, Key, Lease, End}
-use Rattle.stm_report_lines.specs.declared.line.ReportedAnswer.{ReportedAnswer}
+use Rattle.stm_events.specs.declared.line.ReportLine.{ReportLine}
+use Rattle.stm_events.specs.declared.line.ReportLine.TheVariants as line
+use Rattle.stm_events.specs.declared.reply.Reply.{Reply}
+use Rattle.stm_events.specs.declared.reply.Reply.TheVariants.{Started, Prefetched, Fetched, Committed, Conflict, GaveUp, Aborted, Faulted, Ended, Txn, Granted}
+use Rattle.stm_events.specs.declared.reply.Reply.TheVariants.{Kept, Revoked, Advanced, Compacted, Watching, Cancelled, Batch, Lost}
+use Rattle.stm_events.specs.declared.reply.CommittedRead.{CommittedRead}
+use Rattle.stm_events.specs.declared.refusal.Denied.{Denied}
 use Rattle.stm_keys.specs.declared.event.Event.{Event}
 use Rattle.stm_keys.specs.declared.event.Event.TheVariants as event
-use Rattle.stm_report_lines.specs.declared.line.ReportedOp.{ReportedOp}
-use Rattle.stm_report_lines.specs.declared.line.ReportedOp.TheVariants as op
+use Rattle.stm_events.specs.declared.reply.OpReply.{OpReply}
+use Rattle.stm_events.specs.declared.reply.OpReply.TheVariants as op
 use Rattle.stm_events.specs.declared.reply.KeyRead.{KeyRead}
-use Rattle.stm_report_lines.specs.LineData.{value_data, trace_data, text_or_null, answer_data, state_or_null, op_data, read_data, expired_data, event_data, line_data}
+use Rattle.stm_report_lines.specs.LineData.{value_data, trace_data, text_or_null, answer_data, state_or_null, op_data, read_data, expired_data, event_data, reply_data, event_data_of, line_data}
 
 -- data with no float and no object, nested at most so deep
 abbrev mutual
@@ -86,14 +89,14 @@ text_shallow : (value : Option (List ℕ)) → IsShallow (text_or_null value) 2
 text_shallow None = tt
 text_shallow (Some text) = tt
 
-answer_shallow : (a : ReportedAnswer) → IsShallow (answer_data a) 3
+answer_shallow : (a : CommittedRead) → IsShallow (answer_data a) 3
 answer_shallow a = (tt, (text_shallow a.value, (refl, (refl, tt))))
 
 state_shallow : (kv : Option KeyState) → IsShallow (state_or_null kv) 2
 state_shallow None = tt
 state_shallow (Some s) = (tt, (refl, (refl, (refl, (refl, tt)))))
 
-op_shallow : (o : ReportedOp) → IsShallow (op_data o) 3
+op_shallow : (o : OpReply) → IsShallow (op_data o) 3
 op_shallow (op.Get revision kv) = (tt, (refl, (state_shallow kv, tt)))
 op_shallow op.Put = (tt, tt)
 op_shallow (op.Del count) = (tt, (refl, tt))
@@ -108,31 +111,37 @@ event_shallow : (e : Event) → IsShallow (event_data e) 3
 event_shallow (event.Put key state) = (tt, (tt, (tt, (refl, (refl, (refl, (refl, tt)))))))
 event_shallow (event.Delete key revision) = (tt, (tt, (refl, tt)))
 
-line_shallow : (l : ReportLine) → IsShallow (line_data l) 5
-line_shallow (Started n runner) = (refl, (tt, (refl, tt)))
-line_shallow (Prefetched n runner revision reads) = (refl, (tt, (refl, (refl, (listed read_data 3 read_shallow reads, tt)))))
-line_shallow (Fetched n runner key mod_rev of_rev revision) = (refl, (tt, (refl, (tt, (refl, (refl, (refl, tt)))))))
-line_shallow (Committed n runner revision attempts output trace answers) =
+reply_shallow : (n : ℕ) (r : Reply) → IsShallow (reply_data n r) 5
+reply_shallow n (Started runner) = (refl, (tt, (refl, tt)))
+reply_shallow n (Prefetched runner revision reads) = (refl, (tt, (refl, (refl, (listed read_data 3 read_shallow reads, tt)))))
+reply_shallow n (Fetched runner key mod_rev of_rev revision) = (refl, (tt, (refl, (tt, (refl, (refl, (refl, tt)))))))
+reply_shallow n (Committed runner revision attempts output trace answers) =
     (refl, (tt, (refl, (refl, (refl, (listed value_data 3 value_shallow output, (listed trace_data 3 trace_shallow trace, (listed answer_data 3 answer_shallow answers, tt))))))))
-line_shallow (Conflict n runner key seen now) = (refl, (tt, (refl, (tt, (refl, (refl, tt))))))
-line_shallow (GaveUp n runner attempts key seen now) = (refl, (tt, (refl, (refl, (tt, (refl, (refl, tt)))))))
-line_shallow (Aborted n runner text) = (refl, (tt, (refl, (tt, tt))))
-line_shallow (Faulted n runner fault) = (refl, (tt, (refl, (tt, tt))))
-line_shallow (Ended n runner cause) = (refl, (tt, (refl, (tt, tt))))
-line_shallow (Txn n succeeded revision answers) = (refl, (tt, (tt, (refl, (listed op_data 3 op_shallow answers, tt)))))
-line_shallow (Granted n id) = (refl, (tt, (refl, tt)))
-line_shallow (Kept n id) = (refl, (tt, (refl, tt)))
-line_shallow (Revoked n id revision) = (refl, (tt, (refl, (refl, tt))))
-line_shallow (Advanced n now expired) = (refl, (tt, (refl, (listed expired_data 3 expired_shallow expired, tt))))
-line_shallow (Compacted n revision) = (refl, (tt, (refl, tt)))
-line_shallow (Watching n id) = (refl, (tt, (refl, tt)))
-line_shallow (Cancelled n id) = (refl, (tt, (refl, tt)))
-line_shallow (Batch n id up_to events) = (refl, (tt, (refl, (refl, (listed event_data 3 event_shallow events, tt)))))
-line_shallow (Lost n id floor) = (refl, (tt, (refl, (refl, tt))))
-line_shallow (Refused n cause expired) = (refl, (tt, (tt, (listed expired_data 3 expired_shallow expired, tt))))
-line_shallow (Key key state) = (tt, (tt, (tt, (refl, (refl, (refl, (refl, tt)))))))
-line_shallow (Lease id ttl renewed) = (tt, (refl, (refl, (refl, tt))))
-line_shallow (End revision entries) = (tt, (refl, (refl, tt)))
+reply_shallow n (Conflict runner key seen now) = (refl, (tt, (refl, (tt, (refl, (refl, tt))))))
+reply_shallow n (GaveUp runner attempts key seen now) = (refl, (tt, (refl, (refl, (tt, (refl, (refl, tt)))))))
+reply_shallow n (Aborted runner text) = (refl, (tt, (refl, (tt, tt))))
+reply_shallow n (Faulted runner fault) = (refl, (tt, (refl, (tt, tt))))
+reply_shallow n (Ended runner cause) = (refl, (tt, (refl, (tt, tt))))
+reply_shallow n (Txn succeeded revision answers) = (refl, (tt, (tt, (refl, (listed op_data 3 op_shallow answers, tt)))))
+reply_shallow n (Granted id) = (refl, (tt, (refl, tt)))
+reply_shallow n (Kept id) = (refl, (tt, (refl, tt)))
+reply_shallow n (Revoked id revision) = (refl, (tt, (refl, (refl, tt))))
+reply_shallow n (Advanced now expired) = (refl, (tt, (refl, (listed expired_data 3 expired_shallow expired, tt))))
+reply_shallow n (Compacted revision) = (refl, (tt, (refl, tt)))
+reply_shallow n (Watching id) = (refl, (tt, (refl, tt)))
+reply_shallow n (Cancelled id) = (refl, (tt, (refl, tt)))
+reply_shallow n (Batch id up_to events) = (refl, (tt, (refl, (refl, (listed event_data 3 event_shallow events, tt)))))
+reply_shallow n (Lost id floor) = (refl, (tt, (refl, (refl, tt))))
+
+event_shallow_of : (n : ℕ) (reply : Result Reply Denied) → IsShallow (event_data_of n reply) 5
+event_shallow_of n (Ok reply) = reply_shallow n reply
+event_shallow_of n (Err denied) = (refl, (tt, (tt, (listed expired_data 3 expired_shallow denied.expired, tt))))
+
+line_shallow : (l : ReportLine) → IsShallow (line_data l) 5
+line_shallow (line.Event n reply) = event_shallow_of n reply
+line_shallow (line.Key key state) = (tt, (tt, (tt, (refl, (refl, (refl, (refl, tt)))))))
+line_shallow (line.Lease id ttl renewed) = (tt, (refl, (refl, (refl, tt))))
+line_shallow (line.End revision entries) = (tt, (refl, (refl, tt)))
 
 pub line_data-no_float : (l : ReportLine) → has_float (line_data l) ≡ false
 line_data-no_float l = no_float_in (line_data l) 5 (line_shallow l)

@@ -1,15 +1,16 @@
 -- Which bytes spell which report: the grammar, apart from reading. The data of a line say how it is spelled; JSON leaves open
 -- how a number is held and where white space stands.
-use Rattle.std.specs.Prelude.{◌≡◌, ℕ, ◌≤◌, ℤ, List, [], ◌∷◌, length, Some, true}
+use Rattle.std.specs.Prelude.{◌≡◌, ℕ, ◌≤◌, ℤ, List, [], ◌∷◌, length, Some, Ok, true}
 use Rattle.serde_json.specs.Data.{Data, null, boolean, number, string, array, object, Items, no_items, item}
 use Rattle.serde_json.specs.Find.{as_integer}
 use Rattle.stm_json.specs.Elements.{SpellsNumber, is_64_bit}
-use Rattle.stm_report_lines.specs.declared.line.ReportLine.{ReportLine}
-use Rattle.stm_report_lines.specs.declared.line.ReportLine.TheVariants.{Txn}
-use Rattle.stm_report_lines.specs.declared.line.ReportedOp.{ReportedOp}
-use Rattle.stm_report_lines.specs.declared.line.ReportedOp.TheVariants.{Get, Put, Del}
+use Rattle.stm_events.specs.declared.line.ReportLine.{ReportLine}
+use Rattle.stm_events.specs.declared.line.ReportLine.TheVariants.{Event}
+use Rattle.stm_events.specs.declared.line.Report.{Report}
+use Rattle.stm_events.specs.declared.reply.Reply.TheVariants.{Txn}
+use Rattle.stm_events.specs.declared.reply.OpReply.{OpReply}
+use Rattle.stm_events.specs.declared.reply.OpReply.TheVariants.{Get, Put, Del}
 use Rattle.stm_json.specs.declared.limits.TheConstants.{MOST_BYTES}
-use Rattle.stm_report_lines.specs.declared.report.Report.{Report}
 use Rattle.stm_json.specs.Bytes.{data_of}
 use Rattle.stm_report_lines.specs.Bytes.{parts_of}
 use Rattle.stm_report_lines.specs.LineData.{line_data}
@@ -29,17 +30,17 @@ abbrev mutual
   SpellsItems ds (item e es) = (a : Data) × (rest : Items) × (ds ≡ item a rest) × Spells a e × SpellsItems rest es
 
 -- a delete deletes one key at most
-abbrev pub CountFits : ReportedOp → Type 0
+abbrev pub CountFits : OpReply → Type 0
 CountFits (Get revision kv) = Unit {0}
 CountFits Put = Unit {0}
 CountFits (Del count) = count ≤ 1
 
-abbrev pub AllCountsFit : List ReportedOp → Type 0
+abbrev pub AllCountsFit : List OpReply → Type 0
 AllCountsFit [] = Unit {0}
 AllCountsFit (o ∷ os) = CountFits o × AllCountsFit os
 
 abbrev pub CountsFit : ReportLine → Type 0
-CountsFit (Txn n succeeded revision answers) = AllCountsFit answers
+CountsFit (Event n (Ok (Txn succeeded revision answers))) = AllCountsFit answers
 CountsFit other = Unit {0}
 
 -- data spell a line

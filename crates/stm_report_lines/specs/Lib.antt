@@ -1,8 +1,6 @@
-pub mod Names
 pub mod Words
 pub mod LineData
 pub mod Text
-pub mod Lines
 pub mod Elements
 pub mod Parts
 pub mod Bytes

@@ -3,7 +3,7 @@ use Rattle.std.specs.Prelude.{◌≡◌, ℤ, Some, Ok, true}
 use Rattle.serde_json.specs.Data.{Data, null, boolean, number, string, array, object, Items, no_items, item}
 use Rattle.serde_json.specs.Find.{as_integer}
 use Rattle.stm_json.specs.Elements.{is_64_bit}
-use Rattle.stm_report_lines.specs.declared.line.ReportLine.{ReportLine}
+use Rattle.stm_events.specs.declared.line.ReportLine.{ReportLine}
 use Rattle.stm_report_lines.specs.Grammar.{CountsFit}
 use Rattle.stm_report_lines.specs.LineData.{line_data}
 use Rattle.stm_report_lines.specs.Reading.{line_of}

@@ -1,14 +1,34 @@
 //! Whether what stands in lines is the same.
-ghost use Rattle.std.specs.Prelude.{◌≡◌, ◌↔◌, IsTrue, map};
-ghost use Rattle.stm_report_lines.specs.Lines.{op_reported};
+ghost use Rattle.std.specs.Prelude.{◌≡◌, ◌↔◌, IsTrue};
 
-use crate::line::ReportedOp;
-use stm_history::KeyState;
-use stm_meaning::{TraceItem, Value};
-use stm_outcome::{Expired, OpAnswer};
+use stm_events::{CommittedRead, Expired, KeyRead, OpReply, TraceItem, Value};
+use stm_history::{KeyState, Text};
+use stm_keys::Event;
+
+/// What can be compared with another of its type.
+pub(crate) trait Same {
+    /// Whether both are the same.
+    fn is_same(&self, other: &Self) -> bool
+        ensures { IsTrue result ↔ self.now ≡ other.now };
+}
+
+/// Whether two lists are the same.
+pub(crate) fn are_same<T: Same>(left: &[T], right: &[T]) -> bool
+    ensures { IsTrue result ↔ left.now ≡ right.now }
+{
+    if left.len() != right.len() {
+        return false;
+    }
+    for i in 0..left.len() {
+        if !left[i].is_same(&right[i]) {
+            return false;
+        }
+    }
+    true
+}
 
 /// Whether two states of a key are the same.
-pub(crate) fn are_same_states(left: &KeyState, right: &KeyState) -> bool
+fn are_same_states(left: &KeyState, right: &KeyState) -> bool
     ensures { IsTrue result ↔ left.now ≡ right.now }
 {
     left.create_rev == right.create_rev
@@ -16,6 +36,12 @@ pub(crate) fn are_same_states(left: &KeyState, right: &KeyState) -> bool
         && left.version == right.version
         && left.lease == right.lease
         && left.value == right.value
+}
+
+impl Same for KeyState {
+    fn is_same(&self, other: &KeyState) -> bool {
+        are_same_states(self, other)
+    }
 }
 
 /// Whether a key is absent, or has the same state.
@@ -31,38 +57,74 @@ pub(crate) fn is_same_state(left: &Option<KeyState>, right: &Option<KeyState>) -
     }
 }
 
-/// Whether this reports the answer to an operation.
-fn is_op(reported: &ReportedOp, answer: &OpAnswer) -> bool
-    ensures { IsTrue result ↔ reported.now ≡ op_reported answer.now }
+/// Whether a key is absent, or has the same value.
+fn is_same_text(left: &Option<Text>, right: &Option<Text>) -> bool
+    ensures { IsTrue result ↔ left.now ≡ right.now }
 {
-    match answer {
-        OpAnswer::Get(read) => match reported {
-            ReportedOp::Get { revision, kv } => {
-                *revision == read.revision && is_same_state(kv, &read.kv)
-            }
-            _ => false,
-        },
-        OpAnswer::Put => match reported {
-            ReportedOp::Put => true,
-            _ => false,
-        },
-        OpAnswer::Del(count) => match reported {
-            ReportedOp::Del { count: other } => *other == *count,
-            _ => false,
+    match left {
+        None => right.is_none(),
+        Some(text) => match right {
+            None => false,
+            Some(other) => text == other,
         },
     }
 }
 
-/// Whether these report the answers to the operations of a branch, in their order.
-pub(crate) fn are_ops(reported: &[ReportedOp], answers: &[OpAnswer]) -> bool
-    ensures { IsTrue result ↔ reported.now ≡ map op_reported answers.now }
-{
-    match reported {
-        [] => answers.is_empty(),
-        [first, rest @ ..] => match answers {
-            [] => false,
-            [answer, others @ ..] => is_op(first, answer) && are_ops(rest, others),
-        },
+impl Same for KeyRead {
+    fn is_same(&self, other: &KeyRead) -> bool {
+        self.mod_rev == other.mod_rev && self.key == other.key
+    }
+}
+
+impl Same for CommittedRead {
+    fn is_same(&self, other: &CommittedRead) -> bool {
+        self.mod_rev == other.mod_rev
+            && self.of_rev == other.of_rev
+            && self.key == other.key
+            && is_same_text(&self.value, &other.value)
+    }
+}
+
+impl Same for OpReply {
+    fn is_same(&self, other: &OpReply) -> bool {
+        match self {
+            OpReply::Get { revision, kv } => match other {
+                OpReply::Get {
+                    revision: carried,
+                    kv: state,
+                } => *revision == *carried && is_same_state(kv, state),
+                _ => false,
+            },
+            OpReply::Put => match other {
+                OpReply::Put => true,
+                _ => false,
+            },
+            OpReply::Del { count } => match other {
+                OpReply::Del { count: deleted } => *count == *deleted,
+                _ => false,
+            },
+        }
+    }
+}
+
+impl Same for Event {
+    fn is_same(&self, other: &Event) -> bool {
+        match self {
+            Event::Put { key, state } => match other {
+                Event::Put {
+                    key: put,
+                    state: now,
+                } => key.as_str() == put.as_str() && are_same_states(state, now),
+                _ => false,
+            },
+            Event::Delete { key, revision } => match other {
+                Event::Delete {
+                    key: deleted,
+                    revision: at,
+                } => *revision == *at && key.as_str() == deleted.as_str(),
+                _ => false,
+            },
+        }
     }
 }
 

@@ -7,7 +7,7 @@ ghost use Rattle.stm_report_lines.specs.Text.{line_text};
 use serde_json::Value as Json;
 use std::alloc::{AllocError, Global};
 
-/// Adds a line: compact JSON, and a line feed. It fails where a growth was refused.
+/// Adds a line: compact JSON, and a line feed. It fails where an allocation failed.
 pub fn push_line(alloc: Global, text: &mut String, line: &Json) -> Result<(), AllocError>
     requires { has_float (view line.now) ≡ false }
     ensures { OnOk result (string_bytes text.new ≡ string_bytes text.old ++ line_text (view line.now)) }

@@ -5,13 +5,12 @@ ghost use Rattle.serde_json.specs.View.{view};
 ghost use Rattle.stm_steps.specs.declared.trace_item.TraceItem.TheVariants.{Get, Rev};
 ghost use Rattle.stm_keys.specs.declared.event.Event.TheVariants.{Put as PutEvent, Delete as DeleteEvent};
 ghost use Rattle.stm_report_lines.specs.LineData.{list, value_data, trace_data, answer_data, read_data, expired_data, event_data};
-ghost use Rattle.stm_report_lines.specs.Lines.{answer_reported, read_answer_data};
 
 use crate::written_parts::Parts;
 use serde_json::Value as Json;
 use std::alloc::{AllocError, Global};
-use stm_events::KeyRead;
-use stm_history::{KeyState, ReadAnswer, mod_rev_of};
+use stm_events::{CommittedRead, KeyRead};
+use stm_history::KeyState;
 use stm_keys::Event;
 use stm_meaning::{TraceItem, Value};
 use stm_outcome::Expired;
@@ -98,30 +97,13 @@ impl Spelled for TraceItem {
     }
 }
 
-impl Spelled for ReadAnswer {
-    ghost spelled = { read_answer_data };
+impl Spelled for CommittedRead {
+    ghost spelled = { answer_data };
 
     fn to_json(&self, alloc: Global) -> Result<Json, AllocError> {
-        let parts = Parts::worded(alloc, self.key.as_str())?.value(&self.kv)?;
-        Ok(
-            parts
-                .whole(mod_rev_of(&self.kv))?
-                .whole(self.of_rev)?
-                .array(),
-        )
+        let parts = Parts::worded(alloc, self.key.as_str())?.text_or_null(&self.value)?;
+        Ok(parts.whole(self.mod_rev)?.whole(self.of_rev)?.array())
     }
-}
-
-/// The answers of a commit, as one part more.
-pub(crate) fn with_answers(
-    alloc: Global,
-    parts: Parts,
-    answers: &[ReadAnswer],
-) -> Result<Parts, AllocError>
-    ensures { IfOk result (λ longer. map view longer.values.items
-        ≡ map view parts.values.items ++ list (map answer_data (map answer_reported answers.now)) ∷ []) }
-{
-    with_list(alloc, parts, answers)
 }
 
 impl Spelled for KeyRead {

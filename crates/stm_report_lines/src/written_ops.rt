@@ -1,52 +1,39 @@
-//! What a transaction's operations answered, as JSON.
-ghost use Rattle.std.specs.Prelude.{◌≡◌, ◌++◌, [], ◌∷◌, map, IfOk};
+//! The replies to a transaction's operations, as JSON.
+ghost use Rattle.std.specs.Prelude.{◌≡◌, IfOk};
 ghost use Rattle.serde_json.specs.View.{view};
-ghost use Rattle.stm_outcome.specs.declared.answer.OpAnswer.TheVariants.{Get, Del};
-ghost use Rattle.stm_report_lines.specs.LineData.{list, op_data};
-ghost use Rattle.stm_report_lines.specs.Lines.{op_reported, op_answer_data};
+ghost use Rattle.stm_events.specs.declared.reply.OpReply.TheVariants.{Get, Del};
+ghost use Rattle.stm_report_lines.specs.LineData.{op_data};
 
-use crate::written_items::{Spelled, with_list};
+use crate::written_items::Spelled;
 use crate::written_parts::Parts;
 use serde_json::Value as Json;
 use std::alloc::{AllocError, Global};
-use stm_history::ReadAnswer;
-use stm_outcome::OpAnswer;
+use stm_events::OpReply;
+use stm_history::KeyState;
 
-/// The answer to a read.
-fn get_json(alloc: Global, answer: &ReadAnswer) -> Result<Json, AllocError>
-    ensures { IfOk result (λ v. view v ≡ op_answer_data (Get answer.now)) }
+/// The reply to a read.
+fn get_json(alloc: Global, revision: u64, kv: &Option<KeyState>) -> Result<Json, AllocError>
+    ensures { IfOk result (λ v. view v ≡ op_data (Get revision kv.now)) }
 {
-    let parts = Parts::worded(alloc, "get")?.whole(answer.revision)?;
-    Ok(parts.state_or_null(&answer.kv)?.array())
+    let parts = Parts::worded(alloc, "get")?.whole(revision)?;
+    Ok(parts.state_or_null(kv)?.array())
 }
 
-/// The answer to a delete.
+/// The reply to a delete.
 fn del_json(alloc: Global, count: u64) -> Result<Json, AllocError>
-    ensures { IfOk result (λ v. view v ≡ op_answer_data (Del count)) }
+    ensures { IfOk result (λ v. view v ≡ op_data (Del count)) }
 {
     Ok(Parts::worded(alloc, "del")?.whole(count)?.array())
 }
 
-impl Spelled for OpAnswer {
-    ghost spelled = { op_answer_data };
+impl Spelled for OpReply {
+    ghost spelled = { op_data };
 
     fn to_json(&self, alloc: Global) -> Result<Json, AllocError> {
         match self {
-            OpAnswer::Get(answer) => get_json(alloc, answer),
-            OpAnswer::Put => Ok(Parts::worded(alloc, "put")?.array()),
-            OpAnswer::Del(count) => del_json(alloc, *count),
+            OpReply::Get { revision, kv } => get_json(alloc, *revision, kv),
+            OpReply::Put => Ok(Parts::worded(alloc, "put")?.array()),
+            OpReply::Del { count } => del_json(alloc, *count),
         }
     }
-}
-
-/// The answers of a branch, as one part more.
-pub(crate) fn with_ops(
-    alloc: Global,
-    parts: Parts,
-    answers: &[OpAnswer],
-) -> Result<Parts, AllocError>
-    ensures { IfOk result (λ longer. map view longer.values.items
-        ≡ map view parts.values.items ++ list (map op_data (map op_reported answers.now)) ∷ []) }
-{
-    with_list(alloc, parts, answers)
 }

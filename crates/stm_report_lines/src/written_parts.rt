@@ -2,12 +2,11 @@
 ghost use Rattle.std.specs.Prelude.{◌≡◌, ◌++◌, [], ◌∷◌, map, IfOk};
 ghost use Rattle.serde_json.specs.Data.{string, boolean};
 ghost use Rattle.serde_json.specs.View.{view};
-ghost use Rattle.stm_report_lines.specs.LineData.{list, whole, state_or_null};
-ghost use Rattle.stm_report_lines.specs.Lines.{value_or_null};
+ghost use Rattle.stm_report_lines.specs.LineData.{list, whole, text_or_null, state_or_null};
 
 use serde_json::Value as Json;
 use std::alloc::{AllocError, Global};
-use stm_history::KeyState;
+use stm_history::{KeyState, Text};
 
 /// The parts of an array so far. Each step takes them and gives them back with more at the end, or fails where a growth
 /// was refused.
@@ -72,13 +71,13 @@ impl Parts {
         self.part(text)
     }
 
-    /// The value of a key more, null where it is absent.
-    pub(crate) fn value(self, kv: &Option<KeyState>) -> Result<Parts, AllocError>
-        ensures { IfOk result (λ parts. map view parts.values.items ≡ map view self.values.items ++ value_or_null kv.now ∷ []) }
+    /// A text more, null where there is none.
+    pub(crate) fn text_or_null(self, text: &Option<Text>) -> Result<Parts, AllocError>
+        ensures { IfOk result (λ parts. map view parts.values.items ≡ map view self.values.items ++ text_or_null text.now ∷ []) }
     {
-        match kv {
+        match text {
             None => self.part(Json::Null),
-            Some(state) => self.word(state.value.as_str()),
+            Some(text) => self.word(text.as_str()),
         }
     }
 

@@ -1,5 +1,5 @@
 -- Lines: the first fault is that which reading answers, what was read is spelled, and what is spelled is read.
-use Rattle.std.proofs.Common.{◌≡◌, ℕ, List, [], ◌∷◌, Option, Some, None, Ok, option_map, refl, sym, ap, subst, ◌∙◌, codes}
+use Rattle.std.proofs.Common.{◌≡◌, ℕ, List, [], ◌∷◌, Option, Some, None, Ok, Err, option_map, refl, sym, ap, subst, ◌∙◌, codes}
 use Rattle.serde_json.specs.Data.{Data, null, boolean, number, string, array, object, Items, no_items, item}
 use Rattle.serde_json.specs.Find.{as_str, as_array}
 use Rattle.serde_json.specs.View.{items_of}
@@ -12,9 +12,12 @@ use Rattle.stm_json.proofs.OutcomeLemmas.{bind_ok}
 use Rattle.stm_json.specs.Faults.{Sort, first_of, sorts_of, sorted_faults, any_number}
 use Rattle.stm_json.proofs.FaultLemmas.{fault_of, wrong_is, made}
 use Rattle.stm_json.proofs.PartLemmas.{text_is, list_is}
-use Rattle.stm_report_lines.specs.declared.line.ReportLine.{ReportLine}
-use Rattle.stm_report_lines.specs.declared.line.ReportLine.TheVariants.{Started, Prefetched, Fetched, Committed, Conflict, GaveUp, Aborted, Faulted, Ended, Txn, Granted}
-use Rattle.stm_report_lines.specs.declared.line.ReportLine.TheVariants.{Kept, Revoked, Advanced, Compacted, Watching, Cancelled, Batch, Lost, Refused, Key, Lease, End}
+use Rattle.stm_events.specs.declared.line.ReportLine.{ReportLine}
+use Rattle.stm_events.specs.declared.line.ReportLine.TheVariants.{Event, Key, Lease, End}
+use Rattle.stm_events.specs.declared.reply.Reply.{Reply}
+use Rattle.stm_events.specs.declared.reply.Reply.TheVariants.{Started, Prefetched, Fetched, Committed, Conflict, GaveUp, Aborted, Faulted, Ended, Txn, Granted}
+use Rattle.stm_events.specs.declared.reply.Reply.TheVariants.{Kept, Revoked, Advanced, Compacted, Watching, Cancelled, Batch, Lost}
+use Rattle.stm_events.specs.declared.refusal.Denied.{Denied}
 use Rattle.stm_report_lines.specs.declared.words.EventWord.{EventWord}
 use Rattle.stm_report_lines.specs.declared.words.EventWord.TheVariants as event
 use Rattle.stm_report_lines.specs.declared.words.StandingWord.{StandingWord}
@@ -196,31 +199,34 @@ of_standing d w parts l s read =
     let q = worded_shape d w parts s in
     ap line_of q.1 ∙ worded_line w q.0 ∙ read q.0 q.2
 
-pub line_reads : (d : Data) (l : ReportLine) → SpellsLine d l → line_of d ≡ Ok l
-line_reads d (Started n runner) (s, fits) = of_event event.Started n (runner, tt) d s (tt, tt)
-line_reads d (Prefetched n runner revision reads) (s, fits) =
+reply_reads : (d : Data) (n : ℕ) (reply : Reply) → SpellsLine d (Event n (Ok reply)) → line_of d ≡ Ok (Event n (Ok reply))
+reply_reads d n (Started runner) (s, fits) = of_event event.Started n (runner, tt) d s (tt, tt)
+reply_reads d n (Prefetched runner revision reads) (s, fits) =
     of_event event.Prefetched n (runner, (revision, (reads, tt))) d s (tt, (tt, (tt, tt)))
-line_reads d (Fetched n runner key mod_rev of_rev revision) (s, fits) =
+reply_reads d n (Fetched runner key mod_rev of_rev revision) (s, fits) =
     of_event event.Fetched n (runner, (key, (mod_rev, (of_rev, (revision, tt))))) d s (tt, (tt, (tt, (tt, (tt, tt)))))
-line_reads d (Committed n runner revision attempts output trace answers) (s, fits) =
+reply_reads d n (Committed runner revision attempts output trace answers) (s, fits) =
     of_event event.Committed n (runner, (revision, (attempts, (output, (trace, (answers, tt)))))) d s (tt, (tt, (tt, (tt, (tt, (tt, tt))))))
-line_reads d (Conflict n runner key seen now) (s, fits) = of_event event.Conflict n (runner, (key, (seen, (now, tt)))) d s (tt, (tt, (tt, (tt, tt))))
-line_reads d (GaveUp n runner attempts key seen now) (s, fits) =
+reply_reads d n (Conflict runner key seen now) (s, fits) = of_event event.Conflict n (runner, (key, (seen, (now, tt)))) d s (tt, (tt, (tt, (tt, tt))))
+reply_reads d n (GaveUp runner attempts key seen now) (s, fits) =
     of_event event.GaveUp n (runner, (attempts, (key, (seen, (now, tt))))) d s (tt, (tt, (tt, (tt, (tt, tt)))))
-line_reads d (Aborted n runner text) (s, fits) = of_event event.Aborted n (runner, (text, tt)) d s (tt, (tt, tt))
-line_reads d (Faulted n runner fault) (s, fits) = of_event event.Faulted n (runner, (fault, tt)) d s (tt, (tt, tt))
-line_reads d (Ended n runner cause) (s, fits) = of_event event.Ended n (runner, (cause, tt)) d s (tt, (tt, tt))
-line_reads d (Txn n succeeded revision answers) (s, fits) = of_event event.Txn n (succeeded, (revision, (answers, tt))) d s (tt, (tt, (fits, tt)))
-line_reads d (Granted n id) (s, fits) = of_event event.Granted n (id, tt) d s (tt, tt)
-line_reads d (Kept n id) (s, fits) = of_event event.Kept n (id, tt) d s (tt, tt)
-line_reads d (Revoked n id revision) (s, fits) = of_event event.Revoked n (id, (revision, tt)) d s (tt, (tt, tt))
-line_reads d (Advanced n now expired) (s, fits) = of_event event.Advanced n (now, (expired, tt)) d s (tt, (tt, tt))
-line_reads d (Compacted n revision) (s, fits) = of_event event.Compacted n (revision, tt) d s (tt, tt)
-line_reads d (Watching n id) (s, fits) = of_event event.Watching n (id, tt) d s (tt, tt)
-line_reads d (Cancelled n id) (s, fits) = of_event event.Cancelled n (id, tt) d s (tt, tt)
-line_reads d (Batch n id up_to events) (s, fits) = of_event event.Batch n (id, (up_to, (events, tt))) d s (tt, (tt, (tt, tt)))
-line_reads d (Lost n id floor) (s, fits) = of_event event.Lost n (id, (floor, tt)) d s (tt, (tt, tt))
-line_reads d (Refused n cause expired) (s, fits) = of_event event.Refused n (cause, (expired, tt)) d s (tt, (tt, tt))
+reply_reads d n (Aborted runner text) (s, fits) = of_event event.Aborted n (runner, (text, tt)) d s (tt, (tt, tt))
+reply_reads d n (Faulted runner fault) (s, fits) = of_event event.Faulted n (runner, (fault, tt)) d s (tt, (tt, tt))
+reply_reads d n (Ended runner cause) (s, fits) = of_event event.Ended n (runner, (cause, tt)) d s (tt, (tt, tt))
+reply_reads d n (Txn succeeded revision answers) (s, fits) = of_event event.Txn n (succeeded, (revision, (answers, tt))) d s (tt, (tt, (fits, tt)))
+reply_reads d n (Granted id) (s, fits) = of_event event.Granted n (id, tt) d s (tt, tt)
+reply_reads d n (Kept id) (s, fits) = of_event event.Kept n (id, tt) d s (tt, tt)
+reply_reads d n (Revoked id revision) (s, fits) = of_event event.Revoked n (id, (revision, tt)) d s (tt, (tt, tt))
+reply_reads d n (Advanced now expired) (s, fits) = of_event event.Advanced n (now, (expired, tt)) d s (tt, (tt, tt))
+reply_reads d n (Compacted revision) (s, fits) = of_event event.Compacted n (revision, tt) d s (tt, tt)
+reply_reads d n (Watching id) (s, fits) = of_event event.Watching n (id, tt) d s (tt, tt)
+reply_reads d n (Cancelled id) (s, fits) = of_event event.Cancelled n (id, tt) d s (tt, tt)
+reply_reads d n (Batch id up_to events) (s, fits) = of_event event.Batch n (id, (up_to, (events, tt))) d s (tt, (tt, (tt, tt)))
+reply_reads d n (Lost id floor) (s, fits) = of_event event.Lost n (id, (floor, tt)) d s (tt, (tt, tt))
+
+pub line_reads : (d : Data) (l : ReportLine) → SpellsLine d l → line_of d ≡ Ok l
+line_reads d (Event n (Ok reply)) spelled = reply_reads d n reply spelled
+line_reads d (Event n (Err denied)) (s, fits) = of_event event.Refused n (denied.cause, (denied.expired, tt)) d s (tt, (tt, tt))
 line_reads d (Key key state) (s, fits) =
     of_standing d (codes "key") (keyed_items (key, state)) (Key key state) s (λ ds m. key_reads ds key state m)
 line_reads d (Lease id ttl renewed) (s, fits) =

@@ -200,14 +200,14 @@ pub fn are_same_replies(left: &Reply, right: &Reply) -> bool
 }
 
 /// Whether two events were refused alike.
-pub fn are_same_denials(left: &Denied, right: &Denied) -> bool
+fn are_same_denials(left: &Denied, right: &Denied) -> bool
     ensures { IsTrue result ↔ left.now ≡ right.now }
 {
     left.cause == right.cause && are_same_expired(left.expired.as_slice(), right.expired.as_slice())
 }
 
 /// Whether two events came to the same.
-pub fn are_same_outcomes(left: &Result<Reply, Denied>, right: &Result<Reply, Denied>) -> bool
+fn are_same_outcomes(left: &Result<Reply, Denied>, right: &Result<Reply, Denied>) -> bool
     ensures { IsTrue result ↔ left.now ≡ right.now }
 {
     match left {

@@ -1,6 +1,6 @@
 -- A check has an answer for each report: whether a line is right can be computed, since what it is compared with can be distinguished.
 use Rattle.std.proofs.Common.{◌≡◌, ◌⊎◌, option_map, inl, inr, ℕ, suc, ◌+◌, ◌≤◌, Bool, true, false, List, [], ◌∷◌, Option, Some, None, refl, sym, ◌∙◌, ap, subst, eqb, leb, eqb-true, eq-eqb, leb-true, le-leb}
-use Rattle.std.specs.Prelude.{MatchBool}
+use Rattle.std.specs.Prelude.{MatchBool, Result, Ok, Err}
 use Rattle.std.specs.Coded.{Coded, coded_ℕ, coded_list, coded_option}
 use base.Stored.{Gv, gnil, gnum, gcons}
 use Rattle.stm_history.specs.declared.key_state.KeyState.{KeyState}
@@ -24,12 +24,17 @@ use Rattle.stm_events.specs.FirstReads.{keys_first_read}
 use Rattle.stm_events.specs.declared.event.WorldEvent.{WorldEvent}
 use Rattle.stm_events.specs.declared.event.WorldEvent.TheVariants.{Start, Step, Txn, Grant, Keep, Revoke, Advance, Compact}
 use Rattle.stm_events.specs.declared.event.WorldEvent.TheVariants.{WatchKey, WatchRange, Poll, Cancel}
-use Rattle.stm_report_lines.specs.contracts.causes.RefusalName as names
-use Rattle.stm_report_lines.specs.contracts.line.ReportLine as reports
-use Rattle.stm_report_lines.specs.declared.causes.RefusalName.TheVariants.{BadLimit, NoRunner}
-use Rattle.stm_report_lines.specs.declared.line.ReportLine.{ReportLine}
-use Rattle.stm_report_lines.specs.declared.line.ReportLine.TheVariants.{Committed, Refused}
-use Rattle.stm_report_lines.specs.declared.line.ReportedAnswer.{ReportedAnswer}
+use Rattle.stm_events.specs.contracts.line.ReportLine as reports
+use Rattle.stm_events.specs.contracts.refusal.Denied as refused
+use Rattle.stm_events.specs.contracts.reply.Reply as replies
+use Rattle.stm_events.specs.declared.line.ReportLine.{ReportLine}
+use Rattle.stm_events.specs.declared.line.ReportLine.TheVariants as line
+use Rattle.stm_events.specs.declared.refusal.Denied.{Denied}
+use Rattle.stm_events.specs.declared.refusal.EventRefusal.TheVariants.{BadLimit, NoRunner}
+use Rattle.stm_events.specs.declared.reply.CommittedRead.{CommittedRead}
+use Rattle.stm_events.specs.declared.reply.Reply.{Reply}
+use Rattle.stm_events.specs.declared.reply.Reply.TheVariants.{Committed}
+use Rattle.stm_events.specs.Replies.{denied}
 use Rattle.stm_check.specs.declared.cause.WrongCause.{WrongCause}
 use Rattle.stm_check.specs.declared.cause.WrongCause.TheVariants.{Count, Event, Replay, Final}
 use Rattle.stm_check.specs.declared.checking.Checked.{Checked}
@@ -38,12 +43,12 @@ use Rattle.stm_check.specs.declared.runner.Runner.{Runner}
 use Rattle.stm_check.specs.Fits.{fits}
 use Rattle.stm_check.specs.Judged.{IsJudgedFrom}
 use Rattle.stm_check.specs.Laws.{JudgedAlways}
-use Rattle.stm_check.specs.Point.{Point, after, reads_in}
+use Rattle.stm_check.specs.Point.{Point, after_line, reads_in}
 use Rattle.stm_check.specs.Replays.{IsTrulyReported, AreTrulyReported, AnswersFit, keys_reported, IsRightCommit, IsCommitOf, StartReplays, StepReplays, Replays}
 use Rattle.stm_check.specs.Runners.{running}
 use Rattle.stm_check.specs.Runs.{run_in, revision_reached}
 use Rattle.stm_check.specs.StoreLines.{final_lines}
-use Rattle.stm_check.specs.Wrong.{IsRight, IsWrong, IsOff, opens_at}
+use Rattle.stm_check.specs.Wrong.{IsReplayed, IsRight, IsWrong, IsOff, opens_at}
 use Rattle.stm_check.proofs.CommitLemmas.{IsTakenAs, never_wants, right_commit, commit_run}
 
 -- a statement holds, or it does not
@@ -111,24 +116,24 @@ is_absent (Some x) = inr (λ is. absurd (cc))
 
 -- ---- commits
 
-truly_by : (h : History) (a : ReportedAnswer) → Decided ((a.of_rev ≤ now h)
+truly_by : (h : History) (a : CommittedRead) → Decided ((a.of_rev ≤ now h)
     × (a.value ≡ option_map (λ (s : KeyState). s.value) (key_at h a.key a.of_rev)) × (a.mod_rev ≡ mod_of (key_at h a.key a.of_rev))) → Decided (IsTrulyReported h a)
 truly_by h a (inl all) = inl (record { reached = all.0; value = all.1; modified = all.2 })
 truly_by h a (inr not) = inr (λ is. not (is.reached, is.value, is.modified))
 
-truly : (h : History) (a : ReportedAnswer) → Decided (IsTrulyReported h a)
+truly : (h : History) (a : CommittedRead) → Decided (IsTrulyReported h a)
 truly h a = truly_by h a (three (at_most a.of_rev (now h)) (equal (coded_option (coded_list coded_ℕ)) a.value _) (equal_numbers a.mod_rev _))
 
-all_truly : (h : History) (answers : List ReportedAnswer) → Decided (AreTrulyReported h answers)
+all_truly : (h : History) (answers : List CommittedRead) → Decided (AreTrulyReported h answers)
 all_truly h [] = inl tt
 all_truly h (a ∷ answers) = both (truly h a) (all_truly h answers)
 
-fit_by : (b : Bool) (h : History) (reads : List (List ℕ)) (answers : List ReportedAnswer) →
+fit_by : (b : Bool) (h : History) (reads : List (List ℕ)) (answers : List CommittedRead) →
     Decided (MatchBool b (answers ≡ []) ((keys_reported answers ≡ reads) × AreTrulyReported h answers))
 fit_by true h reads answers = is_nothing answers
 fit_by false h reads answers = both (equal (coded_list (coded_list coded_ℕ)) (keys_reported answers) reads) (all_truly h answers)
 
-fit : (level : Level) (h : History) (reads : List (List ℕ)) (answers : List ReportedAnswer) → Decided (AnswersFit level h reads answers)
+fit : (level : Level) (h : History) (reads : List (List ℕ)) (answers : List CommittedRead) → Decided (AnswersFit level h reads answers)
 fit level h reads answers = fit_by (is_comparing level) h reads answers
 
 -- what a commit is besides the answers
@@ -147,7 +152,7 @@ is_taken s r run revision attempts output trace =
     (equal_numbers attempts (r.conflicts + 1)) (at_most attempts r.limit))
 
 -- a commit that is right is one of this run
-is_of_run : (s : Standing) (r : Runner) (run : Run) (revision attempts : ℕ) (output : List Value) (trace : List TraceItem) (answers : List ReportedAnswer) →
+is_of_run : (s : Standing) (r : Runner) (run : Run) (revision attempts : ℕ) (output : List Value) (trace : List TraceItem) (answers : List CommittedRead) →
     run_over (seen_at r.level (reads_in s.history answers) s.history) r.program.statements ≡ Ended run →
     IsRightCommit s r revision attempts output trace answers →
     AnswersFit r.level s.history (keys_first_read r.program.prefetch run.reads) answers × IsTaken s r run revision attempts output trace
@@ -161,7 +166,7 @@ is_of_run s r run revision attempts output trace answers is right =
       ((taken.is_done, taken.emits, taken.sees), (taken.reached, taken.attempt, taken.may_be_sent)),
     )
 
-commit_by : (s : Standing) (r : Runner) (run : Run) (revision attempts : ℕ) (output : List Value) (trace : List TraceItem) (answers : List ReportedAnswer) →
+commit_by : (s : Standing) (r : Runner) (run : Run) (revision attempts : ℕ) (output : List Value) (trace : List TraceItem) (answers : List CommittedRead) →
     run_over (seen_at r.level (reads_in s.history answers) s.history) r.program.statements ≡ Ended run →
     Decided (AnswersFit r.level s.history (keys_first_read r.program.prefetch run.reads) answers × IsTaken s r run revision attempts output trace) →
     Decided (IsRightCommit s r revision attempts output trace answers)
@@ -177,7 +182,7 @@ commit_by s r run revision attempts output trace answers is (inl (fits_level, ta
 commit_by s r run revision attempts output trace answers is (inr not) =
     inr (λ right. not (is_of_run s r run revision attempts output trace answers is right))
 
-commit_of : (s : Standing) (r : Runner) (a : Answered) (revision attempts : ℕ) (output : List Value) (trace : List TraceItem) (answers : List ReportedAnswer) →
+commit_of : (s : Standing) (r : Runner) (a : Answered) (revision attempts : ℕ) (output : List Value) (trace : List TraceItem) (answers : List CommittedRead) →
     run_over (seen_at r.level (reads_in s.history answers) s.history) r.program.statements ≡ a →
     Decided (IsRightCommit s r revision attempts output trace answers)
 commit_of s r (Ended run) revision attempts output trace answers is =
@@ -186,45 +191,54 @@ commit_of s r (Ended run) revision attempts output trace answers is =
 commit_of s r (Wants key trace) revision attempts output seen answers is =
     inr (λ right. never_wants key trace (right.commit).run (sym is ∙ (right.commit).is_run))
 
-commit : (s : Standing) (o : Option Runner) (revision attempts : ℕ) (output : List Value) (trace : List TraceItem) (answers : List ReportedAnswer) →
+commit : (s : Standing) (o : Option Runner) (revision attempts : ℕ) (output : List Value) (trace : List TraceItem) (answers : List CommittedRead) →
     Decided (IsCommitOf s o revision attempts output trace answers)
 commit s None revision attempts output trace answers = inr (λ never. never)
 commit s (Some r) revision attempts output trace answers =
     commit_of s r (run_over (seen_at r.level (reads_in s.history answers) s.history) r.program.statements) revision attempts output trace answers refl
 
--- ---- lines
+-- ---- replies
 
-start : (limit : ℕ) (l : ReportLine) → Decided (StartReplays limit l)
-start limit (Refused n cause expired) = three (equal_numbers limit 0) (equal names.the_row.coded cause BadLimit) (is_nothing expired)
+equal_replies : (x y : Result Reply Denied) → Decided (x ≡ y)
+equal_replies x y = equal (coded_result replies.the_row.coded refused.the_row.coded) x y
+
+start : (limit : ℕ) (replied : Result Reply Denied) → Decided (StartReplays limit replied)
+start limit (Err denial) = both (equal_numbers limit 0) (equal_replies (denied BadLimit) (Err denial))
 start limit other = inl tt
 
-step : (s : Standing) (o : Option Runner) (l : ReportLine) → Decided (StepReplays s o l)
-step s o (Refused n cause expired) = three (is_absent o) (equal names.the_row.coded cause NoRunner) (is_nothing expired)
-step s o (Committed n id revision attempts output trace answers) = commit s o revision attempts output trace answers
+step : (s : Standing) (o : Option Runner) (replied : Result Reply Denied) → Decided (StepReplays s o replied)
+step s o (Err denial) = both (is_absent o) (equal_replies (denied NoRunner) (Err denial))
+step s o (Ok (Committed id revision attempts output trace answers)) = commit s o revision attempts output trace answers
 step s o other = inl tt
 
-replays : (n : ℕ) (s : Standing) (runners : List Runner) (event : WorldEvent) (l : ReportLine) → Decided (Replays n s runners event l)
-replays n s runners (Start program level limit) l = start limit l
-replays n s runners (Step id) l = step s (running id runners) l
-replays n s runners (Txn txn) l = equal reports.the_row.coded _ l
-replays n s runners (Grant id ttl) l = equal reports.the_row.coded _ l
-replays n s runners (Keep id) l = equal reports.the_row.coded _ l
-replays n s runners (Revoke id) l = equal reports.the_row.coded _ l
-replays n s runners (Advance moment) l = equal reports.the_row.coded _ l
-replays n s runners (Compact revision) l = equal reports.the_row.coded _ l
-replays n s runners (WatchKey key from) l = inl tt
-replays n s runners (WatchRange first end from) l = inl tt
-replays n s runners (Poll watcher most) l = inl tt
-replays n s runners (Cancel watcher) l = inl tt
+replayed : (s : Standing) (runners : List Runner) (event : WorldEvent) (replied : Result Reply Denied) → Decided (Replays s runners event replied)
+replayed s runners (Start program level limit) replied = start limit replied
+replayed s runners (Step id) replied = step s (running id runners) replied
+replayed s runners (Txn txn) replied = equal_replies _ replied
+replayed s runners (Grant id ttl) replied = equal_replies _ replied
+replayed s runners (Keep id) replied = equal_replies _ replied
+replayed s runners (Revoke id) replied = equal_replies _ replied
+replayed s runners (Advance moment) replied = equal_replies _ replied
+replayed s runners (Compact revision) replied = equal_replies _ replied
+replayed s runners (WatchKey key from) replied = inl tt
+replayed s runners (WatchRange first end from) replied = inl tt
+replayed s runners (Poll watcher most) replied = inl tt
+replayed s runners (Cancel watcher) replied = inl tt
+
+-- ---- lines
+
+line_replayed : (p : Point) (event : WorldEvent) (l : ReportLine) → Decided (IsReplayed p event l)
+line_replayed p event (line.Event n replied) = replayed p.standing p.runners event replied
+line_replayed p event other = inr (λ never. never)
 
 right_or_wrong : (n : ℕ) (p : Point) (event : WorldEvent) (l : ReportLine) (b : Bool) → fits n p.runners event l ≡ b →
-    Decided (Replays n p.standing p.runners event l) → IsRight n p event l ⊎ ((cause : WrongCause) × IsWrong n p event l cause)
+    Decided (IsReplayed p event l) → IsRight n p event l ⊎ ((cause : WrongCause) × IsWrong n p event l cause)
 right_or_wrong n p event l true is (inl right) = inl (is, right)
 right_or_wrong n p event l true is (inr not) = inr (Replay, (is, not))
 right_or_wrong n p event l false is said = inr (Event, is)
 
-line : (n : ℕ) (p : Point) (event : WorldEvent) (l : ReportLine) → IsRight n p event l ⊎ ((cause : WrongCause) × IsWrong n p event l cause)
-line n p event l = right_or_wrong n p event l (fits n p.runners event l) refl (replays n p.standing p.runners event l)
+one_line : (n : ℕ) (p : Point) (event : WorldEvent) (l : ReportLine) → IsRight n p event l ⊎ ((cause : WrongCause) × IsWrong n p event l cause)
+one_line n p event l = right_or_wrong n p event l (fits n p.runners event l) refl (line_replayed p event l)
 
 -- ---- the lines of the end
 
@@ -253,7 +267,7 @@ of_end n p lines (inl same) = (Yes, same)
 of_end n p lines (inr (wrong, cause, off)) = (No wrong cause, off)
 
 of_event : (n : ℕ) (p : Point) (event : WorldEvent) (events : List WorldEvent) (l : ReportLine) (lines : List ReportLine) →
-    IsRight n p event l ⊎ ((cause : WrongCause) × IsWrong n p event l cause) → HasJudgement (suc n) (after p event l) events lines →
+    IsRight n p event l ⊎ ((cause : WrongCause) × IsWrong n p event l cause) → HasJudgement (suc n) (after_line p event l) events lines →
     HasJudgement n p (event ∷ events) (l ∷ lines)
 of_event n p event events l lines (inr (cause, wrong)) rest = (No n cause, inl (refl, wrong))
 of_event n p event events l lines (inl right) (Yes, rest) = (Yes, (right, rest))
@@ -262,7 +276,7 @@ of_event n p event events l lines (inl right) (No wrong cause, rest) = (No wrong
 judgement : (n : ℕ) (p : Point) (events : List WorldEvent) (lines : List ReportLine) → HasJudgement n p events lines
 judgement n p [] lines = of_end n p lines (compared n (final_lines p) lines)
 judgement n p (event ∷ events) [] = (No n Count, (refl, refl))
-judgement n p (event ∷ events) (l ∷ lines) = of_event n p event events l lines (line n p event l) (judgement (suc n) (after p event l) events lines)
+judgement n p (event ∷ events) (l ∷ lines) = of_event n p event events l lines (one_line n p event l) (judgement (suc n) (after_line p event l) events lines)
 
 pub judged_always : JudgedAlways
 judged_always s r = judgement 1 (opens_at s) s.events r.lines

@@ -1,4 +1,4 @@
--- The line that a call comes to, and the store that its line leads to.
+-- The reply that a call comes to, and the store that its reply leads to.
 use Rattle.std.proofs.Common.{◌≡◌, ◌≢◌, ◌↔◌, inl, inr, ℕ, ◌≤◌, List, [], ◌∷◌, Option, Some, None, Bool, true, false, cond}
 use Rattle.std.proofs.Common.{Ok, Err, refl, sym, ◌∙◌, ap, subst}
 use Rattle.std.specs.Prelude.{Result, IsTrue, IfOk, OnOk, nat_lt}
@@ -27,60 +27,61 @@ use Rattle.stm_txn.specs.Standing.{with_lease, without_lease, with_revision, exp
 use Rattle.stm_outcome.specs.Terms.{Terms}
 use Rattle.stm_outcome.specs.Terms.{most_operations}
 use Rattle.stm_txn.specs.Standing.{terms_of, compaction_refusal, with_floor, floor_step, raised}
-use Rattle.stm_report_lines.specs.declared.line.ReportLine.{ReportLine}
-use Rattle.stm_report_lines.specs.declared.line.ReportLine.TheVariants.{Refused, Compacted}
-use Rattle.stm_report_lines.specs.declared.causes.RefusalName.{RefusalName}
 use Rattle.stm_entries.specs.declared.entry.Entry.{Entry}
 use Rattle.stm_entries.specs.Replayed.{without_moment}
 use Rattle.stm_entries.specs.declared.entry.Entry.TheVariants.{Foreign, Grant as GrantEntry, Renew, Revoke as RevokeEntry}
 use Rattle.stm_entries.specs.Entered.{if_taken, if_changed, expiries}
-use Rattle.stm_report_lines.specs.Lines.{cause_reported, txn_line}
 use Rattle.stm_events.specs.declared.event.WorldEvent.TheVariants.{Advance as AdvanceEvent, Compact as CompactEvent}
+use Rattle.stm_events.specs.declared.refusal.Denied.{Denied}
 use Rattle.stm_events.specs.declared.reply.Reply.{Reply}
-use Rattle.stm_events.specs.Replies.{reply_to, store_after_call, advance_reply}
+use Rattle.stm_events.specs.declared.reply.Reply.TheVariants.{Compacted}
+use Rattle.stm_events.specs.Replies.{refusal_of, txn_reply, reply_to, store_after_call, advance_reply}
 use Rattle.stm_events.proofs.Entered.{Enters}
 use Rattle.stm_events.proofs.Calls.{txn_enters, grant_enters, keep_enters, revoke_enters, expiry_cases, advance_enters}
 use Rattle.stm_check.specs.Point.{led_by, moment_after, with_replayed, txn_entries, advance_entries, raised_by}
-use Rattle.stm_report_lines.specs.Lines.{reply_reported, line_reported}
 
--- ---- lines
+-- ---- replies
 
--- the line of a call that was taken
-pub taken_line : {A : Type 0} (n : ℕ) (report : A → Reply) (r : Result (Step A) Refusal) (answer : A) (next : Standing) →
-    r ≡ Ok record { answer = answer; next = next } → line_reported n (reply_to report r) ≡ reply_reported n (report answer)
-taken_line {A} n report r answer next is = ap (λ (o : Result (Step A) Refusal). line_reported n (reply_to report o)) is
+-- the refusal of an event whose call the store refused, after these leases expired
+abbrev pub refused_after : List Expired → Refusal → Result Reply Denied
+refused_after expired cause = Err (record { cause = refusal_of cause; expired = expired })
+
+-- the reply to a call that was taken
+pub taken_reply : {A : Type 0} (report : A → Reply) (r : Result (Step A) Refusal) (answer : A) (next : Standing) →
+    r ≡ Ok record { answer = answer; next = next } → reply_to report r ≡ Ok (report answer)
+taken_reply {A} report r answer next is = ap (λ (o : Result (Step A) Refusal). reply_to report o) is
 
 -- why a call was refused, where it did not run out of memory
 pub refused_for : {T : Type 0} (r : Result T Refusal) (cause : Refusal) → IsRefusalOf r cause → cause ≢ OutOfMemory → r ≡ Err cause
 refused_for (Ok done) cause is other = absurd (other is)
 refused_for (Err c) cause is other = ap Err (sym is)
 
-pub refused_line : {A : Type 0} (n : ℕ) (report : A → Reply) (r : Result (Step A) Refusal) (cause : Refusal) → IsRefusalOf r cause →
-    cause ≢ OutOfMemory → line_reported n (reply_to report r) ≡ Refused n (cause_reported cause) []
-refused_line {A} n report r cause is other = ap (λ (o : Result (Step A) Refusal). line_reported n (reply_to report o)) (refused_for r cause is other)
+pub refused_reply : {A : Type 0} (report : A → Reply) (r : Result (Step A) Refusal) (cause : Refusal) → IsRefusalOf r cause → cause ≢ OutOfMemory →
+    reply_to report r ≡ refused_after [] cause
+refused_reply {A} report r cause is other = ap (λ (o : Result (Step A) Refusal). reply_to report o) (refused_for r cause is other)
 
--- a test of one line is a test of the same line
-pub tests_same : (b : Bool) (x y l : ReportLine) → x ≡ y → (IsTrue b ↔ y ≡ l) → (IsTrue b ↔ x ≡ l)
-tests_same b x y l same test = ((λ t. same ∙ test.0 t), (λ e. test.1 (sym same ∙ e)))
+-- a test of one reply is a test of the same reply
+pub tests_same : (b : Bool) (x y replied : Result Reply Denied) → x ≡ y → (IsTrue b ↔ y ≡ replied) → (IsTrue b ↔ x ≡ replied)
+tests_same b x y replied same test = ((λ t. same ∙ test.0 t), (λ e. test.1 (sym same ∙ e)))
 
--- a refused call, by what its line was compared with
-pub refused_right : (r : Result Bool AllocError) (cause : Refusal) (x y l : ReportLine) → IfOk r (λ b. IsTrue b ↔ y ≡ l) → OnOk r (cause ≢ OutOfMemory) →
-    (cause ≢ OutOfMemory → x ≡ y) → IfOk r (λ b. IsTrue b ↔ x ≡ l)
-refused_right (Ok b) cause x y l test other same = tests_same b x y l (same other) test
-refused_right (Err e) cause x y l test other same = tt
+-- a refused call, by what its reply was compared with
+pub refused_right : (r : Result Bool AllocError) (cause : Refusal) (x y replied : Result Reply Denied) → IfOk r (λ b. IsTrue b ↔ y ≡ replied) →
+    OnOk r (cause ≢ OutOfMemory) → (cause ≢ OutOfMemory → x ≡ y) → IfOk r (λ b. IsTrue b ↔ x ≡ replied)
+refused_right (Ok b) cause x y replied test other same = tests_same b x y replied (same other) test
+refused_right (Err e) cause x y replied test other same = tt
 
--- and the store after it, where its line reports nothing that is entered
-pub refused_next : (r : Result Bool AllocError) (y l : ReportLine) (entries : ReportLine → List Entry) (s next : Standing) →
-    IfOk r (λ b. IsTrue b ↔ y ≡ l) → entries y ≡ [] → next ≡ s → IfOk r (λ b. IsTrue b → next ≡ led_by (entries l) s s.moment)
-refused_next (Ok b) y l entries s next test none same =
+-- and the store after it, where its reply reports nothing that is entered
+pub refused_next : (r : Result Bool AllocError) (y replied : Result Reply Denied) (entries : Result Reply Denied → List Entry) (s next : Standing) →
+    IfOk r (λ b. IsTrue b ↔ y ≡ replied) → entries y ≡ [] → next ≡ s → IfOk r (λ b. IsTrue b → next ≡ led_by (entries replied) s s.moment)
+refused_next (Ok b) y replied entries s next test none same =
     λ t. same ∙ ap (λ (es : List Entry). led_by es s s.moment) (sym none ∙ ap entries (test.0 t))
-refused_next (Err e) y l entries s next test none same = tt
+refused_next (Err e) y replied entries s next test none same = tt
 
--- the line of an advance that was cut short, though it did not run out of memory
-pub cut_line : (n : ℕ) (s left : Standing) (moment : ℕ) (expired : List Expired) (cause : Refusal) → IsCutShort (advanced s moment) expired cause left →
+-- an advance that was cut short, though it did not run out of memory
+pub cut_short : (s left : Standing) (moment : ℕ) (expired : List Expired) (cause : Refusal) → IsCutShort (advanced s moment) expired cause left →
     cause ≢ OutOfMemory → advanced s moment ≡ record { expired = expired; leaves = left; cause = Some cause }
-cut_line n s left moment expired cause (inl whole) other = whole
-cut_line n s left moment expired cause (inr stopped) other = absurd (other stopped.0)
+cut_short s left moment expired cause (inl whole) other = whole
+cut_short s left moment expired cause (inr stopped) other = absurd (other stopped.0)
 
 -- ---- what no call but an advance changes, or a compaction: the moment, the watchers and the floor
 
@@ -96,12 +97,12 @@ abbrev pub StepKeepsRest : {A : Type 0} → Standing → Result (Step A) Refusal
 StepKeepsRest s (Ok done) = KeepsRest s done.next
 StepKeepsRest s (Err cause) = Unit {0}
 
--- ---- the store that a line leads to
+-- ---- the store that a reply leads to
 
--- a line that was compared with one, which leads there
-pub led_where : (b : Bool) (y l : ReportLine) (entries : ReportLine → List Entry) (s next : Standing) (moment : ℕ) →
-    (IsTrue b ↔ y ≡ l) → next ≡ led_by (entries y) s moment → IsTrue b → next ≡ led_by (entries l) s moment
-led_where b y l entries s next moment test led t = led ∙ ap (λ (x : ReportLine). led_by (entries x) s moment) (test.0 t)
+-- a reply that was compared with one, which leads there
+pub led_where : (b : Bool) (y replied : Result Reply Denied) (entries : Result Reply Denied → List Entry) (s next : Standing) (moment : ℕ) →
+    (IsTrue b ↔ y ≡ replied) → next ≡ led_by (entries y) s moment → IsTrue b → next ≡ led_by (entries replied) s moment
+led_where b y replied entries s next moment test led t = led ∙ ap (λ (x : Result Reply Denied). led_by (entries x) s moment) (test.0 t)
 
 -- a store that entries lead to
 pub led : (s next : Standing) (entries : List Entry) → Enters s next entries → KeepsRest s next → next ≡ led_by entries s s.moment
@@ -219,10 +220,10 @@ pub is_transacted : (s : Standing) (txn : Txn) → StepIsTransacted s (transacte
 is_transacted s txn =
     transacted_by s (outcome (terms_of s) txn) (counter_reported (terms_of s) txn (first_failed (key_now s.history) 0 txn.compares))
 
--- the store that a transaction's line leads to
-pub txn_led : (n : ℕ) (s next : Standing) (txn : Txn) (answer : TxnAnswer) → s.limit ≤ most_operations →
-    transacted s txn ≡ Ok record { answer = answer; next = next } → next ≡ led_by (txn_entries (now s.history) txn (txn_line n answer)) s s.moment
-txn_led n s next txn answer few is =
+-- the store that the reply to a transaction leads to
+pub txn_led : (s next : Standing) (txn : Txn) (answer : TxnAnswer) → s.limit ≤ most_operations →
+    transacted s txn ≡ Ok record { answer = answer; next = next } → next ≡ led_by (txn_entries (now s.history) txn (Ok (txn_reply answer))) s s.moment
+txn_led s next txn answer few is =
     let came : IsTransacted s answer next = subst (λ (x : Result (Step TxnAnswer) Refusal). StepIsTransacted s x) is (is_transacted s txn) in
     let follow : Enters s next (if_changed s next txn) =
     subst (λ (x : Result (Step TxnAnswer) Refusal). Enters s (store_after_call s x) (if_changed s (store_after_call s x) txn)) is (txn_enters s txn few) in
@@ -283,43 +284,43 @@ advance_led s next moment expired cause is =
       limit = follow.limit k;
     }
 
--- the line of an advance
-pub advance_line_is : (n : ℕ) (s next : Standing) (moment : ℕ) (expired : List Expired) (cause : Option Refusal) →
+-- the reply to an advance
+pub advance_reply_is : (s next : Standing) (moment : ℕ) (expired : List Expired) (cause : Option Refusal) →
     advanced s moment ≡ record { expired = expired; leaves = next; cause = cause } →
-    line_reported n (advance_reply moment (advanced s moment).expired (advanced s moment).cause) ≡ line_reported n (advance_reply moment expired cause)
-advance_line_is n s next moment expired cause is = ap (λ (a : Advance). line_reported n (advance_reply moment a.expired a.cause)) is
+    advance_reply moment (advanced s moment).expired (advanced s moment).cause ≡ advance_reply moment expired cause
+advance_reply_is s next moment expired cause is = ap (λ (a : Advance). advance_reply moment a.expired a.cause) is
 
 -- an advance that was cut short
-pub cut_right : (r : Result Bool AllocError) (n : ℕ) (s next : Standing) (moment : ℕ) (expired : List Expired) (cause : Refusal) (l : ReportLine) →
-    IfOk r (λ b. IsTrue b ↔ Refused n (cause_reported cause) expired ≡ l) → OnOk r (cause ≢ OutOfMemory) → IsCutShort (advanced s moment) expired cause next →
-    IfOk r (λ b. IsTrue b ↔ line_reported n (advance_reply moment (advanced s moment).expired (advanced s moment).cause) ≡ l)
-cut_right r n s next moment expired cause l test other cut =
-    refused_right r cause (line_reported n (advance_reply moment (advanced s moment).expired (advanced s moment).cause)) (Refused n (cause_reported cause) expired) l test other
-    (λ known. advance_line_is n s next moment expired (Some cause) (cut_line n s next moment expired cause cut known))
+pub cut_right : (r : Result Bool AllocError) (s next : Standing) (moment : ℕ) (expired : List Expired) (cause : Refusal) (replied : Result Reply Denied) →
+    IfOk r (λ b. IsTrue b ↔ refused_after expired cause ≡ replied) → OnOk r (cause ≢ OutOfMemory) → IsCutShort (advanced s moment) expired cause next →
+    IfOk r (λ b. IsTrue b ↔ advance_reply moment (advanced s moment).expired (advanced s moment).cause ≡ replied)
+cut_right r s next moment expired cause replied test other cut =
+    refused_right r cause (advance_reply moment (advanced s moment).expired (advanced s moment).cause) (refused_after expired cause) replied test other
+    (λ known. advance_reply_is s next moment expired (Some cause) (cut_short s next moment expired cause cut known))
 
-pub cut_next : (r : Result Bool AllocError) (n : ℕ) (s next : Standing) (moment : ℕ) (expired : List Expired) (cause : Refusal) (l : ReportLine) →
-    IfOk r (λ b. IsTrue b ↔ Refused n (cause_reported cause) expired ≡ l) → OnOk r (cause ≢ OutOfMemory) → IsCutShort (advanced s moment) expired cause next →
-    IfOk r (λ b. IsTrue b → next ≡ led_by (advance_entries l) s (moment_after s (AdvanceEvent moment)))
-cut_next (Ok b) n s next moment expired cause l test other cut =
-    led_where b (Refused n (cause_reported cause) expired) l advance_entries s next (moment_after s (AdvanceEvent moment)) test
-    (advance_led s next moment expired (Some cause) (cut_line n s next moment expired cause cut other))
-cut_next (Err e) n s next moment expired cause l test other cut = tt
+pub cut_next : (r : Result Bool AllocError) (s next : Standing) (moment : ℕ) (expired : List Expired) (cause : Refusal) (replied : Result Reply Denied) →
+    IfOk r (λ b. IsTrue b ↔ refused_after expired cause ≡ replied) → OnOk r (cause ≢ OutOfMemory) → IsCutShort (advanced s moment) expired cause next →
+    IfOk r (λ b. IsTrue b → next ≡ led_by (advance_entries replied) s (moment_after s (AdvanceEvent moment)))
+cut_next (Ok b) s next moment expired cause replied test other cut =
+    led_where b (refused_after expired cause) replied advance_entries s next (moment_after s (AdvanceEvent moment)) test
+    (advance_led s next moment expired (Some cause) (cut_short s next moment expired cause cut other))
+cut_next (Err e) s next moment expired cause replied test other cut = tt
 
 -- ---- a compaction
 
 -- the store after a compaction that was reported
-pub compact_led : (b : Bool) (n revision : ℕ) (l : ReportLine) (s next : Standing) → (IsTrue b ↔ Compacted n revision ≡ l) →
-    raised s revision ≡ Ok record { answer = tt; next = next } → IsTrue b → next ≡ raised_by (CompactEvent revision) l s
-compact_led b n revision l s next test is t =
+pub compact_led : (b : Bool) (revision : ℕ) (replied : Result Reply Denied) (s next : Standing) → (IsTrue b ↔ Ok (Compacted revision) ≡ replied) →
+    raised s revision ≡ Ok record { answer = tt; next = next } → IsTrue b → next ≡ raised_by (CompactEvent revision) replied s
+compact_led b revision replied s next test is t =
     sym (ap (λ (r : Result (Step (Unit {0})) Refusal). store_after_call s r) is)
-    ∙ ap (λ (x : ReportLine). raised_by (CompactEvent revision) x s) (test.0 t)
+    ∙ ap (λ (x : Result Reply Denied). raised_by (CompactEvent revision) x s) (test.0 t)
 
 -- and after one that was refused
-pub compact_stays : (r : Result Bool AllocError) (n revision : ℕ) (cause : RefusalName) (l : ReportLine) (s next : Standing) →
-    IfOk r (λ b. IsTrue b ↔ Refused n cause [] ≡ l) → next ≡ s → IfOk r (λ b. IsTrue b → next ≡ raised_by (CompactEvent revision) l s)
-compact_stays (Ok b) n revision cause l s next test same =
-    λ t. same ∙ ap (λ (x : ReportLine). raised_by (CompactEvent revision) x s) (test.0 t)
-compact_stays (Err e) n revision cause l s next test same = tt
+pub compact_stays : (r : Result Bool AllocError) (revision : ℕ) (cause : Refusal) (replied : Result Reply Denied) (s next : Standing) →
+    IfOk r (λ b. IsTrue b ↔ refused_after [] cause ≡ replied) → next ≡ s → IfOk r (λ b. IsTrue b → next ≡ raised_by (CompactEvent revision) replied s)
+compact_stays (Ok b) revision cause replied s next test same =
+    λ t. same ∙ ap (λ (x : Result Reply Denied). raised_by (CompactEvent revision) x s) (test.0 t)
+compact_stays (Err e) revision cause replied s next test same = tt
 
 -- beside the floor, and the watchers that are lost by it, a compaction leaves the store of a check as it was
 raised_keeps : (s : Standing) (revision : ℕ) (o : Option Refusal) →
@@ -328,7 +329,7 @@ raised_keeps : (s : Standing) (revision : ℕ) (o : Option Refusal) →
 raised_keeps s revision None = refl
 raised_keeps s revision (Some cause) = refl
 
-pub line_keeps : (s : Standing) (revision : ℕ) (l : ReportLine) →
-    with_replayed (without_moment s) s.moment (raised_by (CompactEvent revision) l s) ≡ raised_by (CompactEvent revision) l s
-line_keeps s revision (Compacted n reported) = raised_keeps s revision (compaction_refusal s revision)
+pub line_keeps : (s : Standing) (revision : ℕ) (replied : Result Reply Denied) →
+    with_replayed (without_moment s) s.moment (raised_by (CompactEvent revision) replied s) ≡ raised_by (CompactEvent revision) replied s
+line_keeps s revision (Ok (Compacted reported)) = raised_keeps s revision (compaction_refusal s revision)
 line_keeps s revision _ = refl

@@ -38,9 +38,10 @@ use Rattle.stm_entries.specs.Replayed.{without_moment, with_history}
 use Rattle.stm_entries.specs.Alone.{seen_at, applied_run, history_left, left_by, left_by_run}
 use Rattle.stm_entries.specs.Legal.{AnswersAreTrue}
 use Rattle.stm_events.specs.FirstReads.{is_other, keys_first_read}
-use Rattle.stm_report_lines.specs.declared.line.ReportLine.{ReportLine}
-use Rattle.stm_report_lines.specs.declared.line.ReportLine.TheVariants.{Committed}
-use Rattle.stm_report_lines.specs.declared.line.ReportedAnswer.{ReportedAnswer}
+use Rattle.stm_events.specs.declared.refusal.Denied.{Denied}
+use Rattle.stm_events.specs.declared.reply.CommittedRead.{CommittedRead}
+use Rattle.stm_events.specs.declared.reply.Reply.{Reply}
+use Rattle.stm_events.specs.declared.reply.Reply.TheVariants.{Committed}
 use Rattle.stm_check.specs.declared.runner.Runner.{Runner}
 use Rattle.stm_check.specs.Point.{reads_in, led_by}
 use Rattle.stm_check.specs.Replays.{AreTrulyReported, AnswersFit, keys_reported, IsRightCommit, StepReplays}
@@ -63,7 +64,7 @@ pub never : {A : Type 0} → IsTrue false → A
 never t = absurd (cc)
 
 -- at a comparing level there is no run for reported answers
-pub reported_in_vain : (level : Level) (h : History) (program : ProgramTree) (a : ReportedAnswer) (answers : List ReportedAnswer) → is_comparing level ≡ true →
+pub reported_in_vain : (level : Level) (h : History) (program : ProgramTree) (a : CommittedRead) (answers : List CommittedRead) → is_comparing level ≡ true →
     IsFound level h program (a ∷ answers) None
 reported_in_vain ReadCommitted h program a answers is = absurd (cc)
 reported_in_vain _ h program a answers is = λ run reported. let no : a ∷ answers ≡ [] = reported.answers_fit in absurd (cc)
@@ -76,24 +77,24 @@ found_now _ h program (Ended run) level is = record { is_run = is; answers_fit =
 found_now _ h program (Wants key trace) level is = λ run reported. never_wants key trace run (sym is ∙ reported.is_run)
 
 -- at ReadCommitted an answer that is not true leaves no run
-pub not_true : (level : Level) (h : History) (program : ProgramTree) (answers : List ReportedAnswer) → is_comparing level ≡ false →
+pub not_true : (level : Level) (h : History) (program : ProgramTree) (answers : List CommittedRead) → is_comparing level ≡ false →
     (AreTrulyReported h answers → ⊥) → IsFound level h program answers None
 not_true ReadCommitted h program answers level untrue = λ run reported. untrue reported.answers_fit.1
 not_true _ h program answers level untrue = absurd (cc)
 
-pub found_on : (level : Level) (h : History) (program : ProgramTree) (answers : List ReportedAnswer) (run : Run) → is_comparing level ≡ false →
+pub found_on : (level : Level) (h : History) (program : ProgramTree) (answers : List CommittedRead) (run : Run) → is_comparing level ≡ false →
     AreTrulyReported h answers → run_over (look_up (reads_in h answers)) program.statements ≡ Ended run → keys_reported answers ≡ keys_first_read program.prefetch run.reads →
     IsFound level h program answers (Some run)
 found_on ReadCommitted h program answers run level truth is keys = record { is_run = is; answers_fit = (keys, truth) }
 found_on _ h program answers run level truth is keys = absurd (cc)
 
-pub wants_more : (level : Level) (h : History) (program : ProgramTree) (answers : List ReportedAnswer) (key : List ℕ) (trace : List TraceItem) →
+pub wants_more : (level : Level) (h : History) (program : ProgramTree) (answers : List CommittedRead) (key : List ℕ) (trace : List TraceItem) →
     is_comparing level ≡ false → run_over (look_up (reads_in h answers)) program.statements ≡ Wants key trace → IsFound level h program answers None
 wants_more ReadCommitted h program answers key trace level is = λ run reported. never_wants key trace run (sym is ∙ reported.is_run)
 wants_more _ h program answers key trace level is = absurd (cc)
 
 -- the run that came to its end, where its keys were compared
-pub on_keys : (look : Lookup) (program : ProgramTree) (answers : List ReportedAnswer) (answered : Answered) (run : Run) (o : Option Run) →
+pub on_keys : (look : Lookup) (program : ProgramTree) (answers : List CommittedRead) (answered : Answered) (run : Run) (o : Option Run) →
     run_over look program.statements ≡ answered → run_in answered ≡ Some run →
     MatchOption o (keys_reported answers ≡ keys_first_read program.prefetch run.reads → ⊥) (λ same. (same ≡ run) × (keys_reported answers ≡ keys_first_read program.prefetch run.reads)) → IsRunOn look program answers o
 on_keys look program answers answered run None is ended differ = λ other reported keys.
@@ -102,25 +103,25 @@ on_keys look program answers answered run None is ended differ = λ other report
 on_keys look program answers answered run (Some same) is ended found =
     (is ∙ ended_is answered same (ended ∙ ap Some (sym found.0)), found.1 ∙ ap (λ (r : Run). keys_first_read program.prefetch r.reads) (sym found.0))
 
-none_on : (level : Level) (h : History) (program : ProgramTree) (answers : List ReportedAnswer) → is_comparing level ≡ false →
+none_on : (level : Level) (h : History) (program : ProgramTree) (answers : List CommittedRead) → is_comparing level ≡ false →
     IsRunOn (look_up (reads_in h answers)) program answers None → IsFound level h program answers None
 none_on ReadCommitted h program answers level none = λ run reported. none run reported.is_run reported.answers_fit.0
 none_on _ h program answers level none = absurd (cc)
 
 -- the run on the answers, which are true, is the one that is found at ReadCommitted
-pub found_by_keys : (level : Level) (h : History) (program : ProgramTree) (answers : List ReportedAnswer) (o : Option Run) → is_comparing level ≡ false →
+pub found_by_keys : (level : Level) (h : History) (program : ProgramTree) (answers : List CommittedRead) (o : Option Run) → is_comparing level ≡ false →
     AreTrulyReported h answers → IsRunOn (look_up (reads_in h answers)) program answers o → IsFound level h program answers o
 found_by_keys level h program answers (Some run) is truth on = found_on level h program answers run is truth on.0 on.1
 found_by_keys level h program answers None is truth none = none_on level h program answers is none
 
 -- ---- the commit
 
-reads_true : (h : History) (answers : List ReportedAnswer) → AreTrulyReported h answers → AreTrue h (reads_in h answers)
+reads_true : (h : History) (answers : List CommittedRead) → AreTrulyReported h answers → AreTrue h (reads_in h answers)
 reads_true h [] truth = tt
 reads_true h (a ∷ answers) truth = (record { reached = truth.0.reached; shown = refl }, reads_true h answers truth.1)
 
 -- the answers that fit a level are true, as reads
-pub answers_true : (level : Level) (h : History) (reads : List (List ℕ)) (answers : List ReportedAnswer) → AnswersFit level h reads answers →
+pub answers_true : (level : Level) (h : History) (reads : List (List ℕ)) (answers : List CommittedRead) → AnswersFit level h reads answers →
     AnswersAreTrue level (reads_in h answers) h
 answers_true ReadCommitted h reads answers fit = reads_true h answers fit.1
 answers_true _ h reads answers fit = ap (reads_in h) fit
@@ -138,7 +139,7 @@ done_of : (o : Result Done Refusal) (revision : ℕ) → revision_reached o ≡ 
 done_of (Ok done) revision is = (done, refl, cc)
 done_of (Err cause) revision is = absurd (cc)
 
-pub right_commit : (s : Standing) (r : Runner) (run : Run) (revision attempts : ℕ) (output : List Value) (trace : List TraceItem) (answers : List ReportedAnswer) →
+pub right_commit : (s : Standing) (r : Runner) (run : Run) (revision attempts : ℕ) (output : List Value) (trace : List TraceItem) (answers : List CommittedRead) →
     IsRunReported r.level s.history r.program answers run → IsTakenAs s r run revision attempts output trace →
     IsRightCommit s r revision attempts output trace answers
 right_commit s r run revision attempts output trace answers reported taken =
@@ -161,7 +162,7 @@ right_commit s r run revision attempts output trace answers reported taken =
     }
 
 -- and what it has
-pub commit_run : (s : Standing) (r : Runner) (revision attempts : ℕ) (output : List Value) (trace : List TraceItem) (answers : List ReportedAnswer) →
+pub commit_run : (s : Standing) (r : Runner) (revision attempts : ℕ) (output : List Value) (trace : List TraceItem) (answers : List CommittedRead) →
     IsRightCommit s r revision attempts output trace answers →
     (run : Run) × IsRunReported r.level s.history r.program answers run × IsTakenAs s r run revision attempts output trace
 commit_run s r revision attempts output trace answers right =
@@ -179,14 +180,14 @@ commit_run s r revision attempts output trace answers right =
     )
 
 -- at most one run is reported
-pub reported_once : (level : Level) (h : History) (program : ProgramTree) (answers : List ReportedAnswer) (one other : Run) →
+pub reported_once : (level : Level) (h : History) (program : ProgramTree) (answers : List CommittedRead) (one other : Run) →
     IsRunReported level h program answers one → IsRunReported level h program answers other → one ≡ other
 reported_once level h program answers one other a b =
     let same : Some one ≡ Some other = ap run_in (sym a.is_run ∙ b.is_run) in cc
 
 -- ---- the store after it
 
-pub commit_led : (s : Standing) (r : Runner) (run : Run) (revision : ℕ) (output : List Value) (trace : List TraceItem) (answers : List ReportedAnswer) →
+pub commit_led : (s : Standing) (r : Runner) (run : Run) (revision : ℕ) (output : List Value) (trace : List TraceItem) (answers : List CommittedRead) →
     IsRunReported r.level s.history r.program answers run → run.end ≡ DoneEnd →
     with_writes s run ≡ led_by (Program r.program r.level (reads_in s.history answers) output trace revision ∷ []) s s.moment
 commit_led s r run revision output trace answers reported done =
@@ -198,21 +199,21 @@ commit_led s r run revision output trace answers reported done =
 -- ---- the verdicts
 
 -- a commit that is not the next of its run, or that the run may not send
-pub not_next : (b : Bool) (s : Standing) (r : Runner) (revision attempts : ℕ) (output : List Value) (trace : List TraceItem) (answers : List ReportedAnswer) →
+pub not_next : (b : Bool) (s : Standing) (r : Runner) (revision attempts : ℕ) (output : List Value) (trace : List TraceItem) (answers : List CommittedRead) →
     (IsTrue b ↔ (attempts ≡ r.conflicts + 1) × (attempts ≤ r.limit)) → b ≡ false →
     (IsTrue false ↔ IsRightCommit s r revision attempts output trace answers)
 not_next b s r revision attempts output trace answers test is =
     ((λ t. absurd (cc)), (λ right. sym is ∙ test.1 (right.attempt, right.may_be_sent)))
 
 -- a commit of no run
-pub no_run : (s : Standing) (r : Runner) (revision attempts : ℕ) (output : List Value) (trace : List TraceItem) (answers : List ReportedAnswer) →
+pub no_run : (s : Standing) (r : Runner) (revision attempts : ℕ) (output : List Value) (trace : List TraceItem) (answers : List CommittedRead) →
     IsFound r.level s.history r.program answers None → (IsTrue false ↔ IsRightCommit s r revision attempts output trace answers)
 no_run s r revision attempts output trace answers none =
     ((λ t. absurd (cc)), (λ right. let has = commit_run s r revision attempts output trace answers right in absurd (none has.0 has.1)))
 
 -- a commit of a run with another end, output or trace
 pub other_run : (b : Bool) (s : Standing) (r : Runner) (run : Run) (revision attempts : ℕ) (output : List Value) (trace : List TraceItem)
-    (answers : List ReportedAnswer) → IsRunReported r.level s.history r.program answers run →
+    (answers : List CommittedRead) → IsRunReported r.level s.history r.program answers run →
     (IsTrue b ↔ (run.end ≡ DoneEnd) × (run.output ≡ output) × (run.trace ≡ trace)) → b ≡ false →
     (IsTrue false ↔ IsRightCommit s r revision attempts output trace answers)
 other_run b s r run revision attempts output trace answers reported test is = (
@@ -227,7 +228,7 @@ other_run b s r run revision attempts output trace answers reported test is = (
 
 -- the commit of the run, where a test looks at all of what the line reports
 pub run_right : (b : Bool) (s : Standing) (r : Runner) (run : Run) (revision attempts : ℕ) (output : List Value) (trace : List TraceItem)
-    (answers : List ReportedAnswer) → IsRunReported r.level s.history r.program answers run → (attempts ≡ r.conflicts + 1) × (attempts ≤ r.limit) →
+    (answers : List CommittedRead) → IsRunReported r.level s.history r.program answers run → (attempts ≡ r.conflicts + 1) × (attempts ≤ r.limit) →
     (IsTrue b ↔ ((run.end ≡ DoneEnd) × (run.output ≡ output) × (run.trace ≡ trace))
     × (revision_reached (applied_run (without_moment s) run) ≡ Some revision)) → (IsTrue b ↔ IsRightCommit s r revision attempts output trace answers)
 run_right b s r run revision attempts output trace answers reported next test = (
@@ -346,20 +347,20 @@ key_tails : (k j : List ℕ) (ks js : List (List ℕ)) → k ∷ ks ≡ j ∷ js
 key_tails k j ks js same = cc
 
 -- where the keys that are left are the same, all are
-pub record LeavesKeys (answers : List ReportedAnswer) (keys : List (List ℕ)) (i : ℕ) : Type 0 where
+pub record LeavesKeys (answers : List CommittedRead) (keys : List (List ℕ)) (i : ℕ) : Type 0 where
   pub whole : keys_reported (drop i answers) ≡ drop i keys → keys_reported answers ≡ keys
   pub part : keys_reported answers ≡ keys → keys_reported (drop i answers) ≡ drop i keys
 
-pub leaves_all_keys : (answers : List ReportedAnswer) (keys : List (List ℕ)) → LeavesKeys answers keys 0
+pub leaves_all_keys : (answers : List CommittedRead) (keys : List (List ℕ)) → LeavesKeys answers keys 0
 leaves_all_keys answers keys = record { whole = λ same. same; part = λ same. same }
 
-both_left : (answers : List ReportedAnswer) (keys : List (List ℕ)) (i : ℕ) (a : ReportedAnswer) (k : List ℕ) → i < length answers → a ≡ get_or answers i a →
+both_left : (answers : List CommittedRead) (keys : List (List ℕ)) (i : ℕ) (a : CommittedRead) (k : List ℕ) → i < length answers → a ≡ get_or answers i a →
     i < length keys → k ≡ get_or keys i k → keys_reported (drop i answers) ≡ drop i keys →
     a.key ∷ keys_reported (drop (i + 1) answers) ≡ k ∷ drop (i + 1) keys
 both_left answers keys i a k within is within_keys key_is same =
     sym (ap keys_reported (left_at answers i a within is)) ∙ same ∙ left_at keys i k within_keys key_is
 
-pub leaves_fewer_keys : (answers : List ReportedAnswer) (keys : List (List ℕ)) (i : ℕ) (a : ReportedAnswer) (k : List ℕ) → i < length answers →
+pub leaves_fewer_keys : (answers : List CommittedRead) (keys : List (List ℕ)) (i : ℕ) (a : CommittedRead) (k : List ℕ) → i < length answers →
     a ≡ get_or answers i a → i < length keys → k ≡ get_or keys i k → LeavesKeys answers keys i → a.key ≡ k → LeavesKeys answers keys (i + 1)
 leaves_fewer_keys answers keys i a k within is within_keys key_is so_far same = record {
   whole = λ rest. so_far.whole (ap keys_reported (left_at answers i a within is)
@@ -370,26 +371,27 @@ leaves_fewer_keys answers keys i a k within is within_keys key_is so_far same = 
 }
 
 -- the keys at a place are the same where all are
-pub same_key_at : (answers : List ReportedAnswer) (keys : List (List ℕ)) (i : ℕ) (a : ReportedAnswer) (k : List ℕ) → i < length answers →
+pub same_key_at : (answers : List CommittedRead) (keys : List (List ℕ)) (i : ℕ) (a : CommittedRead) (k : List ℕ) → i < length answers →
     a ≡ get_or answers i a → i < length keys → k ≡ get_or keys i k → LeavesKeys answers keys i → keys_reported answers ≡ keys → a.key ≡ k
 same_key_at answers keys i a k within is within_keys key_is so_far all =
     key_heads a.key k (keys_reported (drop (i + 1) answers)) (drop (i + 1) keys)
     (both_left answers keys i a k within is within_keys key_is (so_far.part all))
 
-pub leaves_no_key : (answers : List ReportedAnswer) (keys : List (List ℕ)) (i : ℕ) → length answers ≤ i → length keys ≤ i → LeavesKeys answers keys i →
+pub leaves_no_key : (answers : List CommittedRead) (keys : List (List ℕ)) (i : ℕ) → length answers ≤ i → length keys ≤ i → LeavesKeys answers keys i →
     keys_reported answers ≡ keys
 leaves_no_key answers keys i end end_keys so_far =
     so_far.whole (ap keys_reported (drop_all i answers end) ∙ sym (drop_all i keys end_keys))
 
--- ---- the line of a step
+-- ---- the reply to a step
 
-pub step_right : (r : Result Bool AllocError) (s : Standing) (o : Option Runner) (l : ReportLine) (runner : Runner) (n id revision attempts : ℕ)
-    (output reported_output : List Value) (trace reported_trace : List TraceItem) (answers reported_answers : List ReportedAnswer) → o ≡ Some runner →
-    l ≡ Committed n id revision attempts output trace answers → reported_output ≡ output → reported_trace ≡ trace → reported_answers ≡ answers →
-    IfOk r (λ b. IsTrue b ↔ IsRightCommit s runner revision attempts reported_output reported_trace reported_answers) → IfOk r (λ b. IsTrue b ↔ StepReplays s o l)
-step_right r s o l runner n id revision attempts output reported_output trace reported_trace answers reported_answers runs line_is outputs traces all_answers right =
-    subst (λ (x : ReportLine). IfOk r (λ b. IsTrue b ↔ StepReplays s o x)) (sym line_is)
-    (subst (λ (x : Option Runner). IfOk r (λ b. IsTrue b ↔ StepReplays s x (Committed n id revision attempts output trace answers))) (sym runs)
+pub step_right : (r : Result Bool AllocError) (s : Standing) (o : Option Runner) (replied : Result Reply Denied) (runner : Runner) (id revision attempts : ℕ)
+    (output reported_output : List Value) (trace reported_trace : List TraceItem) (answers reported_answers : List CommittedRead) → o ≡ Some runner →
+    replied ≡ Ok (Committed id revision attempts output trace answers) → reported_output ≡ output → reported_trace ≡ trace → reported_answers ≡ answers →
+    IfOk r (λ b. IsTrue b ↔ IsRightCommit s runner revision attempts reported_output reported_trace reported_answers) →
+    IfOk r (λ b. IsTrue b ↔ StepReplays s o replied)
+step_right r s o replied runner id revision attempts output reported_output trace reported_trace answers reported_answers runs is outputs traces all_answers right =
+    subst (λ (x : Result Reply Denied). IfOk r (λ b. IsTrue b ↔ StepReplays s o x)) (sym is)
+    (subst (λ (x : Option Runner). IfOk r (λ b. IsTrue b ↔ StepReplays s x (Ok (Committed id revision attempts output trace answers)))) (sym runs)
     (subst (λ (x : List Value). IfOk r (λ b. IsTrue b ↔ IsRightCommit s runner revision attempts x trace answers)) outputs
     (subst (λ (x : List TraceItem). IfOk r (λ b. IsTrue b ↔ IsRightCommit s runner revision attempts reported_output x answers)) traces
-    (subst (λ (x : List ReportedAnswer). IfOk r (λ b. IsTrue b ↔ IsRightCommit s runner revision attempts reported_output reported_trace x)) all_answers right))))
+    (subst (λ (x : List CommittedRead). IfOk r (λ b. IsTrue b ↔ IsRightCommit s runner revision attempts reported_output reported_trace x)) all_answers right))))

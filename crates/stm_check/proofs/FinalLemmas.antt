@@ -2,42 +2,13 @@
 use Rattle.std.proofs.Common.{◌≡◌, ℕ, List, [], ◌∷◌, ◌++◌, cond, map, filter, Option, Some, None, is_some, refl, sym, ◌∙◌, ap}
 use Rattle.std.proofs.Common.{String, string_bytes, ◌+◌, ◌<◌, ◌≤◌, length, drop, get_or, append-nil, append_assoc}
 use Rattle.std.proofs.lemmas.List.{drop_all}
-use Rattle.std.specs.FinMap as finmap
 use Rattle.stm_history.specs.declared.key_state.KeyState.{KeyState}
-use Rattle.stm_history.specs.History.{History, now, key_now}
-use Rattle.stm_leases.specs.LeaseLog.{Term}
+use Rattle.stm_history.specs.History.{History, key_now}
 use Rattle.stm_txn.specs.PresentKeys.{keys_present}
 use Rattle.stm_txn.specs.LeaseKeys.{keys_named}
-use Rattle.stm_report_lines.specs.declared.line.ReportLine.{ReportLine}
-use Rattle.stm_report_lines.specs.declared.line.ReportLine.TheVariants.{End}
+use Rattle.stm_events.specs.declared.line.ReportLine.{ReportLine}
 use Rattle.stm_check.proofs.Fronts.{left_at}
-use Rattle.stm_check.specs.Finals.{AreFinal}
-use Rattle.stm_check.specs.Point.{Point}
-use Rattle.stm_check.specs.StoreLines.{key_lines_of, key_lines, lease_line, final_lines}
-
-both_final : (front back : List ReportLine) → AreFinal front → AreFinal back → AreFinal (front ++ back)
-both_final [] back one other = other
-both_final (l ∷ front) back one other = (one.0, both_final front back one.1 other)
-
-key_final : (key : List ℕ) (o : Option KeyState) → AreFinal (key_lines_of key o)
-key_final key None = tt
-key_final key (Some state) = (tt, tt)
-
-keys_final : (h : History) (keys : List (List ℕ)) → AreFinal (key_lines h keys)
-keys_final h [] = tt
-keys_final h (key ∷ keys) = both_final (key_lines_of key (key_now h key)) (key_lines h keys) (key_final key (key_now h key)) (keys_final h keys)
-
-leases_final : (leases : List (ℕ × Term)) → AreFinal (map lease_line leases)
-leases_final [] = tt
-leases_final (lease ∷ leases) = (tt, leases_final leases)
-
-pub lines_final : (p : Point) → AreFinal (final_lines p)
-lines_final p =
-    let h = p.standing.history in
-    let keys : List ReportLine = key_lines h (keys_named h) in
-    let leases : List ReportLine = map lease_line (finmap.entries p.standing.live) in
-    both_final (keys ++ leases) (End (now h) p.entries ∷ [])
-    (both_final keys leases (keys_final h (keys_named h)) (leases_final (finmap.entries p.standing.live))) (tt, tt)
+use Rattle.stm_check.specs.StoreLines.{key_lines_of, key_lines}
 
 -- ---- the keys that are not present have no line
 

@@ -6,7 +6,7 @@ use Rattle.stm_leases.specs.Live.{Live}
 use Rattle.stm_entries.specs.declared.live_leases.LiveLease.{LiveLease}
 use Rattle.stm_entries.specs.LiveLeases.{HasLeases}
 use Rattle.stm_entries.proofs.ListedLeases.{terms, listed}
-use Rattle.stm_report_lines.specs.declared.line.ReportLine.{ReportLine}
+use Rattle.stm_events.specs.declared.line.ReportLine.{ReportLine}
 use Rattle.stm_check.specs.StoreLines.{lease_line, lease_lines}
 
 -- once no lease is left, the lines are the whole

@@ -8,7 +8,7 @@ use Rattle.std.specs.Option.{option_or}
 use Rattle.stm_history.specs.declared.key_state.ReadAnswer.{ReadAnswer}
 use Rattle.stm_history.specs.History.{History}
 use Rattle.stm_compile.specs.Answers.{answer_in, look_up, said}
-use Rattle.stm_report_lines.specs.declared.line.ReportedAnswer.{ReportedAnswer}
+use Rattle.stm_events.specs.declared.reply.CommittedRead.{CommittedRead}
 use Rattle.stm_check.specs.Replays.{IsTrulyReported, AreTrulyReported}
 use Rattle.stm_check.proofs.Fronts.{left_at}
 
@@ -67,14 +67,14 @@ left_out key so_far a known =
 -- ---- true answers, one after another
 
 -- what is true of the answers that are left is true of all
-pub record LeavesTruth (h : History) (answers left : List ReportedAnswer) : Type 0 where
+pub record LeavesTruth (h : History) (answers left : List CommittedRead) : Type 0 where
   pub whole : AreTrulyReported h left → AreTrulyReported h answers
   pub part : AreTrulyReported h answers → AreTrulyReported h left
 
-pub leaves_all : (h : History) (answers : List ReportedAnswer) → LeavesTruth h answers answers
+pub leaves_all : (h : History) (answers : List CommittedRead) → LeavesTruth h answers answers
 leaves_all h answers = record { whole = λ t. t; part = λ t. t }
 
-pub leaves_less : (h : History) (answers : List ReportedAnswer) (i : ℕ) (a : ReportedAnswer) → i < length answers → a ≡ get_or answers i a →
+pub leaves_less : (h : History) (answers : List CommittedRead) (i : ℕ) (a : CommittedRead) → i < length answers → a ≡ get_or answers i a →
     LeavesTruth h answers (drop i answers) → IsTrulyReported h a → LeavesTruth h answers (drop (i + 1) answers)
 leaves_less h answers i a within is so_far truth =
     let left : drop i answers ≡ a ∷ drop (i + 1) answers = left_at answers i a within is in
@@ -84,14 +84,14 @@ leaves_less h answers i a within is so_far truth =
     }
 
 -- the answer at a place is true where all are
-pub true_at : (h : History) (answers : List ReportedAnswer) (i : ℕ) (a : ReportedAnswer) → i < length answers → a ≡ get_or answers i a →
+pub true_at : (h : History) (answers : List CommittedRead) (i : ℕ) (a : CommittedRead) → i < length answers → a ≡ get_or answers i a →
     LeavesTruth h answers (drop i answers) → AreTrulyReported h answers → IsTrulyReported h a
 true_at h answers i a within is so_far all = (subst (AreTrulyReported h) (left_at answers i a within is) (so_far.part all)).0
 
-pub leaves_none : (h : History) (answers : List ReportedAnswer) (i : ℕ) → length answers ≤ i → LeavesTruth h answers (drop i answers) → AreTrulyReported h answers
+pub leaves_none : (h : History) (answers : List CommittedRead) (i : ℕ) → length answers ≤ i → LeavesTruth h answers (drop i answers) → AreTrulyReported h answers
 leaves_none h answers i end so_far = so_far.whole (subst (AreTrulyReported h) (sym (drop_all i answers end)) tt)
 
-pub truth_at : (h : History) (answers : List ReportedAnswer) (i : ℕ) (a : ReportedAnswer) → i < length answers → a ≡ get_or answers i a →
+pub truth_at : (h : History) (answers : List CommittedRead) (i : ℕ) (a : CommittedRead) → i < length answers → a ≡ get_or answers i a →
     AreTrulyReported h answers → IsTrulyReported h a
 truth_at h [] i a within is truth = absurd (omega (arith, within))
 truth_at h (x ∷ answers) zero a within is truth = subst (IsTrulyReported h) (sym is) truth.0

@@ -1,12 +1,12 @@
 -- A check has one answer.
 use Rattle.std.proofs.Common.{◌≡◌, inl, inr, ℕ, suc, Bool, true, false, List, [], ◌∷◌, refl, sym, ◌∙◌, subst}
 use Rattle.stm_events.specs.declared.event.WorldEvent.{WorldEvent}
-use Rattle.stm_report_lines.specs.declared.line.ReportLine.{ReportLine}
+use Rattle.stm_events.specs.declared.line.ReportLine.{ReportLine}
 use Rattle.stm_check.specs.declared.cause.WrongCause.{WrongCause}
 use Rattle.stm_check.specs.declared.cause.WrongCause.TheVariants.{Count, Event, Replay, Final}
 use Rattle.stm_check.specs.declared.checking.Checked.{Checked}
 use Rattle.stm_check.specs.declared.checking.Checked.TheVariants.{Yes, No}
-use Rattle.stm_check.specs.Point.{Point, after}
+use Rattle.stm_check.specs.Point.{Point, after_line}
 use Rattle.stm_check.specs.StoreLines.{final_lines}
 use Rattle.stm_check.specs.Wrong.{IsRight, IsWrong, AreRight, IsOff, IsFirstWrong, opens_at}
 use Rattle.stm_check.specs.Judged.{IsJudgedFrom}
@@ -67,7 +67,7 @@ right_or_wrong n p [] lines wrong cause right off =
 right_or_wrong n p (event ∷ events) [] wrong cause right first = right
 right_or_wrong n p (event ∷ events) (l ∷ lines) wrong cause right (inl here) = never_both n p event l cause right.0 here.1
 right_or_wrong n p (event ∷ events) (l ∷ lines) wrong cause right (inr later) =
-    right_or_wrong (suc n) (after p event l) events lines wrong cause right.1 later.1
+    right_or_wrong (suc n) (after_line p event l) events lines wrong cause right.1 later.1
 
 wrong_once : (n : ℕ) (p : Point) (events : List WorldEvent) (lines : List ReportLine) (wrong line : ℕ) (cause other : WrongCause) →
     IsFirstWrong n p events lines wrong cause → IsFirstWrong n p events lines line other → IsSame wrong cause line other
@@ -78,7 +78,7 @@ wrong_once n p (event ∷ events) (l ∷ lines) wrong line cause other (inl one)
 wrong_once n p (event ∷ events) (l ∷ lines) wrong line cause other (inl one) (inr two) = absurd (never_both n p event l cause two.0 one.1)
 wrong_once n p (event ∷ events) (l ∷ lines) wrong line cause other (inr one) (inl two) = absurd (never_both n p event l other one.0 two.1)
 wrong_once n p (event ∷ events) (l ∷ lines) wrong line cause other (inr one) (inr two) =
-    wrong_once (suc n) (after p event l) events lines wrong line cause other one.1 two.1
+    wrong_once (suc n) (after_line p event l) events lines wrong line cause other one.1 two.1
 
 judged_by : (n : ℕ) (p : Point) (events : List WorldEvent) (lines : List ReportLine) (one other : Checked) →
     IsJudgedFrom n p events lines one → IsJudgedFrom n p events lines other → one ≡ other

@@ -10,7 +10,7 @@ use Rattle.stm_devices.specs.declared.transfer.TheConstants.{MOST_READ}
 use Rattle.stm_json.specs.declared.limits.TheConstants.{MOST_BYTES}
 use Rattle.stm_texts.specs.declared.scenario.Scenario.{Scenario}
 use Rattle.stm_texts.specs.Reading.{scenario_in}
-use Rattle.stm_report_lines.specs.declared.report.Report.{Report}
+use Rattle.stm_events.specs.declared.line.Report.{Report}
 use Rattle.stm_report_lines.specs.Reading.{report_in}
 
 -- ---- what is too long by a byte is too long however it goes on

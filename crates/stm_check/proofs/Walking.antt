@@ -4,12 +4,12 @@ use Rattle.std.specs.Prelude.{Result, IfOk}
 use Rattle.std.specs.declared.alloc.AllocError.{AllocError}
 use Rattle.std.proofs.lemmas.List.{drop_all, length-drop}
 use Rattle.stm_events.specs.declared.event.WorldEvent.{WorldEvent}
-use Rattle.stm_report_lines.specs.declared.line.ReportLine.{ReportLine}
+use Rattle.stm_events.specs.declared.line.ReportLine.{ReportLine}
 use Rattle.stm_check.specs.declared.cause.WrongCause.{WrongCause}
 use Rattle.stm_check.specs.declared.cause.WrongCause.TheVariants.{Count}
 use Rattle.stm_check.specs.declared.checking.Checked.{Checked}
 use Rattle.stm_check.specs.declared.checking.Checked.TheVariants.{Yes, No}
-use Rattle.stm_check.specs.Point.{Point, after}
+use Rattle.stm_check.specs.Point.{Point, after_line}
 use Rattle.stm_check.specs.StoreLines.{final_lines}
 use Rattle.stm_check.specs.Wrong.{IsRight, AreRight, IsOff, IsFirstWrong, point_after}
 use Rattle.stm_check.specs.Judged.{IsJudgedFrom, IsJudgedEnd, AreRightEvents}
@@ -30,7 +30,7 @@ walked_none n p events lines = record { right = λ r. r; wrong = λ line cause w
 pub walked_one : (n : ℕ) (p : Point) (events : List WorldEvent) (lines : List ReportLine) (m : ℕ) (q : Point) (event : WorldEvent)
     (events_left : List WorldEvent) (l : ReportLine) (lines_left : List ReportLine) →
     HasWalked n p events lines m q (event ∷ events_left) (l ∷ lines_left) → IsRight m q event l →
-    HasWalked n p events lines (suc m) (after q event l) events_left lines_left
+    HasWalked n p events lines (suc m) (after_line q event l) events_left lines_left
 walked_one n p events lines m q event events_left l lines_left so_far right = record {
   right = λ rest. so_far.right (right, rest);
   wrong = λ line cause rest. so_far.wrong line cause (inr (right, rest));
@@ -40,7 +40,7 @@ walked_one n p events lines m q event events_left l lines_left so_far right = re
 -- one line further, where the line of this event is right
 pub walked_more : (p : Point) (events : List WorldEvent) (lines : List ReportLine) (i : ℕ) (q next : Point) (event : WorldEvent) (l : ReportLine) →
     i < length events → event ≡ get_or events i event → i < length lines → l ≡ get_or lines i l →
-    HasWalked 1 p events lines (i + 1) q (drop i events) (drop i lines) → IsRight (i + 1) q event l → next ≡ after q event l →
+    HasWalked 1 p events lines (i + 1) q (drop i events) (drop i lines) → IsRight (i + 1) q event l → next ≡ after_line q event l →
     HasWalked 1 p events lines (i + 1 + 1) next (drop (i + 1) events) (drop (i + 1) lines)
 walked_more p events lines i q next event l within is within_lines is_line so_far right reached =
     let here : HasWalked 1 p events lines (i + 1) q (event ∷ drop (i + 1) events) (l ∷ drop (i + 1) lines) =
@@ -49,7 +49,7 @@ walked_more p events lines i q next event l within is within_lines is_line so_fa
     let one = walked_one 1 p events lines (i + 1) q event (drop (i + 1) events) l (drop (i + 1) lines) here right in
     let count : suc (i + 1) ≡ i + 1 + 1 = omega arith in
     subst (λ (r : Point). HasWalked 1 p events lines (i + 1 + 1) r (drop (i + 1) events) (drop (i + 1) lines)) (sym reached)
-    (subst (λ (m : ℕ). HasWalked 1 p events lines m (after q event l) (drop (i + 1) events) (drop (i + 1) lines)) count one)
+    (subst (λ (m : ℕ). HasWalked 1 p events lines m (after_line q event l) (drop (i + 1) events) (drop (i + 1) lines)) count one)
 
 -- ---- both parts
 
@@ -57,7 +57,7 @@ pub joined_yes : (n : ℕ) (p : Point) (events : List WorldEvent) (lines : List 
     drop (length events) lines ≡ final_lines (point_after p events lines) → AreRight n p events lines
 joined_yes n p [] lines right same = same
 joined_yes n p (event ∷ events) [] right same = absurd right
-joined_yes n p (event ∷ events) (l ∷ lines) right same = (right.0, joined_yes (suc n) (after p event l) events lines right.1 same)
+joined_yes n p (event ∷ events) (l ∷ lines) right same = (right.0, joined_yes (suc n) (after_line p event l) events lines right.1 same)
 
 pub joined_no : (n : ℕ) (p : Point) (events : List WorldEvent) (lines : List ReportLine) (wrong : ℕ) (cause : WrongCause) →
     AreRightEvents n p events lines → IsOff (n + length events) (final_lines (point_after p events lines)) (drop (length events) lines) wrong cause →
@@ -67,7 +67,7 @@ joined_no n p [] lines wrong cause right off =
     subst (λ (m : ℕ). IsOff m (final_lines p) lines wrong cause) same off
 joined_no n p (event ∷ events) [] wrong cause right off = absurd right
 joined_no n p (event ∷ events) (l ∷ lines) wrong cause right off =
-    let q : Point = after p event l in
+    let q : Point = after_line p event l in
     let same : n + suc (length events) ≡ suc n + length events = omega arith in
     inr (
       right.0,
@@ -122,7 +122,7 @@ agreed_short finals lines count so_far end within short n =
 pub fewer : (n : ℕ) (p : Point) (events : List WorldEvent) (lines : List ReportLine) → AreRightEvents n p events lines → length events ≤ length lines
 fewer n p [] lines right = omega arith
 fewer n p (event ∷ events) [] right = absurd right
-fewer n p (event ∷ events) (l ∷ lines) right = omega (arith, fewer (suc n) (after p event l) events lines right.1)
+fewer n p (event ∷ events) (l ∷ lines) right = omega (arith, fewer (suc n) (after_line p event l) events lines right.1)
 
 pub joined_result : (r : Result Checked AllocError) (n : ℕ) (p : Point) (events : List WorldEvent) (lines left : List ReportLine) (q : Point) (m : ℕ) →
     AreRightEvents n p events lines → q ≡ point_after p events lines → left ≡ drop (length events) lines → m ≡ n + length events →

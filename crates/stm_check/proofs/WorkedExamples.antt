@@ -1,5 +1,5 @@
 -- Worked examples of the check: the report of two programs that each set a key to 0 where the sum of both is above 1.
-use Rattle.std.proofs.Common.{◌≡◌, refl, inl, inr, ℕ, pos, true, false, List, [], ◌∷◌}
+use Rattle.std.proofs.Common.{◌≡◌, refl, inl, inr, ℕ, pos, true, false, List, [], ◌∷◌, Ok}
 use Rattle.std.specs.Prelude.{codes}
 use Rattle.stm_program.specs.Syntax.{ProgramTree, of_statements, End as EndBlock, Then, Expression}
 use Rattle.stm_program.specs.Syntax.{Put as PutStatement, If, Less, Number, Text, Get, NumOf, Arithmetic}
@@ -11,17 +11,17 @@ use Rattle.stm_outcome.specs.declared.txn.Op.{Op}
 use Rattle.stm_outcome.specs.declared.txn.Op.TheVariants.{Put, Get as GetOperation}
 use Rattle.stm_events.specs.declared.event.WorldEvent.{WorldEvent}
 use Rattle.stm_events.specs.declared.event.WorldEvent.TheVariants.{Start, Step, Txn, Compact, Poll, Cancel, WatchKey}
-use Rattle.stm_report_lines.specs.declared.causes.RefusalName.TheVariants.{NoWatcher, LeaseIdOutOfRange, FutureRevision, Compacted as BelowTheFloor}
-use Rattle.stm_report_lines.specs.declared.line.ReportLine.{ReportLine}
-use Rattle.stm_report_lines.specs.declared.line.ReportLine.TheVariants as line
-use Rattle.stm_report_lines.specs.declared.line.ReportedOp.TheVariants as reported
+use Rattle.stm_events.specs.declared.line.ReportLine.{ReportLine}
+use Rattle.stm_events.specs.declared.line.ReportLine.TheVariants as line
+use Rattle.stm_events.specs.declared.refusal.EventRefusal.TheVariants.{NoWatcher, LeaseIdOutOfRange, FutureRevision, Compacted as BelowTheFloor}
+use Rattle.stm_events.specs.declared.reply.OpReply.TheVariants as op
+use Rattle.stm_events.specs.declared.reply.Reply.{Reply}
+use Rattle.stm_events.specs.declared.reply.Reply.TheVariants as reply
 use Rattle.stm_check.specs.declared.cause.WrongCause.TheVariants.{Count, Final}
 use Rattle.stm_check.specs.Point.{Point, beginning, after}
 use Rattle.stm_check.specs.Fits.{fits}
 use Rattle.stm_txn.specs.Standing.{Standing, at_revision, transacted, granted, raised}
-use Rattle.stm_events.specs.declared.reply.Reply.TheVariants.{Txn as TxnDone, Granted, Compacted}
-use Rattle.stm_events.specs.Replies.{reply_to}
-use Rattle.stm_report_lines.specs.Lines.{line_reported}
+use Rattle.stm_events.specs.Replies.{denied, txn_reply, reply_to}
 use Rattle.stm_check.specs.Wrong.{IsOff, IsFirstWrong, point_after}
 
 -- ---- the scenario
@@ -45,20 +45,24 @@ skew =
 
 -- ---- its report
 
+-- the line of an event that was taken
+abbrev taken : ℕ → Reply → ReportLine
+taken n r = line.Event n (Ok r)
+
 abbrev both : List ℕ → List ℕ → List TraceItem
 both x y = seen.Get (codes "x") x ∷ seen.Get (codes "y") y ∷ []
 
 abbrev first_lines : List ReportLine
 first_lines =
-    line.Txn 1 true 2 (reported.Put ∷ []) ∷ line.Txn 2 true 3 (reported.Put ∷ []) ∷ line.Started 3 1 ∷ line.Started 4 2 ∷ []
+    taken 1 (reply.Txn true 2 (op.Put ∷ [])) ∷ taken 2 (reply.Txn true 3 (op.Put ∷ [])) ∷ taken 3 (reply.Started 1) ∷ taken 4 (reply.Started 2) ∷ []
 
 abbrev skew_lines : List ReportLine
 skew_lines =
-    line.Txn 1 true 2 (reported.Put ∷ []) ∷ line.Txn 2 true 3 (reported.Put ∷ []) ∷ line.Started 3 1 ∷ line.Started 4 2
-    ∷ line.Fetched 5 1 (codes "x") 2 3 3 ∷ line.Fetched 6 2 (codes "x") 2 3 3
-    ∷ line.Fetched 7 1 (codes "y") 3 3 3 ∷ line.Fetched 8 2 (codes "y") 3 3 3
-    ∷ line.Committed 9 1 4 1 [] (both (codes "1") (codes "1")) [] ∷ line.Conflict 10 2 (codes "x") 2 4
-    ∷ line.Committed 11 2 4 2 [] (both (codes "0") (codes "1")) [] ∷ []
+    taken 1 (reply.Txn true 2 (op.Put ∷ [])) ∷ taken 2 (reply.Txn true 3 (op.Put ∷ [])) ∷ taken 3 (reply.Started 1) ∷ taken 4 (reply.Started 2)
+    ∷ taken 5 (reply.Fetched 1 (codes "x") 2 3 3) ∷ taken 6 (reply.Fetched 2 (codes "x") 2 3 3)
+    ∷ taken 7 (reply.Fetched 1 (codes "y") 3 3 3) ∷ taken 8 (reply.Fetched 2 (codes "y") 3 3 3)
+    ∷ taken 9 (reply.Committed 1 4 1 [] (both (codes "1") (codes "1")) []) ∷ taken 10 (reply.Conflict 2 (codes "x") 2 4)
+    ∷ taken 11 (reply.Committed 2 4 2 [] (both (codes "0") (codes "1")) []) ∷ []
 
 abbrev last_lines : List ReportLine
 last_lines =
@@ -76,60 +80,60 @@ ended = point_after (beginning (at_revision 1)) skew skew_lines
 
 -- ---- what a line can stand in
 
-own_runner : fits 5 started.runners (Step 1) (line.Fetched 5 1 (codes "x") 2 3 3) ≡ true
+own_runner : fits 5 started.runners (Step 1) (taken 5 (reply.Fetched 1 (codes "x") 2 3 3)) ≡ true
 own_runner = refl
 
 -- runner 2 at a step of runner 1 is Event
-other_runner : fits 5 started.runners (Step 1) (line.Fetched 5 2 (codes "x") 2 3 3) ≡ false
+other_runner : fits 5 started.runners (Step 1) (taken 5 (reply.Fetched 2 (codes "x") 2 3 3)) ≡ false
 other_runner = refl
 
-own_list : fits 5 started.runners (Step 1) (line.Prefetched 5 1 3 (record { key = codes "x"; mod_rev = 2 } ∷ [])) ≡ true
+own_list : fits 5 started.runners (Step 1) (taken 5 (reply.Prefetched 1 3 (record { key = codes "x"; mod_rev = 2 } ∷ []))) ≡ true
 own_list = refl
 
-other_list : fits 5 started.runners (Step 1) (line.Prefetched 5 2 3 (record { key = codes "x"; mod_rev = 2 } ∷ [])) ≡ false
+other_list : fits 5 started.runners (Step 1) (taken 5 (reply.Prefetched 2 3 (record { key = codes "x"; mod_rev = 2 } ∷ []))) ≡ false
 other_list = refl
 
-list_is_of_a_step : fits 5 started.runners (Poll 1 0) (line.Prefetched 5 1 3 []) ≡ false
+list_is_of_a_step : fits 5 started.runners (Poll 1 0) (taken 5 (reply.Prefetched 1 3 [])) ≡ false
 list_is_of_a_step = refl
 
-other_number : fits 5 started.runners (Step 1) (line.Fetched 6 1 (codes "x") 2 3 3) ≡ false
+other_number : fits 5 started.runners (Step 1) (taken 6 (reply.Fetched 1 (codes "x") 2 3 3)) ≡ false
 other_number = refl
 
-unknown_runner : fits 5 started.runners (Step 3) (line.Fetched 5 3 (codes "x") 2 3 3) ≡ false
+unknown_runner : fits 5 started.runners (Step 3) (taken 5 (reply.Fetched 3 (codes "x") 2 3 3)) ≡ false
 unknown_runner = refl
 
 -- both runners committed
-ended_runner : fits 12 ended.runners (Step 1) (line.Aborted 12 1 (codes "no")) ≡ false
+ended_runner : fits 12 ended.runners (Step 1) (taken 12 (reply.Aborted 1 (codes "no"))) ≡ false
 ended_runner = refl
 
-next_runner_starts : fits 12 ended.runners (Start (setting (codes "x")) Serializable 1) (line.Started 12 3) ≡ true
+next_runner_starts : fits 12 ended.runners (Start (setting (codes "x")) Serializable 1) (taken 12 (reply.Started 3)) ≡ true
 next_runner_starts = refl
 
-another_starts : fits 12 ended.runners (Start (setting (codes "x")) Serializable 1) (line.Started 12 4) ≡ false
+another_starts : fits 12 ended.runners (Start (setting (codes "x")) Serializable 1) (taken 12 (reply.Started 4)) ≡ false
 another_starts = refl
 
-no_commit_may_be_sent : fits 12 ended.runners (Start (setting (codes "x")) Serializable 0) (line.Started 12 3) ≡ false
+no_commit_may_be_sent : fits 12 ended.runners (Start (setting (codes "x")) Serializable 0) (taken 12 (reply.Started 3)) ≡ false
 no_commit_may_be_sent = refl
 
-refused_is_of_any_event : fits 1 [] (Poll 1 0) (line.Refused 1 NoWatcher []) ≡ true
+refused_is_of_any_event : fits 1 [] (Poll 1 0) (line.Event 1 (denied NoWatcher)) ≡ true
 refused_is_of_any_event = refl
 
-own_watcher : fits 1 [] (Poll 7 0) (line.Batch 1 7 1 []) ≡ true
+own_watcher : fits 1 [] (Poll 7 0) (taken 1 (reply.Batch 7 1 [])) ≡ true
 own_watcher = refl
 
-other_watcher : fits 1 [] (Cancel 7) (line.Cancelled 1 8) ≡ false
+other_watcher : fits 1 [] (Cancel 7) (taken 1 (reply.Cancelled 8)) ≡ false
 other_watcher = refl
 
-lost_watcher : fits 1 [] (Poll 7 0) (line.Lost 1 7 3) ≡ true
+lost_watcher : fits 1 [] (Poll 7 0) (taken 1 (reply.Lost 7 3)) ≡ true
 lost_watcher = refl
 
-other_is_lost : fits 1 [] (Poll 7 0) (line.Lost 1 8 3) ≡ false
+other_is_lost : fits 1 [] (Poll 7 0) (taken 1 (reply.Lost 8 3)) ≡ false
 other_is_lost = refl
 
-only_a_poll_reports_of_loss : fits 1 [] (Cancel 7) (line.Lost 1 7 3) ≡ false
+only_a_poll_reports_of_loss : fits 1 [] (Cancel 7) (taken 1 (reply.Lost 7 3)) ≡ false
 only_a_poll_reports_of_loss = refl
 
-any_watcher : fits 1 [] (WatchKey (codes "a") 0) (line.Watching 1 9) ≡ true
+any_watcher : fits 1 [] (WatchKey (codes "a") 0) (taken 1 (reply.Watching 9)) ≡ true
 any_watcher = refl
 
 key_line_is_of_no_event : fits 1 [] (Step 1) (line.End 1 0) ≡ false
@@ -137,18 +141,18 @@ key_line_is_of_no_event = refl
 
 -- ---- the replay
 
-first_txn : line_reported 1 (reply_to TxnDone
-    (transacted (beginning (at_revision 1)).standing (record { compares = []; success = Put (codes "x") (codes "1") 0 ∷ []; failure = [] })))
-    ≡ line.Txn 1 true 2 (reported.Put ∷ [])
+first_txn : reply_to txn_reply
+    (transacted (beginning (at_revision 1)).standing (record { compares = []; success = Put (codes "x") (codes "1") 0 ∷ []; failure = [] }))
+    ≡ Ok (reply.Txn true 2 (op.Put ∷ []))
 first_txn = refl
 
-bad_grant : line_reported 1 (reply_to (λ _. Granted 0) (granted (beginning (at_revision 1)).standing 0 5)) ≡ line.Refused 1 LeaseIdOutOfRange []
+bad_grant : reply_to (λ _. reply.Granted 0) (granted (beginning (at_revision 1)).standing 0 5) ≡ denied LeaseIdOutOfRange
 bad_grant = refl
 
 -- ---- a compaction after the first four lines, where the counter is 3
 
 abbrev compacted : Standing
-compacted = (after started (Compact 3) (line.Compacted 5 3)).standing
+compacted = (after started (Compact 3) (Ok (reply.Compacted 3))).standing
 
 raises_the_floor : compacted.floor ≡ 3
 raises_the_floor = refl
@@ -156,21 +160,20 @@ raises_the_floor = refl
 keeps_the_history : compacted.history ≡ started.standing.history
 keeps_the_history = refl
 
-compact_line : line_reported 5 (reply_to (λ _. Compacted 3) (raised started.standing 3)) ≡ line.Compacted 5 3
-compact_line = refl
+at_the_counter : reply_to (λ _. reply.Compacted 3) (raised started.standing 3) ≡ Ok (reply.Compacted 3)
+at_the_counter = refl
 
-above_the_counter : line_reported 5 (reply_to (λ _. Compacted 4) (raised started.standing 4)) ≡ line.Refused 5 FutureRevision []
+above_the_counter : reply_to (λ _. reply.Compacted 4) (raised started.standing 4) ≡ denied FutureRevision
 above_the_counter = refl
 
-at_the_floor : line_reported 6 (reply_to (λ _. Compacted 3) (raised compacted 3)) ≡ line.Refused 6 BelowTheFloor []
+at_the_floor : reply_to (λ _. reply.Compacted 3) (raised compacted 3) ≡ denied BelowTheFloor
 at_the_floor = refl
 
 -- a read of a revision below it
 abbrev read_at_two : Op
 read_at_two = GetOperation (codes "x") 2
 
-below_the_floor : line_reported 6 (reply_to TxnDone (transacted compacted (record { compares = []; success = read_at_two ∷ []; failure = [] })))
-    ≡ line.Refused 6 BelowTheFloor []
+below_the_floor : reply_to txn_reply (transacted compacted (record { compares = []; success = read_at_two ∷ []; failure = [] })) ≡ denied BelowTheFloor
 below_the_floor = refl
 
 -- ---- the end
@@ -185,5 +188,5 @@ nothing_there : IsFirstWrong 1 (beginning (at_revision 1)) skew [] 1 Count
 nothing_there = (refl, refl)
 
 -- the line of an event after those of the events
-surplus : IsOff 12 last_lines (line.Started 12 3 ∷ last_lines) 12 Final
+surplus : IsOff 12 last_lines (taken 12 (reply.Started 3) ∷ last_lines) 12 Final
 surplus = inl (refl, refl, λ same. cc)

@@ -1,13 +1,7 @@
-use Rattle.std.proofs.Common.{◌≡◌, ◌∙◌, ◌+◌, ℕ, List, subst, sym, arith}
-use Rattle.stm_report_lines.specs.declared.line.ReportLine.{ReportLine}
-use Rattle.stm_check.specs.Finals.{AreFinal}
-use Rattle.stm_check.specs.Walks.{point_of}
+use Rattle.std.proofs.Common.{◌≡◌, ◌∙◌, ◌+◌, ℕ, List, subst, arith}
+use Rattle.stm_events.specs.declared.line.ReportLine.{ReportLine}
 use Rattle.stm_check.specs.Wrong.{IsOff}
-use Rattle.stm_check.proofs.FinalLemmas.{lines_final}
 use Rattle.stm_check.proofs.checking.first_wrong_final.Goals as goal
-
-pub first_off-requires : goal.first_off-requires
-first_off-requires c = subst AreFinal (sym (c.as_slice.ensures.value ∙ c.in_ok-wanted.ensures)) (lines_final (point_of c.args.walk.now))
 
 pub returns : goal.returns
 returns c =

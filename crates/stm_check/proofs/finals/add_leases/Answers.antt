@@ -1,5 +1,5 @@
 use Rattle.std.proofs.Common.{◌≡◌, ◌++◌, [], List, ap, ◌∙◌, map}
-use Rattle.stm_report_lines.specs.declared.line.ReportLine.{ReportLine}
+use Rattle.stm_events.specs.declared.line.ReportLine.{ReportLine}
 use Rattle.stm_check.specs.StoreLines.{lease_line}
 use Rattle.stm_entries.proofs.ListedLeases.{terms}
 use Rattle.stm_check.proofs.LiveLeases.{no_lease, lines_of_map}

@@ -1,9 +1,8 @@
 use Rattle.std.proofs.Common.{◌≤◌, length, drop}
-use Rattle.stm_check.specs.Finals.{AreFinal}
 use Rattle.stm_check.proofs.Walking.{HasAgreed}
 use Rattle.stm_check.proofs.finals.first_off.Given as goal
 
 -- the lines so far are those that are wanted
 abbrev pub invariant-loop-index : goal.invariant-loop-index
 invariant-loop-index l =
-    HasAgreed l.wanted l.lines l.index (drop l.index l.wanted) (drop l.index l.lines) × AreFinal (drop l.index l.wanted) × (l.index ≤ length l.wanted)
+    HasAgreed l.wanted l.lines l.index (drop l.index l.wanted) (drop l.index l.lines) × (l.index ≤ length l.wanted)

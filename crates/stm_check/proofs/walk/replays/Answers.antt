@@ -12,15 +12,15 @@ use Rattle.stm_check.proofs.walk.replays.Goals as goal
 pub returns-in-Step-clause-right : goal.returns-in-Step-clause-right
 returns-in-Step-clause-right c =
     let s : Standing = c.args.store.now.standing in
-    let l = c.args.line.now in
-    subst (λ (event : WorldEvent). IfOk c.step_replays.result (λ b. IsTrue b ↔ Replays c.args.number s c.args.runners.now event l)) (sym c.in-Step.is)
-    (subst (λ (o : Option Runner). IfOk c.step_replays.result (λ b. IsTrue b ↔ StepReplays s o l)) c.find_running.ensures c.step_replays.ensures.right)
+    let replied = c.args.reply.now in
+    subst (λ (event : WorldEvent). IfOk c.step_replays.result (λ b. IsTrue b ↔ Replays s c.args.runners.now event replied)) (sym c.in-Step.is)
+    (subst (λ (o : Option Runner). IfOk c.step_replays.result (λ b. IsTrue b ↔ StepReplays s o replied)) c.find_running.ensures c.step_replays.ensures.right)
 
 -- the floor alone is raised, and nothing is replayed
 pub returns-in-Compact-clause-next : goal.returns-in-Compact-clause-next
 returns-in-Compact-clause-next c =
     let s : Standing = c.args.store.now.standing in
     let next : Standing = c.replay_compact.new.store.standing in
-    let l = c.args.line.now in
-    subst (λ (event : WorldEvent). IfOk c.replay_compact.result (λ b. IsTrue b → next ≡ standing_after s c.args.runners.now event l)) (sym c.in-Compact.is)
-    (IfOk-weaker c.replay_compact.result _ _ (λ b led reported. led reported ∙ sym (line_keeps s c.in-Compact.revision l)) c.replay_compact.ensures.next)
+    let replied = c.args.reply.now in
+    subst (λ (event : WorldEvent). IfOk c.replay_compact.result (λ b. IsTrue b → next ≡ standing_after s c.args.runners.now event replied)) (sym c.in-Compact.is)
+    (IfOk-weaker c.replay_compact.result _ _ (λ b led reported. led reported ∙ sym (line_keeps s c.in-Compact.revision replied)) c.replay_compact.ensures.next)

@@ -1,5 +1,6 @@
 //! A list that keeps its first elements in the value itself.
-ghost use Rattle.std.specs.Prelude.{◌≡◌, [], ◌∷◌, ◌++◌, length, IfOk, OnOk, OnErr};
+ghost use Rattle.std.specs.Prelude.{◌≡◌, ◌<◌, ◌↔◌, [], ◌∷◌, ◌++◌, length, IsSome, IfOk, OnOk, OnErr};
+ghost use Rattle.std.specs.Option.{option_to_list};
 
 use smallvec::SmallVec;
 use std::alloc::{AllocError, Global};
@@ -99,6 +100,14 @@ impl<T: MadeWith<Global> + Drop> ShortList<T> {
         let ShortList { items } = self;
         let vec = items.into_vec()?;
         Ok(vec)
+    }
+
+    /// Takes the last element out, if there is one. It takes no memory.
+    pub fn pop(&mut self) -> Option<T>
+        ensures items { self.old ≡ self.new ++ option_to_list result }
+        ensures some { IsSome result ↔ (0 < length self.old) }
+    {
+        self.items.pop()
     }
 }
 

@@ -1,5 +1,6 @@
 //! Why an event is refused.
-ghost use Rattle.std.specs.Prelude.{◌≡◌};
+ghost use Rattle.std.specs.Prelude.{◌≡◌, ◌↔◌, IsTrue};
+ghost use Rattle.stm_events.specs.declared.refusal.EventRefusal.TheVariants.{OutOfMemory};
 ghost use Rattle.stm_events.specs.Names.{refusal_name};
 ghost use Rattle.stm_events.specs.Replies.{refusal_of};
 

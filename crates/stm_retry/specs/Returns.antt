@@ -4,15 +4,13 @@
 -- it leaves, is our own.
 use Rattle.std.specs.Prelude.{◌≡◌, ◌⊎◌, ℕ, ◌≤◌, List, [], take, Bool, true, false, Option, None, Some, Result, Ok, Err, IsOk, slice_get}
 use Rattle.stm_outcome.specs.declared.advance.Expired.{Expired}
-use Rattle.stm_outcome.specs.declared.refusal.Refusal.{Refusal as StoreRefusal}
-use Rattle.stm_outcome.specs.declared.refusal.Refusal.TheVariants.{OutOfMemory}
 use Rattle.stm_txn.specs.Standing.{HasCome, at_moment, advanced, IsStopped}
 use Rattle.stm_events.specs.declared.event.WorldEvent.{WorldEvent}
 use Rattle.stm_events.specs.declared.event.WorldEvent.TheVariants.{Advance, Compact}
 use Rattle.stm_events.specs.declared.reply.Reply.{Reply}
 use Rattle.stm_events.specs.declared.refusal.Denied.{Denied}
-use Rattle.stm_events.specs.declared.refusal.Refusal.{Refusal}
-use Rattle.stm_events.specs.declared.refusal.Refusal.TheVariants.{Store}
+use Rattle.stm_events.specs.declared.refusal.EventRefusal.{EventRefusal}
+use Rattle.stm_events.specs.declared.refusal.EventRefusal.TheVariants.{OutOfMemory}
 use Rattle.stm_world.specs.World.{World, Stepped, step, world_after}
 use Rattle.stm_world.specs.Sound.{after_expiries}
 
@@ -40,12 +38,8 @@ OutOfMemoryReturns (Advance moment) expired old new =
 OutOfMemoryReturns (Compact revision) expired old new = ⊥
 OutOfMemoryReturns event expired old new = IsUnchanged expired old new × IsOk (step event old).reply
 
-abbrev pub StoreRefusalReturns : StoreRefusal → WorldEvent → Denied → World → World → Type 0
-StoreRefusalReturns OutOfMemory event denied old new = OutOfMemoryReturns event denied.expired old new
-StoreRefusalReturns other event denied old new = IsStep (step event old) (Err denied) new
-
-abbrev pub RefusalReturns : Refusal → WorldEvent → Denied → World → World → Type 0
-RefusalReturns (Store cause) event denied old new = StoreRefusalReturns cause event denied old new
+abbrev pub RefusalReturns : EventRefusal → WorldEvent → Denied → World → World → Type 0
+RefusalReturns OutOfMemory event denied old new = OutOfMemoryReturns event denied.expired old new
 RefusalReturns other event denied old new = IsStep (step event old) (Err denied) new
 
 -- The reply and the next world are the step's, unless memory ran out.
@@ -53,18 +47,14 @@ abbrev pub Returns : WorldEvent → Result Reply Denied → World → World → 
 Returns event (Ok reply) old new = IsStep (step event old) (Ok reply) new
 Returns event (Err denied) old new = RefusalReturns denied.cause event denied old new
 
-abbrev pub is_out_of_memory_of_store : StoreRefusal → Bool
-is_out_of_memory_of_store OutOfMemory = true
-is_out_of_memory_of_store other = false
-
-abbrev pub is_want : Refusal → Bool
-is_want (Store cause) = is_out_of_memory_of_store cause
-is_want other = false
+abbrev pub is_out_of_memory : EventRefusal → Bool
+is_out_of_memory OutOfMemory = true
+is_out_of_memory other = false
 
 -- an event was refused as out of memory
 abbrev pub ran_out : Result Reply Denied → Bool
 ran_out (Ok reply) = false
-ran_out (Err denied) = is_want denied.cause
+ran_out (Err denied) = is_out_of_memory denied.cause
 
 -- the leases that had expired before a refusal
 abbrev pub expired_of : Result Reply Denied → List Expired

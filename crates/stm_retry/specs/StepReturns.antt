@@ -3,8 +3,7 @@ use Rattle.std.specs.Prelude.{◌≡◌, Result, Ok, Err, IsOk}
 use Rattle.std.specs.declared.alloc.AllocError.{AllocError}
 use Rattle.stm_events.specs.declared.reply.Reply.{Reply}
 use Rattle.stm_events.specs.declared.refusal.Denied.{Denied}
-use Rattle.stm_outcome.specs.declared.refusal.Refusal.TheVariants.{OutOfMemory}
-use Rattle.stm_events.specs.declared.refusal.Refusal.TheVariants.{Store}
+use Rattle.stm_events.specs.declared.refusal.EventRefusal.TheVariants.{OutOfMemory}
 use Rattle.stm_events.specs.Replies.{denied}
 use Rattle.stm_world.specs.World.{World, Stepped}
 
@@ -17,4 +16,4 @@ Returns (Err e) old new s = (new ≡ old) × IsOk s.reply
 -- the reply of such a call to the world's caller: out of memory is a refusal, too
 abbrev pub as_reply : Result (Result Reply Denied) AllocError → Result Reply Denied
 as_reply (Ok reply) = reply
-as_reply (Err e) = denied (Store OutOfMemory)
+as_reply (Err e) = denied OutOfMemory

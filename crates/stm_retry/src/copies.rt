@@ -6,10 +6,10 @@ ghost use Rattle.stm_events.specs.Replies.{committed_read};
 
 use std::alloc::{AllocError, Global};
 use stm_attempt::Ready;
+use stm_events::CommittedRead;
 use stm_history::{KeyState, ReadAnswer, Sequence, Text, mod_rev_of};
 use stm_meaning::{TraceItem, Value};
 use stm_program::Level;
-use stm_world::CommittedRead;
 
 /// Copies of what is reported of the commit of an attempt.
 #[derive(Debug, Drop)]

@@ -11,10 +11,10 @@ use crate::store_calls::{advance, grant, keep, reply_to_txn, revoke};
 use crate::watch_calls::{cancel, compact, poll, watch_key, watch_range};
 use std::alloc::{AllocError, Global};
 use std::marker::Model;
+use stm_events::{Denied, EventRefusal, Reply, WorldEvent};
 use stm_history::Sequence;
 use stm_journal::Journal;
-use stm_txn::{Refusal as StoreRefusal, Store};
-use stm_world::{Denied, Refusal, Reply, WorldEvent};
+use stm_txn::Store;
 
 /// A journal, and the places of the runners on it.
 ///
@@ -40,7 +40,7 @@ impl Model for KeptWorld {
 }
 
 /// A refusal before which nothing expired.
-pub(crate) fn denied(alloc: Global, cause: Refusal) -> Denied
+pub(crate) fn denied(alloc: Global, cause: EventRefusal) -> Denied
     ensures { result ≡ record { cause = cause; expired = [] } }
 {
     Denied {
@@ -58,7 +58,7 @@ fn to_reply(
 {
     match outcome {
         Ok(reply) => reply,
-        Err(AllocError) => Err(denied(alloc, Refusal::Store(StoreRefusal::OutOfMemory))),
+        Err(AllocError) => Err(denied(alloc, EventRefusal::OutOfMemory)),
     }
 }
 

@@ -5,6 +5,7 @@
 //! transaction: the fetch of its program's list or of the key that it wants, or its commit.
 #![tactic(auto)]
 
+mod copies;
 mod kept_world;
 pub mod laws;
 mod runner;
@@ -16,9 +17,12 @@ mod store_calls;
 mod watch_calls;
 mod world;
 
+pub use stm_entries::Entry;
+pub use stm_events::{
+    CommittedRead, Denied, Event, EventRefusal, KeyRead, OpReply, Reply, WorldEvent,
+};
 pub use stm_history::{ReadAnswer, Sequence, Text};
 pub use stm_meaning::{Fault, State, TraceItem, Value};
 pub use stm_program::{Level, Program};
 pub use stm_txn::{Expired, Refusal as StoreRefusal, Store, Txn, TxnAnswer};
-pub use stm_world::{Denied, Entry, Event, KeyRead, Refusal, Reply, WorldEvent};
 pub use world::{RunStop, World};

@@ -137,11 +137,11 @@ impl Runner {
     }
 
     /// The number of commits that the run has sent, the present one among them.
-    pub(crate) fn attempts(&self) -> u32
+    pub(crate) fn attempts(&self) -> u64
         ensures { result ≡ self.now.runner.failures + 1 }
     {
         let _above_failures = self.limit;
-        self.failures + 1
+        (self.failures + 1) as u64
     }
 
     /// Begins the next attempt, for which a failed commit has read these answers.

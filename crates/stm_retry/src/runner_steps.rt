@@ -12,12 +12,14 @@ ghost use Rattle.stm_attempt.specs.Known.{HaveDistinctKeys};
 ghost use Rattle.stm_attempt.specs.Fetches.{ShowOneRevision, at_of};
 ghost use Rattle.stm_journal.specs.Fetched.{fetch_reported, fetch_all_reported};
 ghost use Rattle.stm_events.specs.declared.reply.Reply.TheVariants.{Prefetched, Fetched, Started, Committed, Ended};
+ghost use Rattle.stm_events.specs.Replies.{refusal_of};
 ghost use Rattle.stm_world.specs.World.{Runner as LiveRunner, start_runner, step_runner, step_live, commit as commit_of, runner_at};
 ghost use Rattle.stm_retry.specs.declared.step_outcome.StepOutcome.TheVariants.{GoesOn, Ends};
 ghost use Rattle.stm_retry.specs.StepReturns.{Returns};
 ghost use Rattle.stm_retry.specs.RunnerView.{task_of, AreNamed, with_answer, with_answers, begun_again};
 ghost use Rattle.stm_retry.specs.RunnerReturns.{workplace, Leaves, ReturnsEnd, IsReady, reported_of_fetch, after_reported_fetch, key_read, reported_of_list, after_reported_list, reported_of_failure, may_go_on, reply_in, reply_reported, slot_left};
 
+use crate::copies::{Copies, copies_of};
 use crate::kept_world::{KeptWorld, denied};
 use crate::runner::Runner;
 use crate::shared_runner::SharedRunner;
@@ -25,12 +27,12 @@ use crate::slots::{Slot, put_slot, take_runner};
 use crate::step_outcome::StepOutcome;
 use std::alloc::{AllocError, Global};
 use stm_attempt::{Next, Ready};
+use stm_events::{Denied, EventRefusal, KeyRead, Reply};
 use stm_history::{ReadAnswer, Sequence, Text, mod_rev_of};
-use stm_journal::{Copies, Journal, Verdict, copies_of};
+use stm_journal::{Journal, Verdict};
 use stm_meaning::{End, Run};
 use stm_program::{Level, Program};
 use stm_txn::Refusal as StoreRefusal;
-use stm_world::{Denied, KeyRead, Refusal, Reply};
 
 /// Takes the answer to a fetch of this key, which the runner waits for.
 fn take_answer(
@@ -207,17 +209,20 @@ fn fail_commit(
 
 /// What a fetch or a commit that the store refused comes to: the end of the run, unless memory ran out.
 fn end_refused(id: u64, cause: StoreRefusal) -> Result<StepOutcome, AllocError>
-    ensures reported { IfOk result (λ reported. reported ≡ Ends (Ended id cause)) }
+    ensures reported { IfOk result (λ reported. reported ≡ Ends (Ended id (refusal_of cause))) }
     ensures refused { OnOk result (cause ≢ OutOfMemory) }
 {
     if cause == StoreRefusal::OutOfMemory {
         return Err(AllocError);
     }
-    Ok(StepOutcome::Ends(Reply::Ended { runner: id, cause }))
+    Ok(StepOutcome::Ends(Reply::Ended {
+        runner: id,
+        cause: EventRefusal::of_store(cause),
+    }))
 }
 
 /// The reply of a run whose commit succeeded, after which the store's revision is this.
-fn reply_committed(id: u64, revision: u64, attempts: u32, copies: Copies) -> Reply
+fn reply_committed(id: u64, revision: u64, attempts: u64, copies: Copies) -> Reply
     ensures { result ≡ Committed id revision attempts copies.output copies.trace copies.answers }
 {
     Reply::Committed {
@@ -369,7 +374,7 @@ impl KeptWorld {
         ensures { Returns result self.old self.new (start_runner (task_of program.now level limit) self.old) }
     {
         if limit == 0 {
-            return Ok(Err(denied(alloc, Refusal::BadLimit)));
+            return Ok(Err(denied(alloc, EventRefusal::BadLimit)));
         }
         let program = program.clone()?;
         let runner = self.add_runner(alloc, program, level, limit)?;
@@ -389,7 +394,7 @@ impl KeptWorld {
         ensures { Returns result self.old self.new (step_runner id (runner_at id self.old.runners) self.old) }
     {
         let Some(mut runner) = take_runner(&mut self.runners, id) else {
-            return Ok(Err(denied(alloc, Refusal::NoRunner)));
+            return Ok(Err(denied(alloc, EventRefusal::NoRunner)));
         };
         let reported = runner.step(alloc, &mut self.journal, id);
         let slot = slot_after(&reported, runner);

@@ -1,5 +1,5 @@
 //! What a step of a runner reports.
-use stm_world::Reply;
+use stm_events::Reply;
 
 /// The reply to a step of a runner.
 #[derive(Drop)]

@@ -1,31 +1,104 @@
 //! The events that change a store and are no runner's. Each is one call of the journal, which enters it where it is an entry.
-ghost use Rattle.std.specs.Prelude.{◌≡◌};
+ghost use Rattle.std.specs.Prelude.{◌≡◌, ◌+◌, ◌≤◌, [], ◌++◌, map, length, reverse, vec_len, vec_capacity, IfOk};
+ghost use Rattle.stm_txn.specs.Standing.{transacted, refusal_of as refusal_of_call};
+ghost use Rattle.stm_journal.specs.Entering.{or_out_of_memory};
 ghost use Rattle.stm_events.specs.declared.event.WorldEvent.TheVariants.{Txn as TxnEvent, Grant as GrantEvent, Keep as KeepEvent, Revoke as RevokeEvent, Advance as AdvanceEvent};
-ghost use Rattle.stm_events.specs.declared.refusal.Refusal.TheVariants.{Store as OfStore};
-ghost use Rattle.stm_events.specs.Replies.{denied as denied_for};
+ghost use Rattle.stm_events.specs.Replies.{denied as denied_for, refusal_of, op_reply, txn_reply};
 ghost use Rattle.stm_retry.specs.CallReturns.{CallReturns};
 
 use crate::kept_world::denied;
-use std::alloc::Global;
+use std::alloc::{AllocError, Global};
+use stm_events::{Denied, EventRefusal, OpReply, Reply};
 use stm_history::Sequence;
 use stm_journal::Journal;
-use stm_txn::{Refusal as StoreRefusal, Txn};
-use stm_world::{Denied, Refusal, Reply};
+use stm_outcome::{OpAnswer, ShortList, TxnAnswer};
+use stm_txn::{Refusal as StoreRefusal, Store, Txn};
 
 /// The store's refusal of a call.
 pub(crate) fn refuse(alloc: Global, cause: StoreRefusal) -> Result<Reply, Denied>
-    ensures { result ≡ denied_for (OfStore cause) }
+    ensures { result ≡ denied_for (refusal_of cause) }
 {
-    Err(denied(alloc, Refusal::Store(cause)))
+    Err(denied(alloc, EventRefusal::of_store(cause)))
 }
 
-/// Makes another client's transaction.
-pub(crate) fn reply_to_txn(alloc: Global, journal: &mut Journal, txn: &Txn) -> Result<Reply, Denied>
+/// The reply to an operation, by what the store answered.
+fn reply_to_op(answer: OpAnswer) -> OpReply
+    ensures { result ≡ op_reply answer }
+{
+    match answer {
+        OpAnswer::Get(read) => OpReply::Get {
+            revision: read.revision,
+            kv: read.kv,
+        },
+        OpAnswer::Put => OpReply::Put,
+        OpAnswer::Del(count) => OpReply::Del { count },
+    }
+}
+
+/// Moves the replies to these operations into a list that has room for them, the last one first.
+fn push_replies(replies: &mut Vec<OpReply>, mut answers: ShortList<OpAnswer>)
+    requires { vec_len replies.old + length answers ≤ vec_capacity replies.old }
+    ensures { replies.new.items ≡ replies.old.items ++ reverse (map op_reply answers) }
+{
+    for _ in 0..answers.len() {
+        let Some(answer) = answers.pop() else {
+            unreachable!()
+        };
+        replies.push_reserved(reply_to_op(answer));
+    }
+}
+
+/// The reply to a transaction that was made. Its operations' replies go into this list, which has room for them: so it takes no memory.
+fn reply_to_txn(answer: TxnAnswer, room: Vec<OpReply>) -> Reply
+    requires empty { room.items ≡ [] }
+    requires room { length answer.answers ≤ vec_capacity room }
+    ensures { result ≡ txn_reply answer }
+{
+    let mut replies = room;
+    push_replies(&mut replies, answer.answers);
+    replies.reverse();
+    Reply::Txn {
+        succeeded: answer.succeeded,
+        revision: answer.revision,
+        answers: Sequence::of(replies),
+    }
+}
+
+/// Room for the replies to the operations of either branch of a transaction.
+fn room_for(alloc: Global, txn: &Txn) -> Result<Vec<OpReply>, AllocError>
+    ensures empty { IfOk result (λ room. room.items ≡ []) }
+    ensures success { IfOk result (λ room. length txn.now.success ≤ vec_capacity room) }
+    ensures failure { IfOk result (λ room. length txn.now.failure ≤ vec_capacity room) }
+{
+    let success = txn.success.len();
+    let failure = txn.failure.len();
+    let most = if success < failure { failure } else { success };
+    Vec::with_capacity(alloc, most)
+}
+
+/// Why a transaction is refused where there was no room for its replies: the store's cause, or else that memory ran out.
+fn cause_without_room(store: &Store, txn: &Txn) -> StoreRefusal
+    ensures { result ≡ or_out_of_memory (refusal_of_call (transacted store.now.standing txn.now)) }
+{
+    match store.txn_refusal(txn) {
+        Some(cause) => cause,
+        None => StoreRefusal::OutOfMemory,
+    }
+}
+
+/// Makes another client's transaction. Room for the reply is made first.
+pub(crate) fn make_txn(alloc: Global, journal: &mut Journal, txn: &Txn) -> Result<Reply, Denied>
     ensures { CallReturns (TxnEvent txn.now) result journal.old journal.new }
 {
+    let Ok(room) = room_for(alloc, txn) else {
+        return refuse(alloc, cause_without_room(journal.store(), txn));
+    };
     match journal.make_txn(txn) {
-        Ok(answer) => Ok(Reply::Txn { answer }),
-        Err(cause) => refuse(alloc, cause),
+        Ok(answer) => Ok(reply_to_txn(answer, room)),
+        Err(cause) => {
+            drop(room);
+            refuse(alloc, cause)
+        }
     }
 }
 
@@ -74,7 +147,7 @@ pub(crate) fn advance(alloc: Global, journal: &mut Journal, moment: u64) -> Resu
             expired: Sequence::of(expired),
         }),
         Err(stopped) => Err(Denied {
-            cause: Refusal::Store(stopped.cause),
+            cause: EventRefusal::of_store(stopped.cause),
             expired: stopped.expired,
         }),
     }

@@ -2,7 +2,6 @@
 ghost use Rattle.std.specs.Prelude.{◌≡◌, ◌≢◌, ◌≤◌, false, List, [], ◌∷◌, ◌++◌, length, is_some, Result, Ok, Err, IfOk, IfErr, OnOk, OnErr};
 ghost use Rattle.stm_history.specs.declared.revisions.TheConstants.{HIGHEST_REVISION};
 ghost use Rattle.stm_history.specs.History.{now, AreRevisions};
-ghost use Rattle.stm_outcome.specs.declared.refusal.Refusal.TheVariants.{OutOfMemory};
 ghost use Rattle.stm_outcome.specs.Terms.{most_operations};
 ghost use Rattle.stm_txn.specs.Standing.{Setup, at_revision, kept};
 ghost use Rattle.stm_entries.specs.Replayed.{opening, without_moment};
@@ -11,7 +10,7 @@ ghost use Rattle.stm_entries.specs.Legal.{AreLegal};
 ghost use Rattle.stm_journal.specs.StateOf.{IsStateOf};
 ghost use Rattle.stm_events.specs.declared.event.WorldEvent.{WorldEvent};
 ghost use Rattle.stm_events.specs.declared.refusal.Denied.{Denied};
-ghost use Rattle.stm_events.specs.declared.refusal.Refusal.TheVariants.{Store as OfStore, BadLimit};
+ghost use Rattle.stm_events.specs.declared.refusal.EventRefusal.TheVariants.{OutOfMemory, BadLimit};
 ghost use Rattle.stm_events.specs.declared.reply.Reply.{Reply};
 ghost use Rattle.stm_events.specs.declared.reply.Reply.TheVariants.{Started};
 ghost use Rattle.stm_world.specs.Appended.{HasAppended};
@@ -27,12 +26,13 @@ use crate::kept_world::KeptWorld;
 use crate::slots::is_running;
 use std::alloc::{AllocError, Global};
 use std::marker::Model;
+use stm_entries::Entry;
+use stm_events::{Denied, EventRefusal, Reply, WorldEvent};
 use stm_history::{HIGHEST_REVISION, Sequence};
 use stm_journal::state_of;
 use stm_meaning::State;
 use stm_program::{Level, Program};
-use stm_txn::{Expired, MOST_OPERATIONS, Refusal as StoreRefusal, Store};
-use stm_world::{Denied, Entry, Refusal, Reply, WorldEvent};
+use stm_txn::{Expired, MOST_OPERATIONS, Store};
 
 /// Runners of programs over one store.
 ///
@@ -89,7 +89,7 @@ fn is_out_of_memory(reply: &Result<Reply, Denied>) -> bool
 {
     match reply {
         Ok(_) => false,
-        Err(denied) => denied.cause == Refusal::Store(StoreRefusal::OutOfMemory),
+        Err(denied) => denied.is_out_of_memory(),
     }
 }
 
@@ -143,19 +143,19 @@ impl World {
     ///
     /// It is refused as `BadLimit` where the limit is 0, and as `OutOfMemory` where an allocation failed.
     /// A refused start takes no number and leaves the world as it was; the program is dropped.
-    pub fn start(&mut self, program: Program, level: Level, limit: u32) -> Result<u64, Refusal>
+    pub fn start(&mut self, program: Program, level: Level, limit: u32) -> Result<u64, EventRefusal>
         ensures number { IfOk result (λ id. (start_runner (record { program = program; level = level; limit = limit }) self.old).reply ≡ Ok (Started id)) }
         ensures ok { OnOk result (self.new ≡ (start_runner (record { program = program; level = level; limit = limit }) self.old).next) }
         ensures bad_limit { limit ≡ 0 → result ≡ Err BadLimit }
-        ensures memory_alone { limit ≢ 0 → IfErr result (λ e. e ≡ OfStore OutOfMemory) }
+        ensures memory_alone { limit ≢ 0 → IfErr result (λ e. e ≡ OutOfMemory) }
         ensures err { OnErr result (self.new ≡ self.old) }
     {
         if limit == 0 {
-            return Err(Refusal::BadLimit);
+            return Err(EventRefusal::BadLimit);
         }
         match self.kept.add_runner(self.alloc, program, level, limit) {
             Ok(id) => Ok(id),
-            Err(AllocError) => Err(Refusal::Store(StoreRefusal::OutOfMemory)),
+            Err(AllocError) => Err(EventRefusal::OutOfMemory),
         }
     }
 

@@ -5,8 +5,8 @@ use serde_json::Value as Json;
 use std::alloc::{AllocError, Global};
 use stm_history::Sequence;
 use stm_report_lines::event_json;
-use stm_txn::{Refusal as StoreRefusal, Store, Txn, TxnAnswer};
-use stm_world::{Denied, Refusal, Reply, WorldEvent};
+use stm_txn::{OpAnswer, Refusal as StoreRefusal, ShortList, Store, Txn, TxnAnswer};
+use stm_world::{Denied, EventRefusal, OpReply, Reply, WorldEvent};
 
 /// Replies, one for each transaction.
 type Replies = Vec<Result<Reply, Denied>>;
@@ -28,13 +28,58 @@ pub(crate) fn txn_again(store: &mut Store, txn: &Txn) -> Result<TxnAnswer, Store
     }
 }
 
+/// Room for this many, by a second call where the first was refused.
+fn room_again<T: Drop>(alloc: Global, count: usize) -> Result<Vec<T>, AllocError> {
+    match Vec::with_capacity(alloc, count) {
+        Ok(room) => Ok(room),
+        Err(_) => Vec::with_capacity(alloc, count),
+    }
+}
+
+/// The reply to an operation, by what the store answered.
+fn reply_to_op(answer: OpAnswer) -> OpReply {
+    match answer {
+        OpAnswer::Get(read) => OpReply::Get {
+            revision: read.revision,
+            kv: read.kv,
+        },
+        OpAnswer::Put => OpReply::Put,
+        OpAnswer::Del(count) => OpReply::Del { count },
+    }
+}
+
+/// The replies to the operations of a transaction, in their order.
+fn replies_to_ops(alloc: Global, answers: ShortList<OpAnswer>) -> Result<Vec<OpReply>, AllocError> {
+    let mut left = answers;
+    let mut replies = room_again(alloc, left.len())?;
+    for _ in 0..left.len() {
+        if let Some(answer) = left.pop() {
+            replies.push(reply_to_op(answer))?;
+        }
+    }
+    replies.as_mut_slice().reverse();
+    Ok(replies)
+}
+
+/// The reply to a transaction that was made.
+fn reply_to_txn(alloc: Global, answer: TxnAnswer) -> Result<Reply, AllocError> {
+    let succeeded = answer.succeeded;
+    let revision = answer.revision;
+    let answers = replies_to_ops(alloc, answer.answers)?;
+    Ok(Reply::Txn {
+        succeeded,
+        revision,
+        answers: Sequence::of(answers),
+    })
+}
+
 /// The reply to a transaction.
 fn reply_of(alloc: Global, made: Result<TxnAnswer, StoreRefusal>) -> Result<Result<Reply, Denied>> {
     match made {
-        Ok(answer) => Ok(Ok(Reply::Txn { answer })),
+        Ok(answer) => Ok(Ok(reply_to_txn(alloc, answer)?)),
         Err(StoreRefusal::OutOfMemory) => bail!("the transaction was refused twice"),
         Err(cause) => Ok(Err(Denied {
-            cause: Refusal::Store(cause),
+            cause: EventRefusal::of_store(cause),
             expired: Sequence::new(alloc),
         })),
     }
@@ -48,17 +93,9 @@ fn reply_to(alloc: Global, store: &mut Store, event: &WorldEvent) -> Result<Resu
     }
 }
 
-/// Room for this many replies, by a second call where the first was refused.
-fn room_again(alloc: Global, count: usize) -> Result<Replies, AllocError> {
-    match Vec::with_capacity(alloc, count) {
-        Ok(replies) => Ok(replies),
-        Err(_) => Vec::with_capacity(alloc, count),
-    }
-}
-
 /// Makes the transactions in their order.
 fn replies_to(alloc: Global, store: &mut Store, events: &[WorldEvent]) -> Result<Replies> {
-    let mut replies = room_again(alloc, events.len())?;
+    let mut replies: Replies = room_again(alloc, events.len())?;
     for event in events {
         replies.push(reply_to(alloc, store, event)?)?;
     }

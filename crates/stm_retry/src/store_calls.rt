@@ -49,7 +49,7 @@ fn push_replies(replies: &mut Vec<OpReply>, mut answers: ShortList<OpAnswer>)
 }
 
 /// The reply to a transaction that was made. Its operations' replies go into this list, which has room for them: so it takes no memory.
-fn reply_to_txn(answer: TxnAnswer, room: Vec<OpReply>) -> Reply
+fn fill_reply(answer: TxnAnswer, room: Vec<OpReply>) -> Reply
     requires empty { room.items ≡ [] }
     requires room { length answer.answers ≤ vec_capacity room }
     ensures { result ≡ txn_reply answer }
@@ -87,14 +87,14 @@ fn cause_without_room(store: &Store, txn: &Txn) -> StoreRefusal
 }
 
 /// Makes another client's transaction. Room for the reply is made first.
-pub(crate) fn make_txn(alloc: Global, journal: &mut Journal, txn: &Txn) -> Result<Reply, Denied>
+pub(crate) fn reply_to_txn(alloc: Global, journal: &mut Journal, txn: &Txn) -> Result<Reply, Denied>
     ensures { CallReturns (TxnEvent txn.now) result journal.old journal.new }
 {
     let Ok(room) = room_for(alloc, txn) else {
         return refuse(alloc, cause_without_room(journal.store(), txn));
     };
     match journal.make_txn(txn) {
-        Ok(answer) => Ok(reply_to_txn(answer, room)),
+        Ok(answer) => Ok(fill_reply(answer, room)),
         Err(cause) => {
             drop(room);
             refuse(alloc, cause)

@@ -58,11 +58,11 @@ use Rattle.stm_events.specs.declared.event.WorldEvent.{WorldEvent}
 use Rattle.stm_events.specs.declared.event.WorldEvent.TheVariants.{Start, Step, Txn, Grant, Keep, Revoke, Advance, WatchKey, WatchRange, Poll, Cancel, Compact}
 use Rattle.stm_events.specs.declared.reply.Reply.{Reply}
 use Rattle.stm_events.specs.declared.reply.Reply.TheVariants.{Started, Committed, Conflict, GaveUp}
-use Rattle.stm_events.specs.declared.reply.Reply.TheVariants.{Txn as TxnDone, Granted, Kept, Revoked, Watching, Cancelled, Compacted}
-use Rattle.stm_events.specs.declared.refusal.Refusal.{Refusal}
-use Rattle.stm_events.specs.declared.refusal.Refusal.TheVariants.{Store, BadLimit, NoRunner}
+use Rattle.stm_events.specs.declared.reply.Reply.TheVariants.{Granted, Kept, Revoked, Watching, Cancelled, Compacted}
+use Rattle.stm_events.specs.declared.refusal.EventRefusal.{EventRefusal}
+use Rattle.stm_events.specs.declared.refusal.EventRefusal.TheVariants.{OutOfMemory as RanOut}
 use Rattle.stm_events.specs.declared.refusal.Denied.{Denied}
-use Rattle.stm_events.specs.Replies.{denied, reply_to, store_after_call, advance_reply, poll_reply, store_after_poll}
+use Rattle.stm_events.specs.Replies.{committed_read, txn_reply, refusal_of, denied, reply_to, store_after_call, advance_reply, poll_reply, store_after_poll}
 use Rattle.stm_world.specs.Task.{Task, with_served, after_conflict}
 use Rattle.stm_world.specs.World.{World, Stepped, Runner, Over, Live, runner_at, with_slot, begin, replied, refused, start_runner, entry_of}
 use Rattle.stm_world.specs.World.{decided, commit_reported, commit, finish, fetch_at, fetch_list, step_on, step_live, step_runner, called}
@@ -74,7 +74,7 @@ use Rattle.stm_world.proofs.NeverOutOfMemory.{raised_never}
 use Rattle.stm_world.proofs.Calls.{txn_goes_on, at_moment_follows}
 use Rattle.stm_world.proofs.Appending.{events_append}
 use Rattle.stm_world.proofs.Sound.{opened_is_sound, step_is_sound, base_is_reached}
-use Rattle.stm_retry.specs.Returns.{IsStep, IsUnchanged, IsCutShort, OutOfMemoryReturns, RefusalReturns, Returns, is_out_of_memory_of_store, is_want}
+use Rattle.stm_retry.specs.Returns.{IsStep, IsUnchanged, IsCutShort, OutOfMemoryReturns, RefusalReturns, Returns, is_out_of_memory}
 use Rattle.stm_retry.specs.Kept.{whole_store, whole_world, kept_world, IsKeptBy, compact_kept, KeptReturns, BasesAreReached}
 use Rattle.stm_retry.proofs.CallLemmas.{refusal_reports}
 use Rattle.stm_retry.proofs.StepLemmas.{fetched_step, step_fetches, listed_step, step_lists}
@@ -193,7 +193,7 @@ fail_by id r seen modified w false reached = refl
 -- a commit that succeeded, after which the store's revision is this
 abbrev taken_at : ℕ → Runner → List ReadAnswer → Run → World → Standing → ℕ → Stepped
 taken_at id r reads run w after revision = record {
-  reply = Ok (Committed id revision (r.failures + 1) run.output run.trace (answers_kept r.task.level reads));
+  reply = Ok (Committed id revision (r.failures + 1) run.output run.trace (map committed_read (answers_kept r.task.level reads)));
   next = record { standing = after; runners = with_slot id Over w.runners; entries = w.entries ++ entry_of r.task reads run revision ∷ [] };
 }
 
@@ -252,17 +252,17 @@ runner_kept id (Some r) w reached = live_kept id r w reached
 -- calls
 txn_by : (txn : StoreTxn) (w : World) (o : Result (StoreStep TxnAnswer) StoreRefusal) → HasReached w.standing →
     HasReached (store_after_call w.standing o) →
-    called (reply_to TxnDone (kept_step o)) (store_after_call (kept w.standing) (kept_step o))
+    called (reply_to txn_reply (kept_step o)) (store_after_call (kept w.standing) (kept_step o))
     (if_changed (kept w.standing) (store_after_call (kept w.standing) (kept_step o)) txn) (kept_world w)
-    ≡ kept_stepped (called (reply_to TxnDone o) (store_after_call w.standing o) (if_changed w.standing (store_after_call w.standing o) txn) w)
+    ≡ kept_stepped (called (reply_to txn_reply o) (store_after_call w.standing o) (if_changed w.standing (store_after_call w.standing o) txn) w)
 txn_by txn w (Ok done) reached still =
     let s : Standing = w.standing in
     let entered : ℕ → ℕ → Stepped = λ before after.
-    called (Ok (TxnDone done.answer)) (kept done.next) (cond (nat_lt before after) (Foreign txn ∷ []) []) (kept_world w) in
+    called (Ok (txn_reply done.answer)) (kept done.next) (cond (nat_lt before after) (Foreign txn ∷ []) []) (kept_world w) in
     ap (λ n. entered n (now (kept done.next).history)) (counted s reached) ∙ ap (entered (now s.history)) (counted done.next still)
 txn_by txn w (Err cause) reached still =
     let s : Standing = w.standing in
-    let entered : ℕ → Stepped = λ n. called (denied (Store cause)) (kept s) (cond (nat_lt n n) (Foreign txn ∷ []) []) (kept_world w) in
+    let entered : ℕ → Stepped = λ n. called (denied (refusal_of cause)) (kept s) (cond (nat_lt n n) (Foreign txn ∷ []) []) (kept_world w) in
     ap entered (counted s reached)
 
 call_kept : {A : Type 0} (report : A → Reply) (entry : Entry) (o : Result (StoreStep A) StoreRefusal) (w : World) →
@@ -294,7 +294,7 @@ step_kept (Step id) w k = runner_kept id (runner_at id w.runners) w k.reached
 step_kept (Txn txn) w k =
     let s : Standing = w.standing in
     ap (λ (o : Result (StoreStep TxnAnswer) StoreRefusal).
-    called (reply_to TxnDone o) (store_after_call (kept s) o) (if_changed (kept s) (store_after_call (kept s) o) txn) (kept_world w))
+    called (reply_to txn_reply o) (store_after_call (kept s) o) (if_changed (kept s) (store_after_call (kept s) o) txn) (kept_world w))
     (transacted_kept s k.reached txn)
     ∙ txn_by txn w (transacted s txn) k.reached ((txn_goes_on s txn).kept k).reached
 step_kept (Grant id ttl) w k =
@@ -349,25 +349,16 @@ pub record Lifted (event : WorldEvent) (reply : Result Reply Denied) (w next : W
   pub reports : Returns event reply w after
   pub is : next ≡ kept_world after
 
-want_is : (cause : StoreRefusal) → is_out_of_memory_of_store cause ≡ true → cause ≡ OutOfMemory
-want_is OutOfMemory want = refl
-want_is other want = absurd (cc)
-
-not_want : (cause : StoreRefusal) → is_out_of_memory_of_store cause ≡ false → cause ≢ OutOfMemory
-not_want cause not same = let both : true ≡ false = ap is_out_of_memory_of_store (sym same) ∙ not in absurd (cc)
-
 -- a reply by the step
-step_reports_by : (cause : Refusal) (event : WorldEvent) (d : Denied) (old new : World) → is_want cause ≡ false → IsStep (step event old) (Err d) new →
-    RefusalReturns cause event d old new
-step_reports_by (Store cause) event d old new not is = refusal_reports event d cause old new (λ want. absurd (not_want cause not want)) (λ _. is)
-step_reports_by BadLimit event d old new not is = is
-step_reports_by NoRunner event d old new not is = is
+step_reports_by : (cause : EventRefusal) (event : WorldEvent) (d : Denied) (old new : World) → is_out_of_memory cause ≡ false →
+    IsStep (step event old) (Err d) new → RefusalReturns cause event d old new
+step_reports_by RanOut event d old new not is = absurd (cc)
+step_reports_by other event d old new not is = is
 
-out_of_memory_reports_by : (cause : Refusal) (event : WorldEvent) (d : Denied) (old new : World) → is_want cause ≡ true → OutOfMemoryReturns event d.expired old new →
-    RefusalReturns cause event d old new
-out_of_memory_reports_by (Store cause) event d old new want is = refusal_reports event d cause old new (λ _. is) (λ not. absurd (not (want_is cause want)))
-out_of_memory_reports_by BadLimit event d old new want is = absurd (cc)
-out_of_memory_reports_by NoRunner event d old new want is = absurd (cc)
+out_of_memory_reports_by : (cause : EventRefusal) (event : WorldEvent) (d : Denied) (old new : World) → is_out_of_memory cause ≡ true →
+    OutOfMemoryReturns event d.expired old new → RefusalReturns cause event d old new
+out_of_memory_reports_by RanOut event d old new want is = is
+out_of_memory_reports_by other event d old new want is = absurd (cc)
 
 stepped_lifts : (event : WorldEvent) (reply : Result Reply Denied) (w next : World) → step event (kept_world w) ≡ kept_stepped (step event w) →
     IsStep (step event (kept_world w)) reply next → IsStep (step event w) reply (step event w).next × (next ≡ kept_world (step event w).next)
@@ -425,8 +416,8 @@ want_lifts (Cancel watcher) expired w next reached same want = (w, ((want.0.0, r
 want_lifts (Compact revision) expired w next reached same want = absurd want
 
 refused_lifts : (event : WorldEvent) (d : Denied) (w next : World) → HasReached w.standing → step event (kept_world w) ≡ kept_stepped (step event w) →
-    (((is_want d.cause ≡ true) × OutOfMemoryReturns event d.expired (kept_world w) next)
-    ⊎ ((is_want d.cause ≡ false) × IsStep (step event (kept_world w)) (Err d) next)) → Lifted event (Err d) w next
+    (((is_out_of_memory d.cause ≡ true) × OutOfMemoryReturns event d.expired (kept_world w) next)
+    ⊎ ((is_out_of_memory d.cause ≡ false) × IsStep (step event (kept_world w)) (Err d) next)) → Lifted event (Err d) w next
 refused_lifts event d w next reached same (inl want) =
     let lifts : WantLifts event d.expired w next = want_lifts event d.expired w next reached same want.1 in
     record { after = lifts.0; reports = out_of_memory_reports_by d.cause event d w lifts.0 want.0 lifts.1; is = lifts.2 }
@@ -444,12 +435,9 @@ reports_lift event (Err d) w next reached same reports =
     refused_lifts event d w next reached same (refusal_cases d.cause event d (kept_world w) next reports)
 
 -- a compaction wants no memory
-is_plain : (cause : StoreRefusal) → cause ≢ OutOfMemory → is_out_of_memory_of_store cause ≡ false
-is_plain cause not = by (is_out_of_memory_of_store cause) refl
-  where
-    by : (b : Bool) → is_out_of_memory_of_store cause ≡ b → b ≡ false
-    by true is = absurd (not (want_is cause is))
-    by false is = refl
+is_plain : (cause : StoreRefusal) → cause ≢ OutOfMemory → is_out_of_memory (refusal_of cause) ≡ false
+is_plain OutOfMemory not = absurd (not refl)
+is_plain other not = refl
 
 compact_reports : (revision : ℕ) (w : World) (o : Result (StoreStep (Unit {0})) StoreRefusal) (reply : Result Reply Denied) → NeverWants o →
     reply_to (λ _. Compacted revision) o ≡ reply → IsStep (step (Compact revision) w) reply (step (Compact revision) w).next →
@@ -459,7 +447,7 @@ compact_reports revision w (Ok done) reply never reported is =
     (subst (λ (r : Result Reply Denied). IsStep (step (Compact revision) w) r (step (Compact revision) w).next) (sym reported) is)
 compact_reports revision w (Err cause) reply never reported is =
     subst (λ (r : Result Reply Denied). Returns (Compact revision) r w (step (Compact revision) w).next) reported
-    (step_reports_by (Store cause) (Compact revision) (record { cause = Store cause; expired = [] }) w (step (Compact revision) w).next (is_plain cause never)
+    (step_reports_by (refusal_of cause) (Compact revision) (record { cause = refusal_of cause; expired = [] }) w (step (Compact revision) w).next (is_plain cause never)
     (subst (λ (r : Result Reply Denied). IsStep (step (Compact revision) w) r (step (Compact revision) w).next) (sym reported) is))
 
 compact_lifts : (revision : ℕ) (reply : Result Reply Denied) (w next : World) → HasKept w.standing →
@@ -535,7 +523,7 @@ is_step_opens event reply old new sound is =
     subst (λ (w : World). w.standing.history.opening ≡ old.standing.history.opening) is.next_is (stepped_opens event old sound)
 
 refused_opens : (event : WorldEvent) (d : Denied) (old new : World) → IsSound old →
-    (((is_want d.cause ≡ true) × OutOfMemoryReturns event d.expired old new) ⊎ ((is_want d.cause ≡ false) × IsStep (step event old) (Err d) new)) →
+    (((is_out_of_memory d.cause ≡ true) × OutOfMemoryReturns event d.expired old new) ⊎ ((is_out_of_memory d.cause ≡ false) × IsStep (step event old) (Err d) new)) →
     new.standing.history.opening ≡ old.standing.history.opening
 refused_opens event d old new sound (inl want) = want_opens event d.expired old new want.1
 refused_opens event d old new sound (inr is) = is_step_opens event (Err d) old new sound is.1

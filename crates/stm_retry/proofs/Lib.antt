@@ -7,3 +7,4 @@ pub mod WorldLemmas
 pub mod KeptWorlds
 pub mod Stops
 pub mod WorkedExamples
+mod TxnReplies

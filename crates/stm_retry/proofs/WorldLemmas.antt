@@ -2,7 +2,7 @@
 use Rattle.std.proofs.Common.{◌≡◌, ◌<◌, ◌∙◌, ◌⊎◌, inl, inr, ℕ, ◌+◌, List, [], ◌∷◌, ◌++◌, length, Option, Some, None, Result, Ok, Err, Bool}
 use Rattle.std.proofs.Common.{true, false, cond}
 use Rattle.std.proofs.Common.{refl, sym, ap, subst, get_or, drop, take, append_assoc, OnOk, OnErr}
-use Rattle.std.specs.Prelude.{IsOk, nat_eq, nat_lt, slice_get}
+use Rattle.std.specs.Prelude.{IsOk, IsTrue, ◌↔◌, nat_eq, nat_lt, slice_get}
 use Rattle.std.specs.declared.alloc.AllocError.{AllocError}
 use Rattle.std.proofs.lemmas.List.{drop_more, take_more}
 use Rattle.std.proofs.lemmas.Option.{slice_get-get_or}
@@ -18,8 +18,7 @@ use Rattle.stm_steps.specs.declared.run.Answered.TheVariants.{Ended as EndedRun,
 use Rattle.stm_outcome.specs.declared.advance.Expired.{Expired}
 use Rattle.stm_outcome.specs.declared.answer.FailedCompare.{FailedCompare}
 use Rattle.stm_outcome.specs.declared.refusal.Refusal.{Refusal as StoreRefusal}
-use Rattle.stm_outcome.specs.declared.refusal.Refusal.TheVariants.{OutOfMemory, EmptyKey, FutureRevision, Compacted, RevisionsUsedUp, LeaseExists, TtlOutOfRange}
-use Rattle.stm_outcome.specs.declared.refusal.Refusal.TheVariants.{LeaseIdOutOfRange, LeaseNotFound, NoWatcher, TooManyOps, DuplicateKey, TimeGoesBack}
+use Rattle.stm_outcome.specs.declared.refusal.Refusal.TheVariants.{Compacted}
 use Rattle.stm_outcome.specs.Commits.{revision_read}
 use Rattle.stm_outcome.specs.Outcome.{Done}
 use Rattle.stm_txn.specs.Standing.{terms_of}
@@ -34,8 +33,9 @@ use Rattle.stm_attempt.specs.Fetches.{at_of}
 use Rattle.stm_events.specs.declared.event.WorldEvent.{WorldEvent}
 use Rattle.stm_events.specs.declared.event.WorldEvent.TheVariants.{Start, Step, Txn, Grant, Keep, Revoke, Advance, WatchKey, WatchRange, Poll, Cancel, Compact}
 use Rattle.stm_events.specs.declared.reply.Reply.{Reply}
-use Rattle.stm_events.specs.declared.refusal.Refusal.{Refusal}
-use Rattle.stm_events.specs.declared.refusal.Refusal.TheVariants.{Store, BadLimit, NoRunner}
+use Rattle.stm_events.specs.declared.refusal.EventRefusal.{EventRefusal}
+use Rattle.stm_events.specs.declared.refusal.EventRefusal.TheVariants.{OutOfMemory, BadLimit}
+use Rattle.stm_events.specs.Replies.{refusal_of}
 use Rattle.stm_events.specs.declared.refusal.Denied.{Denied}
 use Rattle.stm_world.specs.Task.{Task}
 use Rattle.stm_world.specs.World.{World, Runner, Stepped, Over, runner_at, refused, replied, start_runner, fetch, fail_commit, decided, commit_reported, commit, finish}
@@ -49,14 +49,14 @@ use Rattle.stm_world.proofs.RunnerSteps.{CommitLaws}
 use Rattle.stm_world.proofs.GoingOn.{headline_goes_on}
 use Rattle.stm_world.proofs.Sound.{step_is_sound, expiries_are_sound}
 use Rattle.stm_retry.specs.StepReturns.{Returns as StepReturns, as_reply}
-use Rattle.stm_retry.specs.Returns.{IsStep, IsUnchanged, IsCutShort, OutOfMemoryReturns, OutOfMemoryReturnsAt, IsRunStop, StoreRefusalReturns, RefusalReturns, Returns}
-use Rattle.stm_retry.specs.Returns.{is_out_of_memory_of_store, is_want, ran_out, expired_of}
+use Rattle.stm_retry.specs.Returns.{IsStep, IsUnchanged, IsCutShort, OutOfMemoryReturns, OutOfMemoryReturnsAt, IsRunStop, RefusalReturns, Returns}
+use Rattle.stm_retry.specs.Returns.{is_out_of_memory, ran_out, expired_of}
 
 -- ---- steps of runners are taken ----
 
--- a refusal is one of these two, before which nothing expired
-abbrev pub IsPlain : Refusal → Type 0
-IsPlain (Store cause) = ⊥
+-- a refusal is not that memory ran out
+abbrev pub IsPlain : EventRefusal → Type 0
+IsPlain OutOfMemory = ⊥
 IsPlain other = Unit {0}
 
 abbrev pub PlainOnly : Result Reply Denied → Type 0
@@ -97,7 +97,7 @@ unfolding fetch
 fetch_plain id r key of_rev w = tt
 
 base_plain : (id : ℕ) (r : Runner) (key : List ℕ) (base : ℕ) (w : World) (below : Bool) →
-    PlainOnly (cond below (replied (Ended id Compacted) id Over w) (fetch id r key (revision_read w.standing.history base) w)).reply
+    PlainOnly (cond below (replied (Ended id (refusal_of Compacted)) id Over w) (fetch id r key (revision_read w.standing.history base) w)).reply
 base_plain id r key base w true = tt
 base_plain id r key base w false = fetch_plain id r key (revision_read w.standing.history base) w
 
@@ -132,11 +132,10 @@ start_plain task w = start_by (nat_eq task.limit 0) w _ tt
 
 -- ---- what is reported of them ----
 
-plain_reports : (event : WorldEvent) (d : Denied) (cause : Refusal) (old new : World) → IsPlain cause → IsStep (step event old) (Err d) new →
+plain_reports : (event : WorldEvent) (d : Denied) (cause : EventRefusal) (old new : World) → IsPlain cause → IsStep (step event old) (Err d) new →
     RefusalReturns cause event d old new
-plain_reports event d (Store cause) old new plain is = elim plain [ ]
-plain_reports event d BadLimit old new plain is = is
-plain_reports event d NoRunner old new plain is = is
+plain_reports event d OutOfMemory old new plain is = elim plain [ ]
+plain_reports event d other old new plain is = is
 
 -- an event of a runner: what the call of the machine makes is what is reported
 runner_reports : (event : WorldEvent) (outcome : Result (Result Reply Denied) AllocError) (old new : World) → PlainOnly (step event old).reply →
@@ -191,30 +190,13 @@ is_step_sound : (event : WorldEvent) (reply : Result Reply Denied) (old new : Wo
 is_step_sound event reply old new sound is = subst IsSound is.next_is (step_is_sound event old sound)
 
 -- what is reported of a refusal, by whether memory ran out
-store_cases : (cause : StoreRefusal) (event : WorldEvent) (d : Denied) (old new : World) → StoreRefusalReturns cause event d old new →
-    ((is_out_of_memory_of_store cause ≡ true) × OutOfMemoryReturns event d.expired old new) ⊎ ((is_out_of_memory_of_store cause ≡ false) × IsStep (step event old) (Err d) new)
-store_cases OutOfMemory event d old new reported = inl (refl, reported)
-store_cases EmptyKey event d old new reported = inr (refl, reported)
-store_cases FutureRevision event d old new reported = inr (refl, reported)
-store_cases Compacted event d old new reported = inr (refl, reported)
-store_cases RevisionsUsedUp event d old new reported = inr (refl, reported)
-store_cases LeaseExists event d old new reported = inr (refl, reported)
-store_cases TtlOutOfRange event d old new reported = inr (refl, reported)
-store_cases LeaseIdOutOfRange event d old new reported = inr (refl, reported)
-store_cases LeaseNotFound event d old new reported = inr (refl, reported)
-store_cases NoWatcher event d old new reported = inr (refl, reported)
-store_cases TooManyOps event d old new reported = inr (refl, reported)
-store_cases DuplicateKey event d old new reported = inr (refl, reported)
-store_cases TimeGoesBack event d old new reported = inr (refl, reported)
-
-pub refusal_cases : (cause : Refusal) (event : WorldEvent) (d : Denied) (old new : World) → RefusalReturns cause event d old new →
-    ((is_want cause ≡ true) × OutOfMemoryReturns event d.expired old new) ⊎ ((is_want cause ≡ false) × IsStep (step event old) (Err d) new)
-refusal_cases (Store cause) event d old new reported = store_cases cause event d old new reported
-refusal_cases BadLimit event d old new reported = inr (refl, reported)
-refusal_cases NoRunner event d old new reported = inr (refl, reported)
+pub refusal_cases : (cause : EventRefusal) (event : WorldEvent) (d : Denied) (old new : World) → RefusalReturns cause event d old new →
+    ((is_out_of_memory cause ≡ true) × OutOfMemoryReturns event d.expired old new) ⊎ ((is_out_of_memory cause ≡ false) × IsStep (step event old) (Err d) new)
+refusal_cases OutOfMemory event d old new reported = inl (refl, reported)
+refusal_cases other event d old new reported = inr (refl, reported)
 
 refused_sound : (event : WorldEvent) (d : Denied) (old new : World) → IsSound old →
-    (((is_want d.cause ≡ true) × OutOfMemoryReturns event d.expired old new) ⊎ ((is_want d.cause ≡ false) × IsStep (step event old) (Err d) new)) → IsSound new
+    (((is_out_of_memory d.cause ≡ true) × OutOfMemoryReturns event d.expired old new) ⊎ ((is_out_of_memory d.cause ≡ false) × IsStep (step event old) (Err d) new)) → IsSound new
 refused_sound event d old new sound (inl want) = want_sound event d.expired old new sound want.1
 refused_sound event d old new sound (inr is) = is_step_sound event (Err d) old new sound is.1
 
@@ -230,8 +212,14 @@ started_sound task (Err e) old new sound ok err = subst IsSound (sym err) sound
 
 -- ---- a run of events ----
 
-taken_by : (event : WorldEvent) (d : Denied) (old new : World) → is_want d.cause ≡ false →
-    (((is_want d.cause ≡ true) × OutOfMemoryReturns event d.expired old new) ⊎ ((is_want d.cause ≡ false) × IsStep (step event old) (Err d) new)) →
+-- whether memory ran out, as the test of a cause says
+pub is_named : (b : Bool) (cause : EventRefusal) → (IsTrue b ↔ cause ≡ OutOfMemory) → b ≡ is_out_of_memory cause
+is_named b OutOfMemory is = is.1 refl
+is_named true other is = let same = is.0 refl in absurd (cc)
+is_named false other is = refl
+
+taken_by : (event : WorldEvent) (d : Denied) (old new : World) → is_out_of_memory d.cause ≡ false →
+    (((is_out_of_memory d.cause ≡ true) × OutOfMemoryReturns event d.expired old new) ⊎ ((is_out_of_memory d.cause ≡ false) × IsStep (step event old) (Err d) new)) →
     IsStep (step event old) (Err d) new
 taken_by event d old new not (inl want) = absurd (cc)
 taken_by event d old new not (inr is) = is.1
@@ -242,8 +230,8 @@ pub taken : (event : WorldEvent) (reply : Result Reply Denied) (old new : World)
 taken event (Ok reply) old new not reported = reported
 taken event (Err d) old new not reported = taken_by event d old new not (refusal_cases d.cause event d old new reported)
 
-wanted_by : (event : WorldEvent) (d : Denied) (old new : World) → is_want d.cause ≡ true →
-    (((is_want d.cause ≡ true) × OutOfMemoryReturns event d.expired old new) ⊎ ((is_want d.cause ≡ false) × IsStep (step event old) (Err d) new)) →
+wanted_by : (event : WorldEvent) (d : Denied) (old new : World) → is_out_of_memory d.cause ≡ true →
+    (((is_out_of_memory d.cause ≡ true) × OutOfMemoryReturns event d.expired old new) ⊎ ((is_out_of_memory d.cause ≡ false) × IsStep (step event old) (Err d) new)) →
     OutOfMemoryReturns event d.expired old new
 wanted_by event d old new want (inl is) = is.1
 wanted_by event d old new want (inr not) = absurd (cc)

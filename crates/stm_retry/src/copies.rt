@@ -86,7 +86,10 @@ fn copy_kept(
         Level::SerializableSnapshot => Ok(Sequence::new(alloc)),
         Level::Serializable => Ok(Sequence::new(alloc)),
         Level::RepeatableReads => Ok(Sequence::new(alloc)),
-        Level::ReadCommitted => reads_committed(alloc, answers),
+        Level::ReadCommitted => {
+            let reads = reads_committed(alloc, answers)?;
+            Ok(reads)
+        }
     }
 }
 

@@ -36,14 +36,12 @@ fn reply_to_op(answer: OpAnswer) -> OpReply
 }
 
 /// Moves the replies to these operations into a list that has room for them, the last one first.
-fn push_replies(replies: &mut Vec<OpReply>, mut answers: ShortList<OpAnswer>)
+fn push_replies(replies: &mut Vec<OpReply>, answers: ShortList<OpAnswer>)
     requires { vec_len replies.old + length answers ≤ vec_capacity replies.old }
     ensures { replies.new.items ≡ replies.old.items ++ reverse (map op_reply answers) }
 {
-    for _ in 0..answers.len() {
-        let Some(answer) = answers.pop() else {
-            unreachable!()
-        };
+    let mut left = answers;
+    while let Some(answer) = left.pop() {
         replies.push_reserved(reply_to_op(answer));
     }
 }
@@ -73,7 +71,8 @@ fn room_for(alloc: Global, txn: &Txn) -> Result<Vec<OpReply>, AllocError>
     let success = txn.success.len();
     let failure = txn.failure.len();
     let most = if success < failure { failure } else { success };
-    Vec::with_capacity(alloc, most)
+    let room = Vec::with_capacity(alloc, most)?;
+    Ok(room)
 }
 
 /// Why a transaction is refused where there was no room for its replies: the store's cause, or else that memory ran out.

@@ -1,6 +1,6 @@
 use Rattle.std.proofs.Common.{◌≡◌, ℕ, Result, Ok, sym, ◌∙◌, ap, subst, OnOk}
 use Rattle.std.specs.Prelude.{IfOk}
-use Rattle.stm_events.specs.declared.refusal.Refusal.{Refusal}
+use Rattle.stm_events.specs.declared.refusal.EventRefusal.{EventRefusal}
 use Rattle.stm_events.specs.declared.reply.Reply.TheVariants.{Started}
 use Rattle.stm_world.specs.Task.{Task}
 use Rattle.stm_world.specs.World.{World, start_runner}
@@ -17,7 +17,7 @@ invariant_of-self c =
 pub returns-clause-number : goal.returns-clause-number
 returns-clause-number c =
     let task : Task = record { program = c.args.program; level = c.args.level; limit = c.args.limit } in
-    let reported : Result ℕ Refusal → Type 0 = λ r. IfOk r (λ id. (start_runner task c.args.self.now).reply ≡ Ok (Started id)) in
+    let reported : Result ℕ EventRefusal → Type 0 = λ r. IfOk r (λ id. (start_runner task c.args.self.now).reply ≡ Ok (Started id)) in
     elim c.match-add_runner.branch [
       | in-Ok w ↦ subst reported (sym w.result-is)
           (sym (started_number task c.self.inside.opened c.self.inside.kept c.self.invariant ∙ ap (λ (w : World). (start_runner task w).reply) c.self.view_is)
@@ -28,7 +28,7 @@ returns-clause-number c =
 pub returns-clause-ok : goal.returns-clause-ok
 returns-clause-ok c =
     let task : Task = record { program = c.args.program; level = c.args.level; limit = c.args.limit } in
-    let left : Result ℕ Refusal → Type 0 =
+    let left : Result ℕ EventRefusal → Type 0 =
     λ r. OnOk r (whole_world c.self.inside.opened c.add_runner.new.self ≡ (start_runner task c.args.self.now).next) in
     elim c.match-add_runner.branch [
       | in-Ok w ↦ subst left (sym w.result-is)

@@ -1,9 +1,12 @@
 //! The replies to events.
+ghost use Rattle.std.specs.Prelude.{◌≡◌};
+ghost use Rattle.stm_events.specs.Replies.{op_reply};
+
 use crate::refusal::EventRefusal;
 use stm_history::{KeyState, Sequence, Text};
 use stm_keys::Event;
 use stm_steps::{Fault, TraceItem, Value};
-use stm_txn::Expired;
+use stm_txn::{Expired, OpAnswer};
 
 /// A key that was read, and its modification revision: 0 where it is absent.
 #[derive(Clone, Debug, Drop)]
@@ -36,6 +39,22 @@ pub enum OpReply {
     Put,
     /// How many keys a delete deleted: 0 or 1.
     Del { count: u64 },
+}
+
+impl OpReply {
+    /// The reply to an operation that the store answered so. It takes no memory.
+    pub fn of_answer(answer: OpAnswer) -> OpReply
+        ensures { result ≡ op_reply answer }
+    {
+        match answer {
+            OpAnswer::Get(read) => OpReply::Get {
+                revision: read.revision,
+                kv: read.kv,
+            },
+            OpAnswer::Put => OpReply::Put,
+            OpAnswer::Del(count) => OpReply::Del { count },
+        }
+    }
 }
 
 /// The reply to an event that was taken. Revisions are those of the store's counter; moments are in whole seconds.

@@ -3,17 +3,15 @@ ghost use Rattle.std.specs.Prelude.{◌≡◌, true, not, if◌then◌else◌, S
 ghost use Rattle.std.specs.List.{list_any};
 ghost use Rattle.stm_events.specs.declared.event.WorldEvent.TheVariants.{Step};
 ghost use Rattle.stm_world.specs.World.{step, world_after};
-ghost use Rattle.stm_retry.specs.Returns.{ran_out};
 ghost use Rattle.stm_schedules.specs.declared.moves.Move.TheVariants.{Step as StepOf, Other};
 ghost use Rattle.stm_schedules.specs.Exchange.{is_committed};
 ghost use Rattle.stm_schedules.specs.Fewer.{quiet_runner, is_looked_at};
 ghost use Rattle.stm_schedules.specs.Places.{moves, event_of, left_after};
 
 use std::alloc::{AllocError, Global};
-use stm_retry::World;
+use stm_retry::{World, is_out_of_memory};
 use stm_schedules::Move;
-use stm_txn::Refusal as StoreRefusal;
-use stm_world::{Denied, Refusal, Reply, WorldEvent};
+use stm_world::{Denied, Reply, WorldEvent};
 
 /// The moves that can be made at a place, in their order.
 pub(crate) fn moves_at(
@@ -53,16 +51,6 @@ pub(crate) fn can_move(
 {
     let left = moves_at(alloc, world, others)?;
     Ok(has_some(left.as_slice()))
-}
-
-/// Whether an event was refused as out of memory.
-fn is_out_of_memory(reply: &Result<Reply, Denied>) -> bool
-    ensures { result ≡ ran_out reply.now }
-{
-    match reply {
-        Ok(_) => false,
-        Err(denied) => denied.cause == Refusal::Store(StoreRefusal::OutOfMemory),
-    }
 }
 
 /// Takes an event. Its reply is the step's, unless an allocation failed.

@@ -11,7 +11,7 @@ use Rattle.stm_report_lines.specs.LineData.{list, whole, value_data}
 use Rattle.stm_steps.specs.declared.run.End.{End}
 use Rattle.stm_steps.specs.declared.run.End.TheVariants.{Done, Aborted as ByAbort, Faulted as ByFault}
 use Rattle.stm_meaning.specs.Faults.{fault_name}
-use Rattle.stm_outcome.specs.Names.{refusal_name}
+use Rattle.stm_events.specs.Names.{refusal_name}
 use Rattle.stm_report_lines.specs.Text.{line_text, lines_text}
 use Rattle.stm_schedules.specs.declared.outcome.KeyValue.{KeyValue}
 use Rattle.stm_schedules.specs.declared.outcome.Outcome.{Outcome}

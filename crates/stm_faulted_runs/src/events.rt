@@ -10,17 +10,7 @@ use crate::following::{begin, forget, note};
 use crate::lines::{ReportedFault, fault_in, push_reported};
 use crate::runs::Explained;
 use std::alloc::{AllocError, Global};
-use stm_retry::{Denied, Refusal, Reply, State, Store, StoreRefusal, World, WorldEvent};
-
-/// Whether an event was refused because memory ran out.
-fn is_out_of_memory(reply: &Result<Reply, Denied>) -> bool
-    ensures { result ≡ ran_out reply.now }
-{
-    match reply {
-        Ok(_) => false,
-        Err(denied) => denied.cause == Refusal::Store(StoreRefusal::OutOfMemory),
-    }
-}
+use stm_retry::{Denied, Reply, State, Store, World, WorldEvent, is_out_of_memory};
 
 /// Follows the reply to an event, which fails where that was refused because memory ran out.
 fn follow(

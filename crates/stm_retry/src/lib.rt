@@ -25,4 +25,4 @@ pub use stm_history::{ReadAnswer, Sequence, Text};
 pub use stm_meaning::{Fault, State, TraceItem, Value};
 pub use stm_program::{Level, Program};
 pub use stm_txn::{Expired, Refusal as StoreRefusal, Store, Txn, TxnAnswer};
-pub use world::{RunStop, World};
+pub use world::{RunStop, World, is_out_of_memory};

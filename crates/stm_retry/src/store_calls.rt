@@ -21,20 +21,6 @@ pub(crate) fn refuse(alloc: Global, cause: StoreRefusal) -> Result<Reply, Denied
     Err(denied(alloc, EventRefusal::of_store(cause)))
 }
 
-/// The reply to an operation, by what the store answered.
-fn reply_to_op(answer: OpAnswer) -> OpReply
-    ensures { result ≡ op_reply answer }
-{
-    match answer {
-        OpAnswer::Get(read) => OpReply::Get {
-            revision: read.revision,
-            kv: read.kv,
-        },
-        OpAnswer::Put => OpReply::Put,
-        OpAnswer::Del(count) => OpReply::Del { count },
-    }
-}
-
 /// Moves the replies to these operations into a list that has room for them, the last one first.
 fn push_replies(replies: &mut Vec<OpReply>, answers: ShortList<OpAnswer>)
     requires { vec_len replies.old + length answers ≤ vec_capacity replies.old }
@@ -42,7 +28,7 @@ fn push_replies(replies: &mut Vec<OpReply>, answers: ShortList<OpAnswer>)
 {
     let mut left = answers;
     while let Some(answer) = left.pop() {
-        replies.push_reserved(reply_to_op(answer));
+        replies.push_reserved(OpReply::of_answer(answer));
     }
 }
 

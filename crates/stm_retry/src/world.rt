@@ -84,7 +84,7 @@ pub struct RunStop {
 }
 
 /// Whether an event was refused as out of memory.
-fn is_out_of_memory(reply: &Result<Reply, Denied>) -> bool
+pub fn is_out_of_memory(reply: &Result<Reply, Denied>) -> bool
     ensures { result ≡ ran_out reply.now }
 {
     match reply {

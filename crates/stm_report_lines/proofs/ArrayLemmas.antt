@@ -1,8 +1,10 @@
 -- Arrays of a word and parts, and of a number, a word and parts: what they spell, and what their spelling says of them.
-use Rattle.std.proofs.Common.{◌≡◌, ℕ, List, ◌∷◌, None, Ok, refl}
+use Rattle.std.proofs.Common.{◌≡◌, ℕ, suc, List, [], ◌∷◌, length, None, Ok, refl, ap}
 use Rattle.serde_json.specs.Data.{Data, string, array, Items, item}
 use Rattle.serde_json.specs.Find.{as_str}
-use Rattle.serde_json.specs.View.{items_of}
+use Rattle.serde_json.specs.View.{items_of, items_view}
+use Rattle.serde_json.specs.declared.value.Value.{Value}
+use Rattle.stm_report_lines.specs.Elements.{count}
 use Rattle.stm_report_lines.specs.Grammar.{Spells, SpellsItems}
 use Rattle.stm_report_lines.specs.LineData.{list, whole, word, numbered}
 use Rattle.stm_report_lines.specs.Parts.{number_of}
@@ -35,3 +37,9 @@ pub numbered_shape : (d : Data) (x : ℕ) (w : List ℕ) (parts : List Data) →
     → (n : Data) × (ds : Items) × (d ≡ numbered_array n w ds) × (number_of n ≡ Ok x) × (as_str n ≡ None) × SpellsItems ds (items_of parts)
 numbered_shape d x w parts (all, i, (n, r0, i0, s0, (v, r1, i1, s1, more))) =
     (n, r1, rw (i, i0, i1, s1) refl, number_reads n x s0, number_no_text n x s0, more)
+
+-- ---- the number of elements
+
+pub count_view : (values : List Value) → count (items_view values) ≡ length values
+count_view [] = refl
+count_view (v ∷ values) = ap suc (count_view values)

@@ -18,11 +18,11 @@ use Rattle.stm_json.specs.Parts.{SpellsEach, same}
 use Rattle.stm_json.proofs.FaultLemmas.{fault_of, wrong_is, made}
 use Rattle.stm_json.proofs.ListLemmas.{list_sound, each_reads}
 use Rattle.stm_json.proofs.PartLemmas.{list_is}
-use Rattle.stm_report_lines.specs.declared.line.ReportedAnswer.{ReportedAnswer}
+use Rattle.stm_events.specs.declared.reply.CommittedRead.{CommittedRead}
 use Rattle.stm_keys.specs.declared.event.Event.{Event}
 use Rattle.stm_keys.specs.declared.event.Event.TheVariants as event
-use Rattle.stm_report_lines.specs.declared.line.ReportedOp.{ReportedOp}
-use Rattle.stm_report_lines.specs.declared.line.ReportedOp.TheVariants as op
+use Rattle.stm_events.specs.declared.reply.OpReply.{OpReply}
+use Rattle.stm_events.specs.declared.reply.OpReply.TheVariants as op
 use Rattle.stm_events.specs.declared.reply.KeyRead.{KeyRead}
 use Rattle.stm_report_lines.specs.Elements.{six_of}
 use Rattle.stm_report_lines.specs.FirstFault.{or_null, plain_faults, list_of as list_faults, state_sorts, trace_table, answer_sorts, op_table}
@@ -128,33 +128,33 @@ Answer = List ℕ × (Option (List ℕ) × (ℕ × (ℕ × Unit {0})))
 abbrev answer_row : Row Answer
 answer_row = text_part & text_or_null_part & whole_part & whole_part & nothing
 
-abbrev answer_made : Answer → ReportedAnswer
+abbrev answer_made : Answer → CommittedRead
 answer_made x = answer_with x.0 (second x) (third x) (fourth x)
 
-abbrev answer_from : Items → Outcome ReportedAnswer
+abbrev answer_from : Items → Outcome CommittedRead
 answer_from ds = answer_parts (four_of ds)
 
 answer_is : (ds : Items) → answer_from ds ≡ read_row answer_row 0 answer_made ds
 answer_is =
-    four_counted (answer_row.read ReportedAnswer 0 answer_made) AnyText (By (or_null (faults_by AnyText))) any_number any_number answer_parts refl
+    four_counted (answer_row.read CommittedRead 0 answer_made) AnyText (By (or_null (faults_by AnyText))) any_number any_number answer_parts refl
     (λ a b c d. refl)
 
 pub answer_reported : (p : List ℕ) (d : Data) → first_of (plain_faults answer_sorts p d) ≡ fault_of p (answer_of d)
 unfolding answer_of
 answer_reported p (array ds) = plain_reported answer_row answer_made answer_from answer_is p ds
-answer_reported p _ = wrong_is {A = ReportedAnswer} p Shape (bad Shape) refl
+answer_reported p _ = wrong_is {A = CommittedRead} p Shape (bad Shape) refl
 
-answer_array-means : (d : Data) (o : Option Items) (x : ReportedAnswer) → as_array d ≡ o → answer_array o ≡ Ok x → Spells d (answer_data x)
+answer_array-means : (d : Data) (o : Option Items) (x : CommittedRead) → as_array d ≡ o → answer_array o ≡ Ok x → Spells d (answer_data x)
 answer_array-means d None x e h = cc
 answer_array-means d (Some ds) x e h =
     subst (λ (y : Data). Spells y (answer_data x)) (sym (list_is d ds e))
     (plain_means answer_row answer_made answer_from answer_is answer_data (λ y. refl) ds x h)
 
-pub answer_means : (d : Data) (x : ReportedAnswer) → answer_of d ≡ Ok x → Spells d (answer_data x)
+pub answer_means : (d : Data) (x : CommittedRead) → answer_of d ≡ Ok x → Spells d (answer_data x)
 unfolding answer_of
 answer_means d x h = answer_array-means d (as_array d) x refl h
 
-pub answer_reads : (d : Data) (x : ReportedAnswer) → Spells d (answer_data x) → answer_of d ≡ Ok x
+pub answer_reads : (d : Data) (x : CommittedRead) → Spells d (answer_data x) → answer_of d ≡ Ok x
 unfolding answer_of
 answer_reads d x (ds, is, m) =
     rw is (row_reads answer_row 0 answer_made answer_from answer_is ds (x.key, (x.value, (x.mod_rev, (x.of_rev, tt)))) m (tt, (tt, (tt, (tt, tt)))))
@@ -164,17 +164,17 @@ answer_reads d x (ds, is, m) =
 abbrev op_get_row : Row (ℕ × (Option KeyState × Unit {0}))
 op_get_row = whole_part & state_or_null_part & nothing
 
-abbrev op_get_made : ℕ × (Option KeyState × Unit {0}) → ReportedOp
+abbrev op_get_made : ℕ × (Option KeyState × Unit {0}) → OpReply
 op_get_made x = op.Get x.0 (second x)
 
-abbrev op_get_from : Items → Outcome ReportedOp
+abbrev op_get_from : Items → Outcome OpReply
 op_get_from ds = op_get_of (two_of ds)
 
 op_get_is : (ds : Items) → op_get_from ds ≡ read_row op_get_row 1 op_get_made ds
 op_get_is =
-    two_counted (op_get_row.read ReportedOp 1 op_get_made) any_number (By (or_null (plain_faults state_sorts))) op_get_of refl (λ a b. refl)
+    two_counted (op_get_row.read OpReply 1 op_get_made) any_number (By (or_null (plain_faults state_sorts))) op_get_of refl (λ a b. refl)
 
-abbrev op_put_made : Unit {0} → ReportedOp
+abbrev op_put_made : Unit {0} → OpReply
 op_put_made x = op.Put
 
 op_put_is : (ds : Items) → op_put_of ds ≡ read_row nothing 1 op_put_made ds
@@ -195,14 +195,14 @@ count_part = record {
 abbrev op_del_row : Row (ℕ × Unit {0})
 op_del_row = count_part & nothing
 
-abbrev op_del_made : ℕ × Unit {0} → ReportedOp
+abbrev op_del_made : ℕ × Unit {0} → OpReply
 op_del_made x = op.Del x.0
 
-abbrev op_del_from : Items → Outcome ReportedOp
+abbrev op_del_from : Items → Outcome OpReply
 op_del_from ds = op_del_of (one_of ds)
 
 op_del_is : (ds : Items) → op_del_from ds ≡ read_row op_del_row 1 op_del_made ds
-op_del_is = one_counted (op_del_row.read ReportedOp 1 op_del_made) (NumberIn 0 1) op_del_of refl (λ a. refl)
+op_del_is = one_counted (op_del_row.read OpReply 1 op_del_made) (NumberIn 0 1) op_del_of refl (λ a. refl)
 
 op_tested : (p : List ℕ) (ds : Items) (gets puts dels : Bool)
     → first_of (sorted_faults p (cond gets (Some op_get_row.sorts) (cond puts (Some []) (cond dels (Some op_del_row.sorts) None))) ds)
@@ -210,14 +210,14 @@ op_tested : (p : List ℕ) (ds : Items) (gets puts dels : Bool)
 op_tested p ds true puts dels = after_reported op_get_row op_get_made op_get_from op_get_is p ds
 op_tested p ds false true dels = after_reported nothing op_put_made op_put_of op_put_is p ds
 op_tested p ds false false true = after_reported op_del_row op_del_made op_del_from op_del_is p ds
-op_tested p ds false false false = wrong_is {A = ReportedOp} p Shape (bad Shape) refl
+op_tested p ds false false false = wrong_is {A = OpReply} p Shape (bad Shape) refl
 
 pub op_reported : (p : List ℕ) (d : Data) → first_of (worded_faults op_table p d) ≡ fault_of p (op_of d)
 unfolding op_of
 op_reported p (array (item (string w) ds)) = op_tested p ds (same w (codes "get")) (same w (codes "put")) (same w (codes "del"))
-op_reported p _ = wrong_is {A = ReportedOp} p Shape (bad Shape) refl
+op_reported p _ = wrong_is {A = OpReply} p Shape (bad Shape) refl
 
-op_word : (d : Data) (p : List ℕ × Items) (o : ReportedOp) (gets puts dels : Bool) → worded d ≡ Some p → same p.0 (codes "get") ≡ gets
+op_word : (d : Data) (p : List ℕ × Items) (o : OpReply) (gets puts dels : Bool) → worded d ≡ Some p → same p.0 (codes "get") ≡ gets
     → same p.0 (codes "put") ≡ puts → same p.0 (codes "del") ≡ dels
     → cond gets (op_get_from p.1) (cond puts (op_put_of p.1) (cond dels (op_del_from p.1) (bad Shape))) ≡ Ok o
     → Spells d (op_data o) × CountFits o
@@ -232,15 +232,15 @@ op_word d p o false false true is g u l h =
     (of_word d p (codes "del") (op_data o) is ((bytes_eq-Decides p.0 (codes "del")).0 l) m.0, m.1)
 op_word d p o false false false is g u l h = cc
 
-op_array : (d : Data) (x : Option (List ℕ × Items)) (o : ReportedOp) → worded d ≡ x → op_worded x ≡ Ok o → Spells d (op_data o) × CountFits o
+op_array : (d : Data) (x : Option (List ℕ × Items)) (o : OpReply) → worded d ≡ x → op_worded x ≡ Ok o → Spells d (op_data o) × CountFits o
 op_array d None o is h = cc
 op_array d (Some p) o is h = op_word d p o (same p.0 (codes "get")) (same p.0 (codes "put")) (same p.0 (codes "del")) is refl refl refl h
 
-pub op_means : (d : Data) (o : ReportedOp) → op_of d ≡ Ok o → Spells d (op_data o) × CountFits o
+pub op_means : (d : Data) (o : OpReply) → op_of d ≡ Ok o → Spells d (op_data o) × CountFits o
 unfolding op_of
 op_means d o h = op_array d (worded d) o refl h
 
-pub op_reads : (d : Data) (o : ReportedOp) → Spells d (op_data o) → CountFits o → op_of d ≡ Ok o
+pub op_reads : (d : Data) (o : OpReply) → Spells d (op_data o) → CountFits o → op_of d ≡ Ok o
 unfolding op_of
 op_reads d (op.Get revision kv) s fits =
     let w = worded_shape d (codes "get") (whole revision ∷ state_or_null kv ∷ []) s in
@@ -393,24 +393,24 @@ pub ops_reported : (p : List ℕ) (d : Data) → first_of (faults_by (By (list_f
 ops_reported p d = list_reported (worded_faults op_table) op_of op_reported p d
 
 -- an operation's answer with a count that fits
-abbrev SpellsOp : Data → ReportedOp → Type 0
+abbrev SpellsOp : Data → OpReply → Type 0
 SpellsOp d o = Spells d (op_data o) × CountFits o
 
-counted : (ds : Items) (xs : List ReportedOp) → SpellsEach SpellsOp ds xs → SpellsItems ds (items_of (map op_data xs)) × AllCountsFit xs
+counted : (ds : Items) (xs : List OpReply) → SpellsEach SpellsOp ds xs → SpellsItems ds (items_of (map op_data xs)) × AllCountsFit xs
 counted ds [] is = (is, tt)
 counted ds (x ∷ xs) (d, rest, is, (s, fits), more) =
     let others = counted rest xs more in
     ((d, rest, is, s, others.0), (fits, others.1))
 
-each_counted : (ds : Items) (xs : List ReportedOp) → SpellsItems ds (items_of (map op_data xs)) → AllCountsFit xs → SpellsEach SpellsOp ds xs
+each_counted : (ds : Items) (xs : List OpReply) → SpellsItems ds (items_of (map op_data xs)) → AllCountsFit xs → SpellsEach SpellsOp ds xs
 each_counted ds [] is fits = is
 each_counted ds (x ∷ xs) (d, rest, is, s, more) (fits, others) = (d, rest, is, (s, fits), each_counted rest xs more others)
 
-pub ops_means : (d : Data) (xs : List ReportedOp) → ops_of d ≡ Ok xs → Spells d (list (map op_data xs)) × AllCountsFit xs
+pub ops_means : (d : Data) (xs : List OpReply) → ops_of d ≡ Ok xs → Spells d (list (map op_data xs)) × AllCountsFit xs
 ops_means d xs h =
     let s = list_sound op_of SpellsOp op_means d xs h in
     let c = counted s.0 xs s.2 in
     ((s.0, s.1, c.0), c.1)
 
-pub ops_reads : (d : Data) (xs : List ReportedOp) → Spells d (list (map op_data xs)) → AllCountsFit xs → ops_of d ≡ Ok xs
+pub ops_reads : (d : Data) (xs : List OpReply) → Spells d (list (map op_data xs)) → AllCountsFit xs → ops_of d ≡ Ok xs
 ops_reads d xs (ds, is, m) fits = rw is (each_reads op_of SpellsOp (λ e x s. op_reads e x s.0 s.1) 0 ds xs (each_counted ds xs m fits))

@@ -7,7 +7,7 @@ use Rattle.stm_json.specs.declared.read_error.ReadError.TheVariants as error
 use Rattle.stm_json.specs.Outcome.{Outcome, ◌>>=◌, within}
 use Rattle.stm_json.specs.Returns.{ReturnsFault}
 use Rattle.stm_json.proofs.ListLemmas.{with_front, regroup}
-use Rattle.stm_report_lines.specs.declared.line.ReportLine.{ReportLine}
+use Rattle.stm_events.specs.declared.line.ReportLine.{ReportLine}
 use Rattle.stm_report_lines.specs.Bytes.{parts_of, first_cut}
 use Rattle.stm_report_lines.specs.Reading.{line_in, rest_of, lines_from}
 use Rattle.stm_report_lines.proofs.CutLemmas.{Cut, cuts, parts_start}

@@ -19,11 +19,11 @@ use Rattle.stm_json.specs.Parts.{SpellsEach, text_of, each_from, list_of}
 use Rattle.stm_json.proofs.FaultLemmas.{fault_of, wrong_is, part_then, made, text_faulted, number_up_faulted}
 use Rattle.stm_json.proofs.ListLemmas.{list_sound, each_reads}
 use Rattle.stm_json.proofs.PartLemmas.{text_is, on_text-is, text_of-is}
-use Rattle.stm_report_lines.specs.declared.causes.RefusalName.{RefusalName}
+use Rattle.stm_events.specs.declared.refusal.EventRefusal.{EventRefusal}
 use Rattle.stm_report_lines.specs.FirstFault.{flag_faults, value_faults, or_null, each_of, list_of as list_faults, fault_names, refusal_names}
 use Rattle.stm_report_lines.specs.Grammar.{Spells, SpellsItems}
 use Rattle.stm_report_lines.specs.LineData.{list, whole, word, value_data, text_or_null}
-use Rattle.stm_report_lines.specs.Names.{refusal_text}
+use Rattle.stm_events.specs.Names.{refusal_name}
 use Rattle.stm_report_lines.specs.Parts.{if_there, number_of, flag_of, fault_of as fault_part_of, cause_of, value_from, value_of, text_or_null_of}
 use Rattle.stm_report_lines.specs.Words.{named, fault_words, refusal_words}
 use Rattle.stm_report_lines.proofs.WordLaws.{name_reported, fault_named-is, fault_named-text, refusal_named-is, refusal_named-text}
@@ -105,15 +105,15 @@ pub cause_reported : (p : List ℕ) (d : Data) → first_of (faults_by (WordOf r
 unfolding cause_of
 cause_reported p d = name_reported p refusal_words (as_str d)
 
-pub cause_means : (d : Data) (c : RefusalName) → cause_of d ≡ Ok c → Spells d (word (refusal_text c))
+pub cause_means : (d : Data) (c : EventRefusal) → cause_of d ≡ Ok c → Spells d (word (refusal_name c))
 unfolding cause_of
 cause_means d c h =
     let t = on_text-is (λ (w : List ℕ). if_there (named refusal_words w)) d c h in
     t.1 ∙ ap string (refusal_named-is t.0 c (there_is (named refusal_words t.0) c t.2))
 
-pub cause_reads : (d : Data) (c : RefusalName) → Spells d (word (refusal_text c)) → cause_of d ≡ Ok c
+pub cause_reads : (d : Data) (c : EventRefusal) → Spells d (word (refusal_name c)) → cause_of d ≡ Ok c
 unfolding cause_of
-cause_reads d c is = ap cause_of is ∙ ap (λ (o : Option RefusalName). if_there o) (refusal_named-text c)
+cause_reads d c is = ap cause_of is ∙ ap (λ (o : Option EventRefusal). if_there o) (refusal_named-text c)
 
 -- ---- values
 

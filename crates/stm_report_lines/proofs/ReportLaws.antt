@@ -8,9 +8,9 @@ use Rattle.stm_json.specs.Outcome.{bad, ◌>>=◌, within, step}
 use Rattle.stm_json.proofs.OutcomeLemmas.{bind_ok, within_ok}
 use Rattle.stm_json.specs.Faults.{first_of, wrong}
 use Rattle.stm_json.proofs.FaultLemmas.{fault_of, wrong_is, part_then, made}
-use Rattle.stm_report_lines.specs.declared.line.ReportLine.{ReportLine}
+use Rattle.stm_events.specs.declared.line.ReportLine.{ReportLine}
 use Rattle.stm_json.specs.declared.limits.TheConstants.{MOST_BYTES}
-use Rattle.stm_report_lines.specs.declared.report.Report.{Report}
+use Rattle.stm_events.specs.declared.line.Report.{Report}
 use Rattle.stm_json.specs.Bytes.{data_of}
 use Rattle.stm_report_lines.specs.Bytes.{parts_of}
 use Rattle.stm_report_lines.specs.FirstFault.{json_faults, rest_faults, lines_faults, first_fault}

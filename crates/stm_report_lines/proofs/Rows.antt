@@ -1,6 +1,8 @@
 -- Rows of parts, one after the other. That their faults are those that reading answers, that what was read is spelled, and that what is
 -- spelled is read, is proved once, whatever the parts are.
-use Rattle.std.proofs.Common.{◌≡◌, ℕ, suc, List, [], ◌∷◌, Bool, true, false, cond, Option, Some, None, Ok, option_map, refl, sym, ap, subst, ◌∙◌, map}
+use Rattle.std.proofs.Common.{◌≡◌, ℕ, suc, List, [], ◌∷◌, length, Bool, true, false, cond, eqb, Option, Some, None, Ok, option_map, refl, sym, ap, subst, ◌∙◌, map}
+use Rattle.std.proofs.Common.{arith}
+use Rattle.std.proofs.lemmas.Bool.Decides.{nat_tests}
 use Rattle.serde_json.specs.Data.{Data, array, Items, no_items, item}
 use Rattle.serde_json.specs.Find.{as_array}
 use Rattle.serde_json.specs.View.{items_of}
@@ -11,7 +13,7 @@ use Rattle.stm_json.proofs.OutcomeLemmas.{bind_ok, within_ok}
 use Rattle.stm_json.specs.Parts.{list_of}
 use Rattle.stm_json.specs.Faults.{Faults, Sort, By, first_of, wrong, at, faults_by, is_count, parts_faults, sorted_faults}
 use Rattle.stm_json.proofs.FaultLemmas.{fault_of, wrong_is, part_then}
-use Rattle.stm_report_lines.specs.Elements.{five_of, six_of}
+use Rattle.stm_report_lines.specs.Elements.{count, five_of, six_of}
 use Rattle.stm_report_lines.specs.FirstFault.{plain_faults, list_of as list_faults}
 use Rattle.stm_report_lines.specs.Grammar.{Spells, SpellsItems}
 use Rattle.stm_report_lines.specs.LineData.{list, word}
@@ -156,6 +158,12 @@ counted_reported {Y} p false faults o h = wrong_is {A = Y} p Shape (bad Shape) r
 pub counted_ok : {Y : Type 0} (b : Bool) (o : Outcome Y) (y : Y) → cond b o (bad Shape) ≡ Ok y → (b ≡ true) × (o ≡ Ok y)
 counted_ok true o y h = (refl, h)
 counted_ok false o y h = cc
+
+pub count_is : (sorts : List Sort) (ds : Items) → is_count sorts ds ≡ eqb (count ds) (length sorts)
+count_is [] no_items = refl
+count_is [] (item d ds) = grind (arith, nat_tests)
+count_is (s ∷ sorts) no_items = grind (arith, nat_tests)
+count_is (s ∷ sorts) (item d ds) = let rest = count_is sorts ds in grind (arith, nat_tests)
 
 abbrev pub read_row : {X Y : Type 0} → Row X → ℕ → (X → Y) → Items → Outcome Y
 read_row {X} {Y} R i make ds = counted R.sorts (R.read Y i make) ds

@@ -9,9 +9,9 @@ use Rattle.stm_meaning.specs.Faults.{fault_name}
 use Rattle.stm_json.specs.Faults.{Sort, first_of, wrong, is_word_of, word_faults, sorts_of}
 use Rattle.stm_json.specs.Parts.{on_text, same}
 use Rattle.stm_json.proofs.FaultLemmas.{fault_of, wrong_is}
-use Rattle.stm_report_lines.specs.declared.causes.RefusalName.{RefusalName}
-use Rattle.stm_report_lines.specs.declared.causes.RefusalName.TheVariants as cause
-use Rattle.stm_report_lines.specs.Names.{refusal_text}
+use Rattle.stm_events.specs.declared.refusal.EventRefusal.{EventRefusal}
+use Rattle.stm_events.specs.declared.refusal.EventRefusal.TheVariants as cause
+use Rattle.stm_events.specs.Names.{refusal_name}
 use Rattle.stm_report_lines.specs.Parts.{if_there}
 use Rattle.stm_report_lines.specs.Words.{named, fault_words, refusal_words}
 
@@ -76,13 +76,13 @@ fault_named-is w f h = named-is fault_name fault_words w f (refl, (refl, (refl, 
 
 -- ---- refusals
 
-pub refusal_named-text : (c : RefusalName) → named refusal_words (refusal_text c) ≡ Some c
+pub refusal_named-text : (c : EventRefusal) → named refusal_words (refusal_name c) ≡ Some c
 refusal_named-text cause.Kind = refl
 refusal_named-text _ = refl
 
-refusals_are_texts : AreTexts refusal_text refusal_words
+refusals_are_texts : AreTexts refusal_name refusal_words
 refusals_are_texts =
     (refl, (refl, (refl, (refl, (refl, (refl, (refl, (refl, (refl, (refl, (refl, (refl, (refl, (refl, (refl, (refl, (refl, (refl, (refl, (refl, (refl, (refl, (refl, (refl, (refl, tt)))))))))))))))))))))))))
 
-pub refusal_named-is : (w : List ℕ) (c : RefusalName) → named refusal_words w ≡ Some c → w ≡ refusal_text c
-refusal_named-is w c h = named-is refusal_text refusal_words w c refusals_are_texts h
+pub refusal_named-is : (w : List ℕ) (c : EventRefusal) → named refusal_words w ≡ Some c → w ≡ refusal_name c
+refusal_named-is w c h = named-is refusal_name refusal_words w c refusals_are_texts h

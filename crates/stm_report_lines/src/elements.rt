@@ -1,8 +1,8 @@
 //! Looking into arrays.
-ghost use Rattle.std.specs.Prelude.{◌≡◌, option_map};
+ghost use Rattle.std.specs.Prelude.{◌≡◌, option_map, ◌==◌};
 ghost use Rattle.serde_json.specs.View.{view, items_view};
 ghost use Rattle.stm_json.specs.Elements.{first_word};
-ghost use Rattle.stm_report_lines.specs.Elements.{five_of, six_of};
+ghost use Rattle.stm_report_lines.specs.Elements.{count, five_of, six_of};
 
 use serde_json::Value as Json;
 use stm_json::four;
@@ -14,6 +14,14 @@ pub(crate) fn front_word(elements: &[Json]) -> Option<(&str, &[Json])>
     let (first, rest) = elements.split_first()?;
     let word = first.as_str()?;
     Some((word, rest))
+}
+
+/// Whether a list has this number of elements.
+#[tactic(auto, using(crate::proofs::ArrayLemmas::count_view))]
+pub(crate) fn is_count(elements: &[Json], number: usize) -> bool
+    ensures { result ≡ (count (items_view elements.now) == number) }
+{
+    elements.len() == number
 }
 
 /// The five elements of a list; `None` where it has another number of elements.

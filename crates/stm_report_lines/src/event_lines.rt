@@ -7,7 +7,7 @@ ghost use Rattle.stm_report_lines.specs.Reading.{started_of, prefetched_of, fetc
 ghost use Rattle.stm_report_lines.specs.Reading.{txn_of, granted_of, kept_of, revoked_of, advanced_of, compacted_of, watching_of, cancelled_of, batch_of, lost_of};
 ghost use Rattle.stm_report_lines.specs.Reading.{refused_of, event_reply_of, event_line_of};
 
-use crate::elements::{five, six};
+use crate::elements::{five, is_count, six};
 use crate::parts::{fault_part, flag_part, list_part, refusal_part};
 use crate::words::{EventWord, elements_after};
 use serde_json::Value as Json;
@@ -340,7 +340,7 @@ pub(crate) fn event_line(
 ) -> Result<ReportLine, ReadError>
     ensures { Returns (λ l. l) result (event_line_of word (view number.now) (items_view elements.now)) }
 {
-    if elements.len() != elements_after(word) {
+    if !is_count(elements, elements_after(word)) {
         return Err(fault(alloc, Cause::Shape));
     }
     let number = number_part(alloc, 0, number)?;

@@ -109,7 +109,7 @@ fn report_of_bytes(alloc: Global, bytes: &[u8]) -> Result<Report, ReadError>
 /// It fails by the first fault of the text, with its place and cause: more than 16777216 bytes are too long,
 /// whatever they are, and the place is then empty. Then the lines are looked at in order, and what comes after
 /// the last line feed is a `Shape`; such places begin with the number of the line, from 0. A line is looked at as
-/// JSON first, then its word and its length, and then its elements in order. Or it fails as `OutOfMemory`, where a
+/// JSON first, then its word and its length, and then its elements in order. Or it fails as `OutOfMemory`, where an
 /// allocation failed.
 pub fn read_report(alloc: Global, bytes: &[u8]) -> Result<Report, ReadError>
     ensures exact { Returns (λ r. r) result (report_in bytes.now) }

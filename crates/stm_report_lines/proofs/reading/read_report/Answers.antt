@@ -1,7 +1,7 @@
 use Rattle.std.specs.Prelude.{Ok}
 use Rattle.stm_json.proofs.FaultLemmas.{reported_faults}
 use Rattle.stm_json.proofs.OutcomeLemmas.{reported_means, reported_reads}
-use Rattle.stm_report_lines.specs.declared.report.Report.{Report}
+use Rattle.stm_events.specs.declared.line.Report.{Report}
 use Rattle.stm_report_lines.specs.FirstFault.{first_fault}
 use Rattle.stm_report_lines.specs.Grammar.{SpellsReport}
 use Rattle.stm_report_lines.specs.Reading.{report_in}

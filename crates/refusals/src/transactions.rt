@@ -36,25 +36,13 @@ fn room_again<T: Drop>(alloc: Global, count: usize) -> Result<Vec<T>, AllocError
     }
 }
 
-/// The reply to an operation, by what the store answered.
-fn reply_to_op(answer: OpAnswer) -> OpReply {
-    match answer {
-        OpAnswer::Get(read) => OpReply::Get {
-            revision: read.revision,
-            kv: read.kv,
-        },
-        OpAnswer::Put => OpReply::Put,
-        OpAnswer::Del(count) => OpReply::Del { count },
-    }
-}
-
 /// The replies to the operations of a transaction, in their order.
 fn replies_to_ops(alloc: Global, answers: ShortList<OpAnswer>) -> Result<Vec<OpReply>, AllocError> {
     let mut left = answers;
     let mut replies = room_again(alloc, left.len())?;
     for _ in 0..left.len() {
         if let Some(answer) = left.pop() {
-            replies.push(reply_to_op(answer))?;
+            replies.push(OpReply::of_answer(answer))?;
         }
     }
     replies.as_mut_slice().reverse();

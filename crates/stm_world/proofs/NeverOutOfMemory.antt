@@ -42,7 +42,7 @@ use Rattle.stm_events.specs.declared.refusal.Denied.{Denied}
 use Rattle.stm_events.specs.declared.refusal.EventRefusal.{EventRefusal}
 use Rattle.stm_events.specs.declared.refusal.EventRefusal.TheVariants.{OutOfMemory as OutOfMemoryEvent, BadLimit, NoRunner}
 use Rattle.stm_events.proofs.Refusals.{one_cause}
-use Rattle.stm_events.specs.Replies.{txn_reply, refusal_of, reply_to, advance_reply}
+use Rattle.stm_events.specs.Replies.{txn_reply, reply_to, advance_reply}
 use Rattle.stm_world.specs.Task.{Task}
 use Rattle.stm_world.specs.Log.{Line, running, store}
 use Rattle.stm_world.specs.Right.{Situation, Commits, IsRefused, RunnerIsRight, IsRight, situation}

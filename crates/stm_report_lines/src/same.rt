@@ -28,7 +28,7 @@ pub(crate) fn are_same<T: Same>(left: &[T], right: &[T]) -> bool
 }
 
 /// Whether two states of a key are the same.
-fn are_same_states(left: &KeyState, right: &KeyState) -> bool
+pub(crate) fn are_same_states(left: &KeyState, right: &KeyState) -> bool
     ensures { IsTrue result ↔ left.now ≡ right.now }
 {
     left.create_rev == right.create_rev
@@ -36,12 +36,6 @@ fn are_same_states(left: &KeyState, right: &KeyState) -> bool
         && left.version == right.version
         && left.lease == right.lease
         && left.value == right.value
-}
-
-impl Same for KeyState {
-    fn is_same(&self, other: &KeyState) -> bool {
-        are_same_states(self, other)
-    }
 }
 
 /// Whether a key is absent, or has the same state.

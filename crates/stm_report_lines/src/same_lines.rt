@@ -1,7 +1,7 @@
 //! Whether two lines are the same.
 ghost use Rattle.std.specs.Prelude.{◌≡◌, ◌↔◌, IsTrue};
 
-use crate::same::{Same, are_same, are_same_expired, are_same_traces, are_same_values};
+use crate::same::{are_same, are_same_expired, are_same_states, are_same_traces, are_same_values};
 use stm_events::{Denied, Reply, ReportLine};
 
 /// Whether two replies are the same.
@@ -238,7 +238,7 @@ pub fn are_same_lines(left: &ReportLine, right: &ReportLine) -> bool
             ReportLine::Key {
                 key: name,
                 state: other,
-            } => *key == *name && state.is_same(other),
+            } => *key == *name && are_same_states(state, other),
             _ => false,
         },
         ReportLine::Lease { id, ttl, renewed } => match right {

@@ -60,7 +60,7 @@ use Rattle.stm_events.specs.declared.reply.Reply.{Reply}
 use Rattle.stm_events.specs.declared.reply.Reply.TheVariants.{Started, Committed, Conflict, GaveUp}
 use Rattle.stm_events.specs.declared.reply.Reply.TheVariants.{Granted, Kept, Revoked, Watching, Cancelled, Compacted}
 use Rattle.stm_events.specs.declared.refusal.EventRefusal.{EventRefusal}
-use Rattle.stm_events.specs.declared.refusal.EventRefusal.TheVariants.{OutOfMemory as RanOut}
+use Rattle.stm_events.specs.declared.refusal.EventRefusal.TheVariants.{OutOfMemory as RanOut, BadLimit}
 use Rattle.stm_events.specs.declared.refusal.Denied.{Denied}
 use Rattle.stm_events.specs.Replies.{committed_read, txn_reply, refusal_of, denied, reply_to, store_after_call, advance_reply, poll_reply, store_after_poll}
 use Rattle.stm_world.specs.Task.{Task, with_served, after_conflict}

@@ -7,7 +7,7 @@
 ghost use Rattle.std.specs.Prelude.{◌<◌};
 
 use anyhow::Result;
-use std::alloc::{AllocError, Global};
+use std::alloc::Global;
 use std::rt::Clock;
 use std::time::{Duration, Instant};
 use stm_txn::{Keys, Op, Refusal, ShortList, Store, Text, Txn};
@@ -37,27 +37,33 @@ fn main(rt: HostRuntime) -> Result<()> {
 }
 
 /// A transaction that puts one key.
-fn put_of(alloc: Global, number: u32) -> Result<Txn, AllocError> {
-    let key = Text::new(format!(in alloc; "key-{number}")?);
-    let value = Text::copy_of(alloc, "value")?;
-    let mut success = ShortList::new(alloc);
-    success.push(Op::Put {
+fn put_of(alloc: Global, key: Text, value: Text) -> Txn {
+    let op = Op::Put {
         key,
         value,
         lease: 0,
-    })?;
-    Ok(Txn {
+    };
+    Txn {
         compares: ShortList::new(alloc),
-        success,
+        success: ShortList::one(alloc, op),
         failure: ShortList::new(alloc),
-    })
+    }
 }
 
+/// Runs a transaction that puts one key. It is dropped at one place, whatever the store answers.
 fn put(alloc: Global, store: &mut Store, number: u32) -> Result<(), Refusal> {
-    let txn = put_of(alloc, number)?;
-    let answer = store.txn(&txn)?;
-    drop(answer);
-    Ok(())
+    let key = Text::new(format!(in alloc; "key-{number}")?);
+    let value = Text::copy_of(alloc, "value")?;
+    let txn = put_of(alloc, key, value);
+    let outcome = store.txn(&txn);
+    drop(txn);
+    match outcome {
+        Ok(answer) => {
+            drop(answer);
+            Ok(())
+        }
+        Err(refusal) => Err(refusal),
+    }
 }
 
 /// Puts `keys` keys in turn, `count` puts in all.

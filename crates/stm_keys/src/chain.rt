@@ -8,6 +8,9 @@ use std::collections::VecDeque;
 use std::marker::Model;
 use stm_history::KeyState;
 
+/// For how many versions a new chain has room: most keys that change do so more than once, and a list of one would grow at each of their first puts.
+const FIRST_ROOM: usize = 4;
+
 /// One version of a key: which revision changed it, and where its event is looked for first.
 #[derive(Debug, Drop, Clone, Copy)]
 pub(crate) struct Version {
@@ -92,12 +95,12 @@ impl Clone for Chain {
 impl Chain {
     ghost use Rattle.stm_keys.specs.Chains.{no_versions, with_version, without_oldest, newest_below, oldest_from, number_of};
 
-    /// A chain of no version, and room for one. Its key was absent before.
+    /// A chain of no version, and room for a few. Its key was absent before.
     pub(crate) fn with_room(alloc: Global) -> Result<Chain, AllocError>
         ensures empty { IfOk result (λ chain. chain.versions ≡ no_versions) }
         ensures room { IfOk result (λ chain. 0 < chain.room) }
     {
-        let versions = VecDeque::with_capacity(alloc, 1)?;
+        let versions = VecDeque::with_capacity(alloc, FIRST_ROOM)?;
         Ok(Chain {
             before: None,
             versions,

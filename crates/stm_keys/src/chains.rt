@@ -1,4 +1,6 @@
 //! The version chains of all keys.
+//!
+//! What each put goes through is inlined, so that its values are not copied from call to call.
 ghost use Rattle.std.specs.Prelude.{◌≡◌, ◌<◌, ◌≤◌, ◌∷◌, List, [], ℕ, IfOk, OnOk, None, Option, is_some, bytes_eq, true, false, reverse, length, slice_get, Some, IfSome};
 ghost use Rattle.std.specs.Prelude.{option_copied, option_map, get_or, Bool, if◌then◌else◌};
 ghost use Rattle.std.specs.VecDeque.{deque_len};
@@ -29,6 +31,7 @@ pub(crate) const NO_HINT: usize = usize::MAX;
 /// The chain of a key, if it has one, and its index.
 ///
 /// The chain at the hint is looked at first. No contract speaks of the hint: a wrong one costs a look-up by text.
+#[inline(always)]
 fn find_chain<'a>(chains: &'a Chains, key: &str, hint: usize) -> Option<(usize, &'a Chain)>
     ensures chain { option_map (λ p. p.1.now) result ≡ get_by_text chains.now key.now }
     ensures named { IfSome result (λ p. slice_get (names_of chains.now) p.0 ≡ Some key.now) }
@@ -74,6 +77,7 @@ pub(crate) fn find_number_from(chains: &Chains, key: &str, bound: u64) -> Option
 }
 
 /// The event of a key in the revision of a version, which changed it.
+#[inline(always)]
 fn event_from<'a>(
     revisions: &'a Revisions,
     below: u64,
@@ -152,6 +156,7 @@ pub(crate) fn find_before<'a>(chains: &'a Chains, key: &str, hint: usize) -> Opt
 }
 
 /// The newest event of a key, if one of these revisions changed it. Its chain is looked for at the hint first.
+#[inline(always)]
 pub(crate) fn find_newest<'a>(
     chains: &Chains,
     revisions: &'a Revisions,
@@ -215,6 +220,7 @@ fn add_chain(chains: &mut Chains, alloc: Global, key: &Text) -> Result<(), Alloc
 }
 
 /// Makes room for one more version in the chain at an index.
+#[inline(always)]
 fn make_room_at(chains: &mut Chains, index: usize) -> Result<(), AllocError>
     requires { index < length chains.old.entries }
     ensures names { names_of chains.new ≡ names_of chains.old }

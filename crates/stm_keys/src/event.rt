@@ -66,6 +66,7 @@ pub(crate) fn find_event<'a>(events: &'a [Event], key: &str) -> Option<&'a Event
 }
 
 /// The same of events that are about different keys: it is looked for first at a spot, and among all where it does not stand there.
+#[inline(always)]
 pub(crate) fn find_event_at<'a>(events: &'a [Event], key: &str, spot: usize) -> Option<&'a Event>
     requires { AreApart events.now }
     ensures { option_copied result ≡ event_about key.now events.now }

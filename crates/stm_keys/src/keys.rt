@@ -1,4 +1,6 @@
 //! The key store.
+//!
+//! What each put goes through is inlined, so that its values are not copied from call to call.
 ghost use Rattle.std.specs.Prelude.{◌≡◌, ◌+◌, ◌<◌, ◌≤◌, IfOk, OnOk, OnErr, IfSome, List, ℕ, Bool, false, length, Some, None, ◌↔◌, slice_get, option_copied, [], ◌∷◌, ◌++◌, ◌≢◌, ◌^◌, map, is_some};
 ghost use Rattle.std.specs.VecDeque.{deque_len, deque_capacity};
 ghost use Rattle.indexmap.specs.IndexMap.{get_by_text};
@@ -129,6 +131,7 @@ fn copy_events(alloc: Global, events: &[Event]) -> Result<Vec<Event>, AllocError
 }
 
 /// Makes room for one more revision. A full list grows by a quarter, so that little of it stands empty.
+#[inline(always)]
 fn make_room_in(revisions: &mut Revisions) -> Result<(), AllocError>
     ensures same { revisions.new.items ≡ revisions.old.items }
     ensures room { OnOk result (deque_len revisions.new < deque_capacity revisions.new) }
@@ -316,6 +319,7 @@ impl Keys {
     }
 
     /// The newest event of a key, if a kept revision changed it. Its chain is looked for at the hint first.
+    #[inline(always)]
     fn newest_event(&self, key: &str, hint: usize) -> Option<&Event>
         ensures about { IfSome (option_copied result) (λ event. key_of_event event ≡ key.now) }
         ensures value { after_event (option_copied result) (opened_state self.now.history.opening key.now) ≡ key_now self.now.history key.now }
@@ -332,6 +336,7 @@ impl Keys {
     }
 
     /// What a key is since its newest event, and without one what it was before the revisions that are kept.
+    #[inline(always)]
     fn state_since<'a>(
         &'a self,
         newest: Option<&'a Event>,
@@ -347,6 +352,7 @@ impl Keys {
     }
 
     /// What a change shows in the next revision. Its key's chain is looked for at the hint first.
+    #[inline(always)]
     fn show_change(&self, change: Change, hint: usize) -> Result<Event, AllocError>
         ensures { IfOk result (λ event. event ≡ event_of (now self.now.history + 1) (key_now self.now.history) change) }
     {

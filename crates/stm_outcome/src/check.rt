@@ -64,6 +64,7 @@ fn clashes_later(op: &Op, later: &[Op]) -> bool
 }
 
 /// Whether an operation of a branch clashes with a later one.
+#[inline(always)]
 fn branch_clashes(ops: &[Op]) -> bool
     ensures { result ≡ has_clash ops.now }
 {

@@ -17,6 +17,7 @@ pub struct ShortList<T> {
 }
 
 impl<T: Drop> Drop for ShortList<T> {
+    #[inline(always)]
     fn drop(self) {
         let ShortList { items: _ } = self;
     }

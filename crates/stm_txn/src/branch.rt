@@ -91,6 +91,7 @@ fn answer(keys: &Keys, changes: &[Change], op: &Op) -> Result<OpAnswer, AllocErr
 }
 
 /// The change of a put.
+#[inline(always)]
 pub(crate) fn put_of(key: &Text, value: &Text, lease: u64) -> Result<Change, AllocError>
     ensures { IfOk result (λ c. c ≡ Put key.now value.now lease) }
 {

@@ -30,6 +30,7 @@ impl Changes {
     }
 
     /// Adds them to the keys as one revision.
+    #[inline(always)]
     pub(crate) fn apply(self, keys: &mut Keys) -> Result<u64, ApplyRefusal>
         requires revision { IsRevision (changes_held self) }
         requires present { DeletePresent keys.old.history (changes_held self) }

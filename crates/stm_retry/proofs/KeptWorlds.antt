@@ -76,7 +76,6 @@ use Rattle.stm_world.proofs.Appending.{events_append}
 use Rattle.stm_world.proofs.Sound.{opened_is_sound, step_is_sound, base_is_reached}
 use Rattle.stm_retry.specs.Returns.{IsStep, IsUnchanged, IsCutShort, OutOfMemoryReturns, RefusalReturns, Returns, is_out_of_memory}
 use Rattle.stm_retry.specs.Kept.{whole_store, whole_world, kept_world, IsKeptBy, compact_kept, KeptReturns, BasesAreReached}
-use Rattle.stm_retry.proofs.CallLemmas.{refusal_reports}
 use Rattle.stm_retry.proofs.StepLemmas.{fetched_step, step_fetches, listed_step, step_lists}
 use Rattle.stm_retry.proofs.WorldLemmas.{refusal_cases, reports_sound}
 

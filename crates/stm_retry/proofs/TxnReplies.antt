@@ -14,7 +14,7 @@ use Rattle.stm_outcome.specs.Terms.{Terms}
 use Rattle.stm_outcome.specs.Compares.{first_failed}
 use Rattle.stm_outcome.specs.Branches.{Progress, begun, answers_after, with_change_made, change_made}
 use Rattle.stm_outcome.specs.Outcome.{Done, chosen, outcome}
-use Rattle.stm_outcome.proofs.Applying.{IsDone, is_done}
+use Rattle.stm_outcome.proofs.Applying.{is_done}
 use Rattle.stm_txn.specs.Standing.{Step, step_of, terms_of, transacted, refusal_of}
 use Rattle.stm_journal.specs.JournalState.{JournalState, JournalStep}
 use Rattle.stm_journal.specs.Entering.{made, entered, or_out_of_memory}

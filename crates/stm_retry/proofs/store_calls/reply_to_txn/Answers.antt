@@ -1,5 +1,4 @@
-use Rattle.std.proofs.Common.{◌≡◌, ◌∙◌, Ok, refl, sym, ap}
-use Rattle.stm_outcome.specs.declared.refusal.Refusal.{Refusal}
+use Rattle.std.proofs.Common.{◌≡◌, ◌∙◌, Ok, refl, ap}
 use Rattle.stm_txn.specs.Standing.{Standing, transacted, refusal_of}
 use Rattle.stm_journal.specs.JournalState.{JournalState}
 use Rattle.stm_journal.specs.Entering.{made, or_out_of_memory}

@@ -5,12 +5,11 @@ use anyhow::{Result, bail};
 use std::alloc::{AllocError, Global};
 use std::sync::Wait;
 use std::thread::Threads;
-use stm_job_texts::{JobScenario, accept, open_store};
+use stm_job_texts::{JobScenario, StoreCall, accept, open_store};
 use stm_meaning::State;
 use stm_texts::opens_with;
 use stm_txn::Store;
 use stm_workers::{FaultCause, Gathered, Hall, Job, NoGate, RunFault, run_workers};
-use stm_world::WorldEvent;
 
 /// How many workers there are.
 const WORKERS: usize = 2;
@@ -34,7 +33,7 @@ fn transfers_again(alloc: Global) -> Result<JobScenario> {
 }
 
 /// The store with the accounts, by a second call where the first was refused.
-fn store_again(alloc: Global, calls: &[WorldEvent]) -> Result<Store, AllocError> {
+fn store_again(alloc: Global, calls: &[StoreCall]) -> Result<Store, AllocError> {
     match open_store(alloc, opens_with(None), calls) {
         Ok(store) => Ok(store),
         Err(_) => open_store(alloc, opens_with(None), calls),

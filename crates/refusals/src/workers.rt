@@ -107,8 +107,8 @@ fn run_rest<T: Threads + Wait + Sync>(
 /// Prints why a run was broken off. Fails where it should not have been.
 fn report_cause(rt: &impl Eprint, cause: FaultCause) -> Result<()> {
     match cause {
-        FaultCause::OutOfMemory => eprintln!(rt; "broken off for want of memory")?,
-        FaultCause::Spawn => eprintln!(rt; "broken off for want of a thread")?,
+        FaultCause::OutOfMemory => eprintln!(rt; "broken off: out of memory")?,
+        FaultCause::Spawn => eprintln!(rt; "broken off: no thread")?,
         FaultCause::Audit { job } => bail!("the end of job {job} does not stand"),
     }
     Ok(())

@@ -73,7 +73,7 @@ fn look_between(store: &Store, expired: &[Expired]) -> Result<()> {
         bail!("key a is not as its lease is");
     }
     if !has(store, "b") {
-        bail!("key b is gone before its lease is told");
+        bail!("key b is gone before its lease is reported");
     }
     Ok(())
 }
@@ -93,7 +93,7 @@ fn advance_again(store: &mut Store, expired: &mut Vec<Expired>) -> Result<()> {
 
 /// Prints how far an advance had come.
 fn report_cut(rt: &impl Eprint, leases: usize) -> Result<()> {
-    eprintln!(rt; "stopped with {leases} leases told")?;
+    eprintln!(rt; "stopped after {leases} expired leases")?;
     Ok(())
 }
 

@@ -5,12 +5,11 @@ use anyhow::{Result, bail};
 use std::alloc::{AllocError, Global};
 use std::sync::Wait;
 use std::thread::Threads;
-use stm_job_texts::{JobScenario, accept, open_store};
+use stm_job_texts::{JobScenario, StoreCall, accept, open_store};
 use stm_meaning::State;
 use stm_texts::opens_with;
 use stm_txn::Store;
 use stm_workers::{FaultCause, Gathered, Hall, Job, NoGate, RunFault, run_workers};
-use stm_world::WorldEvent;
 
 /// How many workers there are.
 const WORKERS: usize = 2;
@@ -34,7 +33,7 @@ fn transfers_again(alloc: Global) -> Result<JobScenario> {
 }
 
 /// The store with the accounts, by a second call where the first was refused.
-fn store_again(alloc: Global, calls: &[WorldEvent]) -> Result<Store, AllocError> {
+fn store_again(alloc: Global, calls: &[StoreCall]) -> Result<Store, AllocError> {
     match open_store(alloc, opens_with(None), calls) {
         Ok(store) => Ok(store),
         Err(_) => open_store(alloc, opens_with(None), calls),
@@ -108,8 +107,8 @@ fn run_rest<T: Threads + Wait + Sync>(
 /// Prints why a run was broken off. Fails where it should not have been.
 fn report_cause(rt: &impl Eprint, cause: FaultCause) -> Result<()> {
     match cause {
-        FaultCause::OutOfMemory => eprintln!(rt; "broken off for want of memory")?,
-        FaultCause::Spawn => eprintln!(rt; "broken off for want of a thread")?,
+        FaultCause::OutOfMemory => eprintln!(rt; "broken off: out of memory")?,
+        FaultCause::Spawn => eprintln!(rt; "broken off: no thread")?,
         FaultCause::Audit { job } => bail!("the end of job {job} does not stand"),
     }
     Ok(())

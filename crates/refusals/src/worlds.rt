@@ -94,7 +94,7 @@ fn add_rest(replies: &mut Replies, before: Sequence<Expired>, rest: Replies) -> 
 /// Prints how far a run had come.
 fn report_stop(rt: &impl Eprint, stop: &RunStop) -> Result<()> {
     let leases = stop.expired.len();
-    eprintln!(rt; "stopped with {leases} leases told")?;
+    eprintln!(rt; "stopped after {leases} expired leases")?;
     Ok(())
 }
 

@@ -79,10 +79,10 @@ const VERSION: &str = "0.1.0 (rattle-kit-13f)";
 
 const EXAMPLE: &str = "A scenario is a JSON array of events, in their order:
 
-  [\"start\",LEVEL,LIMIT,PROGRAM]       a runner gets the program, whose run may send so many commits
+  [\"start\",LEVEL,LIMIT,PROGRAM]       a runner gets the program, whose run may send LIMIT commits
   [\"step\",RUNNER]                     the runner fetches its list or a key, or commits
   [\"txn\",[CMP,..],[OP,..],[OP,..]]    another client's transaction: compares, success, failure
-  [\"grant\",ID,TTL]                    a lease is granted for so many seconds
+  [\"grant\",ID,TTL]                    a lease is granted for TTL seconds
   [\"keep\",ID] and [\"revoke\",ID]       a lease is renewed, or ends with its keys
   [\"advance\",NOW]                     the moment is set, and the leases that are due end with their keys
   [\"watch_key\",KEY,FROM]              a key is watched from a revision on (0: the next one)
@@ -104,7 +104,7 @@ the end line:
   [\"key\",\"a\",\"1\",2,2,1,0]
   [\"end\",2,1]
 
-Statuses: 0 done or yes, 1 no, 2 bad input or usage, 3 want of memory, a failed device, or a run of threads
+Statuses: 0 done or yes, 1 no, 2 bad input or usage, 3 out of memory, a failed device, or a run of threads
 that was broken off; of explore also 1 for a rule that is broken, and 4 where all its events were taken.";
 
 const SCRIPT_EXAMPLE: &str =
@@ -143,9 +143,9 @@ The place is a JSON Pointer: the indices of the arrays around it, counted from 0
 With --explain a second line says where that is, what was found there and what is allowed; check, threads and
 explore have --explain too:
 
-  s.json:1:2: elements behind \"step\": 0 found, 1 wanted
+  s.json:1:2: elements after \"step\": 0 found, 1 wanted
 
-Behind the report of a good scenario it says of each run that came to a fault, threads of each job and explore of
+After the report of a good scenario it says of each run that came to a fault, threads of each job and explore of
 a rule that did, at which place the program stopped and on which values:
 
   s.json:3:38: event 4: NotANumber of runner 1 at /1/3/0/2/1/1: \"seven\" is no whole number of 64 bits
@@ -178,16 +178,16 @@ The line faulted says what ended a program:
   TextTooLong   a text of more than 65536 bytes is made
   EmptyKey      a key is empty
 
-Statuses: 0 done, 2 bad input or usage, 3 want of memory or a failed device.";
+Statuses: 0 done, 2 bad input or usage, 3 out of memory or a failed device.";
 
 const CHECK_EXAMPLE: &str =
     "Prints yes where no line of the report is wrong, and else no LINE CAUSE: the first wrong line, counted
 from 1, and why it is wrong:
 
-  Count     it is missing, or stands behind the end line
+  Count     it is missing, or stands after the end line
   Event     it stands in an event's place, and is no line that this event can have there
-  Replay    it tells of a commit, a change or a refusal something else than the replay gives
-  Final     it stands behind the events' lines, and is not the key, lease or end line that is due there
+  Replay    it says of a commit, a change or a refusal something else than the replay gives
+  Final     it stands after the events' lines, and is not the key, lease or end line that is due there
 
 What was fetched, what failed and what a watcher was given is not compared. With --whole every line is, with
 what script prints, and yes means that REPORT is just that. Else no LINE Differs is printed, with the first
@@ -199,12 +199,12 @@ If s.json holds the example of stmrun --help and r.txt its report,
 
 prints yes. Where r.txt has another value in the line of key a, it prints no 3 Final.
 
-Statuses: 0 yes, 1 no, 2 bad input or usage, 3 want of memory or a failed device.";
+Statuses: 0 yes, 1 no, 2 bad input or usage, 3 out of memory or a failed device.";
 
 const THREADS_EXAMPLE: &str =
     "Each start of the scenario is a job, numbered from 0. Its txn, grant, keep, revoke and advance events are
 applied to the store first, in their order; another event, and a limit of 0, is bad input. The threads
-draw jobs, run them on one store behind one lock, and a job whose commit fails is tried again until it has
+draw jobs, run them on one store under one lock, and a job whose commit fails is tried again until it has
 sent LIMIT commits. Printed are how many jobs there are, how many of them committed, the value of each key
 that is present, and the revision. If s.json holds
 
@@ -218,18 +218,18 @@ then stmrun threads --workers 2 s.json prints
   [\"value\",\"b\",\"1\"]
   [\"end\",3]
 
-With --ends a line for each job stands behind the second, [\"job\",0,\"committed\",3,1] here: the job's number, how it
+With --ends a line for each job stands after the second, [\"job\",0,\"committed\",3,1] here: the job's number, how it
 ended, the revision after its commit, its abort's text, its fault, why it was refused (ended), or the key of
 its last conflict (gaveup), and how many attempts of it were made.
 
-With --repeat RUNS so many runs are made, each on a store of its own, and printed is what they came to, as stmrun
-explore prints it, with how often each outcome came: the keys with their values, how each job ended, and the number
+With --repeat RUNS the jobs are run RUNS times, each time on a new store, and what these runs came to is printed as
+stmrun explore prints it, with how often each outcome came: the keys with their values, how each job ended, and the number
 of runs that came to that. The last line has the number of all. Of the same file, --repeat 1000 prints
 
   [\"outcome\",[[\"a\",\"1\"],[\"b\",\"1\"]],[[\"committed\",[]]],1000]
   [\"runs\",1000]
 
-Which job goes first is not said, nor that the run ends. Statuses: 0 done, 2 bad input or usage, 3 want of
+Which job goes first is not said, nor that the run ends. Statuses: 0 done, 2 bad input or usage, 3 out of
 memory, a failed device, no thread, or a job whose end is not what the store says (audit JOB).";
 
 const RECIPE_EXAMPLE: &str =
@@ -239,7 +239,7 @@ const RECIPE_EXAMPLE: &str =
   transfer FROM TO AMOUNT           moves an amount from one account to another; aborts with insufficient
                                     where the first has less. An account is a key whose value is a number
   deposit ACCOUNT AMOUNT            adds an amount to an account, which counts as 0 where it is absent
-  enqueue QUEUE ITEM                puts an item behind the others of a queue
+  enqueue QUEUE ITEM                puts an item at the end of a queue
   dequeue QUEUE                     puts out the first item and deletes it; aborts with empty where there is
                                     none. A queue keeps its items under QUEUE/0, QUEUE/1 and so on, and where
                                     they begin and end under QUEUE/head and QUEUE/tail
@@ -249,7 +249,7 @@ const RECIPE_EXAMPLE: &str =
                                     another value
 
 FROM, TO, ACCOUNT, QUEUE, ITEM, SLOT and HOLDER have 1 to 1024 bytes, AMOUNT is a whole number from 0 to
-4294967295, LEASE one from 0 to 9223372036854775807. Words that begin with - stand behind --.
+4294967295, LEASE one from 0 to 9223372036854775807. Words that begin with - stand after --.
 
   stmrun recipe deposit a 30
 
@@ -260,7 +260,7 @@ prints the program of this scenario, which makes account a and puts 30 there:
      [\"put\",\"a\",[\"text_of\",[\"add\",[\"num_of\",[\"var\",0]],30]],0]]],
    [\"step\",1],[\"step\",1]]
 
-Statuses: 0 done, 2 usage, 3 want of memory or a failed device.";
+Statuses: 0 done, 2 usage, 3 out of memory or a failed device.";
 
 /// What is said of words that are not UTF-8, in the manner of the other usage faults.
 const NOT_TEXT: &str = "error: the command line is not UTF-8

@@ -15,16 +15,16 @@ pub(crate) const USUAL_BUDGET: u64 = 5000000;
 
 const EXAMPLE: &str =
     "SCENARIO is a scenario without steps. Its events up to the last start are run first. Then every schedule is looked
-at: each way in which the runners' steps and the events behind the last start, in their order, can be mixed, and each
+at: each way in which the runners' steps and the events after the last start, in their order, can be mixed, and each
 beginning of such a way, the shortest first.
 
 With --keeps, PROGRAM is a rule: a program, as a start has one, that is run alone on the state after each schedule. Where
 it comes to its last statement the schedule keeps the rule; where it aborts, or comes to a fault, the rule is broken:
 
-  [\"always\",LENGTH]        every schedule keeps it, and the longest has so many moves
+  [\"always\",LENGTH]        every schedule keeps it, and the longest has LENGTH moves
   [\"broken\",LENGTH,END]    this is the first that does not, with [\"aborted\",TEXT] or [\"faulted\",FAULT], and the next line
                            is the scenario with its steps in it, which stmrun script takes
-  [\"open\",LENGTH]          N events were taken before that was decided; every schedule of up to so many moves keeps it
+  [\"open\",LENGTH]          N events were taken before that was decided; every schedule of up to LENGTH moves keeps it
 
 Without --keeps, what whole schedules come to is printed, after which no move is left, each once: the keys with their
 values, and how each runner ended ([\"committed\",OUTPUT], [\"gaveup\",KEY], [\"aborted\",TEXT], [\"faulted\",FAULT] or
@@ -42,7 +42,7 @@ then stmrun explore s.json prints
 
 and of stmrun explore --level Serializable s.json none of the lines has both keys.
 
-Statuses: 0 always, or all outcomes were found, 1 broken, 2 bad input or usage, 3 want of memory or a failed device,
+Statuses: 0 always, or all outcomes were found, 1 broken, 2 bad input or usage, 3 out of memory or a failed device,
 4 open.";
 
 /// What is said of a name that no level has, in the manner of the other usage faults.

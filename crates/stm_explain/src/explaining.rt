@@ -86,7 +86,7 @@ fn miscounted(
         return format!(in alloc; "\"{word}\" has no place {nowhere}");
     }
     let number = wants.number();
-    format!(in alloc; "elements behind \"{word}\": {has} found, {number} wanted")
+    format!(in alloc; "elements after \"{word}\": {has} found, {number} wanted")
 }
 
 /// What is said of an array that begins with a word.

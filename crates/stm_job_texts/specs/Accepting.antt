@@ -7,13 +7,22 @@ use Rattle.stm_json.specs.Outcome.{Outcome, bad, ◌>>=◌, within}
 use Rattle.stm_events.specs.declared.event.WorldEvent.{WorldEvent}
 use Rattle.stm_events.specs.declared.event.WorldEvent.TheVariants.{Start, Step, Txn, Grant, Keep, Revoke, Advance}
 use Rattle.stm_events.specs.declared.event.WorldEvent.TheVariants.{WatchKey, WatchRange, Poll, Cancel, Compact}
-use Rattle.stm_world.specs.Task.{Task}
 use Rattle.stm_texts.specs.declared.scenario.Scenario.{Scenario}
 use Rattle.stm_texts.specs.declared.scenario.Opening.{Opening}
 use Rattle.stm_texts.specs.Opens.{setup_of}
+use Rattle.stm_program.specs.Syntax.{ProgramTree}
+use Rattle.stm_program.specs.declared.level.Level.{Level}
 use Rattle.stm_job.specs.declared.job.Job.{Job}
 use Rattle.stm_job_texts.specs.declared.accepting.JobScenario.{JobScenario}
+use Rattle.stm_job_texts.specs.declared.store_call.StoreCall.{StoreCall}
+use Rattle.stm_job_texts.specs.declared.store_call.StoreCall.TheVariants as call
 use Rattle.stm_txn.specs.Standing.{Setup}
+
+-- a program, the level that it commits at, and how many commits its run may send
+pub record Task : Type 0 where
+  pub program : ProgramTree
+  pub level : Level
+  pub limit : ℕ
 
 -- what a job is, but for the fact that it may send a commit
 abbrev pub task_of : Job → Task
@@ -21,7 +30,7 @@ task_of job = record { program = job.program; level = job.level; limit = job.lim
 
 -- the calls of the store and the jobs, in their orders
 pub record Sorted : Type 0 where
-  pub calls : List WorldEvent
+  pub calls : List StoreCall
   pub tasks : List Task
 
 abbrev pub nothing_sorted : Sorted
@@ -30,8 +39,8 @@ nothing_sorted = record { calls = []; tasks = [] }
 abbrev pub sorted_of : JobScenario → Sorted
 sorted_of scenario = record { calls = scenario.calls; tasks = map task_of scenario.jobs }
 
-abbrev pub add_call : Sorted → WorldEvent → Outcome Sorted
-add_call s call = Ok (record { calls = s.calls ++ call ∷ []; tasks = s.tasks })
+abbrev pub add_call : Sorted → StoreCall → Outcome Sorted
+add_call s added = Ok (record { calls = s.calls ++ added ∷ []; tasks = s.tasks })
 
 abbrev pub add_task : Sorted → Task → Outcome Sorted
 add_task s task =
@@ -41,11 +50,11 @@ add_task s task =
 abbrev pub add_event : Sorted → WorldEvent → Outcome Sorted
 add_event s (Start program level limit) = add_task s (record { program = program; level = level; limit = limit })
 add_event s (Step id) = bad Shape
-add_event s (Txn txn) = add_call s (Txn txn)
-add_event s (Grant id ttl) = add_call s (Grant id ttl)
-add_event s (Keep id) = add_call s (Keep id)
-add_event s (Revoke id) = add_call s (Revoke id)
-add_event s (Advance moment) = add_call s (Advance moment)
+add_event s (Txn txn) = add_call s (call.Txn txn)
+add_event s (Grant id ttl) = add_call s (call.Grant id ttl)
+add_event s (Keep id) = add_call s (call.Keep id)
+add_event s (Revoke id) = add_call s (call.Revoke id)
+add_event s (Advance moment) = add_call s (call.Advance moment)
 add_event s (Compact revision) = bad Shape
 add_event s (WatchKey key from) = bad Shape
 add_event s (WatchRange first end from) = bad Shape

@@ -3,25 +3,26 @@ ghost use Rattle.std.specs.Prelude.{◌≡◌, ◌≤◌};
 ghost use Rattle.stm_json.specs.Returns.{Returns};
 ghost use Rattle.stm_job_texts.specs.Accepting.{sorted_of, shift_of, add_call, add_task, add_event, accepted};
 
+use crate::store_call::StoreCall;
 use std::alloc::Global;
+use stm_events::WorldEvent;
 use stm_history::Sequence;
 use stm_job::Job;
 use stm_json::{Cause, ReadError, fault, within};
 use stm_program::{Level, Program};
 use stm_texts::{Opening, Scenario};
-use stm_world::WorldEvent;
 
 /// The events of a scenario of jobs, in their orders.
 #[derive(Drop)]
 pub struct JobScenario {
-    /// Those that are applied to the store.
-    pub calls: Sequence<WorldEvent>,
+    /// Those that are made of the store.
+    pub calls: Sequence<StoreCall>,
     /// The jobs.
     pub jobs: Sequence<Job>,
 }
 
 /// Adds a call of the store.
-fn add_call(sorted: &mut JobScenario, call: WorldEvent) -> Result<(), ReadError>
+fn add_call(sorted: &mut JobScenario, call: StoreCall) -> Result<(), ReadError>
     ensures { Returns (λ _. sorted_of sorted.new) result (add_call (sorted_of sorted.old) call) }
 {
     sorted.calls.push(call)?;
@@ -59,11 +60,11 @@ fn add(alloc: Global, sorted: &mut JobScenario, event: WorldEvent) -> Result<(),
             level,
             limit,
         } => add_job(alloc, sorted, program, level, limit),
-        WorldEvent::Txn { txn } => add_call(sorted, WorldEvent::Txn { txn }),
-        WorldEvent::Grant { id, ttl } => add_call(sorted, WorldEvent::Grant { id, ttl }),
-        WorldEvent::Keep { id } => add_call(sorted, WorldEvent::Keep { id }),
-        WorldEvent::Revoke { id } => add_call(sorted, WorldEvent::Revoke { id }),
-        WorldEvent::Advance { now } => add_call(sorted, WorldEvent::Advance { now }),
+        WorldEvent::Txn { txn } => add_call(sorted, StoreCall::Txn { txn }),
+        WorldEvent::Grant { id, ttl } => add_call(sorted, StoreCall::Grant { id, ttl }),
+        WorldEvent::Keep { id } => add_call(sorted, StoreCall::Keep { id }),
+        WorldEvent::Revoke { id } => add_call(sorted, StoreCall::Revoke { id }),
+        WorldEvent::Advance { now } => add_call(sorted, StoreCall::Advance { now }),
         WorldEvent::Step { .. } => Err(fault(alloc, Cause::Shape)),
         WorldEvent::Compact { .. } => Err(fault(alloc, Cause::Shape)),
         WorldEvent::WatchKey { .. } => Err(fault(alloc, Cause::Shape)),

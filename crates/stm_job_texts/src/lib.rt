@@ -8,6 +8,7 @@ mod accepting;
 mod opening;
 mod outcome;
 mod printing;
+mod store_call;
 mod tally;
 
 pub use accepting::{JobScenario, accept};
@@ -20,5 +21,5 @@ pub use stm_job::{Gathered, Job};
 pub use stm_json::{BadInput, Cause, ReadError};
 pub use stm_texts::Scenario;
 pub use stm_txn::Store;
-pub use stm_world::WorldEvent;
+pub use store_call::StoreCall;
 pub use tally::{count_one, tally_text};

@@ -3,7 +3,7 @@ use Rattle.std.proofs.Common.{◌≡◌, ℕ, ◌+◌, List, [], ◌∷◌, ◌+
 use Rattle.std.specs.Prelude.{sum}
 use Rattle.std.specs.Map.{values_of}
 use Rattle.std.proofs.lemmas.List.Elements.{All-nil, All-push}
-use Rattle.stm_events.specs.declared.event.WorldEvent.{WorldEvent}
+use Rattle.stm_job_texts.specs.declared.store_call.StoreCall.{StoreCall}
 use Rattle.stm_job.specs.declared.job.Job.{Job}
 use Rattle.stm_job_texts.specs.Outcomes.{Tally, Counts}
 use Rattle.stm_job_texts.proofs.TallyLemmas.{no_text}
@@ -11,7 +11,7 @@ use Rattle.stm_threading.specs.Running.{AreCounted, HasCounted, IsOutcome}
 use Rattle.stm_txn.specs.Standing.{Setup}
 
 -- none was made
-pub none_made : (start : Setup) (calls : List WorldEvent) (jobs : List Job) (tally : Tally) → tally ≡ [] → AreCounted 0 start calls jobs tally
+pub none_made : (start : Setup) (calls : List StoreCall) (jobs : List Job) (tally : Tally) → tally ≡ [] → AreCounted 0 start calls jobs tally
 none_made start calls jobs tally none = record {
   texts = [];
   many = refl;
@@ -20,12 +20,12 @@ none_made start calls jobs tally none = record {
 }
 
 -- the numbers in the tally add up to how many were made
-pub all_made : (runs : ℕ) (start : Setup) (calls : List WorldEvent) (jobs : List Job) (tally : Tally) → AreCounted runs start calls jobs tally
+pub all_made : (runs : ℕ) (start : Setup) (calls : List StoreCall) (jobs : List Job) (tally : Tally) → AreCounted runs start calls jobs tally
     → sum (values_of tally) ≡ runs
 all_made runs start calls jobs tally made = made.counted.total ∙ made.many
 
 -- one more was made
-pub one_made : (runs : ℕ) (start : Setup) (calls : List WorldEvent) (jobs : List Job) (before after : Tally) → AreCounted runs start calls jobs before
+pub one_made : (runs : ℕ) (start : Setup) (calls : List StoreCall) (jobs : List Job) (before after : Tally) → AreCounted runs start calls jobs before
     → HasCounted start calls jobs before after → AreCounted (runs + 1) start calls jobs after
 one_made runs start calls jobs before after made more = record {
   texts = made.texts ++ more.0 ∷ [];

@@ -9,7 +9,7 @@ use Rattle.stm_json.specs.declared.read_error.ReadError.TheVariants as error
 use Rattle.stm_json.specs.Outcome.{Outcome as Reading}
 use Rattle.stm_json.specs.Returns.{ReturnsFault}
 use Rattle.stm_texts.specs.declared.scenario.Scenario.{Scenario}
-use Rattle.stm_events.specs.declared.event.WorldEvent.{WorldEvent}
+use Rattle.stm_job_texts.specs.declared.store_call.StoreCall.{StoreCall}
 use Rattle.stm_devices.specs.Ends.{Devices}
 use Rattle.stm_texts.proofs.Fronts.{pending_of_revision}
 use Rattle.stm_txn.specs.Standing.{Standing}
@@ -38,7 +38,7 @@ of_both (Err e) P Q R p q follows = tt
 -- ---- the run
 
 -- the text is of the hall that the jobs were run to, from the one over this store
-pub is_of_run : (shown : Shown) (start : Setup) (calls : List WorldEvent) (jobs : List Job) (text : List ℕ) (standing : Standing) (ends : List JobEnd)
+pub is_of_run : (shown : Shown) (start : Setup) (calls : List StoreCall) (jobs : List Job) (text : List ℕ) (standing : Standing) (ends : List JobEnd)
     (attempts : List ℕ) (committed : ℕ) (before after : JournalState) → standing ≡ store_after start calls → before ≡ made_over standing
     → RanTo before jobs ends attempts committed after → IsTextOf shown ends attempts (length jobs) committed after text
     → IsOfRun shown start calls jobs ends text
@@ -51,7 +51,7 @@ is_of_run shown start calls jobs text standing ends attempts committed before af
 }
 
 -- a run from the hall over this store that was broken off is reported by its cause
-pub broken_off : (start : Setup) (calls : List WorldEvent) (jobs : List Job) (fault : JobsFault) (cause : FaultCause) (standing : Standing) (ends : List JobEnd)
+pub broken_off : (start : Setup) (calls : List StoreCall) (jobs : List Job) (fault : JobsFault) (cause : FaultCause) (standing : Standing) (ends : List JobEnd)
     (before after : JournalState) → standing ≡ store_after start calls → before ≡ made_over standing
     → BrokeOff before jobs cause ends after → fault ≡ fault_reported cause → IsBrokenOff start calls jobs fault
 broken_off start calls jobs fault cause standing ends before after stands made broke reported =
@@ -68,12 +68,12 @@ broken_off start calls jobs fault cause standing ends before after stands made b
     by_cause (AtFault job) broken = broken
 
 -- one that was not is reported as out of memory
-pub no_room : (start : Setup) (calls : List WorldEvent) (jobs : List Job) (fault : JobsFault) → fault ≡ OutOfMemory → IsBrokenOff start calls jobs fault
+pub no_room : (start : Setup) (calls : List StoreCall) (jobs : List Job) (fault : JobsFault) → fault ≡ OutOfMemory → IsBrokenOff start calls jobs fault
 no_room start calls jobs fault reported = subst (λ (f : JobsFault). IsBrokenOff start calls jobs f) (sym reported) tt
 
 -- ---- what is answered
 
-broken_at : (s : Scenario) (sorted : Sorted) (start : Setup) (calls : List WorldEvent) (jobs : List Job) (cause : FaultCause) → accepted s ≡ Ok sorted
+broken_at : (s : Scenario) (sorted : Sorted) (start : Setup) (calls : List StoreCall) (jobs : List Job) (cause : FaultCause) → accepted s ≡ Ok sorted
     → start ≡ opening_of s → calls ≡ sorted.calls → map task_of jobs ≡ sorted.tasks → IsBrokenOffFor start calls jobs cause → IsBrokenOffOf (Ok s) cause
 broken_at s sorted start calls jobs cause is_accepted opens called are_its broken = (
   s,
@@ -83,14 +83,14 @@ broken_at s sorted start calls jobs cause is_accepted opens called are_its broke
     is_accepted = is_accepted;
     jobs = jobs;
     are_its = are_its;
-    of_run = subst (λ (cs : List WorldEvent). IsBrokenOffFor (opening_of s) cs jobs cause) called
+    of_run = subst (λ (cs : List StoreCall). IsBrokenOffFor (opening_of s) cs jobs cause) called
         (subst (λ n. IsBrokenOffFor n calls jobs cause) opens broken);
   },
 )
 
 module _ (printing : Printing) where
   -- of a scenario that was accepted: the lines of a run of its jobs, or a run that was broken off
-  pub answers_of : (s : Scenario) (sorted : Sorted) (start : Setup) (calls : List WorldEvent) (jobs : List Job) (result : Result Printed JobsFault)
+  pub answers_of : (s : Scenario) (sorted : Sorted) (start : Setup) (calls : List StoreCall) (jobs : List Job) (result : Result Printed JobsFault)
       → accepted s ≡ Ok sorted → start ≡ opening_of s → calls ≡ sorted.calls → map task_of jobs ≡ sorted.tasks
       → IfOk result (λ p. IsPrintedOfJobs printing start calls jobs p.ends (string_bytes p.text)) → IfErr result (IsBrokenOff start calls jobs)
       → Answers printing (Ok s) result
@@ -104,7 +104,7 @@ module _ (printing : Printing) where
           is_accepted = is_accepted;
           jobs = jobs;
           are_its = are_its;
-          of_jobs = subst (λ (cs : List WorldEvent). IsPrintedOfJobs printing (opening_of s) cs jobs p.ends (string_bytes p.text)) called from_there;
+          of_jobs = subst (λ (cs : List StoreCall). IsPrintedOfJobs printing (opening_of s) cs jobs p.ends (string_bytes p.text)) called from_there;
         },
       )
   answers_of s sorted start calls jobs (Err OutOfMemory) is_accepted opens called are_its printed broken = tt

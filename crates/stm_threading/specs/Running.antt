@@ -8,7 +8,7 @@ use Rattle.stm_json.specs.Outcome.{Outcome as Reading, ◌>>=◌}
 use Rattle.stm_texts.specs.declared.scenario.Scenario.{Scenario}
 use Rattle.stm_texts.specs.Reading.{scenario_in}
 use Rattle.stm_devices.specs.Ends.{Devices, IsUntouched}
-use Rattle.stm_events.specs.declared.event.WorldEvent.{WorldEvent}
+use Rattle.stm_job_texts.specs.declared.store_call.StoreCall.{StoreCall}
 use Rattle.stm_journal.specs.JournalState.{JournalState, made_over}
 use Rattle.stm_job.specs.declared.job.Job.{Job}
 use Rattle.stm_job.specs.declared.job_end.JobEnd.{JobEnd}
@@ -38,7 +38,7 @@ IsTextOf Outcome ends attempts jobs committed after text = IsFrontOf ends after 
 
 -- The text is that of a run of these jobs from a hall over the store that opens so and has taken these calls: what stands in it is the hall that
 -- the run came to, and each job has its end there.
-pub record IsOfRun (shown : Shown) (start : Setup) (calls : List WorldEvent) (jobs : List Job) (ends : List JobEnd) (text : List ℕ) : Type 0 where
+pub record IsOfRun (shown : Shown) (start : Setup) (calls : List StoreCall) (jobs : List Job) (ends : List JobEnd) (text : List ℕ) : Type 0 where
   pub attempts : List ℕ
   pub committed : ℕ
   pub after : JournalState
@@ -46,39 +46,39 @@ pub record IsOfRun (shown : Shown) (start : Setup) (calls : List WorldEvent) (jo
   pub shows : IsTextOf shown ends attempts (length jobs) committed after text
 
 -- the text is the front of the line of the outcome of such a run
-abbrev pub IsOutcome : Setup → List WorldEvent → List Job → List ℕ → Type 0
+abbrev pub IsOutcome : Setup → List StoreCall → List Job → List ℕ → Type 0
 IsOutcome start calls jobs text = (ends : List JobEnd) × IsOfRun Outcome start calls jobs ends text
 
 -- one more text was counted, that of such a run
-abbrev pub HasCounted : Setup → List WorldEvent → List Job → Tally → Tally → Type 0
+abbrev pub HasCounted : Setup → List StoreCall → List Job → Tally → Tally → Type 0
 HasCounted start calls jobs before after =
     (text : List ℕ) × IsOutcome start calls jobs text
     × ((texts : List (List ℕ)) → Counts texts before → Counts (texts ++ text ∷ []) after)
 
 -- The tally is that of `runs` texts, each of them that of such a run. That a run was made for each is the body's matter: two of them may be of
 -- one run.
-pub record AreCounted (runs : ℕ) (start : Setup) (calls : List WorldEvent) (jobs : List Job) (tally : Tally) : Type 0 where
+pub record AreCounted (runs : ℕ) (start : Setup) (calls : List StoreCall) (jobs : List Job) (tally : Tally) : Type 0 where
   pub texts : List (List ℕ)
   pub many : length texts ≡ runs
   pub each : All (IsOutcome start calls jobs) texts
   pub counted : Counts texts tally
 
 -- what is printed of these jobs: of a run of them, in which they ended so, or what `runs` runs came to, of which no end is reported
-abbrev pub IsPrintedOfJobs : Printing → Setup → List WorldEvent → List Job → List JobEnd → List ℕ → Type 0
+abbrev pub IsPrintedOfJobs : Printing → Setup → List StoreCall → List Job → List JobEnd → List ℕ → Type 0
 IsPrintedOfJobs PrintValues start calls jobs ends text = IsOfRun Values start calls jobs ends text
 IsPrintedOfJobs PrintEnds start calls jobs ends text = IsOfRun Ends start calls jobs ends text
 IsPrintedOfJobs (PrintOutcomes runs) start calls jobs ends text =
     (ends ≡ []) × (tally : Tally) × AreCounted runs start calls jobs tally × (text ≡ tally_text tally runs)
 
 -- the run of these jobs, from such a hall, was broken off for this cause
-pub record IsBrokenOffFor (start : Setup) (calls : List WorldEvent) (jobs : List Job) (cause : FaultCause) : Type 0 where
+pub record IsBrokenOffFor (start : Setup) (calls : List StoreCall) (jobs : List Job) (cause : FaultCause) : Type 0 where
   pub ends : List JobEnd
   pub after : JournalState
   pub broke : BrokeOff (made_over (store_after start calls)) jobs cause ends after
 
 -- What is reported of a run of these jobs of which nothing is printed: the cause for which it was broken off. Memory may run out before the run and
 -- after it, too.
-abbrev pub IsBrokenOff : Setup → List WorldEvent → List Job → JobsFault → Type 0
+abbrev pub IsBrokenOff : Setup → List StoreCall → List Job → JobsFault → Type 0
 IsBrokenOff start calls jobs OutOfMemory = Unit {0}
 IsBrokenOff start calls jobs Spawn = IsBrokenOffFor start calls jobs NoThread
 IsBrokenOff start calls jobs (Audit job) = IsBrokenOffFor start calls jobs (AtFault job)

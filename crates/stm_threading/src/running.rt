@@ -4,7 +4,7 @@ ghost use Rattle.stm_devices.specs.declared.transfer.TheConstants.{MOST_READ};
 ghost use Rattle.stm_texts.specs.Reading.{scenario_in};
 ghost use Rattle.stm_texts.specs.Opens.{IsOpening, as_setup};
 ghost use Rattle.stm_txn.specs.Standing.{Setup};
-ghost use Rattle.stm_events.specs.declared.event.WorldEvent.{WorldEvent};
+ghost use Rattle.stm_job_texts.specs.declared.store_call.StoreCall.{StoreCall};
 ghost use Rattle.stm_threading.specs.declared.running.JobsFault.TheVariants.{OutOfMemory};
 ghost use Rattle.stm_workers.specs.declared.run.TheConstants.{MOST_WORKERS};
 ghost use Rattle.std.specs.Map.{values_of};
@@ -22,12 +22,11 @@ use stm_devices::{ReadFault, Sink, Source, read_all, write_all};
 use stm_hall::Hall;
 use stm_history::{Sequence, Text};
 use stm_job::{FaultCause, Gathered, Job, JobEnd, RunFault};
-use stm_job_texts::{accept, count_one, front_of, lines, open_store, tally_text};
+use stm_job_texts::{StoreCall, accept, count_one, front_of, lines, open_store, tally_text};
 use stm_json::{BadInput, ReadError};
 use stm_texts::{Opening, Scenario, opens_with, read_scenario};
 use stm_txn::Store;
 use stm_workers::{NoGate, run_workers};
-use stm_world::WorldEvent;
 use thiserror::Error;
 
 /// Why a run of a scenario's jobs failed.
@@ -165,9 +164,9 @@ fn run_on_store<R: Threads + Wait + Sync>(
     shown: Shown,
 ) -> Result<Printed, JobsFault>
     requires { (1 ≤ workers) × (workers ≤ MOST_WORKERS) }
-    ensures shows { IfOk result (λ p. (start : Setup) (calls : List WorldEvent) → store.standing ≡ store_after start calls
+    ensures shows { IfOk result (λ p. (start : Setup) (calls : List StoreCall) → store.standing ≡ store_after start calls
         → IsOfRun shown start calls jobs.now p.ends (string_bytes p.text)) }
-    ensures fault { IfErr result (λ fault. (start : Setup) (calls : List WorldEvent) → store.standing ≡ store_after start calls
+    ensures fault { IfErr result (λ fault. (start : Setup) (calls : List StoreCall) → store.standing ≡ store_after start calls
         → IsBrokenOff start calls jobs.now fault) }
 {
     match run_workers(rt, alloc, jobs, workers, Hall::new(alloc, store), &NoGate) {
@@ -181,7 +180,7 @@ fn run_once<R: Threads + Wait + Sync>(
     rt: &R,
     alloc: Global,
     opening: Opening,
-    calls: &[WorldEvent],
+    calls: &[StoreCall],
     jobs: &[Job],
     workers: usize,
     shown: Shown,
@@ -200,7 +199,7 @@ fn count_run<R: Threads + Wait + Sync>(
     rt: &R,
     alloc: Global,
     opening: Opening,
-    calls: &[WorldEvent],
+    calls: &[StoreCall],
     jobs: &[Job],
     workers: usize,
     tally: &mut BTreeMap<Text, u64>,
@@ -222,7 +221,7 @@ fn count_runs<R: Threads + Wait + Sync>(
     rt: &R,
     alloc: Global,
     opening: Opening,
-    calls: &[WorldEvent],
+    calls: &[StoreCall],
     jobs: &[Job],
     workers: usize,
     runs: u32,
@@ -244,7 +243,7 @@ fn run_often<R: Threads + Wait + Sync>(
     rt: &R,
     alloc: Global,
     opening: Opening,
-    calls: &[WorldEvent],
+    calls: &[StoreCall],
     jobs: &[Job],
     workers: usize,
     runs: u32,
@@ -267,7 +266,7 @@ fn run_printing<R: Threads + Wait + Sync>(
     rt: &R,
     alloc: Global,
     opening: Opening,
-    calls: &[WorldEvent],
+    calls: &[StoreCall],
     jobs: &[Job],
     workers: usize,
     printing: Printing,

@@ -8,7 +8,7 @@ use Rattle.stm_report_lines.specs.Grammar.{CountsFit}
 use Rattle.stm_report_lines.specs.LineData.{line_data}
 use Rattle.stm_report_lines.specs.Reading.{line_of}
 
--- each number in the data is whole and of 64 bits with a sign, and there is no object
+-- each number in the data is a whole one of 64 bits with a sign, held as it is written, and there is no object
 abbrev mutual
   pub IsPlain : Data → Type 0
   IsPlain null = Unit {0}

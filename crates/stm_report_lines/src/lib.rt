@@ -25,7 +25,7 @@ mod written_standing;
 pub use op_replies::is_txn_reply;
 pub use reading::read_report;
 pub use same::{are_same_traces, are_same_values};
-pub use same_lines::{are_same_lines, are_same_replies};
+pub use same_lines::{are_same_lines, are_same_outcomes, are_same_replies};
 pub use stm_events::{
     CommittedRead, Denied, Event, EventRefusal, Expired, Fault, KeyRead, OpReply, Reply, Report,
     ReportLine, TraceItem, Value,

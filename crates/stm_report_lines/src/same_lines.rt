@@ -206,8 +206,8 @@ fn are_same_denials(left: &Denied, right: &Denied) -> bool
     left.cause == right.cause && are_same_expired(left.expired.as_slice(), right.expired.as_slice())
 }
 
-/// Whether two events came to the same.
-fn are_same_outcomes(left: &Result<Reply, Denied>, right: &Result<Reply, Denied>) -> bool
+/// Whether two events had the same reply, or were refused alike.
+pub fn are_same_outcomes(left: &Result<Reply, Denied>, right: &Result<Reply, Denied>) -> bool
     ensures { IsTrue result ↔ left.now ≡ right.now }
 {
     match left {

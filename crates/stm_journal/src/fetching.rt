@@ -8,9 +8,8 @@ ghost use Rattle.stm_journal.specs.Fetched.{fetch_reported, read_reported, answe
 ghost use Rattle.stm_journal.specs.ReadRefusals.{cause_read};
 
 use crate::answers::take_reads;
-use crate::rereads::copy_state;
 use std::alloc::{AllocError, Global};
-use stm_history::{KeyState, ReadAnswer, Text};
+use stm_history::{KeyState, ReadAnswer, Text, copy_found};
 use stm_keys::{Keys, ReadRefusal};
 use stm_txn::{Op, Refusal, ShortList, Store, Txn};
 
@@ -67,7 +66,7 @@ fn answer_to(
     ensures answer { IfOk result (λ answer. answer ≡ answer_with keys.now.history key.now at (option_copied state.entry)) }
     ensures counter { OnOk result (now keys.now.history ≤ HIGHEST_REVISION) }
 {
-    let kv = copy_state(state)?;
+    let kv = copy_found(state)?;
     let key = Text::copy_of(alloc, key)?;
     Ok(ReadAnswer {
         key,

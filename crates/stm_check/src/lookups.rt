@@ -107,6 +107,7 @@ fn read_reported(keys: &Keys, answer: &CommittedRead) -> Result<ReadAnswer, Allo
     ensures read { IfOk result (λ read. read ≡ read_in keys.now.history answer.now) }
     ensures in_range { IfOk result ReadFits }
 {
+    // (the type of the keys says that the counter is no higher than the highest revision)
     let _counter = keys.revision();
     let key = answer.key.clone()?;
     let kv = copy_of(keys.look_back(answer.key.as_str(), answer.of_rev))?;

@@ -30,6 +30,7 @@ fn find_named<'a>(store: &'a Store, key: &str, at: u64) -> Result<Option<&'a Key
     ensures refused { IfErr result (λ cause. read_reported store.now.standing key.now at ≡ Err cause) }
 {
     let keys = store.keys();
+    // (the type of the keys says that the floor is no higher than the counter)
     let _counter = keys.revision();
     match keys.get_at(key, at) {
         Ok(state) => Ok(state),

@@ -38,7 +38,6 @@ use Rattle.stm_entries.specs.Replayed.{without_moment, with_history}
 use Rattle.stm_entries.specs.Alone.{seen_at, applied_run, history_left, left_by, left_by_run}
 use Rattle.stm_entries.specs.Legal.{AnswersAreTrue}
 use Rattle.stm_events.specs.FirstReads.{is_other, keys_first_read}
-use Rattle.stm_events.specs.declared.refusal.Denied.{Denied}
 use Rattle.stm_events.specs.declared.reply.CommittedRead.{CommittedRead}
 use Rattle.stm_events.specs.declared.reply.Reply.{Reply}
 use Rattle.stm_events.specs.declared.reply.Reply.TheVariants.{Committed}
@@ -384,13 +383,13 @@ leaves_no_key answers keys i end end_keys so_far =
 
 -- ---- the reply to a step
 
-pub step_right : (r : Result Bool AllocError) (s : Standing) (o : Option Runner) (replied : Result Reply Denied) (runner : Runner) (id revision attempts : ℕ)
+pub step_right : (r : Result Bool AllocError) (s : Standing) (o : Option Runner) (reply : Reply) (runner : Runner) (id revision attempts : ℕ)
     (output reported_output : List Value) (trace reported_trace : List TraceItem) (answers reported_answers : List CommittedRead) → o ≡ Some runner →
-    replied ≡ Ok (Committed id revision attempts output trace answers) → reported_output ≡ output → reported_trace ≡ trace → reported_answers ≡ answers →
+    reply ≡ Committed id revision attempts output trace answers → reported_output ≡ output → reported_trace ≡ trace → reported_answers ≡ answers →
     IfOk r (λ b. IsTrue b ↔ IsRightCommit s runner revision attempts reported_output reported_trace reported_answers) →
-    IfOk r (λ b. IsTrue b ↔ StepReplays s o replied)
-step_right r s o replied runner id revision attempts output reported_output trace reported_trace answers reported_answers runs is outputs traces all_answers right =
-    subst (λ (x : Result Reply Denied). IfOk r (λ b. IsTrue b ↔ StepReplays s o x)) (sym is)
+    IfOk r (λ b. IsTrue b ↔ StepReplays s o (Ok reply))
+step_right r s o reply runner id revision attempts output reported_output trace reported_trace answers reported_answers runs is outputs traces all_answers right =
+    subst (λ (x : Reply). IfOk r (λ b. IsTrue b ↔ StepReplays s o (Ok x))) (sym is)
     (subst (λ (x : Option Runner). IfOk r (λ b. IsTrue b ↔ StepReplays s x (Ok (Committed id revision attempts output trace answers)))) (sym runs)
     (subst (λ (x : List Value). IfOk r (λ b. IsTrue b ↔ IsRightCommit s runner revision attempts x trace answers)) outputs
     (subst (λ (x : List TraceItem). IfOk r (λ b. IsTrue b ↔ IsRightCommit s runner revision attempts reported_output x answers)) traces

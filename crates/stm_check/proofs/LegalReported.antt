@@ -12,7 +12,7 @@ use Rattle.stm_txn.specs.Standing.{Standing, Setup, Step, transacted, granted, k
 use Rattle.stm_txn.specs.Standing.{compaction_refusal, with_floor, floor_step}
 use Rattle.stm_entries.specs.declared.entry.Entry.{Entry}
 use Rattle.stm_entries.specs.declared.entry.Entry.TheVariants.{Foreign, Grant as GrantEntry, Renew, Revoke as RevokeEntry}
-use Rattle.stm_entries.specs.Replayed.{without_moment}
+use Rattle.stm_entries.specs.Replayed.{Replayed, without_moment}
 use Rattle.stm_entries.specs.Legal.{AreLegal}
 use Rattle.stm_entries.proofs.Replaying.{all_legal}
 use Rattle.stm_entries.specs.Entered.{if_taken, if_changed, expiries}
@@ -36,7 +36,7 @@ use Rattle.stm_check.specs.Judged.{AreRightEvents}
 use Rattle.stm_check.specs.Laws.{YesIsTheReplay, IsReplayOf}
 use Rattle.stm_check.specs.Wrong.{IsReplayed, AreRight, opens_at, point_after, entries_along}
 use Rattle.stm_check.proofs.CallLemmas.{StepIsTransacted, is_transacted}
-use Rattle.stm_check.proofs.Replaying.{store_is_the_replay}
+use Rattle.stm_check.proofs.Replaying.{line_is_the_replay, store_is_the_replay}
 
 -- ---- steps
 
@@ -123,7 +123,8 @@ lines_legal n p [] lines few right = tt
 lines_legal n p (e ∷ events) [] few right = absurd right
 lines_legal n p (e ∷ events) (l ∷ lines) few right =
     all_legal (entries_of_line p e l) (entries_along (after_line p e l) events lines) (without_moment p.standing) (line_legal p e l few right.0.1)
-    (lines_legal (suc n) (after_line p e l) events lines (subst (λ m. m ≤ most_operations) (sym (limit_after p e l)) few) right.1)
+    (subst (λ (r : Replayed). AreLegal (entries_along (after_line p e l) events lines) r) (line_is_the_replay p e l).store
+    (lines_legal (suc n) (after_line p e l) events lines (subst (λ m. m ≤ most_operations) (sym (limit_after p e l)) few) right.1))
 
 events_right : (n : ℕ) (p : Point) (events : List WorldEvent) (lines : List ReportLine) → AreRight n p events lines → AreRightEvents n p events lines
 events_right n p [] lines right = tt

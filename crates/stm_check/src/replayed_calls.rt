@@ -26,6 +26,20 @@ fn is_taken(reply: &Result<Reply, Denied>, wanted: Reply) -> bool
     is_same
 }
 
+/// Whether the same leases expired, in the same order and at the same revisions.
+fn are_same_expired(left: &[Expired], right: &[Expired]) -> bool
+    ensures { IsTrue result ↔ left.now ≡ right.now }
+{
+    left == right
+}
+
+/// Whether a refusal is one for this cause, after these leases expired.
+fn is_denial(denied: &Denied, cause: EventRefusal, expired: &[Expired]) -> bool
+    ensures { IsTrue result ↔ record { cause = cause; expired = expired.now } ≡ denied.now }
+{
+    denied.cause == cause && are_same_expired(expired, denied.expired.as_slice())
+}
+
 /// Whether an event was refused for this cause, after these leases expired.
 pub(crate) fn is_refused(
     reply: &Result<Reply, Denied>,
@@ -36,7 +50,7 @@ pub(crate) fn is_refused(
 {
     match reply {
         Ok(_) => false,
-        Err(denied) => denied.cause == cause && denied.expired.as_slice() == expired,
+        Err(denied) => is_denial(denied, cause, expired),
     }
 }
 

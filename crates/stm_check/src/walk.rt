@@ -1,5 +1,5 @@
 //! What a check knows at a point of a report, and what the line of an event makes of it.
-ghost use Rattle.std.specs.Prelude.{◌≡◌, ◌↔◌, IsTrue, IfOk, IfSome, Some, None, option_copied};
+ghost use Rattle.std.specs.Prelude.{◌≡◌, ◌↔◌, IsTrue, IfOk, IfSome, Some, None, Ok, option_copied};
 ghost use Rattle.stm_check.specs.Point.{commit_entries, led_by, standing_after, beginning, after, after_line};
 ghost use Rattle.stm_check.specs.Replays.{StartReplays, StepReplays, Replays};
 ghost use Rattle.stm_check.specs.Wrong.{IsRight, IsWrong};
@@ -44,29 +44,26 @@ fn start_replays(limit: u32, reply: &Result<Reply, Denied>) -> bool
     }
 }
 
-/// Whether the reply to a step is right, once it can have it. A commit is made.
-fn step_replays(
+/// Whether the reply to a step that was taken is right, once it can have it. A commit is made.
+fn taken_step_replays(
     alloc: Global,
     store: &mut Store,
     runner: Option<&Runner>,
-    reply: &Result<Reply, Denied>,
+    reply: &Reply,
 ) -> Result<bool, AllocError>
-    ensures right { IfOk result (λ b. IsTrue b ↔ StepReplays store.old.standing (option_copied runner.entry) reply.now) }
+    ensures right { IfOk result (λ b. IsTrue b ↔ StepReplays store.old.standing (option_copied runner.entry) (Ok reply.now)) }
     ensures next { IfOk result (λ b. IsTrue b → store.new.standing
-        ≡ led_by (commit_entries store.old.standing.history reply.now (option_copied runner.entry)) store.old.standing store.old.standing.moment) }
+        ≡ led_by (commit_entries store.old.standing.history (Ok reply.now) (option_copied runner.entry)) store.old.standing store.old.standing.moment) }
 {
     match reply {
-        Err(_) => Ok(runner.is_none() && is_refused(reply, EventRefusal::NoRunner, &[])),
-        Ok(
-            Reply::Committed {
-                revision,
-                attempts,
-                output,
-                trace,
-                answers,
-                ..
-            },
-        ) => match runner {
+        Reply::Committed {
+            revision,
+            attempts,
+            output,
+            trace,
+            answers,
+            ..
+        } => match runner {
             None => Ok(false),
             Some(runner) => {
                 let reported = ReportedCommit {
@@ -79,7 +76,24 @@ fn step_replays(
                 replay_commit(alloc, store, runner, reported)
             }
         },
-        Ok(_) => Ok(true),
+        _ => Ok(true),
+    }
+}
+
+/// Whether the reply to a step is right, once it can have it. A commit is made.
+fn step_replays(
+    alloc: Global,
+    store: &mut Store,
+    runner: Option<&Runner>,
+    reply: &Result<Reply, Denied>,
+) -> Result<bool, AllocError>
+    ensures right { IfOk result (λ b. IsTrue b ↔ StepReplays store.old.standing (option_copied runner.entry) reply.now) }
+    ensures next { IfOk result (λ b. IsTrue b → store.new.standing
+        ≡ led_by (commit_entries store.old.standing.history reply.now (option_copied runner.entry)) store.old.standing store.old.standing.moment) }
+{
+    match reply {
+        Ok(taken) => taken_step_replays(alloc, store, runner, taken),
+        Err(_) => Ok(runner.is_none() && is_refused(reply, EventRefusal::NoRunner, &[])),
     }
 }
 

@@ -136,7 +136,7 @@ impl Hall {
     ///
     /// It is refused as the store's `txn` refuses it, and then the hall is as it was. `OutOfMemory` is returned only for a
     /// transaction that the store takes.
-    pub fn make_txn(&mut self, txn: &Txn) -> Result<TxnAnswer, Refusal>
+    pub fn foreign(&mut self, txn: &Txn) -> Result<TxnAnswer, Refusal>
         ensures made { JournalReturns (made self.old txn.now) self.old result self.new }
         ensures goes_on { GoesOn self.old self.new }
     {

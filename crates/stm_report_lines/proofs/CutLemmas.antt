@@ -34,7 +34,7 @@ Cut bs (Some p) = (parts_of bs ≡ p.0 ∷ parts_of p.1) × (length p.1 < length
 
 cut_more : (b : ℕ) (bs front rest : List ℕ) → is_line_feed b ≡ false → Cut bs (split_after front rest) → Cut (b ∷ bs) (split_after (b ∷ front) rest)
 cut_more b bs front [] e cut = after_other b bs e ∙ ap (onto_first b) cut
-cut_more b bs front (x ∷ behind) e cut = (after_other b bs e ∙ ap (onto_first b) cut.0, omega (arith, cut.1))
+cut_more b bs front (x ∷ after) e cut = (after_other b bs e ∙ ap (onto_first b) cut.0, omega (arith, cut.1))
 
 cut_by : (b : ℕ) (bs : List ℕ) (is : Bool) → is_line_feed b ≡ is → Cut bs (first_cut bs)
     → Cut (b ∷ bs) (split_after (take (cond is 0 (suc (line_length bs))) (b ∷ bs)) (drop (cond is 0 (suc (line_length bs))) (b ∷ bs)))

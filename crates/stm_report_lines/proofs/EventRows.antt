@@ -101,7 +101,8 @@ event_row event.Prefetched = made_of (whole_part & whole_part & reads_part & not
 event_row event.Fetched =
     made_of (whole_part & text_part & whole_part & whole_part & whole_part & nothing) (λ x. Ok (Fetched x.0 (second x) (third x) (fourth x) (fifth x)))
 event_row event.Committed =
-    made_of (whole_part & whole_part & whole_part & values_part & traces_part & answers_part & nothing) (λ x. Ok (Committed x.0 (second x) (third x) (fourth x) (fifth x) (sixth x)))
+    made_of (whole_part & whole_part & whole_part & values_part & traces_part & answers_part & nothing)
+    (λ x. Ok (Committed x.0 (second x) (third x) (fourth x) (fifth x) (sixth x)))
 event_row event.Conflict =
     made_of (whole_part & text_part & whole_part & whole_part & nothing) (λ x. Ok (Conflict x.0 (second x) (third x) (fourth x)))
 event_row event.GaveUp =
@@ -175,22 +176,19 @@ row_read w ds = (event_row w).row.read EventReply 2 (event_row w).make ds
 reply_is : (w : EventWord) (ds : Items) → event_reply_of w ds ≡ counted (event_sorts w) (row_read w) ds
 reply_is event.Started = one_counted (row_read event.Started) any_number started_of refl (λ a. refl)
 reply_is event.Prefetched =
-    three_counted (row_read event.Prefetched) any_number any_number (By (list_faults (plain_faults read_sorts))) prefetched_of
-    refl (λ a b c. refl)
+    three_counted (row_read event.Prefetched) any_number any_number (By (list_faults (plain_faults read_sorts))) prefetched_of refl (λ a b c. refl)
 reply_is event.Fetched =
-    five_counted (row_read event.Fetched) any_number AnyText any_number any_number any_number fetched_of
-    refl (λ a b c d e. refl)
+    five_counted (row_read event.Fetched) any_number AnyText any_number any_number any_number fetched_of refl (λ a b c d e. refl)
 reply_is event.Committed =
-    six_counted (row_read event.Committed) any_number any_number any_number (By (list_faults value_faults)) (By (list_faults (worded_faults trace_table))) (By (list_faults (plain_faults answer_sorts))) committed_of
-    refl (λ a b c d e g. refl)
+    six_counted (row_read event.Committed) any_number any_number any_number (By (list_faults value_faults))
+    (By (list_faults (worded_faults trace_table))) (By (list_faults (plain_faults answer_sorts))) committed_of refl (λ a b c d e g. refl)
 reply_is event.Conflict = four_counted (row_read event.Conflict) any_number AnyText any_number any_number conflict_of refl (λ a b c d. refl)
 reply_is event.GaveUp = five_counted (row_read event.GaveUp) any_number any_number AnyText any_number any_number gave_up_of refl (λ a b c d e. refl)
 reply_is event.Aborted = two_counted (row_read event.Aborted) any_number AnyText aborted_of refl (λ a b. refl)
 reply_is event.Faulted = two_counted (row_read event.Faulted) any_number (WordOf fault_names) faulted_of refl (λ a b. refl)
 reply_is event.Ended = two_counted (row_read event.Ended) any_number (WordOf refusal_names) ended_of refl (λ a b. refl)
 reply_is event.Txn =
-    three_counted (row_read event.Txn) (By flag_faults) any_number (By (list_faults (worded_faults op_table))) txn_of
-    refl (λ a b c. refl)
+    three_counted (row_read event.Txn) (By flag_faults) any_number (By (list_faults (worded_faults op_table))) txn_of refl (λ a b c. refl)
 reply_is event.Granted = one_counted (row_read event.Granted) any_number granted_of refl (λ a. refl)
 reply_is event.Kept = one_counted (row_read event.Kept) any_number kept_of refl (λ a. refl)
 reply_is event.Revoked = two_counted (row_read event.Revoked) any_number any_number revoked_of refl (λ a b. refl)
@@ -199,8 +197,7 @@ reply_is event.Compacted = one_counted (row_read event.Compacted) any_number com
 reply_is event.Watching = one_counted (row_read event.Watching) any_number watching_of refl (λ a. refl)
 reply_is event.Cancelled = one_counted (row_read event.Cancelled) any_number cancelled_of refl (λ a. refl)
 reply_is event.Batch =
-    three_counted (row_read event.Batch) any_number any_number (By (list_faults (worded_faults watched_table))) batch_of
-    refl (λ a b c. refl)
+    three_counted (row_read event.Batch) any_number any_number (By (list_faults (worded_faults watched_table))) batch_of refl (λ a b c. refl)
 reply_is event.Lost = two_counted (row_read event.Lost) any_number any_number lost_of refl (λ a b. refl)
 reply_is event.Refused = two_counted (row_read event.Refused) (WordOf refusal_names) expired_list refused_of refl (λ a b. refl)
 

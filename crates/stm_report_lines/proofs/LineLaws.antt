@@ -17,7 +17,6 @@ use Rattle.stm_events.specs.declared.line.ReportLine.TheVariants.{Event, Key, Le
 use Rattle.stm_events.specs.declared.reply.Reply.{Reply}
 use Rattle.stm_events.specs.declared.reply.Reply.TheVariants.{Started, Prefetched, Fetched, Committed, Conflict, GaveUp, Aborted, Faulted, Ended, Txn, Granted}
 use Rattle.stm_events.specs.declared.reply.Reply.TheVariants.{Kept, Revoked, Advanced, Compacted, Watching, Cancelled, Batch, Lost}
-use Rattle.stm_events.specs.declared.refusal.Denied.{Denied}
 use Rattle.stm_report_lines.specs.declared.words.EventWord.{EventWord}
 use Rattle.stm_report_lines.specs.declared.words.EventWord.TheVariants as event
 use Rattle.stm_report_lines.specs.declared.words.StandingWord.{StandingWord}

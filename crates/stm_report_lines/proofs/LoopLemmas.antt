@@ -23,27 +23,27 @@ stepped index part parts (p, ps, is) = rw is refl
 cut_is : (rest : List ℕ) (o : Option (List ℕ × List ℕ)) → first_cut rest ≡ o → Cut rest o
 cut_is rest o e = rw (sym e) (cuts rest)
 
-pub goes_on : (lines : List ReportLine) (rest part behind : List ℕ) (l : ReportLine) (total : Outcome (List ReportLine)) (n : ℕ) → n ≡ length lines
-    → first_cut rest ≡ Some (part, behind) → within n (line_in part) ≡ Ok l → so_far lines rest ≡ total → so_far (lines ++ l ∷ []) behind ≡ total
-goes_on lines rest part behind l total n many cut reported whole =
+pub goes_on : (lines : List ReportLine) (rest part after : List ℕ) (l : ReportLine) (total : Outcome (List ReportLine)) (n : ℕ) → n ≡ length lines
+    → first_cut rest ≡ Some (part, after) → within n (line_in part) ≡ Ok l → so_far lines rest ≡ total → so_far (lines ++ l ∷ []) after ≡ total
+goes_on lines rest part after l total n many cut reported whole =
     let is : within (length lines) (line_in part) ≡ Ok l = subst (λ (k : ℕ). within k (line_in part) ≡ Ok l) many reported in
-    let c = cut_is rest (Some (part, behind)) cut in
+    let c = cut_is rest (Some (part, after)) cut in
     let more : length (lines ++ l ∷ []) ≡ suc (length lines) = omega (arith, length-append lines (l ∷ [])) in
-    let one : so_far lines rest ≡ with_front (lines ++ l ∷ []) (lines_from (suc (length lines)) (parts_of behind)) =
+    let one : so_far lines rest ≡ with_front (lines ++ l ∷ []) (lines_from (suc (length lines)) (parts_of after)) =
     ap (λ (ps : List (List ℕ)). with_front lines (lines_from (length lines) ps)) c.0
-    ∙ ap (with_front lines) (stepped (length lines) part (parts_of behind) (parts_start behind))
-    ∙ rw is (regroup lines l (lines_from (suc (length lines)) (parts_of behind))) in
+    ∙ ap (with_front lines) (stepped (length lines) part (parts_of after) (parts_start after))
+    ∙ rw is (regroup lines l (lines_from (suc (length lines)) (parts_of after))) in
     rw more (sym one ∙ whole)
 
-pub ends : (e : ReadError) (lines : List ReportLine) (rest part behind : List ℕ) (total : Outcome (List ReportLine)) (n : ℕ) → n ≡ length lines
-    → first_cut rest ≡ Some (part, behind) → ReturnsFault e (within n (line_in part)) → so_far lines rest ≡ total → ReturnsFault e total
-ends error.OutOfMemory lines rest part behind total n many cut reported whole = tt
-ends (error.Bad f) lines rest part behind total n many cut reported whole =
+pub ends : (e : ReadError) (lines : List ReportLine) (rest part after : List ℕ) (total : Outcome (List ReportLine)) (n : ℕ) → n ≡ length lines
+    → first_cut rest ≡ Some (part, after) → ReturnsFault e (within n (line_in part)) → so_far lines rest ≡ total → ReturnsFault e total
+ends error.OutOfMemory lines rest part after total n many cut reported whole = tt
+ends (error.Bad f) lines rest part after total n many cut reported whole =
     let is : within (length lines) (line_in part) ≡ Err f = subst (λ (k : ℕ). within k (line_in part) ≡ Err f) many reported in
-    let c = cut_is rest (Some (part, behind)) cut in
+    let c = cut_is rest (Some (part, after)) cut in
     let one : so_far lines rest ≡ Err f =
     ap (λ (ps : List (List ℕ)). with_front lines (lines_from (length lines) ps)) c.0
-    ∙ ap (with_front lines) (stepped (length lines) part (parts_of behind) (parts_start behind))
+    ∙ ap (with_front lines) (stepped (length lines) part (parts_of after) (parts_start after))
     ∙ rw is refl in
     sym whole ∙ one
 
@@ -65,5 +65,5 @@ is_bad (error.Bad f) lines rest total n many none reported whole =
     sym whole ∙ last_part lines rest none ∙ rw is refl
 
 -- the rest grows shorter
-pub shorter : (rest part behind : List ℕ) → first_cut rest ≡ Some (part, behind) → length behind < length rest
-shorter rest part behind cut = (cut_is rest (Some (part, behind)) cut).1
+pub shorter : (rest part after : List ℕ) → first_cut rest ≡ Some (part, after) → length after < length rest
+shorter rest part after cut = (cut_is rest (Some (part, after)) cut).1

@@ -17,7 +17,7 @@ line_length (b ∷ bs) = if is_line_feed b then 0 else suc (line_length bs)
 -- what comes before the first line feed, and what comes after it
 abbrev pub split_after : List ℕ → List ℕ → Option (List ℕ × List ℕ)
 split_after front [] = None
-split_after front (b ∷ behind) = Some (front, behind)
+split_after front (b ∷ after) = Some (front, after)
 
 abbrev pub first_cut : List ℕ → Option (List ℕ × List ℕ)
 first_cut bytes = split_after (take (line_length bytes) bytes) (drop (line_length bytes) bytes)

@@ -185,7 +185,8 @@ event_reply_of event.Refused ds = refused_of (two_of ds)
 
 abbrev pub event_line_of : EventWord → Data → Items → Outcome ReportLine
 event_line_of w n ds =
-    if count ds == elements_after w then (within 0 (number_of n) >>= λ number. event_reply_of w ds >>= λ reply. Ok (line.Event number reply)) else bad Shape
+    if count ds == elements_after w then (within 0 (number_of n) >>= λ number. event_reply_of w ds >>= λ reply. Ok (line.Event number reply))
+    else bad Shape
 
 -- ---- lines of what is left at the end: the elements after the word
 

@@ -62,8 +62,8 @@ fn first_part(bytes: &[u8]) -> Option<(&[u8], &[u8])>
     ensures { option_map (λ p. (p.0.now, p.1.now)) result ≡ first_cut bytes.now }
 {
     let (front, rest) = bytes.split_at(line_length(bytes));
-    let (_, behind) = rest.split_first()?;
-    Some((front, behind))
+    let (_, after) = rest.split_first()?;
+    Some((front, after))
 }
 
 /// Nothing may come after the last line feed. A fault's place is that of a line there.

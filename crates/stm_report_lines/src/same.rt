@@ -27,12 +27,6 @@ pub(crate) fn are_same<T: Same>(left: &[T], right: &[T]) -> bool
     true
 }
 
-impl Same for KeyState {
-    fn is_same(&self, other: &KeyState) -> bool {
-        are_same_states(self, other)
-    }
-}
-
 /// Whether a key is absent, or has the same state.
 pub(crate) fn is_same_state(left: &Option<KeyState>, right: &Option<KeyState>) -> bool
     ensures { IsTrue result ↔ left.now ≡ right.now }

@@ -1,8 +1,9 @@
 //! Whether two lines are the same.
 ghost use Rattle.std.specs.Prelude.{◌≡◌, ◌↔◌, IsTrue};
 
-use crate::same::{Same, are_same, are_same_expired, are_same_traces, are_same_values};
+use crate::same::{are_same, are_same_expired, are_same_traces, are_same_values};
 use stm_events::{Denied, Reply, ReportLine};
+use stm_history::are_same_states;
 
 /// Whether two replies are the same.
 pub fn are_same_replies(left: &Reply, right: &Reply) -> bool
@@ -238,7 +239,7 @@ pub fn are_same_lines(left: &ReportLine, right: &ReportLine) -> bool
             ReportLine::Key {
                 key: name,
                 state: other,
-            } => *key == *name && state.is_same(other),
+            } => *key == *name && are_same_states(state, other),
             _ => false,
         },
         ReportLine::Lease { id, ttl, renewed } => match right {

@@ -60,7 +60,7 @@ use Rattle.stm_events.specs.declared.reply.Reply.{Reply}
 use Rattle.stm_events.specs.declared.reply.Reply.TheVariants.{Started, Committed, Conflict, GaveUp}
 use Rattle.stm_events.specs.declared.reply.Reply.TheVariants.{Granted, Kept, Revoked, Watching, Cancelled, Compacted}
 use Rattle.stm_events.specs.declared.refusal.EventRefusal.{EventRefusal}
-use Rattle.stm_events.specs.declared.refusal.EventRefusal.TheVariants.{OutOfMemory as RanOut}
+use Rattle.stm_events.specs.declared.refusal.EventRefusal.TheVariants.{OutOfMemory as RanOut, BadLimit}
 use Rattle.stm_events.specs.declared.refusal.Denied.{Denied}
 use Rattle.stm_events.specs.Replies.{committed_read, txn_reply, refusal_of, denied, reply_to, store_after_call, advance_reply, poll_reply, store_after_poll}
 use Rattle.stm_world.specs.Task.{Task, with_served, after_conflict}
@@ -76,7 +76,6 @@ use Rattle.stm_world.proofs.Appending.{events_append}
 use Rattle.stm_world.proofs.Sound.{opened_is_sound, step_is_sound, base_is_reached}
 use Rattle.stm_retry.specs.Returns.{IsStep, IsUnchanged, IsCutShort, OutOfMemoryReturns, RefusalReturns, Returns, is_out_of_memory}
 use Rattle.stm_retry.specs.Kept.{whole_store, whole_world, kept_world, IsKeptBy, compact_kept, KeptReturns, BasesAreReached}
-use Rattle.stm_retry.proofs.CallLemmas.{refusal_reports}
 use Rattle.stm_retry.proofs.StepLemmas.{fetched_step, step_fetches, listed_step, step_lists}
 use Rattle.stm_retry.proofs.WorldLemmas.{refusal_cases, reports_sound}
 

@@ -1,5 +1,5 @@
 -- The replies to a transaction, and the room for them.
-use Rattle.std.proofs.Common.{◌≡◌, ◌≤◌, ◌∙◌, ◌⊎◌, inl, inr, ℕ, ◌+◌, List, [], ◌∷◌, ◌++◌, length, map, reverse, Option, Some, None, Result, Ok, Err, IsOk}
+use Rattle.std.proofs.Common.{◌≡◌, ◌≤◌, ◌∙◌, ◌⊎◌, inl, inr, ℕ, suc, List, [], ◌∷◌, ◌++◌, length, map, reverse, Option, Some, None, Result, Ok, Err, IsOk}
 use Rattle.std.proofs.Common.{refl, sym, ap, subst, append_assoc}
 use Rattle.std.proofs.lemmas.List.{reverse-append, map-append}
 use Rattle.stm_history.specs.History.{History, key_now}
@@ -14,9 +14,9 @@ use Rattle.stm_outcome.specs.Terms.{Terms}
 use Rattle.stm_outcome.specs.Compares.{first_failed}
 use Rattle.stm_outcome.specs.Branches.{Progress, begun, answers_after, with_change_made, change_made}
 use Rattle.stm_outcome.specs.Outcome.{Done, chosen, outcome}
-use Rattle.stm_outcome.proofs.Applying.{IsDone, is_done}
+use Rattle.stm_outcome.proofs.Applying.{is_done}
 use Rattle.stm_txn.specs.Standing.{Step, step_of, terms_of, transacted, refusal_of}
-use Rattle.stm_journal.specs.JournalState.{JournalState}
+use Rattle.stm_journal.specs.JournalState.{JournalState, JournalStep}
 use Rattle.stm_journal.specs.Entering.{made, entered, or_out_of_memory}
 use Rattle.stm_events.specs.declared.reply.OpReply.{OpReply}
 use Rattle.stm_events.specs.Replies.{op_reply}
@@ -49,18 +49,23 @@ done_fits terms txn done n is success failure =
     subst (λ (d : Done). length d.answer.answers ≤ n) (is_done terms txn done is).made
     (subst (λ (m : ℕ). m ≤ n) (sym (one_answer_each h (begun h) (chosen failed txn))) (branch_fits failed txn n success failure))
 
+-- the answer of a call that was taken
+abbrev IsAnswered : Result (JournalStep TxnAnswer) Refusal → TxnAnswer → Type 0
+IsAnswered (Ok step) answer = step.answer ≡ answer
+IsAnswered (Err cause) answer = ⊥
+
 made_fits : (j next : JournalState) (txn : Txn) (answer : TxnAnswer) (o : Result Done Refusal) (n : ℕ) → outcome (terms_of j.standing) txn ≡ o →
-    entered j txn (step_of j.standing o) ≡ Ok record { answer = answer; next = next } → length txn.success ≤ n → length txn.failure ≤ n →
-    length answer.answers ≤ n
-made_fits j next txn answer (Ok done) n is taken success failure =
-    let same : done.answer ≡ answer = cc in
+    IsAnswered (entered j txn (step_of j.standing o)) answer → length txn.success ≤ n → length txn.failure ≤ n → length answer.answers ≤ n
+made_fits j next txn answer (Ok done) n is same success failure =
     subst (λ (a : TxnAnswer). length a.answers ≤ n) same (done_fits (terms_of j.standing) txn done n is success failure)
-made_fits j next txn answer (Err cause) n is taken success failure = absurd (cc)
+made_fits j next txn answer (Err cause) n is same success failure = absurd same
 
 -- room for the longer branch is room for the replies
 pub answers_fit : (j next : JournalState) (txn : Txn) (answer : TxnAnswer) (n : ℕ) → made j txn ≡ Ok record { answer = answer; next = next } →
     length txn.success ≤ n → length txn.failure ≤ n → length answer.answers ≤ n
-answers_fit j next txn answer n taken success failure = made_fits j next txn answer (outcome (terms_of j.standing) txn) n refl taken success failure
+answers_fit j next txn answer n taken success failure =
+    made_fits j next txn answer (outcome (terms_of j.standing) txn) n refl
+    (subst (λ (r : Result (JournalStep TxnAnswer) Refusal). IsAnswered r answer) (sym taken) refl) success failure
 
 -- ---- no room
 

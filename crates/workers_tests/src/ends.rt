@@ -33,7 +33,7 @@ fn add_jobs(alloc: Global, jobs: &mut Vec<Job>) -> Result<(), Fail> {
 
 /// Another client commits a transaction to a hall.
 fn commit(hall: &mut Hall, txn: &Txn) -> Result<(), Fail> {
-    match hall.make_txn(txn) {
+    match hall.foreign(txn) {
         Ok(answer) => {
             drop(answer);
             Ok(())

@@ -52,7 +52,7 @@ fn foreign(
     changes: &[Change],
 ) -> Result<(), AllocError> {
     let txn = changes_of(alloc, changes)?;
-    let made = hall.make_txn(&txn);
+    let made = hall.foreign(&txn);
     drop(txn);
     let done = report_foreign(reported, &made);
     drop(made);

@@ -14,7 +14,7 @@ returns-in-Ok-clause-right c =
     let s : Standing = c.args.store.now.standing in
     let next : Standing = c.advance.new.self.standing in
     tests_same c.is_taken.result (advance_reply c.args.moment (advanced s c.args.moment).expired (advanced s c.args.moment).cause)
-    (Ok (Advanced c.args.moment c.of-expired.expired)) c.args.reply.now
+    (Ok (Advanced c.args.moment c.of-expired.result)) c.args.reply.now
     (advance_reply_is s next c.args.moment c.in-Ok.expired.items None c.in-Ok.ensures.ok
     ∙ ap (λ (es : List Expired). Ok (Advanced c.args.moment es)) (sym c.of-expired.ensures)) c.is_taken.ensures
 
@@ -22,7 +22,7 @@ pub returns-in-Ok-clause-next : goal.returns-in-Ok-clause-next
 returns-in-Ok-clause-next c =
     let s : Standing = c.args.store.now.standing in
     let next : Standing = c.advance.new.self.standing in
-    led_where c.is_taken.result (Ok (Advanced c.args.moment c.of-expired.expired)) c.args.reply.now advance_entries s next
+    led_where c.is_taken.result (Ok (Advanced c.args.moment c.of-expired.result)) c.args.reply.now advance_entries s next
     (moment_after s (AdvanceEvent c.args.moment)) c.is_taken.ensures
     (subst (λ (es : List Expired). next ≡ led_by (expiries es) s (moment_after s (AdvanceEvent c.args.moment))) (sym c.of-expired.ensures)
     (advance_led s next c.args.moment c.in-Ok.expired.items None c.in-Ok.ensures.ok))

@@ -1,11 +1,11 @@
-use Rattle.std.proofs.Common.{ap}
-use Rattle.std.specs.Prelude.{option_copied}
-use Rattle.stm_check.proofs.CommitLemmas.{step_right}
+use Rattle.std.proofs.Common.{sym, subst}
+use Rattle.std.specs.Prelude.{Result, IfOk, IsTrue, ◌↔◌, option_copied}
+use Rattle.stm_events.specs.declared.refusal.Denied.{Denied}
+use Rattle.stm_events.specs.declared.reply.Reply.{Reply}
+use Rattle.stm_check.specs.Replays.{StepReplays}
 use Rattle.stm_check.proofs.walk.step_replays.Goals as goal
 
-pub returns-in-Some-clause-right : goal.returns-in-Some-clause-right
-returns-in-Some-clause-right c =
-    step_right c.replay_commit.result c.args.store.now.standing (option_copied c.args.runner) c.args.reply.now c.in-Some.runner.now
-    c.in-Ok-Committed.runner c.in-Ok-Committed.revision c.in-Ok-Committed.attempts c.in-Ok-Committed.output c.as_slice.result.now c.in-Ok-Committed.trace
-    c.as_slice-in-Some.result.now c.in-Ok-Committed.answers c.as_slice-in-Some-2.result.now (ap option_copied c.in-Some.is) c.in-Ok-Committed.is
-    c.as_slice.ensures c.as_slice-in-Some.ensures c.as_slice-in-Some-2.ensures c.replay_commit.ensures.right
+pub returns-in-Ok-clause-right : goal.returns-in-Ok-clause-right
+returns-in-Ok-clause-right c =
+    subst (λ (x : Result Reply Denied). IfOk c.taken_step_replays.result (λ b. IsTrue b ↔ StepReplays c.args.store.now.standing (option_copied c.args.runner) x))
+    (sym c.in-Ok.is) c.taken_step_replays.ensures.right

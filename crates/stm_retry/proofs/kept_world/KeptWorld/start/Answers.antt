@@ -1,5 +1,5 @@
 use Rattle.std.proofs.Common.{rules, ◌≡◌, ◌≢◌, ℕ, Err, sym, ◌∙◌, ap, arith}
-use Rattle.stm_events.specs.declared.refusal.Refusal.TheVariants.{BadLimit}
+use Rattle.stm_events.specs.declared.refusal.EventRefusal.TheVariants.{BadLimit}
 use Rattle.stm_world.specs.World.{Stepped, start_runner, refused}
 use Rattle.stm_retry.specs.RunnerView.{task_of}
 use Rattle.stm_retry.proofs.StepLemmas.{start_is_taken, start_refuses}

@@ -1,5 +1,5 @@
 use Rattle.stm_hall.proofs.Keeping.{made_keeps}
-use Rattle.stm_hall.proofs.hall.Hall.make_txn.Goals as goal
+use Rattle.stm_hall.proofs.hall.Hall.foreign.Goals as goal
 
 pub invariant_of-self : goal.invariant_of-self
 invariant_of-self c =

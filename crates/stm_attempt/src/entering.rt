@@ -11,7 +11,6 @@ use crate::serving::copy_of;
 use std::alloc::{AllocError, Global};
 use std::mem;
 use stm_compile::ReadSet;
-use stm_history::{Sequence, Text};
 use stm_program::Program;
 
 /// Whether a list of these keys is not among the reads yet.
@@ -19,17 +18,6 @@ fn is_due(keys: &[String], reads: &ReadSet) -> bool
     ensures { result ≡ is_due (map string_bytes keys.now) reads.now }
 {
     !keys.is_empty() && reads.len() == 0
-}
-
-/// The keys of a program's list. Out of memory is the only refusal.
-pub(crate) fn list_of(alloc: Global, program: &Program) -> Result<Sequence<Text>, AllocError>
-    ensures { IfOk result (λ keys. keys ≡ program.now.prefetch) }
-{
-    let mut keys = Sequence::new(alloc);
-    for key in program.prefetch() {
-        keys.push(Text::copy_of(alloc, key.as_str())?)?;
-    }
-    Ok(keys)
 }
 
 /// The prefetched answers of these keys, after those that were taken. `None` where one of the keys has none.

@@ -17,7 +17,7 @@ ghost use Rattle.stm_attempt.specs.Entering.{gone_on};
 ghost use Rattle.stm_attempt.specs.Wanted.{next_wanted};
 ghost use Rattle.stm_attempt.specs.Progress.{FinishesAs, HasCome, HasEnded, Extends, has_begun, has_ended, run_of_progress, AreLatest, HasGiven, IsLeftAtEnd};
 
-use crate::entering::{enter, list_of};
+use crate::entering::enter;
 use crate::next::Next;
 use crate::ready::Ready;
 use crate::serving::{fetch_revision, take_serving};
@@ -323,7 +323,7 @@ pub(crate) fn come_on(
 {
     let due = enter(alloc, program, prefetched, reads, progress)?;
     if due {
-        let keys = list_of(alloc, program)?;
+        let keys = program.list(alloc)?;
         return Ok(Some(Wanted::List(keys)));
     }
     let found = come_after_list(alloc, program, level, prefetched, reads, progress)?;

@@ -2,7 +2,6 @@
 ghost use Rattle.std.specs.Prelude.{◌≡◌, ◌≢◌, ◌↔◌, ◌+◌, ◌≤◌, [], ◌∷◌, ◌++◌, true, false, map, filter, string_bytes, None, Some, IsTrue, IfOk, OnOk, MatchOption};
 ghost use Rattle.stm_outcome.specs.declared.refusal.Refusal.TheVariants.{OutOfMemory};
 ghost use Rattle.stm_compile.specs.Answers.{look_up};
-ghost use Rattle.stm_compile.specs.Now.{as_change};
 ghost use Rattle.stm_steps.specs.declared.run.End.TheVariants.{Done as DoneEnd};
 ghost use Rattle.stm_outcome.specs.Numbers.{StatesFit};
 ghost use Rattle.stm_program.specs.Levels.{is_comparing};
@@ -17,14 +16,14 @@ ghost use Rattle.stm_check.specs.Runs.{run_in, IsRunOn, IsFound, revision_reache
 use crate::lookups::{KeysNow, are_truly_reported, reads_reported};
 use crate::runner::Runner;
 use std::alloc::{AllocError, Global};
-use stm_compile::{ReadSet, WriteBuffer};
+use stm_compile::{ReadSet, WriteBuffer, changes_of};
 use stm_events::CommittedRead;
 use stm_history::{Sequence, Text};
 use stm_keys::Keys;
 use stm_meaning::{Answered, End, Run, TraceItem, Value, run_answered};
-use stm_program::{Program, Write, is_listed};
+use stm_program::{Program, is_listed};
 use stm_report_lines::{are_same_traces, are_same_values};
-use stm_txn::{Change, Refusal, Store};
+use stm_txn::{Refusal, Store};
 
 /// What the reply to a step reports of its commit.
 #[derive(Clone, Copy)]
@@ -92,17 +91,6 @@ fn run_now(
     Ok(ended_run(answered))
 }
 
-/// The keys of a program's list.
-fn list_of(alloc: Global, program: &Program) -> Result<Sequence<Text>, AllocError>
-    ensures { IfOk result (λ keys. keys ≡ program.now.prefetch) }
-{
-    let mut keys = Sequence::new(alloc);
-    for key in program.prefetch() {
-        keys.push(Text::copy_of(alloc, key.as_str())?)?;
-    }
-    Ok(keys)
-}
-
 /// Adds a key after others, where a list has it not.
 fn add_other(keys: &mut Sequence<Text>, listed: &[String], read: &Text) -> Result<(), AllocError>
     ensures { OnOk result (keys.new ≡ keys.old ++ filter (is_other (map string_bytes listed.now)) (read.now ∷ [])) }
@@ -133,7 +121,7 @@ fn add_others(
 fn first_reads(alloc: Global, program: &Program, run: &Run) -> Result<Sequence<Text>, AllocError>
     ensures { IfOk result (λ keys. keys ≡ keys_first_read program.now.prefetch run.now.reads) }
 {
-    let mut keys = list_of(alloc, program)?;
+    let mut keys = program.list(alloc)?;
     add_others(&mut keys, program.prefetch(), run.reads.as_slice())?;
     Ok(keys)
 }
@@ -221,38 +209,6 @@ fn is_reported_run(run: &Run, reported: ReportedCommit<'_>) -> bool
     run.end == End::Done
         && are_same_values(run.output.as_slice(), reported.output)
         && are_same_traces(run.trace.as_slice(), reported.trace)
-}
-
-/// A write, as a change.
-fn change_of(write: &Write) -> Result<Change, AllocError>
-    ensures { IfOk result (λ change. change ≡ as_change write.now) }
-{
-    match write {
-        Write::Put { key, value, lease } => {
-            let key = key.clone()?;
-            let value = value.clone()?;
-            Ok(Change::Put {
-                key,
-                value,
-                lease: *lease,
-            })
-        }
-        Write::Del { key } => {
-            let key = key.clone()?;
-            Ok(Change::Del { key })
-        }
-    }
-}
-
-/// The writes, as changes.
-fn changes_of(alloc: Global, writes: &WriteBuffer) -> Result<Vec<Change>, AllocError>
-    ensures { IfOk result (λ changes. changes.items ≡ map as_change writes.now) }
-{
-    let mut changes = Vec::with_capacity(alloc, writes.len())?;
-    for place in 0..writes.len() {
-        changes.push(change_of(writes.at(place))?)?;
-    }
-    Ok(changes)
 }
 
 /// No revision, where the store refused writes, though it did not run out of memory.

@@ -2,7 +2,7 @@
 ghost use Rattle.std.specs.Prelude.{◌≡◌, ◌↔◌, ◌≤◌, ◌++◌, ◌∷◌, [], ℕ, List, IsTrue, IfOk, OnOk, is_some, option_copied, option_map};
 ghost use Rattle.stm_history.specs.declared.key_state.ReadAnswer.{ReadAnswer as Read};
 ghost use Rattle.stm_history.specs.declared.key_state.KeyState.{KeyState as State};
-ghost use Rattle.stm_history.specs.History.{now, mod_of};
+ghost use Rattle.stm_history.specs.History.{now};
 ghost use Rattle.stm_outcome.specs.Numbers.{StatesFit, ReadFits};
 ghost use Rattle.stm_compile.specs.Answers.{answer_in};
 ghost use Rattle.stm_check.specs.Point.{read_in, reads_in};
@@ -11,7 +11,7 @@ ghost use Rattle.stm_check.specs.Replays.{IsTrulyReported, AreTrulyReported};
 use std::alloc::{AllocError, Global};
 use stm_compile::ReadSet;
 use stm_events::CommittedRead;
-use stm_history::{KeyState, ReadAnswer, Text};
+use stm_history::{KeyState, ReadAnswer, Text, copy_found, found_mod_rev};
 use stm_keys::Keys;
 use stm_meaning::Lookup;
 
@@ -54,16 +54,6 @@ fn has_value(reported: &Option<Text>, state: Option<&KeyState>) -> bool
     }
 }
 
-/// The modification revision of a key, 0 where it was absent.
-fn mod_rev_of(state: Option<&KeyState>) -> u64
-    ensures { result ≡ mod_of (option_copied state.entry) }
-{
-    match state {
-        None => 0,
-        Some(state) => state.mod_rev,
-    }
-}
-
 /// Whether an answer says what a key was at a revision that the store has reached.
 fn is_truly_reported(keys: &Keys, answer: &CommittedRead) -> bool
     ensures { IsTrue result ↔ IsTrulyReported keys.now.history answer.now }
@@ -72,7 +62,7 @@ fn is_truly_reported(keys: &Keys, answer: &CommittedRead) -> bool
         return false;
     }
     let state = keys.look_back(answer.key.as_str(), answer.of_rev);
-    has_value(&answer.value, state) && answer.mod_rev == mod_rev_of(state)
+    has_value(&answer.value, state) && answer.mod_rev == found_mod_rev(state)
 }
 
 /// Whether answers say what their keys were.
@@ -87,19 +77,6 @@ pub(crate) fn are_truly_reported(keys: &Keys, answers: &[CommittedRead]) -> bool
     true
 }
 
-/// A copy of what a key was.
-fn copy_of(state: Option<&KeyState>) -> Result<Option<KeyState>, AllocError>
-    ensures { IfOk result (λ copy. copy ≡ option_copied state.entry) }
-{
-    match state {
-        None => Ok(None),
-        Some(state) => {
-            let copy = state.clone()?;
-            Ok(Some(copy))
-        }
-    }
-}
-
 /// An answer, as a read of the store's history gives it.
 fn read_reported(keys: &Keys, answer: &CommittedRead) -> Result<ReadAnswer, AllocError>
     requires numbers { StatesFit keys.now.history }
@@ -107,9 +84,10 @@ fn read_reported(keys: &Keys, answer: &CommittedRead) -> Result<ReadAnswer, Allo
     ensures read { IfOk result (λ read. read ≡ read_in keys.now.history answer.now) }
     ensures in_range { IfOk result ReadFits }
 {
+    // (the type of the keys says that the counter is no higher than the highest revision)
     let _counter = keys.revision();
     let key = answer.key.clone()?;
-    let kv = copy_of(keys.look_back(answer.key.as_str(), answer.of_rev))?;
+    let kv = copy_found(keys.look_back(answer.key.as_str(), answer.of_rev))?;
     Ok(ReadAnswer {
         key,
         kv,

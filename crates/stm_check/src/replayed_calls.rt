@@ -90,6 +90,7 @@ pub(crate) fn replay_txn(
     ensures right { IfOk result (λ b. IsTrue b ↔ reply_to txn_reply (transacted store.old.standing txn.now) ≡ reply.now) }
     ensures next { IfOk result (λ b. IsTrue b → store.new.standing ≡ led_by (txn_entries (now store.old.standing.history) txn.now reply.now) store.old.standing store.old.standing.moment) }
 {
+    // (the store's type says that it takes at most 128 operations)
     let _few = store.limit();
     match store.txn(txn) {
         Ok(answer) => Ok(is_answered(reply, answer)),

@@ -14,7 +14,9 @@ pub use hall::Hall;
 pub use stm_attempt::Ready;
 pub use stm_entries::Entry;
 pub use stm_history::{ReadAnswer, Sequence, Text};
-pub use stm_journal::{CommitRefusal, FetchRefusal, Prepared, Verdict, prepare};
+pub use stm_journal::{
+    CommitRefusal, FetchRefusal, Prepared, Verdict, prepare, take_reads, txn_of_reads,
+};
 pub use stm_meaning::{State, TraceItem, Value};
 pub use stm_program::{Level, Program};
 pub use stm_txn::{AdvanceRefused, Expired, Refusal, Store, Txn, TxnAnswer};

@@ -3,19 +3,8 @@ ghost use Rattle.std.specs.Prelude.{◌≡◌, ◌↔◌, IsTrue};
 ghost use Rattle.std.specs.Option.{option_copied};
 ghost use Rattle.stm_hall.specs.Showing.{IsShown};
 
-use stm_history::{KeyState, ReadAnswer};
+use stm_history::{KeyState, ReadAnswer, are_same_states};
 use stm_keys::Keys;
-
-/// Whether two states of a key are the same.
-fn are_same(left: &KeyState, right: &KeyState) -> bool
-    ensures { IsTrue result ↔ left.now ≡ right.now }
-{
-    left.create_rev == right.create_rev
-        && left.mod_rev == right.mod_rev
-        && left.version == right.version
-        && left.lease == right.lease
-        && left.value == right.value
-}
 
 /// Whether a key is absent in both, or has the same state in both.
 fn is_same_state(left: Option<&KeyState>, right: &Option<KeyState>) -> bool
@@ -25,7 +14,7 @@ fn is_same_state(left: Option<&KeyState>, right: &Option<KeyState>) -> bool
         None => right.is_none(),
         Some(state) => match right {
             None => false,
-            Some(other) => are_same(state, other),
+            Some(other) => are_same_states(state, other),
         },
     }
 }

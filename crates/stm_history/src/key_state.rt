@@ -1,8 +1,9 @@
 //! What a store has under a key, and what a read answers.
-ghost use Rattle.std.specs.Prelude.{◌≡◌};
+ghost use Rattle.std.specs.Prelude.{◌≡◌, ◌↔◌, IsTrue, IfOk, option_copied};
 ghost use Rattle.stm_history.specs.History.{mod_of, value_of};
 
 use crate::text::Text;
+use std::alloc::AllocError;
 
 /// What a store has under a present key: etcd's `KeyValue` without the key itself.
 ///
@@ -52,4 +53,38 @@ pub fn mod_rev_of(kv: &Option<KeyState>) -> u64
         None => 0,
         Some(state) => state.mod_rev,
     }
+}
+
+/// The modification revision of a key that was looked up, 0 where it is absent.
+pub fn found_mod_rev(found: Option<&KeyState>) -> u64
+    ensures { result ≡ mod_of (option_copied found.entry) }
+{
+    match found {
+        None => 0,
+        Some(state) => state.mod_rev,
+    }
+}
+
+/// A copy of what a key that was looked up has, where it is present. Out of memory is its only refusal.
+pub fn copy_found(found: Option<&KeyState>) -> Result<Option<KeyState>, AllocError>
+    ensures { IfOk result (λ copy. copy ≡ option_copied found.entry) }
+{
+    match found {
+        None => Ok(None),
+        Some(state) => {
+            let copy = state.clone()?;
+            Ok(Some(copy))
+        }
+    }
+}
+
+/// Whether two states of a key are the same.
+pub fn are_same_states(left: &KeyState, right: &KeyState) -> bool
+    ensures { IsTrue result ↔ left.now ≡ right.now }
+{
+    left.create_rev == right.create_rev
+        && left.mod_rev == right.mod_rev
+        && left.version == right.version
+        && left.lease == right.lease
+        && left.value == right.value
 }

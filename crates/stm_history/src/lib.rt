@@ -12,7 +12,9 @@ mod sequence;
 mod text;
 
 pub use change::{Change, find_change};
-pub use key_state::{KeyState, ReadAnswer, mod_rev_of, value_of};
+pub use key_state::{
+    KeyState, ReadAnswer, are_same_states, copy_found, found_mod_rev, mod_rev_of, value_of,
+};
 pub use revisions::{HIGHEST_NUMBER, HIGHEST_REVISION};
 pub use sequence::Sequence;
 pub use text::Text;

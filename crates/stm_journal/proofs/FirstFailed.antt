@@ -1,8 +1,6 @@
 -- The first compare that fails, looked for one after another.
 use Rattle.std.proofs.Common.{◌≡◌, ℕ, zero, suc, ◌+◌, ◌<◌, ◌≤◌, List, [], ◌∷◌, ◌++◌, map, length, take, drop, Bool, true, false, cond, Option, Some, None, ◌↔◌, refl, sym, ◌∙◌, ap, arith}
 use Rattle.std.proofs.lemmas.Bool.{false≢true}
-use Rattle.std.proofs.lemmas.List.{take_more, map-append}
-use Rattle.std.proofs.lemmas.Option.{get_or_from_slice_get, slice_get_within}
 use Rattle.std.specs.Prelude.{slice_get}
 use Rattle.stm_history.specs.declared.key_state.KeyState.{KeyState}
 use Rattle.stm_history.specs.History.{mod_of}
@@ -24,15 +22,6 @@ drop_all [] zero all = refl
 drop_all [] (suc i) all = refl
 drop_all (x ∷ xs) zero all = let more : suc (length xs) ≤ zero = all in absurd (omega (arith, more))
 drop_all (x ∷ xs) (suc i) all = let more : suc (length xs) ≤ suc i = all in let fewer : length xs ≤ i = omega (arith, more) in drop_all xs i fewer
-
--- one more element of a prefix is mapped
-pub mapped_more : {X Y : Type 0} (f : X → Y) (xs : List X) (i : ℕ) (x : X) → slice_get xs i ≡ Some x →
-    map f (take i xs) ++ f x ∷ [] ≡ map f (take (i + 1) xs)
-mapped_more f xs i x at =
-    let within : i < length xs = slice_get_within xs i x at in
-    sym (map-append f (take i xs) (x ∷ []))
-    ∙ ap (λ (y : _). map f (take i xs ++ y ∷ [])) (sym (get_or_from_slice_get xs i x x at))
-    ∙ ap (map f) (sym (take_more xs i x within))
 
 -- ---- a compare of a list
 

@@ -13,12 +13,13 @@ ghost use Rattle.stm_journal.specs.Verdicts.{txn_of, taken_by_store, sent, refus
 use crate::causes::{Cause, check};
 use crate::commit_entry::entry_from;
 use crate::failing::fail;
-use crate::prepared::{Prepared, changes_of};
+use crate::prepared::Prepared;
 use crate::refusal::CommitRefusal;
 use crate::verdict::Verdict;
 use crate::vouching::find_unvouched;
 use std::alloc::{AllocError, Global};
 use stm_attempt::Ready;
+use stm_compile::changes_of;
 use stm_entries::Entry;
 use stm_history::{Change, Text};
 use stm_txn::{FailedCompare, Refusal, Store};

@@ -9,7 +9,7 @@ ghost use Rattle.stm_compile.specs.CommitTxn.{is_as_read as as_read, is_unmodifi
 ghost use Rattle.stm_journal.specs.Verdicts.{txn_of};
 
 use stm_attempt::{ReadSet, Ready, WriteBuffer};
-use stm_history::{ReadAnswer, mod_rev_of};
+use stm_history::{ReadAnswer, found_mod_rev, mod_rev_of};
 use stm_keys::Keys;
 use stm_program::{Level, Write};
 use stm_txn::FailedCompare;
@@ -18,10 +18,7 @@ use stm_txn::FailedCompare;
 fn modified_now(keys: &Keys, key: &str) -> u64
     ensures { result ≡ mod_of (key_now keys.now.history key.now) }
 {
-    match keys.get(key) {
-        None => 0,
-        Some(state) => state.mod_rev,
-    }
+    found_mod_rev(keys.get(key))
 }
 
 /// Whether a key that was read is as it was read, by its modification revision.

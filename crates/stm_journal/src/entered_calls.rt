@@ -50,6 +50,7 @@ pub(crate) fn fetch_one(
     ensures seen { IfOk result (λ answer. seen ≤ answer.revision) }
     ensures numbers { IfOk result ReadFits }
 {
+    // (the store's type says that it takes at least one operation)
     let _takes_one = store.limit();
     let counter = store.keys().revision();
     if counter < seen {

@@ -68,8 +68,10 @@ pub(crate) fn fail(
     ensures verdict { IfOk result (λ verdict. verdict ≡ failed_with ready.now failed (map (answer_now store.now.standing.history) (reread_keys ready.now.level ready.now.answers))) }
     ensures answers { IfOk result CanGoOn }
 {
+    // (the read set's type says that its keys are distinct)
     let _keys_differ = ready.answers.as_slice();
     let keys = store.keys();
+    // (the type of the keys says that the counter is no higher than the highest revision)
     let _counter = keys.revision();
     let again = read_again(alloc, keys, ready.level, &ready.answers)?;
     failed_verdict(alloc, ready, failed, again)

@@ -8,9 +8,8 @@ ghost use Rattle.stm_journal.specs.Fetched.{fetch_reported, read_reported, answe
 ghost use Rattle.stm_journal.specs.ReadRefusals.{cause_read};
 
 use crate::answers::take_reads;
-use crate::rereads::copy_state;
 use std::alloc::{AllocError, Global};
-use stm_history::{KeyState, ReadAnswer, Text};
+use stm_history::{KeyState, ReadAnswer, Text, copy_found};
 use stm_keys::{Keys, ReadRefusal};
 use stm_txn::{Op, Refusal, ShortList, Store, Txn};
 
@@ -31,6 +30,7 @@ fn find_named<'a>(store: &'a Store, key: &str, at: u64) -> Result<Option<&'a Key
     ensures refused { IfErr result (λ cause. read_reported store.now.standing key.now at ≡ Err cause) }
 {
     let keys = store.keys();
+    // (the type of the keys says that the floor is no higher than the counter)
     let _counter = keys.revision();
     match keys.get_at(key, at) {
         Ok(state) => Ok(state),
@@ -67,7 +67,7 @@ fn answer_to(
     ensures answer { IfOk result (λ answer. answer ≡ answer_with keys.now.history key.now at (option_copied state.entry)) }
     ensures counter { OnOk result (now keys.now.history ≤ HIGHEST_REVISION) }
 {
-    let kv = copy_state(state)?;
+    let kv = copy_found(state)?;
     let key = Text::copy_of(alloc, key)?;
     Ok(ReadAnswer {
         key,

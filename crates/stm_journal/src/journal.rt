@@ -234,6 +234,7 @@ impl Journal {
         ensures made { JournalReturns (made self.old txn.now) self.old result self.new }
         ensures few { self.old.standing.limit ≤ most_operations }
     {
+        // (the store's type says that it takes at most 128 operations)
         let _few = self.store.limit();
         entered_calls::make_and_enter_txn(&mut self.store, &mut self.entries, txn)
     }

@@ -9,9 +9,9 @@ use crate::copying::copy_of;
 use crate::faults::names_empty_key;
 use std::alloc::{AllocError, Global};
 use std::marker::Model;
-use stm_attempt::{Ready, WriteBuffer};
+use stm_attempt::Ready;
+use stm_compile::changes_of;
 use stm_history::Change;
-use stm_program::Write;
 use stm_txn::Store;
 
 /// An attempt that is ready, with what its commit needs beside it: whether the commit names an empty key, and the changes that its writes make.
@@ -79,38 +79,6 @@ impl Prepared {
         } = self;
         (ready, changes)
     }
-}
-
-/// A write, as a change.
-fn change_of(write: &Write) -> Result<Change, AllocError>
-    ensures { IfOk result (λ change. change ≡ as_change write.now) }
-{
-    match write {
-        Write::Put { key, value, lease } => {
-            let key = key.clone()?;
-            let value = value.clone()?;
-            Ok(Change::Put {
-                key,
-                value,
-                lease: *lease,
-            })
-        }
-        Write::Del { key } => {
-            let key = key.clone()?;
-            Ok(Change::Del { key })
-        }
-    }
-}
-
-/// The writes, as changes.
-pub(crate) fn changes_of(alloc: Global, writes: &WriteBuffer) -> Result<Vec<Change>, AllocError>
-    ensures { IfOk result (λ changes. changes.items ≡ map as_change writes.now) }
-{
-    let mut changes = Vec::with_capacity(alloc, writes.len())?;
-    for place in 0..writes.len() {
-        changes.push(change_of(writes.at(place))?)?;
-    }
-    Ok(changes)
 }
 
 /// Prepares the commit of an attempt. Out of memory is the only refusal.

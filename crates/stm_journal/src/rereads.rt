@@ -1,33 +1,20 @@
 //! What the keys that a failed attempt read are now.
-ghost use Rattle.std.specs.Prelude.{◌≡◌, ◌++◌, ◌∷◌, [], map, option_copied, IfOk, OnOk};
+ghost use Rattle.std.specs.Prelude.{◌≡◌, ◌++◌, ◌∷◌, [], map, IfOk, OnOk};
 ghost use Rattle.stm_history.specs.declared.key_state.ReadAnswer.{ReadAnswer as Answer};
 ghost use Rattle.stm_compile.specs.Answers.{answer_now};
 ghost use Rattle.stm_compile.specs.CommitTxn.{reread_keys};
 
 use std::alloc::{AllocError, Global};
 use stm_attempt::ReadSet;
-use stm_history::{KeyState, ReadAnswer, Text};
+use stm_history::{ReadAnswer, Text, copy_found};
 use stm_keys::Keys;
 use stm_program::Level;
-
-/// A copy of what a key is, where it is present.
-pub(crate) fn copy_state(state: Option<&KeyState>) -> Result<Option<KeyState>, AllocError>
-    ensures { IfOk result (λ copy. copy ≡ option_copied state.entry) }
-{
-    match state {
-        None => Ok(None),
-        Some(state) => {
-            let copy = state.clone()?;
-            Ok(Some(copy))
-        }
-    }
-}
 
 /// What a key is now, as the read of it answers.
 fn read_now(keys: &Keys, key: &Text) -> Result<ReadAnswer, AllocError>
     ensures { IfOk result (λ answer. answer ≡ answer_now keys.now.history key.now) }
 {
-    let kv = copy_state(keys.get(key.as_str()))?;
+    let kv = copy_found(keys.get(key.as_str()))?;
     let key = key.clone()?;
     let revision = keys.revision();
     Ok(ReadAnswer {

@@ -1,11 +1,12 @@
 //! Compares, over what the keys are now.
 ghost use Rattle.std.specs.Prelude.{◌≡◌, option_copied};
-ghost use Rattle.stm_history.specs.History.{key_now, mod_of};
+ghost use Rattle.stm_history.specs.History.{key_now};
 ghost use Rattle.stm_outcome.specs.Compares.{is_asked, sides, holds, first_failed};
 
 use crate::answer::FailedCompare;
 use crate::txn::{Compare, Order, Target};
 use std::cmp::Ordering;
+use stm_history::found_mod_rev;
 use stm_keys::{KeyState, Keys};
 
 /// Whether two sides that compare so are in the order that is asked for.
@@ -43,16 +44,6 @@ fn compare_holds(compare: &Compare, state: Option<&KeyState>) -> bool
     }
 }
 
-/// The modification revision of a key, 0 where it is absent.
-fn modified(state: Option<&KeyState>) -> u64
-    ensures { result ≡ mod_of (option_copied state.entry) }
-{
-    match state {
-        None => 0,
-        Some(state) => state.mod_rev,
-    }
-}
-
 /// The first compare that does not hold of what the keys are now.
 pub fn find_failed(compares: &[Compare], keys: &Keys) -> Option<FailedCompare>
     ensures { result ≡ first_failed (key_now keys.now.history) 0 compares.now }
@@ -60,7 +51,7 @@ pub fn find_failed(compares: &[Compare], keys: &Keys) -> Option<FailedCompare>
     for (index, compare) in compares.iter().enumerate() {
         let state = keys.get(compare.key.as_str());
         if !compare_holds(compare, state) {
-            let mod_rev = modified(state);
+            let mod_rev = found_mod_rev(state);
             return Some(FailedCompare { index, mod_rev });
         }
     }

@@ -10,6 +10,7 @@ use crate::same::are_same_statements;
 use crate::statement::{Block, Stmt};
 use std::alloc::{AllocError, Global};
 use std::marker::Model;
+use stm_history::{Sequence, Text};
 
 /// A program: statements within the limits, and before them the keys of its list, whether the statements read them or not. Each attempt
 /// reads those first, in the list's order.
@@ -120,6 +121,17 @@ impl Program {
         ensures fits { Fits self.now }
     {
         self.prefetch.as_slice()
+    }
+
+    /// A copy of the keys of its list, in the list's order. Out of memory is its only refusal.
+    pub fn list(&self, alloc: Global) -> Result<Sequence<Text>, AllocError>
+        ensures { IfOk result (λ keys. keys ≡ self.now.prefetch) }
+    {
+        let mut keys = Sequence::new(alloc);
+        for key in self.prefetch() {
+            keys.push(Text::copy_of(alloc, key.as_str())?)?;
+        }
+        Ok(keys)
     }
 
     /// The statements in order. It allocates nothing.

@@ -2,7 +2,7 @@
 ghost use Rattle.std.specs.Prelude.{◌≡◌, ◌↔◌, IsTrue};
 
 use stm_events::{CommittedRead, Expired, KeyRead, OpReply, TraceItem, Value};
-use stm_history::{KeyState, Text};
+use stm_history::{KeyState, Text, are_same_states};
 use stm_keys::Event;
 
 /// What can be compared with another of its type.
@@ -25,17 +25,6 @@ pub(crate) fn are_same<T: Same>(left: &[T], right: &[T]) -> bool
         }
     }
     true
-}
-
-/// Whether two states of a key are the same.
-pub(crate) fn are_same_states(left: &KeyState, right: &KeyState) -> bool
-    ensures { IsTrue result ↔ left.now ≡ right.now }
-{
-    left.create_rev == right.create_rev
-        && left.mod_rev == right.mod_rev
-        && left.version == right.version
-        && left.lease == right.lease
-        && left.value == right.value
 }
 
 /// Whether a key is absent, or has the same state.

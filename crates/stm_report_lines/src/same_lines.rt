@@ -1,8 +1,9 @@
 //! Whether two lines are the same.
 ghost use Rattle.std.specs.Prelude.{◌≡◌, ◌↔◌, IsTrue};
 
-use crate::same::{are_same, are_same_expired, are_same_states, are_same_traces, are_same_values};
+use crate::same::{are_same, are_same_expired, are_same_traces, are_same_values};
 use stm_events::{Denied, Reply, ReportLine};
+use stm_history::are_same_states;
 
 /// Whether two replies are the same.
 pub fn are_same_replies(left: &Reply, right: &Reply) -> bool

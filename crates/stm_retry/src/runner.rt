@@ -140,6 +140,7 @@ impl Runner {
     pub(crate) fn attempts(&self) -> u64
         ensures { result ≡ self.now.runner.failures + 1 }
     {
+        // (the runner's type says that the commits that failed are fewer than the limit)
         let _above_failures = self.limit;
         (self.failures + 1) as u64
     }

@@ -224,6 +224,7 @@ impl World {
     fn know_sound(&self)
         ensures { IsSound self.now }
     {
+        // (the world's type says so)
         let _kept = &self.kept;
     }
 

@@ -1,5 +1,5 @@
 //! One branch of a transaction.
-ghost use Rattle.std.specs.Prelude.{◌≡◌, ◌+◌, ◌≤◌, ◌++◌, ◌∷◌, IfOk, OnOk, IsTrue, [], option_copied, is_some, Some};
+ghost use Rattle.std.specs.Prelude.{◌≡◌, ◌+◌, ◌≤◌, ◌++◌, ◌∷◌, IfOk, OnOk, IsTrue, [], is_some, Some};
 ghost use Rattle.stm_history.specs.History.{now};
 ghost use Rattle.stm_history.specs.declared.change.Change.TheVariants.{Put, Del};
 ghost use Rattle.stm_outcome.specs.Branches.{carried, is_readable, are_readable, has_changes};
@@ -7,7 +7,7 @@ ghost use Rattle.stm_outcome.specs.Outcome.{is_used_up, chosen, would_change};
 ghost use Rattle.stm_outcome.specs.LookUps.{copy, read_copied, change_copied, with_copied, answer_copied, changes_copied, answers_copied};
 
 use std::alloc::{AllocError, Global};
-use stm_history::{Change, KeyState, ReadAnswer, Text, find_change};
+use stm_history::{Change, KeyState, ReadAnswer, Text, copy_found, find_change};
 use stm_keys::{HIGHEST_REVISION, Keys};
 use stm_outcome::{FailedCompare, Op, OpAnswer, ShortList, Txn, find_failed};
 
@@ -18,21 +18,12 @@ pub(crate) struct Branch {
     pub changes: Vec<Change>,
 }
 
-fn clone_state(state: Option<&KeyState>) -> Result<Option<KeyState>, AllocError>
-    ensures { IfOk result (λ s. s ≡ option_copied state.entry) }
-{
-    match state {
-        None => Ok(None),
-        Some(state) => Ok(Some(state.clone()?)),
-    }
-}
-
 /// What a key is in the branch's copy of the current state.
 fn copied(keys: &Keys, changes: &[Change], key: &str) -> Result<Option<KeyState>, AllocError>
     ensures { IfOk result (λ s. s ≡ copy keys.now.history changes.now key.now) }
 {
     match find_change(changes, key) {
-        None => clone_state(keys.get(key)),
+        None => copy_found(keys.get(key)),
         Some(Change::Del { .. }) => Ok(None),
         Some(Change::Put { value, lease, .. }) => Ok(Some(keys.after_put(key, value, *lease)?)),
     }
@@ -68,7 +59,7 @@ fn read(keys: &Keys, changes: &[Change], key: &Text, rev: u64) -> Result<ReadAns
     let (kv, of_rev) = if rev == 0 {
         (copied(keys, changes, key.as_str())?, revision)
     } else {
-        (clone_state(keys.look_back(key.as_str(), rev))?, rev)
+        (copy_found(keys.look_back(key.as_str(), rev))?, rev)
     };
     Ok(ReadAnswer {
         key: key.clone()?,

@@ -16,8 +16,7 @@ use std::alloc::Global;
 use std::sync::ledger::Share;
 use std::sync::{Mutex, Wait};
 use stm_attempt::{ReadAnswer, Ready, Text};
-use stm_hall::{Verdict, prepare};
-use stm_journal::{take_reads, txn_of_reads};
+use stm_hall::{Verdict, prepare, take_reads, txn_of_reads};
 
 /// What each worker of a run calls the hall with: the lock round it, which is held for one fetch or one commit at a time, and the gate.
 #[derive(Drop)]

@@ -1,6 +1,6 @@
 use Rattle.std.proofs.Common.{◌≡◌, take, map}
 use Rattle.std.specs.Prelude.{string_bytes}
-use Rattle.stm_attempt.proofs.entering.list_of.Given as goal
+use Rattle.stm_program.proofs.program.Program.list.Given as goal
 
 -- the keys so far are copied
 abbrev pub invariant-loop-key : goal.invariant-loop-key

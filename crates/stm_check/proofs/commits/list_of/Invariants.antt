@@ -1,7 +1,0 @@
-use Rattle.std.proofs.Common.{◌≡◌, map, take}
-use Rattle.std.specs.Prelude.{string_bytes}
-use Rattle.stm_check.proofs.commits.list_of.Given as goal
-
--- the keys so far are copied
-abbrev pub invariant-loop-key : goal.invariant-loop-key
-invariant-loop-key l = l.keys ≡ map string_bytes (take l.key-index l.key-items)

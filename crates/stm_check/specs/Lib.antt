@@ -6,7 +6,7 @@ pub mod Fits
 pub mod Replays
 pub mod Runs
 pub mod Wrong
-pub mod Walks
+pub mod Points
 pub mod Judged
 pub mod Sources
 pub mod Laws

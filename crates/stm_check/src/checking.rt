@@ -4,13 +4,13 @@ ghost use Rattle.stm_texts.specs.Opens.{IsOpening};
 ghost use Rattle.stm_check.specs.Judged.{IsJudged, IsJudgedFrom, IsJudgedEnd, IsWrongEvent, AreRightEvents};
 ghost use Rattle.stm_entries.specs.LiveLeases.{HasLeases};
 ghost use Rattle.stm_check.specs.StoreLines.{final_lines as lines_of_end};
-ghost use Rattle.stm_check.specs.Walks.{point_of};
+ghost use Rattle.stm_check.specs.Points.{point_of};
 ghost use Rattle.stm_check.specs.Wrong.{point_after};
 
 use crate::cause::WrongCause;
 use crate::count::add_count;
 use crate::finals::{final_lines, first_off};
-use crate::walk::Walk;
+use crate::point::Point;
 use std::alloc::{AllocError, Global};
 use stm_events::{Report, ReportLine, WorldEvent};
 use stm_texts::{Scenario, opens_with};
@@ -31,15 +31,15 @@ pub enum Checked {
 
 /// The first wrong line among those of the events.
 fn first_wrong_event(
-    walk: &mut Walk,
+    point: &mut Point,
     events: &[WorldEvent],
     lines: &[ReportLine],
 ) -> Result<Option<Checked>, AllocError>
-    requires { HasLeases walk.old.leases walk.old.store.standing.live }
-    ensures wrong { IfOk result (λ found. IfSome found (IsWrongEvent 1 (point_of walk.old) events.now lines.now)) }
-    ensures right { IfOk result (λ found. found ≡ None → AreRightEvents 1 (point_of walk.old) events.now lines.now) }
-    ensures point { IfOk result (λ found. found ≡ None → point_of walk.new ≡ point_after (point_of walk.old) events.now lines.now) }
-    ensures leases { IfOk result (λ found. found ≡ None → HasLeases walk.new.leases walk.new.store.standing.live) }
+    requires { HasLeases point.old.leases point.old.store.standing.live }
+    ensures wrong { IfOk result (λ found. IfSome found (IsWrongEvent 1 (point_of point.old) events.now lines.now)) }
+    ensures right { IfOk result (λ found. found ≡ None → AreRightEvents 1 (point_of point.old) events.now lines.now) }
+    ensures point { IfOk result (λ found. found ≡ None → point_of point.new ≡ point_after (point_of point.old) events.now lines.now) }
+    ensures leases { IfOk result (λ found. found ≡ None → HasLeases point.new.leases point.new.store.standing.live) }
 {
     for (index, event) in events.iter().enumerate() {
         let number = index as u64 + 1;
@@ -49,7 +49,7 @@ fn first_wrong_event(
                 cause: WrongCause::Count,
             }));
         }
-        if let Some(cause) = walk.take(number, event, &lines[index])? {
+        if let Some(cause) = point.take(number, event, &lines[index])? {
             return Ok(Some(Checked::No {
                 line: number,
                 cause,
@@ -61,14 +61,14 @@ fn first_wrong_event(
 
 /// The first wrong line among those of the end, which stand after this number of lines.
 fn first_wrong_final(
-    walk: &Walk,
+    point: &Point,
     before: usize,
     lines: &[ReportLine],
 ) -> Result<Checked, AllocError>
-    requires { HasLeases walk.now.leases walk.now.store.standing.live }
-    ensures { IfOk result (IsJudgedEnd (before + 1) (lines_of_end (point_of walk.now)) lines.now) }
+    requires { HasLeases point.now.leases point.now.store.standing.live }
+    ensures { IfOk result (IsJudgedEnd (before + 1) (lines_of_end (point_of point.now)) lines.now) }
 {
-    let wanted = final_lines(walk)?;
+    let wanted = final_lines(point)?;
     match first_off(wanted.as_slice(), lines) {
         None => Ok(Checked::Yes),
         Some((index, cause)) => {
@@ -87,18 +87,18 @@ fn lines_after(lines: &[ReportLine], count: usize) -> &[ReportLine]
     &lines[count..]
 }
 
-/// What a walk along a report comes to.
+/// What the lines come to, from a point before the first of them.
 fn judge(
-    walk: &mut Walk,
+    point: &mut Point,
     events: &[WorldEvent],
     lines: &[ReportLine],
 ) -> Result<Checked, AllocError>
-    requires { HasLeases walk.old.leases walk.old.store.standing.live }
-    ensures { IfOk result (IsJudgedFrom 1 (point_of walk.old) events.now lines.now) }
+    requires { HasLeases point.old.leases point.old.store.standing.live }
+    ensures { IfOk result (IsJudgedFrom 1 (point_of point.old) events.now lines.now) }
 {
-    match first_wrong_event(walk, events, lines)? {
+    match first_wrong_event(point, events, lines)? {
         Some(wrong) => Ok(wrong),
-        None => first_wrong_final(walk, events.len(), lines_after(lines, events.len())),
+        None => first_wrong_final(point, events.len(), lines_after(lines, events.len())),
     }
 }
 
@@ -114,12 +114,12 @@ pub fn check(alloc: Global, scenario: &Scenario, report: &Report) -> Result<Chec
     requires { IsOpening scenario.now.opening }
     ensures { IfOk result (IsJudged scenario.now report.now) }
 {
-    let mut walk = Walk::begin(alloc, opens_with(scenario.opening))?;
+    let mut point = Point::begin(alloc, opens_with(scenario.opening))?;
     let checked = judge(
-        &mut walk,
+        &mut point,
         scenario.events.as_slice(),
         report.lines.as_slice(),
     );
-    drop(walk);
+    drop(point);
     checked
 }

@@ -4,12 +4,12 @@ ghost use Rattle.stm_leases.specs.Live.{Live};
 ghost use Rattle.stm_history.specs.History.{key_now};
 ghost use Rattle.stm_entries.specs.LiveLeases.{HasLeases};
 ghost use Rattle.stm_check.specs.StoreLines.{key_lines_of, key_lines, lease_lines, final_lines as lines_of_end};
-ghost use Rattle.stm_check.specs.Walks.{point_of};
+ghost use Rattle.stm_check.specs.Points.{point_of};
 ghost use Rattle.stm_check.specs.Wrong.{IsOff};
 ghost use Rattle.stm_txn.specs.LeaseKeys.{keys_named};
 
 use crate::cause::WrongCause;
-use crate::walk::Walk;
+use crate::point::Point;
 use std::alloc::{AllocError, Global};
 use std::collections::BTreeMap;
 use stm_entries::LiveLease;
@@ -69,16 +69,16 @@ fn add_leases(
 
 /// The lines of the end: the keys that are present, ascending by bytes, the live leases, ascending by id, and the end
 /// line with the revision and the number of entries.
-pub(crate) fn final_lines(walk: &Walk) -> Result<Vec<ReportLine>, AllocError>
-    requires { HasLeases walk.now.leases walk.now.store.standing.live }
-    ensures { IfOk result (λ lines. lines.items ≡ lines_of_end (point_of walk.now)) }
+pub(crate) fn final_lines(point: &Point) -> Result<Vec<ReportLine>, AllocError>
+    requires { HasLeases point.now.leases point.now.store.standing.live }
+    ensures { IfOk result (λ lines. lines.items ≡ lines_of_end (point_of point.now)) }
 {
-    let mut lines = Vec::new(walk.alloc);
-    add_keys(walk.alloc, &mut lines, walk.store.keys())?;
-    add_leases(&mut lines, &walk.leases)?;
+    let mut lines = Vec::new(point.alloc);
+    add_keys(point.alloc, &mut lines, point.store.keys())?;
+    add_leases(&mut lines, &point.leases)?;
     lines.push(ReportLine::End {
-        revision: walk.store.keys().revision(),
-        entries: walk.entries,
+        revision: point.store.keys().revision(),
+        entries: point.entries,
     })?;
     Ok(lines)
 }

@@ -13,10 +13,10 @@ mod fits;
 pub mod laws;
 mod leases;
 mod lookups;
+mod point;
 mod replayed_calls;
 mod runner;
 mod sources;
-mod walk;
 
 pub use cause::WrongCause;
 pub use checking::{Checked, check};

@@ -4,72 +4,65 @@ ghost use Rattle.stm_check.specs.Point.{led_by, moment_after, txn_entries, grant
 ghost use Rattle.stm_history.specs.History.{now};
 ghost use Rattle.stm_txn.specs.Standing.{transacted, granted, kept_alive, revoked, advanced, raised};
 ghost use Rattle.stm_outcome.specs.declared.refusal.Refusal.TheVariants.{OutOfMemory};
-ghost use Rattle.stm_events.specs.Replies.{refusal_of, txn_reply, reply_to, advance_reply};
+ghost use Rattle.stm_events.specs.Replies.{refusal_of, denied, txn_reply, reply_to, advance_reply};
 ghost use Rattle.stm_events.specs.declared.reply.Reply.TheVariants.{Granted, Kept, Revoked, Compacted};
 ghost use Rattle.stm_events.specs.declared.event.WorldEvent.TheVariants.{Advance as AdvanceEvent, Compact as CompactEvent};
 
-use std::alloc::AllocError;
+use std::alloc::{AllocError, Global};
 use stm_events::{Denied, EventRefusal, Reply};
 use stm_history::Sequence;
-use stm_report_lines::{are_same_replies, is_txn_reply};
-use stm_txn::{Expired, Refusal, Store, Txn, TxnAnswer};
+use stm_report_lines::{are_same_outcomes, is_txn_reply};
+use stm_txn::{AdvanceRefused, Refusal, Store, Txn, TxnAnswer};
 
-/// Whether an event was taken with this reply.
-fn is_taken(reply: &Result<Reply, Denied>, wanted: Reply) -> bool
-    ensures { IsTrue result ↔ Ok wanted ≡ reply.now }
+/// Whether a reply is this one.
+fn is_reply(reply: &Result<Reply, Denied>, wanted: Result<Reply, Denied>) -> bool
+    ensures { IsTrue result ↔ wanted ≡ reply.now }
 {
-    let is_same = match reply {
-        Ok(reply) => are_same_replies(&wanted, reply),
-        Err(_) => false,
-    };
+    let is_same = are_same_outcomes(&wanted, reply);
     drop(wanted);
     is_same
 }
 
-/// Whether the same leases expired, in the same order and at the same revisions.
-fn are_same_expired(left: &[Expired], right: &[Expired]) -> bool
-    ensures { IsTrue result ↔ left.now ≡ right.now }
+/// Whether a reply is a refusal for this cause, before which nothing expired.
+pub(crate) fn is_denied(alloc: Global, reply: &Result<Reply, Denied>, cause: EventRefusal) -> bool
+    ensures { IsTrue result ↔ denied cause ≡ reply.now }
 {
-    left == right
+    let expired = Sequence::new(alloc);
+    is_reply(reply, Err(Denied { cause, expired }))
 }
 
-/// Whether a refusal is one for this cause, after these leases expired.
-fn is_denial(denied: &Denied, cause: EventRefusal, expired: &[Expired]) -> bool
-    ensures { IsTrue result ↔ record { cause = cause; expired = expired.now } ≡ denied.now }
-{
-    denied.cause == cause && are_same_expired(expired, denied.expired.as_slice())
-}
-
-/// Whether an event was refused for this cause, after these leases expired.
-pub(crate) fn is_refused(
-    reply: &Result<Reply, Denied>,
-    cause: EventRefusal,
-    expired: &[Expired],
-) -> bool
-    ensures { IsTrue result ↔ Err (record { cause = cause; expired = expired.now }) ≡ reply.now }
-{
-    match reply {
-        Ok(_) => false,
-        Err(denied) => is_denial(denied, cause, expired),
-    }
-}
-
-/// Whether an event was refused because the store refused its call, where it did not run out of memory.
-fn is_refused_by_store(
+/// Whether a reply is that to a call that the store refused for this cause, where it did not run out of memory.
+fn is_refused(
+    alloc: Global,
     reply: &Result<Reply, Denied>,
     cause: Refusal,
-    expired: &[Expired],
 ) -> Result<bool, AllocError>
-    ensures replied { IfOk result (λ b. IsTrue b ↔ Err (record { cause = refusal_of cause; expired = expired.now }) ≡ reply.now) }
+    ensures replied { IfOk result (λ b. IsTrue b ↔ denied (refusal_of cause) ≡ reply.now) }
     ensures memory { OnOk result (cause ≢ OutOfMemory) }
 {
     if cause == Refusal::OutOfMemory {
         return Err(AllocError);
     }
-    Ok(is_refused(reply, EventRefusal::of_store(cause), expired))
+    Ok(is_denied(alloc, reply, EventRefusal::of_store(cause)))
 }
 
-/// Whether a transaction was replied to with this answer.
+/// Whether a reply is that to an advance that was cut short, where it did not run out of memory.
+fn is_cut_short(reply: &Result<Reply, Denied>, refused: AdvanceRefused) -> Result<bool, AllocError>
+    ensures replied { IfOk result (λ b. IsTrue b ↔ Err (record { cause = refusal_of refused.cause; expired = refused.expired }) ≡ reply.now) }
+    ensures memory { OnOk result (refused.cause ≢ OutOfMemory) }
+{
+    if refused.cause == Refusal::OutOfMemory {
+        drop(refused);
+        return Err(AllocError);
+    }
+    let denied = Denied {
+        cause: EventRefusal::of_store(refused.cause),
+        expired: refused.expired,
+    };
+    Ok(is_reply(reply, Err(denied)))
+}
+
+/// Whether a reply is that to a transaction that was answered so.
 fn is_answered(reply: &Result<Reply, Denied>, answer: TxnAnswer) -> bool
     ensures { IsTrue result ↔ Ok (txn_reply answer) ≡ reply.now }
 {
@@ -83,6 +76,7 @@ fn is_answered(reply: &Result<Reply, Denied>, answer: TxnAnswer) -> bool
 
 /// Makes a transaction, and returns whether this is the reply to it.
 pub(crate) fn replay_txn(
+    alloc: Global,
     store: &mut Store,
     txn: &Txn,
     reply: &Result<Reply, Denied>,
@@ -94,12 +88,13 @@ pub(crate) fn replay_txn(
     let _few = store.limit();
     match store.txn(txn) {
         Ok(answer) => Ok(is_answered(reply, answer)),
-        Err(cause) => is_refused_by_store(reply, cause, &[]),
+        Err(cause) => is_refused(alloc, reply, cause),
     }
 }
 
 /// Grants a lease, and returns whether this is the reply to it.
 pub(crate) fn replay_grant(
+    alloc: Global,
     store: &mut Store,
     id: u64,
     ttl: u64,
@@ -109,13 +104,14 @@ pub(crate) fn replay_grant(
     ensures next { IfOk result (λ b. IsTrue b → store.new.standing ≡ led_by (grant_entries id ttl store.old.standing.moment reply.now) store.old.standing store.old.standing.moment) }
 {
     match store.grant(id, ttl) {
-        Ok(()) => Ok(is_taken(reply, Reply::Granted { id })),
-        Err(cause) => is_refused_by_store(reply, cause, &[]),
+        Ok(()) => Ok(is_reply(reply, Ok(Reply::Granted { id }))),
+        Err(cause) => is_refused(alloc, reply, cause),
     }
 }
 
 /// Renews a lease, and returns whether this is the reply to it.
 pub(crate) fn replay_keep(
+    alloc: Global,
     store: &mut Store,
     id: u64,
     reply: &Result<Reply, Denied>,
@@ -124,13 +120,14 @@ pub(crate) fn replay_keep(
     ensures next { IfOk result (λ b. IsTrue b → store.new.standing ≡ led_by (keep_entries id store.old.standing.moment reply.now) store.old.standing store.old.standing.moment) }
 {
     match store.keep_alive(id) {
-        Ok(()) => Ok(is_taken(reply, Reply::Kept { id })),
-        Err(cause) => is_refused_by_store(reply, cause, &[]),
+        Ok(()) => Ok(is_reply(reply, Ok(Reply::Kept { id }))),
+        Err(cause) => is_refused(alloc, reply, cause),
     }
 }
 
 /// Revokes a lease, and returns whether this is the reply to it.
 pub(crate) fn replay_revoke(
+    alloc: Global,
     store: &mut Store,
     id: u64,
     reply: &Result<Reply, Denied>,
@@ -139,8 +136,8 @@ pub(crate) fn replay_revoke(
     ensures next { IfOk result (λ b. IsTrue b → store.new.standing ≡ led_by (revoke_entries id reply.now) store.old.standing store.old.standing.moment) }
 {
     match store.revoke(id) {
-        Ok(revision) => Ok(is_taken(reply, Reply::Revoked { id, revision })),
-        Err(cause) => is_refused_by_store(reply, cause, &[]),
+        Ok(revision) => Ok(is_reply(reply, Ok(Reply::Revoked { id, revision }))),
+        Err(cause) => is_refused(alloc, reply, cause),
     }
 }
 
@@ -156,20 +153,21 @@ pub(crate) fn replay_advance(
     match store.advance(moment) {
         Ok(expired) => {
             let expired = Sequence::of(expired);
-            Ok(is_taken(
+            Ok(is_reply(
                 reply,
-                Reply::Advanced {
+                Ok(Reply::Advanced {
                     now: moment,
                     expired,
-                },
+                }),
             ))
         }
-        Err(refused) => { is_refused_by_store(reply, refused.cause, refused.expired.as_slice()) }
+        Err(refused) => is_cut_short(reply, refused),
     }
 }
 
 /// Raises the floor to a revision, and returns whether this is the reply to the compaction. Nothing is dropped.
 pub(crate) fn replay_compact(
+    alloc: Global,
     store: &mut Store,
     revision: u64,
     reply: &Result<Reply, Denied>,
@@ -178,7 +176,7 @@ pub(crate) fn replay_compact(
     ensures next { IfOk result (λ b. IsTrue b → store.new.standing ≡ raised_by (CompactEvent revision) reply.now store.old.standing) }
 {
     match store.raise_floor(revision) {
-        Ok(()) => Ok(is_taken(reply, Reply::Compacted { revision })),
-        Err(cause) => is_refused_by_store(reply, cause, &[]),
+        Ok(()) => Ok(is_reply(reply, Ok(Reply::Compacted { revision }))),
+        Err(cause) => is_refused(alloc, reply, cause),
     }
 }

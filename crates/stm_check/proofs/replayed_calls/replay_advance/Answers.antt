@@ -1,6 +1,6 @@
 use Rattle.std.proofs.Common.{◌≡◌, ◌∙◌, List, None, Ok, sym, ap, subst}
 use Rattle.stm_outcome.specs.declared.advance.Expired.{Expired}
-use Rattle.stm_txn.specs.Standing.{Standing, IsCutShort, advanced}
+use Rattle.stm_txn.specs.Standing.{Standing, advanced}
 use Rattle.stm_entries.specs.Entered.{expiries}
 use Rattle.stm_events.specs.declared.event.WorldEvent.TheVariants.{Advance as AdvanceEvent}
 use Rattle.stm_events.specs.declared.reply.Reply.TheVariants.{Advanced}
@@ -13,34 +13,28 @@ pub returns-in-Ok-clause-right : goal.returns-in-Ok-clause-right
 returns-in-Ok-clause-right c =
     let s : Standing = c.args.store.now.standing in
     let next : Standing = c.advance.new.self.standing in
-    tests_same c.is_taken.result (advance_reply c.args.moment (advanced s c.args.moment).expired (advanced s c.args.moment).cause)
+    tests_same c.is_reply.result (advance_reply c.args.moment (advanced s c.args.moment).expired (advanced s c.args.moment).cause)
     (Ok (Advanced c.args.moment c.of-expired.result)) c.args.reply.now
     (advance_reply_is s next c.args.moment c.in-Ok.expired.items None c.in-Ok.ensures.ok
-    ∙ ap (λ (es : List Expired). Ok (Advanced c.args.moment es)) (sym c.of-expired.ensures)) c.is_taken.ensures
+    ∙ ap (λ (es : List Expired). Ok (Advanced c.args.moment es)) (sym c.of-expired.ensures)) c.is_reply.ensures
 
 pub returns-in-Ok-clause-next : goal.returns-in-Ok-clause-next
 returns-in-Ok-clause-next c =
     let s : Standing = c.args.store.now.standing in
     let next : Standing = c.advance.new.self.standing in
-    led_where c.is_taken.result (Ok (Advanced c.args.moment c.of-expired.result)) c.args.reply.now advance_entries s next
-    (moment_after s (AdvanceEvent c.args.moment)) c.is_taken.ensures
+    led_where c.is_reply.result (Ok (Advanced c.args.moment c.of-expired.result)) c.args.reply.now advance_entries s next
+    (moment_after s (AdvanceEvent c.args.moment)) c.is_reply.ensures
     (subst (λ (es : List Expired). next ≡ led_by (expiries es) s (moment_after s (AdvanceEvent c.args.moment))) (sym c.of-expired.ensures)
     (advance_led s next c.args.moment c.in-Ok.expired.items None c.in-Ok.ensures.ok))
 
 pub returns-in-Err-clause-right : goal.returns-in-Err-clause-right
 returns-in-Err-clause-right c =
-    let s : Standing = c.args.store.now.standing in
-    let next : Standing = c.advance.new.self.standing in
-    let cause = c.in-Err.refused.cause in
-    cut_right c.is_refused_by_store.result s next c.args.moment c.as_slice.result.now cause c.args.reply.now c.is_refused_by_store.ensures.replied
-    c.is_refused_by_store.ensures.memory
-    (subst (λ (es : List Expired). IsCutShort (advanced s c.args.moment) es cause next) (sym c.as_slice.ensures) c.in-Err.ensures.refused)
+    let refused = c.in-Err.refused in
+    cut_right c.is_cut_short.result c.args.store.now.standing c.advance.new.self.standing c.args.moment refused.expired refused.cause c.args.reply.now
+    c.is_cut_short.ensures.replied c.is_cut_short.ensures.memory c.in-Err.ensures.refused
 
 pub returns-in-Err-clause-next : goal.returns-in-Err-clause-next
 returns-in-Err-clause-next c =
-    let s : Standing = c.args.store.now.standing in
-    let next : Standing = c.advance.new.self.standing in
-    let cause = c.in-Err.refused.cause in
-    cut_next c.is_refused_by_store.result s next c.args.moment c.as_slice.result.now cause c.args.reply.now c.is_refused_by_store.ensures.replied
-    c.is_refused_by_store.ensures.memory
-    (subst (λ (es : List Expired). IsCutShort (advanced s c.args.moment) es cause next) (sym c.as_slice.ensures) c.in-Err.ensures.refused)
+    let refused = c.in-Err.refused in
+    cut_next c.is_cut_short.result c.args.store.now.standing c.advance.new.self.standing c.args.moment refused.expired refused.cause c.args.reply.now
+    c.is_cut_short.ensures.replied c.is_cut_short.ensures.memory c.in-Err.ensures.refused

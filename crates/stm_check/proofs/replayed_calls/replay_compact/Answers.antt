@@ -12,20 +12,20 @@ pub returns-in-Ok-clause-right : goal.returns-in-Ok-clause-right
 returns-in-Ok-clause-right c =
     let s : Standing = c.args.store.now.standing in
     let next : Standing = c.raise_floor.new.self.standing in
-    tests_same c.is_taken.result (reply_to (λ _. reply.Compacted c.args.revision) (raised s c.args.revision)) (Ok (reply.Compacted c.args.revision)) c.args.reply.now
-    (taken_reply (λ _. reply.Compacted c.args.revision) (raised s c.args.revision) tt next c.in-Ok.ensures.step) c.is_taken.ensures
+    tests_same c.is_reply.result (reply_to (λ _. reply.Compacted c.args.revision) (raised s c.args.revision)) (Ok (reply.Compacted c.args.revision)) c.args.reply.now
+    (taken_reply (λ _. reply.Compacted c.args.revision) (raised s c.args.revision) tt next c.in-Ok.ensures.step) c.is_reply.ensures
 
 pub returns-in-Ok-clause-next : goal.returns-in-Ok-clause-next
 returns-in-Ok-clause-next c =
     let s : Standing = c.args.store.now.standing in
     let next : Standing = c.raise_floor.new.self.standing in
-    compact_led c.is_taken.result c.args.revision c.args.reply.now s next c.is_taken.ensures c.in-Ok.ensures.step
+    compact_led c.is_reply.result c.args.revision c.args.reply.now s next c.is_reply.ensures c.in-Ok.ensures.step
 
 pub returns-in-Err-clause-right : goal.returns-in-Err-clause-right
 returns-in-Err-clause-right c =
     let s : Standing = c.args.store.now.standing in
-    refused_right c.is_refused_by_store.result c.in-Err.cause (reply_to (λ _. reply.Compacted c.args.revision) (raised s c.args.revision)) (refused_after [] c.in-Err.cause) c.args.reply.now
-    c.is_refused_by_store.ensures.replied c.is_refused_by_store.ensures.memory
+    refused_right c.is_refused.result c.in-Err.cause (reply_to (λ _. reply.Compacted c.args.revision) (raised s c.args.revision)) (refused_after [] c.in-Err.cause) c.args.reply.now
+    c.is_refused.ensures.replied c.is_refused.ensures.memory
     (λ other. refused_reply (λ _. reply.Compacted c.args.revision) (raised s c.args.revision) c.in-Err.cause
     (subst (λ (o : Result (Step (Unit {0})) Cause). IsRefusalOf o c.in-Err.cause) (sym c.in-Err.ensures.step) refl) other)
 
@@ -33,5 +33,5 @@ pub returns-in-Err-clause-next : goal.returns-in-Err-clause-next
 returns-in-Err-clause-next c =
     let s : Standing = c.args.store.now.standing in
     let next : Standing = c.raise_floor.new.self.standing in
-    compact_stays c.is_refused_by_store.result c.args.revision c.in-Err.cause c.args.reply.now s next c.is_refused_by_store.ensures.replied
+    compact_stays c.is_refused.result c.args.revision c.in-Err.cause c.args.reply.now s next c.is_refused.ensures.replied
     (ap (λ (v : StoreView). v.standing) c.in-Err.ensures.err)

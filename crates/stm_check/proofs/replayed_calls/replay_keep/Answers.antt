@@ -13,21 +13,21 @@ pub returns-in-Ok-clause-right : goal.returns-in-Ok-clause-right
 returns-in-Ok-clause-right c =
     let s : Standing = c.args.store.now.standing in
     let next : Standing = c.keep_alive.new.self.standing in
-    tests_same c.is_taken.result (reply_to (λ _. reply.Kept c.args.id) (kept_alive s c.args.id)) (Ok (reply.Kept c.args.id)) c.args.reply.now
-    (taken_reply (λ _. reply.Kept c.args.id) (kept_alive s c.args.id) tt next c.in-Ok.ensures.step) c.is_taken.ensures
+    tests_same c.is_reply.result (reply_to (λ _. reply.Kept c.args.id) (kept_alive s c.args.id)) (Ok (reply.Kept c.args.id)) c.args.reply.now
+    (taken_reply (λ _. reply.Kept c.args.id) (kept_alive s c.args.id) tt next c.in-Ok.ensures.step) c.is_reply.ensures
 
 pub returns-in-Ok-clause-next : goal.returns-in-Ok-clause-next
 returns-in-Ok-clause-next c =
     let s : Standing = c.args.store.now.standing in
     let next : Standing = c.keep_alive.new.self.standing in
-    led_where c.is_taken.result (Ok (reply.Kept c.args.id)) c.args.reply.now (keep_entries c.args.id s.moment) s next s.moment c.is_taken.ensures
+    led_where c.is_reply.result (Ok (reply.Kept c.args.id)) c.args.reply.now (keep_entries c.args.id s.moment) s next s.moment c.is_reply.ensures
     (keep_led s next c.args.id c.in-Ok.ensures.step)
 
 pub returns-in-Err-clause-right : goal.returns-in-Err-clause-right
 returns-in-Err-clause-right c =
     let s : Standing = c.args.store.now.standing in
-    refused_right c.is_refused_by_store.result c.in-Err.cause (reply_to (λ _. reply.Kept c.args.id) (kept_alive s c.args.id)) (refused_after [] c.in-Err.cause) c.args.reply.now
-    c.is_refused_by_store.ensures.replied c.is_refused_by_store.ensures.memory
+    refused_right c.is_refused.result c.in-Err.cause (reply_to (λ _. reply.Kept c.args.id) (kept_alive s c.args.id)) (refused_after [] c.in-Err.cause) c.args.reply.now
+    c.is_refused.ensures.replied c.is_refused.ensures.memory
     (λ other. refused_reply (λ _. reply.Kept c.args.id) (kept_alive s c.args.id) c.in-Err.cause
     (subst (λ (o : Result (Step (Unit {0})) Cause). IsRefusalOf o c.in-Err.cause) (sym c.in-Err.ensures.step) refl) other)
 
@@ -35,5 +35,5 @@ pub returns-in-Err-clause-next : goal.returns-in-Err-clause-next
 returns-in-Err-clause-next c =
     let s : Standing = c.args.store.now.standing in
     let next : Standing = c.keep_alive.new.self.standing in
-    refused_next c.is_refused_by_store.result (refused_after [] c.in-Err.cause) c.args.reply.now (keep_entries c.args.id s.moment) s next
-    c.is_refused_by_store.ensures.replied refl (ap (λ (v : StoreView). v.standing) c.in-Err.ensures.err)
+    refused_next c.is_refused.result (refused_after [] c.in-Err.cause) c.args.reply.now (keep_entries c.args.id s.moment) s next
+    c.is_refused.ensures.replied refl (ap (λ (v : StoreView). v.standing) c.in-Err.ensures.err)

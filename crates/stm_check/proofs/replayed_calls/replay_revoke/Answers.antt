@@ -12,21 +12,21 @@ pub returns-in-Ok-clause-right : goal.returns-in-Ok-clause-right
 returns-in-Ok-clause-right c =
     let s : Standing = c.args.store.now.standing in
     let next : Standing = c.revoke.new.self.standing in
-    tests_same c.is_taken.result (reply_to (reply.Revoked c.args.id) (revoked s c.args.id)) (Ok (reply.Revoked c.args.id c.in-Ok.revision)) c.args.reply.now
-    (taken_reply (reply.Revoked c.args.id) (revoked s c.args.id) c.in-Ok.revision next c.in-Ok.ensures.step) c.is_taken.ensures
+    tests_same c.is_reply.result (reply_to (reply.Revoked c.args.id) (revoked s c.args.id)) (Ok (reply.Revoked c.args.id c.in-Ok.revision)) c.args.reply.now
+    (taken_reply (reply.Revoked c.args.id) (revoked s c.args.id) c.in-Ok.revision next c.in-Ok.ensures.step) c.is_reply.ensures
 
 pub returns-in-Ok-clause-next : goal.returns-in-Ok-clause-next
 returns-in-Ok-clause-next c =
     let s : Standing = c.args.store.now.standing in
     let next : Standing = c.revoke.new.self.standing in
-    led_where c.is_taken.result (Ok (reply.Revoked c.args.id c.in-Ok.revision)) c.args.reply.now (revoke_entries c.args.id) s next s.moment c.is_taken.ensures
+    led_where c.is_reply.result (Ok (reply.Revoked c.args.id c.in-Ok.revision)) c.args.reply.now (revoke_entries c.args.id) s next s.moment c.is_reply.ensures
     (revoke_led s next c.args.id c.in-Ok.revision c.in-Ok.ensures.step)
 
 pub returns-in-Err-clause-right : goal.returns-in-Err-clause-right
 returns-in-Err-clause-right c =
     let s : Standing = c.args.store.now.standing in
-    refused_right c.is_refused_by_store.result c.in-Err.cause (reply_to (reply.Revoked c.args.id) (revoked s c.args.id)) (refused_after [] c.in-Err.cause) c.args.reply.now
-    c.is_refused_by_store.ensures.replied c.is_refused_by_store.ensures.memory
+    refused_right c.is_refused.result c.in-Err.cause (reply_to (reply.Revoked c.args.id) (revoked s c.args.id)) (refused_after [] c.in-Err.cause) c.args.reply.now
+    c.is_refused.ensures.replied c.is_refused.ensures.memory
     (λ other. refused_reply (reply.Revoked c.args.id) (revoked s c.args.id) c.in-Err.cause
     c.in-Err.ensures.step other)
 
@@ -34,5 +34,5 @@ pub returns-in-Err-clause-next : goal.returns-in-Err-clause-next
 returns-in-Err-clause-next c =
     let s : Standing = c.args.store.now.standing in
     let next : Standing = c.revoke.new.self.standing in
-    refused_next c.is_refused_by_store.result (refused_after [] c.in-Err.cause) c.args.reply.now (revoke_entries c.args.id) s next
-    c.is_refused_by_store.ensures.replied refl (ap (λ (v : StoreView). v.standing) c.in-Err.ensures.err)
+    refused_next c.is_refused.result (refused_after [] c.in-Err.cause) c.args.reply.now (revoke_entries c.args.id) s next
+    c.is_refused.ensures.replied refl (ap (λ (v : StoreView). v.standing) c.in-Err.ensures.err)

@@ -25,8 +25,8 @@ returns-in-Ok-clause-next c =
 pub returns-in-Err-clause-right : goal.returns-in-Err-clause-right
 returns-in-Err-clause-right c =
     let s : Standing = c.args.store.now.standing in
-    refused_right c.is_refused_by_store.result c.in-Err.cause (reply_to txn_reply (transacted s c.args.txn.now)) (refused_after [] c.in-Err.cause) c.args.reply.now
-    c.is_refused_by_store.ensures.replied c.is_refused_by_store.ensures.memory
+    refused_right c.is_refused.result c.in-Err.cause (reply_to txn_reply (transacted s c.args.txn.now)) (refused_after [] c.in-Err.cause) c.args.reply.now
+    c.is_refused.ensures.replied c.is_refused.ensures.memory
     (λ other. refused_reply txn_reply (transacted s c.args.txn.now) c.in-Err.cause
     c.in-Err.ensures.step other)
 
@@ -34,5 +34,5 @@ pub returns-in-Err-clause-next : goal.returns-in-Err-clause-next
 returns-in-Err-clause-next c =
     let s : Standing = c.args.store.now.standing in
     let next : Standing = c.txn.new.self.standing in
-    refused_next c.is_refused_by_store.result (refused_after [] c.in-Err.cause) c.args.reply.now (txn_entries (now s.history) c.args.txn.now) s next
-    c.is_refused_by_store.ensures.replied refl (ap (λ (v : StoreView). v.standing) c.in-Err.ensures.err)
+    refused_next c.is_refused.result (refused_after [] c.in-Err.cause) c.args.reply.now (txn_entries (now s.history) c.args.txn.now) s next
+    c.is_refused.ensures.replied refl (ap (λ (v : StoreView). v.standing) c.in-Err.ensures.err)

@@ -3,7 +3,7 @@ use Rattle.std.specs.Prelude.{Result, IfOk, IsTrue, ◌↔◌, option_copied}
 use Rattle.stm_events.specs.declared.refusal.Denied.{Denied}
 use Rattle.stm_events.specs.declared.reply.Reply.{Reply}
 use Rattle.stm_check.specs.Replays.{StepReplays}
-use Rattle.stm_check.proofs.walk.step_replays.Goals as goal
+use Rattle.stm_check.proofs.point.step_replays.Goals as goal
 
 pub returns-in-Ok-clause-right : goal.returns-in-Ok-clause-right
 returns-in-Ok-clause-right c =

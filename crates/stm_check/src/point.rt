@@ -4,7 +4,7 @@ ghost use Rattle.stm_check.specs.Point.{commit_entries, led_by, standing_after, 
 ghost use Rattle.stm_check.specs.Replays.{StartReplays, StepReplays, Replays};
 ghost use Rattle.stm_check.specs.Wrong.{IsRight, IsWrong};
 ghost use Rattle.stm_entries.specs.LiveLeases.{HasLeases};
-ghost use Rattle.stm_check.specs.Walks.{point_of};
+ghost use Rattle.stm_check.specs.Points.{point_of};
 ghost use Rattle.stm_texts.specs.Opens.{IsOpening, as_setup};
 
 use crate::cause::WrongCause;
@@ -13,8 +13,7 @@ use crate::count::{add_count, count_reported};
 use crate::fits::can_have;
 use crate::leases::note_leases;
 use crate::replayed_calls::{
-    is_refused, replay_advance, replay_compact, replay_grant, replay_keep, replay_revoke,
-    replay_txn,
+    is_denied, replay_advance, replay_compact, replay_grant, replay_keep, replay_revoke, replay_txn,
 };
 use crate::runner::{Runner, find_running, note};
 use std::alloc::{AllocError, Global};
@@ -26,7 +25,7 @@ use stm_txn::Store;
 
 /// The store that the lines so far lead to, the number of entries, the runners, and the live leases with their terms.
 #[derive(Drop)]
-pub(crate) struct Walk {
+pub(crate) struct Point {
     pub(crate) alloc: Global,
     pub(crate) store: Store,
     pub(crate) entries: u64,
@@ -35,12 +34,12 @@ pub(crate) struct Walk {
 }
 
 /// Whether the reply to a start is right, once it can have it: one that may send no commit is refused as `BadLimit`.
-fn start_replays(limit: u32, reply: &Result<Reply, Denied>) -> bool
+fn start_replays(alloc: Global, limit: u32, reply: &Result<Reply, Denied>) -> bool
     ensures { IsTrue result ↔ StartReplays limit reply.now }
 {
     match reply {
         Ok(_) => true,
-        Err(_) => limit == 0 && is_refused(reply, EventRefusal::BadLimit, &[]),
+        Err(_) => limit == 0 && is_denied(alloc, reply, EventRefusal::BadLimit),
     }
 }
 
@@ -93,7 +92,7 @@ fn step_replays(
 {
     match reply {
         Ok(taken) => taken_step_replays(alloc, store, runner, taken),
-        Err(_) => Ok(runner.is_none() && is_refused(reply, EventRefusal::NoRunner, &[])),
+        Err(_) => Ok(runner.is_none() && is_denied(alloc, reply, EventRefusal::NoRunner)),
     }
 }
 
@@ -109,29 +108,29 @@ fn replays(
     ensures next { IfOk result (λ b. IsTrue b → store.new.standing ≡ standing_after store.old.standing runners.now event.now reply.now) }
 {
     match event {
-        WorldEvent::Start { limit, .. } => Ok(start_replays(*limit, reply)),
+        WorldEvent::Start { limit, .. } => Ok(start_replays(alloc, *limit, reply)),
         WorldEvent::Step { runner } => {
             step_replays(alloc, store, find_running(runners, *runner), reply)
         }
-        WorldEvent::Txn { txn } => replay_txn(store, txn, reply),
-        WorldEvent::Grant { id, ttl } => replay_grant(store, *id, *ttl, reply),
-        WorldEvent::Keep { id } => replay_keep(store, *id, reply),
-        WorldEvent::Revoke { id } => replay_revoke(store, *id, reply),
+        WorldEvent::Txn { txn } => replay_txn(alloc, store, txn, reply),
+        WorldEvent::Grant { id, ttl } => replay_grant(alloc, store, *id, *ttl, reply),
+        WorldEvent::Keep { id } => replay_keep(alloc, store, *id, reply),
+        WorldEvent::Revoke { id } => replay_revoke(alloc, store, *id, reply),
         WorldEvent::Advance { now } => replay_advance(store, *now, reply),
-        WorldEvent::Compact { revision } => replay_compact(store, *revision, reply),
+        WorldEvent::Compact { revision } => replay_compact(alloc, store, *revision, reply),
         _ => Ok(true),
     }
 }
 
-impl Walk {
+impl Point {
     /// Before the first line, of a store that opens with this.
-    pub(crate) fn begin(alloc: Global, opening: Opening) -> Result<Walk, AllocError>
+    pub(crate) fn begin(alloc: Global, opening: Opening) -> Result<Point, AllocError>
         requires { IsOpening (Some opening) }
-        ensures point { IfOk result (λ walk. point_of walk ≡ beginning (as_setup opening)) }
-        ensures leases { IfOk result (λ walk. HasLeases walk.leases walk.store.standing.live) }
+        ensures point { IfOk result (λ point. point_of point ≡ beginning (as_setup opening)) }
+        ensures leases { IfOk result (λ point. HasLeases point.leases point.store.standing.live) }
     {
         let store = Store::with_limits(alloc, opening.revision, opening.operations)?;
-        Ok(Walk {
+        Ok(Point {
             alloc,
             store,
             entries: 0,

@@ -7,7 +7,7 @@ use Rattle.stm_check.specs.declared.runner.Runner.{Runner}
 use Rattle.stm_check.specs.Point.{standing_after}
 use Rattle.stm_check.specs.Replays.{StepReplays, Replays}
 use Rattle.stm_check.proofs.CallLemmas.{line_keeps}
-use Rattle.stm_check.proofs.walk.replays.Goals as goal
+use Rattle.stm_check.proofs.point.replays.Goals as goal
 
 pub returns-in-Step-clause-right : goal.returns-in-Step-clause-right
 returns-in-Step-clause-right c =

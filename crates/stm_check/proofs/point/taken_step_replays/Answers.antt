@@ -1,7 +1,7 @@
 use Rattle.std.proofs.Common.{ap}
 use Rattle.std.specs.Prelude.{option_copied}
 use Rattle.stm_check.proofs.CommitLemmas.{step_right}
-use Rattle.stm_check.proofs.walk.taken_step_replays.Goals as goal
+use Rattle.stm_check.proofs.point.taken_step_replays.Goals as goal
 
 pub returns-in-Some-clause-right : goal.returns-in-Some-clause-right
 returns-in-Some-clause-right c =

@@ -1,4 +1,3 @@
 pub mod Entered
 pub mod Calls
 pub mod Refusals
-pub mod ReportedReads

@@ -1,10 +1,10 @@
 -- What the world replies to the calls of its store that are no runner's.
 --
 -- etcd's API reference, "Transaction", "Lease", "Watch" and "Compaction": each such call is one of the store, and the reply is its answer.
-use Rattle.std.specs.Prelude.{ℕ, List, [], map, Option, Some, None, option_map, Result, Ok, Err}
+use Rattle.std.specs.Prelude.{ℕ, Bool, true, false, List, [], map, Option, Some, None, option_map, Result, Ok, Err}
 use Rattle.stm_history.specs.declared.key_state.KeyState.{KeyState}
 use Rattle.stm_history.specs.declared.key_state.ReadAnswer.{ReadAnswer}
-use Rattle.stm_history.specs.History.{mod_of}
+use Rattle.stm_history.specs.History.{History, key_at, mod_of}
 use Rattle.stm_outcome.specs.declared.advance.Expired.{Expired}
 use Rattle.stm_outcome.specs.declared.answer.OpAnswer.{OpAnswer}
 use Rattle.stm_outcome.specs.declared.answer.OpAnswer.TheVariants as answer
@@ -14,6 +14,7 @@ use Rattle.stm_outcome.specs.declared.refusal.Refusal.TheVariants as store
 use Rattle.stm_txn.specs.Standing.{Standing, Step, poll_refused}
 use Rattle.stm_watch.specs.declared.watchers.Batch.{Batch}
 use Rattle.stm_events.specs.declared.reply.Reply.{Reply}
+use Rattle.stm_events.specs.declared.reply.Reply.TheVariants.{Prefetched, Fetched, Committed, Conflict, GaveUp, Aborted, Faulted, Ended}
 use Rattle.stm_events.specs.declared.reply.Reply.TheVariants.{Txn, Advanced, Batch as BatchReported, Lost}
 use Rattle.stm_events.specs.declared.reply.CommittedRead.{CommittedRead}
 use Rattle.stm_events.specs.declared.reply.OpReply.{OpReply}
@@ -29,13 +30,12 @@ abbrev pub committed_read : ReadAnswer → CommittedRead
 committed_read a =
     record { key = a.key; value = option_map (λ (s : KeyState). s.value) a.kv; mod_rev = mod_of a.kv; of_rev = a.of_rev }
 
--- a key that was put once, with this value, at this revision
-abbrev pub put_once : ℕ → List ℕ → KeyState
-put_once revision value = record { value = value; create_rev = revision; mod_rev = revision; version = 1; lease = 0 }
+-- a reported answer, as a read of the history gives it: the key as it was at the revision that the answer shows
+abbrev pub read_in : History → CommittedRead → ReadAnswer
+read_in h a = record { key = a.key; kv = key_at h a.key a.of_rev; of_rev = a.of_rev; revision = a.of_rev }
 
--- A reported answer, as an attempt reads it: a program sees the value and the modification revision of a key alone.
-abbrev pub as_read : CommittedRead → ReadAnswer
-as_read r = record { key = r.key; kv = option_map (put_once r.mod_rev) r.value; of_rev = r.of_rev; revision = r.of_rev }
+abbrev pub reads_in : History → List CommittedRead → List ReadAnswer
+reads_in h answers = map (read_in h) answers
 
 abbrev pub op_reply : OpAnswer → OpReply
 op_reply (answer.Get a) = op.Get a.revision a.kv
@@ -61,6 +61,29 @@ refusal_of store.NoWatcher = event.NoWatcher
 refusal_of store.TooManyOps = event.TooManyOps
 refusal_of store.DuplicateKey = event.DuplicateKey
 refusal_of store.TimeGoesBack = event.TimeGoesBack
+
+-- ---- what a reply to a step says of its runner
+
+-- the runner whose step a reply reports
+abbrev pub runner_of : Reply → Option ℕ
+runner_of (Prefetched runner revision reads) = Some runner
+runner_of (Fetched runner key mod_rev of_rev revision) = Some runner
+runner_of (Committed runner revision attempts output trace answers) = Some runner
+runner_of (Conflict runner key seen now) = Some runner
+runner_of (GaveUp runner attempts key seen now) = Some runner
+runner_of (Aborted runner text) = Some runner
+runner_of (Faulted runner fault) = Some runner
+runner_of (Ended runner cause) = Some runner
+runner_of other = None
+
+-- a run ends by its commit, its last conflict, an abort, a fault or a refusal
+abbrev pub ends_run : Reply → Bool
+ends_run (Committed runner revision attempts output trace answers) = true
+ends_run (GaveUp runner attempts key seen now) = true
+ends_run (Aborted runner text) = true
+ends_run (Faulted runner fault) = true
+ends_run (Ended runner cause) = true
+ends_run other = false
 
 -- ---- replies
 

@@ -28,6 +28,7 @@ use Rattle.stm_attempt.specs.Settled.{run_on}
 use Rattle.stm_world.specs.Task.{Task, answer_at, with_served, after_list, after_fetch, after_conflict}
 use Rattle.stm_world.specs.Asked.{AreAsked}
 use Rattle.stm_world.specs.World.{Runner, begin}
+use Rattle.stm_world.proofs.Carried.{IsCurrent, fetch_current, list_current, conflict_current}
 use Rattle.stm_world.proofs.Asked.{none_asked, fetch_listed, fetch_asked, list_listed, list_asked, conflict_listed, conflict_asked}
 
 -- the answers that were read have one base, and those that were prefetched show one revision, and no 0
@@ -94,9 +95,11 @@ conflict_based start task h known counter some serializable =
 
 -- ---- how a run goes on ----
 
--- what a runner has read in its attempt is based, begins with its list, and was asked for after it; and it may send another commit
+-- what a runner has read in its attempt is based, at ReadCommitted of its moment, begins with its list, and was asked for after it; and it may
+-- send another commit
 pub record IsWellRun (start : Setup) (r : Runner) : Type 0 where
   pub based : IsBased start r.task r.known
+  pub current : IsCurrent r.task r.known
   pub listed : BeginsWithList r.task.program.prefetch r.known.reads
   pub asked : AreAsked r.task.program r.known.reads
   pub within : r.failures < r.task.limit
@@ -108,6 +111,7 @@ some_limit (suc n) some = omega arith
 pub begin_runs : (start : Setup) (task : Task) → task.limit ≢ 0 → IsWellRun start (begin task)
 begin_runs start task some = record {
   based = λ opens serializable. (tt, tt, tt);
+  current = λ committed. (tt, tt);
   listed = tt;
   asked = none_asked task.program;
   within = some_limit task.limit some;
@@ -118,6 +122,7 @@ pub fetch_runs : (start : Setup) (r : Runner) (h : History) (key : List ℕ) (tr
     IsWellRun start (record r { known = after_fetch r.task (answer_at h key (revision_read h (at_of r.task.level r.known.reads))) r.known })
 fetch_runs start r h key trace counter not wants well = record {
   based = fetch_based start r.task h key r.known counter well.based;
+  current = fetch_current r.task h key r.known well.current;
   listed = fetch_listed r.task h key (revision_read h (at_of r.task.level r.known.reads)) r.known not well.listed;
   asked = fetch_asked r.task h key (revision_read h (at_of r.task.level r.known.reads)) trace r.known not wants well.listed well.asked;
   within = well.within;
@@ -127,6 +132,7 @@ pub list_runs : (start : Setup) (r : Runner) (h : History) → (1 ≤ start.revi
     IsWellRun start (record r { known = after_list r.task h r.known })
 list_runs start r h counter well = record {
   based = list_based start r.task h r.known counter well.based;
+  current = list_current r.task h r.known well.current;
   listed = list_listed r.task h r.known;
   asked = list_asked r.task h r.known;
   within = well.within;
@@ -135,4 +141,10 @@ list_runs start r h counter well = record {
 pub conflict_runs : (start : Setup) (task : Task) (failures : ℕ) (h : History) (known : Known) → (1 ≤ start.revision → 1 ≤ now h) → failures < task.limit →
     IsWellRun start (record { task = task; failures = failures; known = after_conflict task h known })
 conflict_runs start task failures h known counter left =
-    record { based = conflict_based start task h known counter; listed = conflict_listed task h known; asked = conflict_asked task h known; within = left }
+    record {
+      based = conflict_based start task h known counter;
+      current = conflict_current task h known;
+      listed = conflict_listed task h known;
+      asked = conflict_asked task h known;
+      within = left;
+    }

@@ -27,7 +27,7 @@ use Rattle.stm_events.specs.declared.reply.Reply.{Reply}
 use Rattle.stm_events.specs.declared.reply.CommittedRead.{CommittedRead}
 use Rattle.stm_events.specs.declared.reply.Reply.TheVariants.{Committed}
 use Rattle.stm_events.specs.declared.refusal.Denied.{Denied}
-use Rattle.stm_events.specs.Replies.{as_read}
+use Rattle.stm_events.specs.Replies.{reads_in}
 use Rattle.stm_world.specs.Task.{Task}
 use Rattle.stm_world.specs.Log.{Line, begun, with_commit, store_after_step, store_after, store}
 use Rattle.stm_world.proofs.Truth.{Keeps, keeps_same}
@@ -51,7 +51,7 @@ run_keeps r (Wants key trace) = keeps_same r.history
 
 commit_keeps : (s : Standing) (answers : List CommittedRead) (o : Option Task) → Keeps s.history (with_commit s answers o).history
 commit_keeps s answers None = keeps_same s.history
-commit_keeps s answers (Some task) = run_keeps (without_moment s) (run_over (seen_at task.level (map as_read answers) s.history) task.program.statements)
+commit_keeps s answers (Some task) = run_keeps (without_moment s) (run_over (seen_at task.level (reads_in s.history answers) s.history) task.program.statements)
 
 step_keeps : (task_of : ℕ → Option Task) (s : Standing) (reply : Result Reply Denied) → Keeps s.history (store_after_step task_of s reply).history
 step_keeps task_of s (Ok (Committed runner revision attempts output trace answers)) = commit_keeps s answers (task_of runner)
@@ -98,7 +98,7 @@ run_kept s (Wants key trace) k = record { reached = k.reached; watchers = k.watc
 
 commit_kept : (s : Standing) (answers : List CommittedRead) (o : Option Task) → HasKept s → HasKept (with_commit s answers o)
 commit_kept s answers None k = k
-commit_kept s answers (Some task) k = run_kept s (run_over (seen_at task.level (map as_read answers) s.history) task.program.statements) k
+commit_kept s answers (Some task) k = run_kept s (run_over (seen_at task.level (reads_in s.history answers) s.history) task.program.statements) k
 
 step_kept : (task_of : ℕ → Option Task) (s : Standing) (reply : Result Reply Denied) → HasKept s → HasKept (store_after_step task_of s reply)
 step_kept task_of s (Ok (Committed runner revision attempts output trace answers)) k = commit_kept s answers (task_of runner) k

@@ -13,7 +13,6 @@ use Rattle.stm_steps.specs.declared.run.End.TheVariants.{Done as DoneEnd, Aborte
 use Rattle.stm_steps.specs.declared.run.Run.{Run}
 use Rattle.stm_steps.specs.declared.run.Answered.{Answered}
 use Rattle.stm_steps.specs.declared.run.Answered.TheVariants.{Ended as EndedRun, Wants}
-use Rattle.stm_meaning.specs.Answer.{Lookup}
 use Rattle.stm_meaning.specs.Meaning.{run_over}
 use Rattle.stm_outcome.specs.declared.answer.FailedCompare.{FailedCompare}
 use Rattle.stm_outcome.specs.declared.refusal.Refusal.{Refusal as StoreRefusal}
@@ -32,16 +31,16 @@ use Rattle.stm_attempt.specs.Settled.{run_on}
 use Rattle.stm_attempt.specs.Entering.{is_due}
 use Rattle.stm_attempt.specs.Fetches.{at_of}
 use Rattle.stm_entries.specs.declared.entry.Entry.{Entry}
+use Rattle.stm_entries.specs.declared.entry.Entry.TheVariants.{Program}
 use Rattle.stm_entries.specs.Replayed.{Replayed, without_moment}
-use Rattle.stm_entries.specs.Alone.{left_by_run}
+use Rattle.stm_entries.specs.Alone.{seen_at, left_by_run}
 use Rattle.stm_entries.specs.Entered.{answers_kept}
 use Rattle.stm_events.specs.declared.event.WorldEvent.TheVariants.{Step}
 use Rattle.stm_events.specs.declared.reply.Reply.{Reply}
 use Rattle.stm_events.specs.declared.reply.Reply.TheVariants.{Prefetched, Fetched, Committed, Conflict, GaveUp, Aborted, Faulted, Ended}
 use Rattle.stm_events.specs.declared.reply.KeyRead.{KeyRead}
 use Rattle.stm_events.specs.declared.reply.CommittedRead.{CommittedRead}
-use Rattle.stm_events.specs.Replies.{committed_read, refusal_of}
-use Rattle.stm_events.proofs.ReportedReads.{seen_at_again}
+use Rattle.stm_events.specs.Replies.{committed_read, reads_in, refusal_of}
 use Rattle.stm_world.specs.Task.{Task, answer_at, modified_now, after_list, after_fetch, after_conflict}
 use Rattle.stm_world.specs.Log.{Line, begun, is_over, running, failures, is_id, runner_started, runner_ended, store, known_after_log, with_commit, commit_entry}
 use Rattle.stm_world.specs.Log.{line_entries}
@@ -54,6 +53,7 @@ use Rattle.stm_world.specs.Headline.{runner_for, runner_in_log}
 use Rattle.stm_world.proofs.Truth.{Keeps, keeps_same, prefetch_true, fetch_true, conflict_true}
 use Rattle.stm_world.proofs.Entered.{EntriesFollow, floor_stays}
 use Rattle.stm_world.proofs.Bases.{IsWellRun, counter_some, list_runs, fetch_runs, conflict_runs}
+use Rattle.stm_world.proofs.Carried.{kept_again}
 use Rattle.stm_world.proofs.Asked.{answers_are_the_reads}
 use Rattle.stm_world.proofs.Slots.{same_number}
 use Rattle.stm_world.proofs.Untouched.{runner_named, by_reply}
@@ -310,13 +310,15 @@ taken_follows start log runners entries id task run done law x listed is_run is_
     let reply : Reply = Committed id (now done.history) (failures id log + 1) run.output run.trace answers in
     let after : List Line = with_line (Step id) (Ok reply) log in
     let begun_is : begun id log ≡ Some task = begun_by (is_over id log) (begun id log) task x.running in
+    let well : IsWellRun start (runner_for start log id task) = well_run start log runners entries id task x in
+    let again : reads_in s.history answers ≡ answers_kept task.level reads =
+    kept_again s.history task (known_after_log start id task log) takes.truth well.current in
     let same : store start after ≡ with_history s done.history =
     ap (with_commit s answers) begun_is
-    ∙ ap (λ (look : Lookup). with_history s (left_by_run (run_over look task.program.statements) (without_moment s)).history)
-    (seen_at_again task.level (answers_kept task.level reads) s.history)
+    ∙ ap (λ (rs : List ReadAnswer). with_history s (left_by_run (run_over (seen_at task.level rs s.history) task.program.statements) (without_moment s)).history)
+    again
     ∙ ap (λ (r : Replayed). with_history s r.history) came.replayed in
     let entry : Entry = entry_of task reads run (now done.history) in
-    let well : IsWellRun start (runner_for start log id task) = well_run start log runners entries id task x in
     let left : failures id log < task.limit = well.within in
     let within : failures id log + 1 ≤ task.limit = omega arith in
     record {
@@ -341,7 +343,8 @@ taken_follows start log runners entries id task run done law x listed is_run is_
             },
           ))
           refl (λ other ne. by_reply other reply ne) (over_now start log id reply refl) (λ r impossible. absurd (cc)) (λ r impossible. absurd (cc))
-          (sym (ap (commit_entry (now done.history) run.output run.trace (λ (t : Task). (known_after_log start id t log).reads)) begun_is))
+          (sym (ap (commit_entry s.history (now done.history) run.output run.trace answers) begun_is
+          ∙ ap (λ (rs : List ReadAnswer). Program task.program task.level rs run.output run.trace (now done.history) ∷ []) again))
           (subst (λ (y : Standing). EntriesFollow s y (entry ∷ [])) (sym same) (commit_follows_entry s task reads run done takes came));
     }
 

@@ -45,13 +45,13 @@ use Rattle.stm_watch.specs.declared.watched.Watched.TheVariants.{Key, Range}
 use Rattle.stm_watch.specs.Watching.{Watching}
 use Rattle.stm_watch.specs.Pending.{pending, pending_events, batch_of, after_poll}
 use Rattle.stm_watch.specs.Calls.{watcher_at, poll_found}
-use Rattle.stm_events.specs.Replies.{txn_reply, denied, reply_to, advance_reply, poll_reply}
+use Rattle.stm_events.specs.Replies.{runner_of, txn_reply, denied, reply_to, advance_reply, poll_reply}
 use Rattle.stm_world.specs.Task.{Task, modified_now}
 use Rattle.stm_world.specs.Log.{Line, begun, running, failures, started, is_start, runner_started, is_id, task_in, store, known_after_log}
 use Rattle.stm_world.specs.Right.{IsRight, AreRight, RunnerIsRight, Situation, HasList, ReplyIsRight, EndsWith, IsCommitted, IsRefused, situation}
 use Rattle.stm_world.specs.World.{World}
 use Rattle.stm_world.specs.Headline.{Holds}
-use Rattle.stm_world.specs.WrongLogs.{WrongLogs, runner_reported}
+use Rattle.stm_world.specs.WrongLogs.{WrongLogs}
 use Rattle.stm_world.proofs.Logs.{as_many}
 use Rattle.stm_world.proofs.WatchCalls.{poll_reported}
 
@@ -146,7 +146,7 @@ number_given_twice start log id task program level limit right is again =
 
 -- ---- replies ----
 
-another : (at : Situation) (reply : Reply) (runner : ℕ) → runner_reported reply ≡ Some runner → ReplyIsRight at reply → runner ≡ at.id
+another : (at : Situation) (reply : Reply) (runner : ℕ) → runner_of reply ≡ Some runner → ReplyIsRight at reply → runner ≡ at.id
 another at (Started r) runner named right = absurd right
 another at (Prefetched r revision reads) runner named right = let same : r ≡ runner = cc in sym same ∙ right.0
 another at (Fetched r key mod_rev of_rev revision) runner named right = let same : r ≡ runner = cc in sym same ∙ right.0
@@ -167,12 +167,12 @@ another at (Cancelled watcher) runner named right = absurd right
 another at (Compacted revision) runner named right = absurd right
 another at (Lost watcher floor) runner named right = absurd right
 
-another_by : (start : Setup) (log : List Line) (id runner : ℕ) (o : Option Task) (reply : Reply) → runner_reported reply ≡ Some runner → runner ≢ id
+another_by : (start : Setup) (log : List Line) (id runner : ℕ) (o : Option Task) (reply : Reply) → runner_of reply ≡ Some runner → runner ≢ id
     → RunnerIsRight start log id o (Ok reply) → ⊥
 another_by start log id runner None reply named other right = absurd (cc)
 another_by start log id runner (Some task) reply named other right = other (another (situation start log id task) reply runner named right)
 
-another_runner : (start : Setup) (log : List Line) (id runner : ℕ) (reply : Reply) → runner_reported reply ≡ Some runner → runner ≢ id
+another_runner : (start : Setup) (log : List Line) (id runner : ℕ) (reply : Reply) → runner_of reply ≡ Some runner → runner ≢ id
     → IsRight start log (Step id) (Ok reply) → ⊥
 another_runner start log id runner reply named other right = another_by start log id runner (running id log) reply named other right
 

@@ -12,5 +12,6 @@ pub mod OneReply
 pub mod Doomed
 pub mod WrongLogs
 pub mod NeverOutOfMemory
+pub mod Causes
 pub mod Notifying
 pub mod WrongFailures

@@ -3,7 +3,6 @@
 -- Nothing here knows how a world makes its replies.
 use Rattle.std.specs.Prelude.{◌≡◌, ℕ, ◌+◌, nat_eq, Bool, true, false, ◌||◌, if◌then◌else◌, List, [], ◌∷◌, ◌++◌, map, reverse, Option, Some, None}
 use Rattle.std.specs.Prelude.{Result, Ok, Err}
-use Rattle.stm_history.specs.declared.key_state.ReadAnswer.{ReadAnswer}
 use Rattle.stm_history.specs.History.{History}
 use Rattle.stm_steps.specs.declared.value.Value.{Value}
 use Rattle.stm_steps.specs.declared.trace_item.TraceItem.{TraceItem}
@@ -15,17 +14,17 @@ use Rattle.stm_watch.specs.declared.watched.Watched.TheVariants.{Key, Range}
 use Rattle.stm_attempt.specs.Known.{Known}
 use Rattle.stm_entries.specs.declared.entry.Entry.{Entry}
 use Rattle.stm_entries.specs.declared.entry.Entry.TheVariants.{Program, Grant as GrantEntry, Renew, Revoke as RevokeEntry}
-use Rattle.stm_entries.specs.Entered.{if_changed, expiries, answers_kept}
+use Rattle.stm_entries.specs.Entered.{if_changed, expiries}
 use Rattle.stm_entries.specs.Replayed.{without_moment}
 use Rattle.stm_entries.specs.Alone.{seen_at, left_by_run}
 use Rattle.stm_events.specs.declared.event.WorldEvent.{WorldEvent}
 use Rattle.stm_events.specs.declared.event.WorldEvent.TheVariants.{Start, Step, Txn, Grant, Keep, Revoke, Advance}
 use Rattle.stm_events.specs.declared.event.WorldEvent.TheVariants.{WatchKey, WatchRange, Poll, Cancel, Compact}
 use Rattle.stm_events.specs.declared.reply.Reply.{Reply}
-use Rattle.stm_events.specs.declared.reply.Reply.TheVariants.{Started, Prefetched, Fetched, Committed, Conflict, GaveUp, Aborted, Faulted, Ended, Advanced}
+use Rattle.stm_events.specs.declared.reply.Reply.TheVariants.{Started, Prefetched, Fetched, Committed, Conflict, Advanced}
 use Rattle.stm_events.specs.declared.reply.CommittedRead.{CommittedRead}
 use Rattle.stm_events.specs.declared.refusal.Denied.{Denied}
-use Rattle.stm_events.specs.Replies.{as_read, store_after_call, store_after_poll}
+use Rattle.stm_events.specs.Replies.{reads_in, runner_of, ends_run, store_after_call, store_after_poll}
 use Rattle.stm_world.specs.Task.{Task, nothing_known, answer_at, after_list, after_fetch, after_conflict}
 
 -- an event and the reply to it
@@ -57,12 +56,8 @@ runner_started other = None
 
 -- the runner whose run a reply ends
 abbrev pub runner_ended : Result Reply Denied → Option ℕ
-runner_ended (Ok (Committed runner revision attempts output trace answers)) = Some runner
-runner_ended (Ok (GaveUp runner attempts key seen now)) = Some runner
-runner_ended (Ok (Aborted runner text)) = Some runner
-runner_ended (Ok (Faulted runner fault)) = Some runner
-runner_ended (Ok (Ended runner cause)) = Some runner
-runner_ended other = None
+runner_ended (Ok reply) = if ends_run reply then runner_of reply else None
+runner_ended (Err refusal) = None
 
 -- the runner whose conflict a reply reports
 abbrev pub runner_in_conflict : Result Reply Denied → Option ℕ
@@ -103,7 +98,7 @@ failures id (line ∷ older) = if is_id id (runner_in_conflict line.reply) then 
 abbrev pub with_commit : Standing → List CommittedRead → Option Task → Standing
 with_commit s answers None = s
 with_commit s answers (Some task) =
-    with_history s (left_by_run (run_over (seen_at task.level (map as_read answers) s.history) task.program.statements) (without_moment s)).history
+    with_history s (left_by_run (run_over (seen_at task.level (reads_in s.history answers) s.history) task.program.statements) (without_moment s)).history
 
 -- what a step leaves of the store: only a commit changes it
 abbrev pub store_after_step : (ℕ → Option Task) → Standing → Result Reply Denied → Standing
@@ -141,24 +136,23 @@ known_after id task h (Ok (Fetched runner key mod_rev of_rev revision)) known =
 known_after id task h (Ok (Conflict runner key seen now)) known = if nat_eq runner id then after_conflict task h known else known
 known_after id task h other known = known
 
--- what was reported to a runner with this task in its attempt
+-- what a runner with this task knows after a log: what was reported to it in its attempt, and what was prefetched for the attempt
 abbrev pub known_after_log : Setup → ℕ → Task → List Line → Known
 known_after_log start id task [] = nothing_known
 known_after_log start id task (line ∷ older) = known_after id task (store start older).history line.reply (known_after_log start id task older)
 
 -- ---- entries ----
 
--- the entry of a program that has committed: its run as it is reported, and at ReadCommitted the answers that its attempt has read
-abbrev pub commit_entry : ℕ → List Value → List TraceItem → (Task → List ReadAnswer) → Option Task → List Entry
-commit_entry revision output trace reads_of None = []
-commit_entry revision output trace reads_of (Some task) =
-    Program task.program task.level (answers_kept task.level (reads_of task)) output trace revision ∷ []
+-- the entry of a program that has committed: its run as it is reported, and at ReadCommitted the answers that are reported
+abbrev pub commit_entry : History → ℕ → List Value → List TraceItem → List CommittedRead → Option Task → List Entry
+commit_entry h revision output trace answers None = []
+commit_entry h revision output trace answers (Some task) = Program task.program task.level (reads_in h answers) output trace revision ∷ []
 
 -- of the replies to a step only a commit is an entry
-abbrev pub entries_of_step : (ℕ → Option Task) → (ℕ → Task → List ReadAnswer) → Result Reply Denied → List Entry
-entries_of_step task_of reads_of (Ok (Committed runner revision attempts output trace answers)) =
-    commit_entry revision output trace (reads_of runner) (task_of runner)
-entries_of_step task_of reads_of other = []
+abbrev pub entries_of_step : (ℕ → Option Task) → History → Result Reply Denied → List Entry
+entries_of_step task_of h (Ok (Committed runner revision attempts output trace answers)) =
+    commit_entry h revision output trace answers (task_of runner)
+entries_of_step task_of h other = []
 
 -- a call that was not refused is an entry
 abbrev pub if_reported : Result Reply Denied → Entry → List Entry
@@ -171,26 +165,21 @@ expired_reported (Ok (Advanced moment expired)) = expired
 expired_reported (Ok other) = []
 expired_reported (Err refusal) = refusal.expired
 
--- what an event is entered as: a transaction where it changed something, and each lease that an advance expired; nothing about
--- watchers is entered, and no compaction
-abbrev pub entries_of : (ℕ → Option Task) → (ℕ → Task → List ReadAnswer) → Standing → Standing → WorldEvent → Result Reply Denied → List Entry
-entries_of task_of reads_of before after (Start program level limit) reply = []
-entries_of task_of reads_of before after (Step runner) reply = entries_of_step task_of reads_of reply
-entries_of task_of reads_of before after (Txn txn) reply = if_changed before after txn
-entries_of task_of reads_of before after (Grant id ttl) reply = if_reported reply (GrantEntry id ttl before.moment)
-entries_of task_of reads_of before after (Keep id) reply = if_reported reply (Renew id before.moment)
-entries_of task_of reads_of before after (Revoke id) reply = if_reported reply (RevokeEntry id)
-entries_of task_of reads_of before after (Advance moment) reply = expiries (expired_reported reply)
-entries_of task_of reads_of before after (WatchKey key from) reply = []
-entries_of task_of reads_of before after (WatchRange first end from) reply = []
-entries_of task_of reads_of before after (Poll watcher most) reply = []
-entries_of task_of reads_of before after (Cancel watcher) reply = []
-entries_of task_of reads_of before after (Compact revision) reply = []
+-- what an event is entered as: a transaction where it changed something, and each lease that an advance expired; no start is entered,
+-- nothing about watchers, and no compaction
+abbrev pub entries_of : (ℕ → Option Task) → Standing → Standing → WorldEvent → Result Reply Denied → List Entry
+entries_of task_of before after (Step runner) reply = entries_of_step task_of before.history reply
+entries_of task_of before after (Txn txn) reply = if_changed before after txn
+entries_of task_of before after (Grant id ttl) reply = if_reported reply (GrantEntry id ttl before.moment)
+entries_of task_of before after (Keep id) reply = if_reported reply (Renew id before.moment)
+entries_of task_of before after (Revoke id) reply = if_reported reply (RevokeEntry id)
+entries_of task_of before after (Advance moment) reply = expiries (expired_reported reply)
+entries_of task_of before after other reply = []
 
 -- what a line adds to the entries
 abbrev pub line_entries : Setup → Line → List Line → List Entry
 line_entries start line older =
-    entries_of (λ id. begun id older) (λ id task. (known_after_log start id task older).reads) (store start older) (store start (line ∷ older)) line.event line.reply
+    entries_of (λ id. begun id older) (store start older) (store start (line ∷ older)) line.event line.reply
 
 -- the entries of a log, the oldest first
 abbrev pub entries_reported : Setup → List Line → List Entry

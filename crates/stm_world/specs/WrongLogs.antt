@@ -29,24 +29,13 @@ use Rattle.stm_events.specs.declared.reply.KeyRead.{KeyRead}
 use Rattle.stm_events.specs.declared.reply.CommittedRead.{CommittedRead}
 use Rattle.stm_events.specs.declared.refusal.EventRefusal.{EventRefusal}
 use Rattle.stm_events.specs.declared.refusal.Denied.{Denied}
+use Rattle.stm_events.specs.Replies.{runner_of}
 use Rattle.stm_world.specs.Task.{Task}
 use Rattle.stm_world.specs.Log.{Line, begun, running, failures, store, known_after_log}
 use Rattle.stm_world.specs.Right.{IsRight, AreRight}
 use Rattle.stm_world.specs.World.{World}
 use Rattle.stm_world.specs.Headline.{Holds}
 use Rattle.stm_txn.specs.Standing.{Setup}
-
--- the runner whose step a reply reports
-abbrev pub runner_reported : Reply → Option ℕ
-runner_reported (Prefetched runner revision reads) = Some runner
-runner_reported (Fetched runner key mod_rev of_rev revision) = Some runner
-runner_reported (Committed runner revision attempts output trace answers) = Some runner
-runner_reported (Conflict runner key seen now) = Some runner
-runner_reported (GaveUp runner attempts key seen now) = Some runner
-runner_reported (Aborted runner text) = Some runner
-runner_reported (Faulted runner fault) = Some runner
-runner_reported (EndedReply runner cause) = Some runner
-runner_reported other = None
 
 pub record WrongLogs : Type 0 where
   -- a world that answers no event, whatever it has come to
@@ -66,7 +55,7 @@ pub record WrongLogs : Type 0 where
   -- a runner that was not started, or has ended, has no step
   pub step_of_none : (start : Setup) (log : List Line) (id : ℕ) (reply : Reply) → running id log ≡ None → IsRight start log (Step id) (Ok reply) → ⊥
   -- the reply to a runner's step names no other runner
-  pub another_runner : (start : Setup) (log : List Line) (id runner : ℕ) (reply : Reply) → runner_reported reply ≡ Some runner → runner ≢ id
+  pub another_runner : (start : Setup) (log : List Line) (id runner : ℕ) (reply : Reply) → runner_of reply ≡ Some runner → runner ≢ id
       → IsRight start log (Step id) (Ok reply) → ⊥
   -- a program that is done on what was reported to it has not aborted
   pub another_abort : (start : Setup) (log : List Line) (id : ℕ) (task : Task) (run : Run) (text : List ℕ) → running id log ≡ Some task

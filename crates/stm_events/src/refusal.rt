@@ -9,7 +9,8 @@ use stm_history::Sequence;
 use stm_txn::{Expired, Refusal as StoreRefusal};
 
 /// Why an event was refused, or a run ended by the store: each cause that a report has a name for. The first eight are the faults that end a
-/// program, too. A world gives only causes of its store, `BadLimit` and `NoRunner`; a report that is read may name any.
+/// program, too. A world gives only causes of its store, `BadLimit` and `NoRunner` (`stm_world::laws::causes_are_of_the_event`); a report that is read
+/// may name any.
 ///
 /// `Display` gives the refusal's name, as the report spells it.
 #[derive(Clone, Copy, Debug, PartialEq, Eq)]
@@ -18,7 +19,7 @@ pub enum EventRefusal {
     Kind,
     /// A result is out of 64 bits with a sign.
     Overflow,
-    /// A division or a rest by 0.
+    /// A division or a remainder by 0.
     ZeroDivisor,
     /// A text was taken for a number and is none.
     NotANumber,
@@ -36,7 +37,7 @@ pub enum EventRefusal {
     BadProgram,
     /// A revision is above the store's counter.
     FutureRevision,
-    /// A revision is below the store's floor.
+    /// A revision is below the store's floor, or at it where it was to be made the floor.
     Compacted,
     /// Something was to change at the highest revision.
     RevisionsUsedUp,

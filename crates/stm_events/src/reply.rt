@@ -118,8 +118,8 @@ pub enum Reply {
         runner: u64,
         fault: Fault,
     },
-    /// The store refused the commit, or, as compacted, the fetch of a key at the revision of the attempt. Nothing is committed, and the
-    /// run is over.
+    /// The store refused the commit, or, as compacted, the fetch of a key at the revision of the attempt, or, as too many operations, the fetch
+    /// of the program's list. Nothing is committed, and the run is over.
     Ended {
         runner: u64,
         cause: EventRefusal,

@@ -34,7 +34,7 @@ use Rattle.stm_events.specs.declared.refusal.EventRefusal.TheVariants.{BadLimit,
 use Rattle.stm_events.specs.declared.reply.CommittedRead.{CommittedRead}
 use Rattle.stm_events.specs.declared.reply.Reply.{Reply}
 use Rattle.stm_events.specs.declared.reply.Reply.TheVariants.{Committed}
-use Rattle.stm_events.specs.Replies.{denied}
+use Rattle.stm_events.specs.Replies.{reads_in, denied}
 use Rattle.stm_check.specs.declared.cause.WrongCause.{WrongCause}
 use Rattle.stm_check.specs.declared.cause.WrongCause.TheVariants.{Count, Event, Replay, Final}
 use Rattle.stm_check.specs.declared.checking.Checked.{Checked}
@@ -43,7 +43,7 @@ use Rattle.stm_check.specs.declared.runner.Runner.{Runner}
 use Rattle.stm_check.specs.Fits.{fits}
 use Rattle.stm_check.specs.Judged.{IsJudgedFrom}
 use Rattle.stm_check.specs.Laws.{JudgedAlways}
-use Rattle.stm_check.specs.Point.{Point, after_line, reads_in}
+use Rattle.stm_check.specs.Point.{Point, after_line}
 use Rattle.stm_check.specs.Replays.{IsTrulyReported, AreTrulyReported, AnswersFit, keys_reported, IsRightCommit, IsCommitOf, StartReplays, StepReplays, Replays}
 use Rattle.stm_check.specs.Runners.{running}
 use Rattle.stm_check.specs.Runs.{run_in, revision_reached}

@@ -42,7 +42,8 @@ use Rattle.stm_events.specs.declared.reply.CommittedRead.{CommittedRead}
 use Rattle.stm_events.specs.declared.reply.Reply.{Reply}
 use Rattle.stm_events.specs.declared.reply.Reply.TheVariants.{Committed}
 use Rattle.stm_check.specs.declared.runner.Runner.{Runner}
-use Rattle.stm_check.specs.Point.{reads_in, led_by}
+use Rattle.stm_events.specs.Replies.{reads_in}
+use Rattle.stm_check.specs.Point.{led_by}
 use Rattle.stm_check.specs.Replays.{AreTrulyReported, AnswersFit, keys_reported, IsRightCommit, StepReplays}
 use Rattle.stm_check.specs.Runs.{run_in, IsRunReported, IsRunOn, IsFound, revision_reached, with_writes}
 

@@ -9,20 +9,9 @@ use Rattle.stm_events.specs.declared.line.ReportLine.TheVariants as line
 use Rattle.stm_events.specs.declared.refusal.Denied.{Denied}
 use Rattle.stm_events.specs.declared.reply.Reply.{Reply}
 use Rattle.stm_events.specs.declared.reply.Reply.TheVariants as reply
+use Rattle.stm_events.specs.Replies.{runner_of}
 use Rattle.stm_check.specs.declared.runner.Runner.{Runner}
 use Rattle.stm_check.specs.Runners.{next_runner, running}
-
--- the runner that the reply to a step names
-abbrev pub runner_of : Reply → Option ℕ
-runner_of (reply.Prefetched runner revision reads) = Some runner
-runner_of (reply.Fetched runner key mod_rev of_rev revision) = Some runner
-runner_of (reply.Committed runner revision attempts output trace answers) = Some runner
-runner_of (reply.Conflict runner key seen now) = Some runner
-runner_of (reply.GaveUp runner attempts key seen now) = Some runner
-runner_of (reply.Aborted runner text) = Some runner
-runner_of (reply.Faulted runner fault) = Some runner
-runner_of (reply.Ended runner cause) = Some runner
-runner_of other = None
 
 abbrev pub is_number : ℕ → Option ℕ → Bool
 is_number n None = false

@@ -4,9 +4,8 @@
 -- The store is the replay of the entries that the lines reported. A moment is no part of a replay, and is kept beside it, in seconds; nor is
 -- the floor, which compactions raise: what they drop in a store stays here, where answers that were given before are looked up. Watchers change
 -- no store, and a check has none.
-use Rattle.std.specs.Prelude.{ℕ, ◌+◌, nat_lt, if◌then◌else◌, List, [], ◌∷◌, map, length, Option, Some, None, Result, Ok, Err}
-use Rattle.stm_history.specs.declared.key_state.ReadAnswer.{ReadAnswer}
-use Rattle.stm_history.specs.History.{History, now, key_at}
+use Rattle.std.specs.Prelude.{ℕ, ◌+◌, nat_lt, if◌then◌else◌, List, [], ◌∷◌, length, Option, Some, None, Result, Ok, Err}
+use Rattle.stm_history.specs.History.{History, now}
 use Rattle.stm_outcome.specs.declared.txn.Txn.{Txn as StoreTxn}
 use Rattle.stm_txn.specs.Standing.{Standing, Setup, opening, raised}
 use Rattle.stm_entries.specs.declared.entry.Entry.{Entry}
@@ -16,11 +15,10 @@ use Rattle.stm_entries.specs.Replayed.{Replayed, without_moment}
 use Rattle.stm_entries.specs.Replay.{replay}
 use Rattle.stm_events.specs.declared.event.WorldEvent.{WorldEvent}
 use Rattle.stm_events.specs.declared.event.WorldEvent.TheVariants.{Step, Txn, Grant, Keep, Revoke, Advance, Compact}
-use Rattle.stm_events.specs.Replies.{store_after_call}
+use Rattle.stm_events.specs.Replies.{reads_in, store_after_call}
 use Rattle.stm_events.specs.declared.line.ReportLine.{ReportLine}
 use Rattle.stm_events.specs.declared.line.ReportLine.TheVariants as line
 use Rattle.stm_events.specs.declared.refusal.Denied.{Denied}
-use Rattle.stm_events.specs.declared.reply.CommittedRead.{CommittedRead}
 use Rattle.stm_events.specs.declared.reply.Reply.{Reply}
 use Rattle.stm_events.specs.declared.reply.Reply.TheVariants as reply
 use Rattle.stm_check.specs.declared.runner.Runner.{Runner}
@@ -37,13 +35,6 @@ abbrev pub beginning : Setup → Point
 beginning start = record { standing = opening start; entries = 0; runners = [] }
 
 -- ---- what the reply to an event adds
-
--- an answer that a commit reports, as a read of the history gives it
-abbrev pub read_in : History → CommittedRead → ReadAnswer
-read_in h a = record { key = a.key; kv = key_at h a.key a.of_rev; of_rev = a.of_rev; revision = a.of_rev }
-
-abbrev pub reads_in : History → List CommittedRead → List ReadAnswer
-reads_in h answers = map (read_in h) answers
 
 abbrev pub committed_entry : History → Result Reply Denied → Runner → List Entry
 committed_entry h (Ok (reply.Committed runner revision attempts output trace answers)) r =

@@ -18,9 +18,8 @@ use Rattle.stm_events.specs.declared.refusal.EventRefusal.TheVariants.{BadLimit,
 use Rattle.stm_events.specs.declared.reply.CommittedRead.{CommittedRead}
 use Rattle.stm_events.specs.declared.reply.Reply.{Reply}
 use Rattle.stm_events.specs.declared.reply.Reply.TheVariants.{Committed, Granted, Kept, Revoked, Compacted}
-use Rattle.stm_events.specs.Replies.{denied, reply_to, txn_reply, advance_reply}
+use Rattle.stm_events.specs.Replies.{reads_in, denied, reply_to, txn_reply, advance_reply}
 use Rattle.stm_events.specs.FirstReads.{keys_first_read}
-use Rattle.stm_check.specs.Point.{reads_in}
 use Rattle.stm_check.specs.declared.runner.Runner.{Runner}
 use Rattle.stm_check.specs.Runners.{running}
 

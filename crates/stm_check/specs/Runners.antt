@@ -1,5 +1,5 @@
 -- The runners at a point of a report: they are numbered from 1 in the order of their starts.
-use Rattle.std.specs.Prelude.{ℕ, ◌+◌, ◌-◌, nat_eq, false, true, if◌then◌else◌, List, [], ◌∷◌, ◌++◌, length, Option, Some, None, Result, Ok}
+use Rattle.std.specs.Prelude.{ℕ, ◌+◌, ◌-◌, nat_eq, false, true, if◌then◌else◌, List, [], ◌∷◌, ◌++◌, length, Option, Some, None, Result, Ok, Err}
 use Rattle.std.specs.Prelude.{slice_get, slice_set}
 use Rattle.stm_program.specs.Syntax.{ProgramTree}
 use Rattle.stm_program.specs.declared.level.Level.{Level}
@@ -8,6 +8,7 @@ use Rattle.stm_events.specs.declared.event.WorldEvent.TheVariants.{Start, Step}
 use Rattle.stm_events.specs.declared.refusal.Denied.{Denied}
 use Rattle.stm_events.specs.declared.reply.Reply.{Reply}
 use Rattle.stm_events.specs.declared.reply.Reply.TheVariants as reply
+use Rattle.stm_events.specs.Replies.{ends_run}
 use Rattle.stm_check.specs.declared.runner.Runner.{Runner}
 
 abbrev pub next_runner : List Runner → ℕ
@@ -45,15 +46,11 @@ put_back id change runners (Some r) = slice_set runners (id - 1) (change r)
 abbrev pub with_runner : ℕ → (Runner → Runner) → List Runner → List Runner
 with_runner id change runners = put_back id change runners (started_in id runners)
 
--- a conflict is counted, and a run ends by a commit, its last conflict, an abort, a fault or a refusal
+-- a conflict after which the run goes on is counted, and a reply that ends the run ends it
 abbrev pub after_step : ℕ → Result Reply Denied → List Runner → List Runner
 after_step id (Ok (reply.Conflict runner key seen now)) runners = with_runner id with_conflict runners
-after_step id (Ok (reply.Committed runner revision attempts output trace answers)) runners = with_runner id ended runners
-after_step id (Ok (reply.GaveUp runner attempts key seen now)) runners = with_runner id ended runners
-after_step id (Ok (reply.Aborted runner text)) runners = with_runner id ended runners
-after_step id (Ok (reply.Faulted runner fault)) runners = with_runner id ended runners
-after_step id (Ok (reply.Ended runner cause)) runners = with_runner id ended runners
-after_step id other runners = runners
+after_step id (Ok replied) runners = if ends_run replied then with_runner id ended runners else runners
+after_step id (Err refused) runners = runners
 
 -- a start that was taken adds a runner
 abbrev pub after_start : Runner → Result Reply Denied → List Runner → List Runner

@@ -15,7 +15,7 @@ use Rattle.stm_entries.specs.Alone.{seen_at, applied_run, history_left}
 use Rattle.stm_entries.specs.Replayed.{without_moment}
 use Rattle.stm_events.specs.FirstReads.{keys_first_read}
 use Rattle.stm_events.specs.declared.reply.CommittedRead.{CommittedRead}
-use Rattle.stm_check.specs.Point.{reads_in}
+use Rattle.stm_events.specs.Replies.{reads_in}
 use Rattle.stm_check.specs.Replays.{AnswersFit, keys_reported}
 
 -- ---- the run

@@ -9,7 +9,8 @@ ghost use Rattle.stm_entries.specs.Alone.{applied_run};
 ghost use Rattle.stm_entries.specs.Replayed.{without_moment};
 ghost use Rattle.stm_entries.specs.declared.entry.Entry.TheVariants.{Program as ProgramEntry};
 ghost use Rattle.stm_events.specs.FirstReads.{is_other, keys_first_read};
-ghost use Rattle.stm_check.specs.Point.{reads_in, led_by};
+ghost use Rattle.stm_events.specs.Replies.{reads_in};
+ghost use Rattle.stm_check.specs.Point.{led_by};
 ghost use Rattle.stm_check.specs.Replays.{keys_reported, IsRightCommit};
 ghost use Rattle.stm_check.specs.Runs.{run_in, IsRunOn, IsFound, revision_reached, with_writes};
 

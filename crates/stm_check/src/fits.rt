@@ -1,6 +1,7 @@
 //! Whether the reply of a line is of a kind that an event can have.
 ghost use Rattle.std.specs.Prelude.{◌≡◌};
-ghost use Rattle.stm_check.specs.Fits.{runner_of, is_number, is_started_next, is_step_of, is_watching, is_batch_of, is_cancelled_of, can_reply, can_have};
+ghost use Rattle.stm_events.specs.Replies.{runner_of};
+ghost use Rattle.stm_check.specs.Fits.{is_number, is_started_next, is_step_of, is_watching, is_batch_of, is_cancelled_of, can_reply, can_have};
 
 use crate::runner::{Runner, is_running, next_number};
 use stm_events::{Denied, Reply, WorldEvent};

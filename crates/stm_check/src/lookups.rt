@@ -5,7 +5,7 @@ ghost use Rattle.stm_history.specs.declared.key_state.KeyState.{KeyState as Stat
 ghost use Rattle.stm_history.specs.History.{now};
 ghost use Rattle.stm_outcome.specs.Numbers.{StatesFit, ReadFits};
 ghost use Rattle.stm_compile.specs.Answers.{answer_in};
-ghost use Rattle.stm_check.specs.Point.{read_in, reads_in};
+ghost use Rattle.stm_events.specs.Replies.{read_in, reads_in};
 ghost use Rattle.stm_check.specs.Replays.{IsTrulyReported, AreTrulyReported};
 
 use std::alloc::{AllocError, Global};

@@ -14,7 +14,7 @@ use Rattle.stm_events.specs.declared.reply.Reply.TheVariants.{Ended, Granted, Ke
 use Rattle.stm_events.specs.declared.refusal.EventRefusal.{EventRefusal}
 use Rattle.stm_events.specs.declared.refusal.EventRefusal.TheVariants.{NoRunner}
 use Rattle.stm_events.specs.declared.refusal.Denied.{Denied}
-use Rattle.stm_events.specs.Replies.{txn_reply, denied, reply_to, advance_reply, poll_reply}
+use Rattle.stm_events.specs.Replies.{txn_reply, reply_to, advance_reply, poll_reply}
 use Rattle.stm_world.specs.Task.{Task}
 use Rattle.stm_world.specs.Log.{Line, running, store}
 use Rattle.stm_world.specs.Right.{RunnerIsRight, IsRight}

@@ -2,7 +2,7 @@
 --
 -- etcd's API reference: each call of a store that is refused is refused for a cause of the store. That a start is refused for its limit, and a
 -- step where no run goes on, is our own.
-use Rattle.std.specs.Prelude.{◌≡◌, ℕ, List, Result, Ok, Err}
+use Rattle.std.specs.Prelude.{◌≡◌, ℕ, List, Ok, Err}
 use Rattle.stm_outcome.specs.declared.refusal.Refusal.{Refusal as StoreRefusal}
 use Rattle.stm_txn.specs.Standing.{Setup}
 use Rattle.stm_events.specs.declared.event.WorldEvent.{WorldEvent}

@@ -1,7 +1,7 @@
 use Rattle.std.proofs.Common.{subst}
 use Rattle.std.proofs.lemmas.Result.{IfOk-weaker}
 use Rattle.stm_meaning.specs.Answer.{Lookup}
-use Rattle.stm_check.specs.Point.{reads_in}
+use Rattle.stm_events.specs.Replies.{reads_in}
 use Rattle.stm_check.specs.Runs.{IsRunOn}
 use Rattle.stm_check.proofs.LookupLemmas.{same_look_up}
 use Rattle.stm_check.proofs.CommitLemmas.{found_by_keys}

@@ -1,7 +1,7 @@
 use Rattle.std.proofs.Common.{◌∙◌, ◌++◌, ◌∷◌, [], List, Option, is_some, sym, ap}
 use Rattle.stm_history.specs.declared.key_state.ReadAnswer.{ReadAnswer}
 use Rattle.stm_compile.specs.Answers.{answer_in}
-use Rattle.stm_check.specs.Point.{read_in}
+use Rattle.stm_events.specs.Replies.{read_in}
 use Rattle.stm_check.proofs.LookupLemmas.{added, left_out, none_found}
 use Rattle.stm_check.proofs.lookups.add_reported.Goals as goal
 

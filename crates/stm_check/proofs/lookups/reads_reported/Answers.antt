@@ -1,7 +1,7 @@
 use Rattle.std.proofs.Common.{◌∙◌, List, ap, take}
 use Rattle.stm_history.specs.declared.key_state.ReadAnswer.{ReadAnswer}
 use Rattle.stm_compile.specs.Answers.{answer_in}
-use Rattle.stm_check.specs.Point.{read_in, reads_in}
+use Rattle.stm_events.specs.Replies.{read_in, reads_in}
 use Rattle.stm_check.proofs.Fronts.{mapped_next}
 use Rattle.stm_check.proofs.LookupLemmas.{truth_at}
 use Rattle.stm_check.proofs.lookups.reads_reported.Goals as goal

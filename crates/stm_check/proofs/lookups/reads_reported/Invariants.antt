@@ -1,6 +1,6 @@
 use Rattle.std.proofs.Common.{◌≡◌, ℕ, List, take}
 use Rattle.stm_compile.specs.Answers.{answer_in}
-use Rattle.stm_check.specs.Point.{reads_in}
+use Rattle.stm_events.specs.Replies.{reads_in}
 use Rattle.stm_check.proofs.lookups.reads_reported.Given as goal
 
 -- the answers so far are looked up as those that were reported

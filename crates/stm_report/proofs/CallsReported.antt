@@ -1,7 +1,7 @@
 -- The replies to calls: each is the one that a check looks for, and leads to the store that the call leaves.
 --
 -- A check has no watchers, and a call of the store but a poll, a watch or a cancellation does not look at them.
-use Rattle.std.proofs.Common.{◌≡◌, ◌≤◌, ℕ, zero, suc, Bool, true, false, cond, List, [], ◌∷◌, length, Option, Some, None, Ok, Err, refl, sym, ◌∙◌}
+use Rattle.std.proofs.Common.{◌≡◌, ◌≤◌, ℕ, zero, suc, Bool, true, false, cond, List, [], ◌∷◌, Option, Some, None, Ok, Err, refl, sym, ◌∙◌}
 use Rattle.std.proofs.Common.{ap, arith}
 use Rattle.std.proofs.lemmas.Bool.{le-ltb}
 use Rattle.std.specs.Prelude.{Result, nat_lt}
@@ -30,7 +30,7 @@ use Rattle.stm_txn.specs.Standing.{Standing, Step, Advance, step_of, transacted,
 use Rattle.stm_txn.specs.Standing.{after, expired_in, expire_up_to, expire_all, at_moment, advanced, watch_step, poll_step, cancel_step}
 use Rattle.stm_txn.specs.Standing.{terms_of, compaction_refusal, with_floor, floor_step, raised}
 use Rattle.stm_entries.specs.declared.entry.Entry.{Entry}
-use Rattle.stm_entries.specs.declared.entry.Entry.TheVariants.{Foreign}
+use Rattle.stm_entries.specs.declared.entry.Entry.TheVariants.{Foreign, Grant as GrantEntry, Renew, Revoke as RevokeEntry}
 use Rattle.stm_entries.specs.Entered.{if_changed, expiries}
 use Rattle.stm_events.specs.declared.event.WorldEvent.TheVariants.{Txn, Grant, Keep, Revoke, Advance as AdvanceEvent, Compact}
 use Rattle.stm_events.specs.declared.reply.Reply.{Reply}
@@ -49,12 +49,12 @@ abbrev pub unwatched : Standing → Standing
 unwatched s = record s { watchers = [] }
 
 -- What the reply to a call is for a check: it can stand there, it is the one that the call comes to on the store without its watchers, and
--- it leads to the store that the call leaves.
-pub record CallIsRight (s next : Standing) (can : Bool) (wanted reply : Result Reply Denied) (reported : List Entry) (moment entered : ℕ) : Type 0 where
+-- it leads to the store that the call leaves, by the entries of the call.
+pub record CallIsRight (s next : Standing) (can : Bool) (wanted reply : Result Reply Denied) (reported : List Entry) (moment : ℕ) (entered : List Entry) : Type 0 where
   pub fits : can ≡ true
   pub is_replayed : wanted ≡ reply
   pub store : led_by reported (unwatched s) moment ≡ unwatched next
-  pub count : length reported ≡ entered
+  pub entries : reported ≡ entered
 
 -- what holds of the reply to a call, taken or refused
 pub by_reply : {A : Type 0} (P : Result Reply Denied → Type 0) (report : A → Reply) (r : Result (Step A) StoreRefusal) → ((x : A) → P (Ok (report x))) →
@@ -74,21 +74,21 @@ txn_store : (s : Standing) (txn : StoreTxn) (r : Result (Step TxnAnswer) StoreRe
 txn_store s txn (Ok step) few is = ap unwatched (sym (txn_led s step.next txn step.answer few is))
 txn_store s txn (Err cause) few is = refl
 
-txn_count : (s : Standing) (txn : StoreTxn) (r : Result (Step TxnAnswer) StoreRefusal) → StepIsTransacted s r →
-    length (txn_entries (now s.history) txn (reply_to txn_reply r)) ≡ length (if_changed s (store_after_call s r) txn)
-txn_count s txn (Ok step) came = ap (λ revision. length (cond (nat_lt (now s.history) revision) (Foreign txn ∷ []) [])) came.counter
-txn_count s txn (Err cause) came = ap (λ (b : Bool). length (cond b (Foreign txn ∷ []) [])) (sym (le-ltb (now s.history) (now s.history) (omega arith)))
+txn_entered : (s : Standing) (txn : StoreTxn) (r : Result (Step TxnAnswer) StoreRefusal) → StepIsTransacted s r →
+    txn_entries (now s.history) txn (reply_to txn_reply r) ≡ if_changed s (store_after_call s r) txn
+txn_entered s txn (Ok step) came = ap (λ revision. cond (nat_lt (now s.history) revision) (Foreign txn ∷ []) []) came.counter
+txn_entered s txn (Err cause) came = ap (λ (b : Bool). cond b (Foreign txn ∷ []) []) (sym (le-ltb (now s.history) (now s.history) (omega arith)))
 
 pub txn_right : (s : Standing) (rs : List Runner) (txn : StoreTxn) → s.limit ≤ most_operations →
     let r = transacted s txn in
     let reply : Result Reply Denied = reply_to txn_reply r in
     CallIsRight s (store_after_call s r) (can_have rs (Txn txn) reply) (reply_to txn_reply (transacted (unwatched s) txn)) reply (txn_entries (now s.history) txn reply) s.moment
-    (length (if_changed s (store_after_call s r) txn))
+    (if_changed s (store_after_call s r) txn)
 txn_right s rs txn few = record {
   fits = by_reply (λ x. can_have rs (Txn txn) x ≡ true) txn_reply (transacted s txn) (λ x. refl) (λ cause. refl);
   is_replayed = txn_same s (outcome (terms_of s) txn);
   store = txn_store s txn (transacted s txn) few refl;
-  count = txn_count s txn (transacted s txn) (is_transacted s txn);
+  entries = txn_entered s txn (transacted s txn) (is_transacted s txn);
 }
 
 -- ---- grants
@@ -110,16 +110,16 @@ grant_store : (s : Standing) (id ttl : ℕ) (r : Result (Step (Unit {0})) StoreR
 grant_store s id ttl (Ok step) is = ap unwatched (sym (grant_led s step.next id ttl is))
 grant_store s id ttl (Err cause) is = refl
 
-pub grant_right : (s : Standing) (rs : List Runner) (id ttl : ℕ) (entry : Entry) →
+pub grant_right : (s : Standing) (rs : List Runner) (id ttl : ℕ) →
     let r = granted s id ttl in
     let reply : Result Reply Denied = reply_to (λ _. Granted id) r in
     CallIsRight s (store_after_call s r) (can_have rs (Grant id ttl) reply) (reply_to (λ _. Granted id) (granted (unwatched s) id ttl)) reply (grant_entries id ttl s.moment reply) s.moment
-    (length (if_reported (reply_to (λ _. Granted id) r) entry))
-grant_right s rs id ttl entry = record {
+    (if_reported reply (GrantEntry id ttl s.moment))
+grant_right s rs id ttl = record {
   fits = by_reply (λ x. can_have rs (Grant id ttl) x ≡ true) (λ _. Granted id) (granted s id ttl) (λ x. refl) (λ cause. refl);
   is_replayed = grant_same s id ttl (grant_refusal s.live id ttl);
   store = grant_store s id ttl (granted s id ttl) refl;
-  count = by_reply (λ x. length (grant_entries id ttl s.moment x) ≡ length (if_reported x entry)) (λ _. Granted id) (granted s id ttl) (λ x. refl)
+  entries = by_reply (λ x. grant_entries id ttl s.moment x ≡ if_reported x (GrantEntry id ttl s.moment)) (λ _. Granted id) (granted s id ttl) (λ x. refl)
       (λ cause. refl);
 }
 
@@ -142,17 +142,16 @@ keep_store : (s : Standing) (id : ℕ) (r : Result (Step (Unit {0})) StoreRefusa
 keep_store s id (Ok step) is = ap unwatched (sym (keep_led s step.next id is))
 keep_store s id (Err cause) is = refl
 
-pub keep_right : (s : Standing) (rs : List Runner) (id : ℕ) (entry : Entry) →
+pub keep_right : (s : Standing) (rs : List Runner) (id : ℕ) →
     let r = kept_alive s id in
     let reply : Result Reply Denied = reply_to (λ _. Kept id) r in
     CallIsRight s (store_after_call s r) (can_have rs (Keep id) reply) (reply_to (λ _. Kept id) (kept_alive (unwatched s) id)) reply (keep_entries id s.moment reply) s.moment
-    (length (if_reported (reply_to (λ _. Kept id) r) entry))
-keep_right s rs id entry = record {
+    (if_reported reply (Renew id s.moment))
+keep_right s rs id = record {
   fits = by_reply (λ x. can_have rs (Keep id) x ≡ true) (λ _. Kept id) (kept_alive s id) (λ x. refl) (λ cause. refl);
   is_replayed = keep_same s id (finmap.get s.live id);
   store = keep_store s id (kept_alive s id) refl;
-  count = by_reply (λ x. length (keep_entries id s.moment x) ≡ length (if_reported x entry)) (λ _. Kept id) (kept_alive s id) (λ x. refl)
-      (λ cause. refl);
+  entries = by_reply (λ x. keep_entries id s.moment x ≡ if_reported x (Renew id s.moment)) (λ _. Kept id) (kept_alive s id) (λ x. refl) (λ cause. refl);
 }
 
 -- ---- revocations
@@ -171,17 +170,16 @@ revoke_store : (s : Standing) (id : ℕ) (r : Result (Step ℕ) StoreRefusal) �
 revoke_store s id (Ok step) is = ap unwatched (sym (revoke_led s step.next id step.answer is))
 revoke_store s id (Err cause) is = refl
 
-pub revoke_right : (s : Standing) (rs : List Runner) (id : ℕ) (entry : Entry) →
+pub revoke_right : (s : Standing) (rs : List Runner) (id : ℕ) →
     let r = revoked s id in
     let reply : Result Reply Denied = reply_to (Revoked id) r in
     CallIsRight s (store_after_call s r) (can_have rs (Revoke id) reply) (reply_to (Revoked id) (revoked (unwatched s) id)) reply (revoke_entries id reply) s.moment
-    (length (if_reported (reply_to (Revoked id) r) entry))
-revoke_right s rs id entry = record {
+    (if_reported reply (RevokeEntry id))
+revoke_right s rs id = record {
   fits = by_reply (λ x. can_have rs (Revoke id) x ≡ true) (Revoked id) (revoked s id) (λ x. refl) (λ cause. refl);
   is_replayed = revoke_same s id (is_live_in s.live id) (is_used_up s.history (deletions_of s.history id));
   store = revoke_store s id (revoked s id) refl;
-  count = by_reply (λ x. length (revoke_entries id x) ≡ length (if_reported x entry)) (Revoked id) (revoked s id) (λ x. refl)
-      (λ cause. refl);
+  entries = by_reply (λ x. revoke_entries id x ≡ if_reported x (RevokeEntry id)) (Revoked id) (revoked s id) (λ x. refl) (λ cause. refl);
 }
 
 -- ---- advances
@@ -253,7 +251,7 @@ pub advance_right : (s : Standing) (rs : List Runner) (moment : ℕ) →
     let a : Advance = advanced s moment in
     let reply : Result Reply Denied = advance_reply moment a.expired a.cause in
     CallIsRight s a.leaves (can_have rs (AdvanceEvent moment) reply) (advance_reply moment (advanced (unwatched s) moment).expired (advanced (unwatched s) moment).cause) reply
-    (advance_entries reply) (moment_after s (AdvanceEvent moment)) (length (expiries (expired_reported reply)))
+    (advance_entries reply) (moment_after s (AdvanceEvent moment)) (expiries (expired_reported reply))
 advance_right s rs moment =
     let a : Advance = advanced s moment in
     record {
@@ -261,8 +259,7 @@ advance_right s rs moment =
       is_replayed = ap (λ (x : Advance). advance_reply moment x.expired x.cause) (advance_same s moment);
       store = ap (λ (es : List Entry). led_by es (unwatched s) (moment_after s (AdvanceEvent moment))) (advance_entered moment a.expired a.cause)
           ∙ ap unwatched (sym (advance_led s a.leaves moment a.expired a.cause refl));
-      count = ap (λ (es : List Entry). length es) (advance_entered moment a.expired a.cause)
-          ∙ ap (λ (es : List Expired). length (expiries es)) (sym (expired_are_reported moment a.expired a.cause));
+      entries = advance_entered moment a.expired a.cause ∙ ap expiries (sym (expired_are_reported moment a.expired a.cause));
     }
 
 -- ---- compactions

@@ -1,6 +1,6 @@
 -- The line of a commit: a check finds its program's run on what the line reports, and the store that it leads to.
 use Rattle.std.proofs.Common.{◌≡◌, ℕ, ◌+◌, ◌≤◌, Bool, true, false, cond, List, [], ◌∷◌, map, Option, Some, option_map, bytes_eq, refl, sym, ◌∙◌}
-use Rattle.std.proofs.Common.{ap}
+use Rattle.std.proofs.Common.{ap, subst}
 use Rattle.std.specs.Prelude.{MatchBool}
 use Rattle.stm_history.specs.declared.key_state.KeyState.{KeyState}
 use Rattle.stm_history.specs.declared.key_state.ReadAnswer.{ReadAnswer}
@@ -11,7 +11,6 @@ use Rattle.stm_steps.specs.declared.trace_item.TraceItem.{TraceItem}
 use Rattle.stm_steps.specs.declared.run.End.{End}
 use Rattle.stm_steps.specs.declared.run.Run.{Run}
 use Rattle.stm_steps.specs.declared.run.Answered.{Answered}
-use Rattle.stm_steps.specs.declared.run.Answered.TheVariants.{Ended}
 use Rattle.stm_meaning.specs.Answer.{Lookup}
 use Rattle.stm_meaning.specs.Meaning.{run_over}
 use Rattle.stm_txn.specs.Standing.{Standing, with_history as with_standing_history}
@@ -19,17 +18,15 @@ use Rattle.stm_program.specs.Levels.{is_comparing}
 use Rattle.stm_compile.specs.Answers.{AreTrue, answer_in, look_up, said, state_now}
 use Rattle.stm_entries.specs.Replayed.{Replayed, without_moment}
 use Rattle.stm_entries.specs.Alone.{seen_at, left_by, left_by_run}
-use Rattle.stm_entries.specs.Entered.{answers_kept}
 use Rattle.stm_entries.specs.declared.entry.Entry.TheVariants.{Program}
-use Rattle.stm_entries.specs.Legal.{IsCommit}
-use Rattle.stm_events.specs.Replies.{committed_read, as_read}
-use Rattle.stm_events.proofs.ReportedReads.{seen_at_again}
+use Rattle.stm_events.specs.declared.reply.CommittedRead.{CommittedRead}
+use Rattle.stm_events.specs.Replies.{committed_read, reads_in}
 use Rattle.stm_events.specs.FirstReads.{keys_first_read}
 use Rattle.stm_world.specs.Asked.{keys_read}
 use Rattle.stm_world.specs.Right.{Situation, IsCommitted}
-use Rattle.stm_check.specs.Point.{reads_in, led_by}
-use Rattle.stm_check.specs.Replays.{AreTrulyReported, keys_reported, IsRightCommit}
-use Rattle.stm_check.specs.Runs.{IsRunReported, run_in, revision_reached}
+use Rattle.stm_check.specs.Point.{led_by}
+use Rattle.stm_check.specs.Replays.{AreTrulyReported, AnswersFit, keys_reported, IsRightCommit}
+use Rattle.stm_check.specs.Runs.{IsRunReported, revision_reached}
 use Rattle.stm_check.proofs.CommitLemmas.{right_commit, commit_led}
 use Rattle.stm_report.proofs.RunsReported.{run_with}
 use Rattle.stm_report.proofs.CallsReported.{unwatched}
@@ -68,76 +65,72 @@ keys_are (a ∷ answers) = ap (λ (keys : List (List ℕ)). a.key ∷ keys) (key
 
 -- ---- by whether the level compares
 
-seen_by : (b : Bool) (h : History) (answers : List ReadAnswer) → MatchBool b (answers ≡ []) (AreTrue h answers) →
-    cond b (state_now h) (look_up (reads_in h (map committed_read answers))) ≡ cond b (state_now h) (look_up answers)
-seen_by true h answers truth = refl
-seen_by false h answers truth = λ i key. looked_up h answers truth key i
+-- the program sees on what is reported what it saw
+seen_by : (b : Bool) (h : History) (reads : List ReadAnswer) → AreTrue h reads →
+    cond b (state_now h) (look_up (reads_in h (map committed_read (cond b [] reads)))) ≡ cond b (state_now h) (look_up reads)
+seen_by true h reads truth = refl
+seen_by false h reads truth = λ i key. looked_up h reads truth key i
 
--- an answered run has one end
-one_run : (a : Answered) (one other : Run) → a ≡ Ended one → a ≡ Ended other → one ≡ other
-one_run a one other is too = let same : Some one ≡ Some other = ap run_in (sym is ∙ too) in cc
+-- and what is reported are the reads of its run
+fit_by : (b : Bool) (h : History) (program : ProgramTree) (reads : List ReadAnswer) (run : Run) → AreTrue h reads →
+    keys_first_read program.prefetch run.reads ≡ keys_read reads →
+    MatchBool b (map committed_read (cond b [] reads) ≡ [])
+    ((keys_reported (map committed_read (cond b [] reads)) ≡ keys_first_read program.prefetch run.reads)
+    × AreTrulyReported h (map committed_read (cond b [] reads)))
+fit_by true h program reads run truth in_order = refl
+fit_by false h program reads run truth in_order = (keys_are reads ∙ sym in_order, truly_reported h reads truth)
 
-fit_by : (b : Bool) (h : History) (program : ProgramTree) (answers reads : List ReadAnswer) (run alone : Run) →
-    MatchBool b (answers ≡ []) (AreTrue h answers) → answers ≡ cond b [] reads →
-    run_over (cond b (state_now h) (look_up reads)) program.statements ≡ Ended alone → keys_first_read program.prefetch alone.reads ≡ keys_read reads →
-    run_over (cond b (state_now h) (look_up answers)) program.statements ≡ Ended run →
-    MatchBool b (map committed_read answers ≡ []) ((keys_reported (map committed_read answers) ≡ keys_first_read program.prefetch run.reads) × AreTrulyReported h (map committed_read answers))
-fit_by true h program answers reads run alone truth are is_alone in_order is = ap (map committed_read) truth
-fit_by false h program answers reads run alone truth are is_alone in_order is =
-    let same : alone ≡ run =
-    one_run (run_over (look_up answers) program.statements) alone run
-    (ap (λ (rs : List ReadAnswer). run_over (look_up rs) program.statements) are ∙ is_alone) is in
-    (keys_are answers ∙ ap keys_read are ∙ sym in_order ∙ ap (λ (r : Run). keys_first_read program.prefetch r.reads) same, truly_reported h answers truth)
+-- ---- a commit that is right in a log, of a runner whose reads are true
 
--- ---- a commit that is right in a log, and legal as an entry with these answers
-
-pub record IsEntered (at : Situation) (revision attempts conflicts : ℕ) (output : List Value) (trace : List TraceItem) (answers : List ReadAnswer) : Type 0 where
-  pub right : IsCommitted at revision output trace (map committed_read answers)
-  pub kept : answers ≡ answers_kept at.task.level at.reads
-  pub legal : IsCommit at.task.program at.task.level answers output trace revision (without_moment at.store)
+pub record IsCommitLine (at : Situation) (revision attempts conflicts : ℕ) (output : List Value) (trace : List TraceItem) (answers : List CommittedRead)
+    : Type 0 where
+  pub right : IsCommitted at revision output trace answers
+  pub truth : AreTrue at.store.history at.reads
   pub attempt : attempts ≡ conflicts + 1
   pub may_be_sent : attempts ≤ at.task.limit
 
-run_is_reported : (at : Situation) (revision attempts conflicts : ℕ) (output : List Value) (trace : List TraceItem) (answers : List ReadAnswer) →
-    (e : IsEntered at revision attempts conflicts output trace answers) →
-    IsRunReported at.task.level at.store.history at.task.program (map committed_read answers) e.legal.run
+run_is_reported : (at : Situation) (revision attempts conflicts : ℕ) (output : List Value) (trace : List TraceItem) (answers : List CommittedRead) →
+    (e : IsCommitLine at revision attempts conflicts output trace answers) →
+    IsRunReported at.task.level at.store.history at.task.program answers e.right.commits.run
 run_is_reported at revision attempts conflicts output trace answers e =
     let h : History = at.store.history in
     let b : Bool = is_comparing at.task.level in
+    let run : Run = e.right.commits.run in
     record {
-      is_run = ap (λ (look : Lookup). run_over look at.task.program.statements) (seen_by b h answers e.legal.reads_truth) ∙ e.legal.is_run;
-      answers_fit = fit_by b h at.task.program answers at.reads e.legal.run e.right.commits.run e.legal.reads_truth e.kept e.right.is_alone
-          e.right.in_order e.legal.is_run;
+      is_run = ap (λ (xs : List CommittedRead). run_over (seen_at at.task.level (reads_in h xs) h) at.task.program.statements) e.right.reported
+          ∙ ap (λ (look : Lookup). run_over look at.task.program.statements) (seen_by b h at.reads e.truth) ∙ e.right.is_alone;
+      answers_fit = subst (λ (xs : List CommittedRead). AnswersFit at.task.level h (keys_first_read at.task.program.prefetch run.reads) xs)
+          (sym e.right.reported) (fit_by b h at.task.program at.reads run e.truth e.right.in_order);
     }
 
-pub commit_right : (at : Situation) (revision attempts conflicts : ℕ) (output : List Value) (trace : List TraceItem) (answers : List ReadAnswer) →
-    IsEntered at revision attempts conflicts output trace answers →
-    IsRightCommit (unwatched at.store) (run_with conflicts at.task) revision attempts output trace (map committed_read answers)
+pub commit_right : (at : Situation) (revision attempts conflicts : ℕ) (output : List Value) (trace : List TraceItem) (answers : List CommittedRead) →
+    IsCommitLine at revision attempts conflicts output trace answers →
+    IsRightCommit (unwatched at.store) (run_with conflicts at.task) revision attempts output trace answers
 commit_right at revision attempts conflicts output trace answers e =
-    right_commit (unwatched at.store) (run_with conflicts at.task) e.legal.run revision attempts output trace (map committed_read answers)
+    right_commit (unwatched at.store) (run_with conflicts at.task) e.right.commits.run revision attempts output trace answers
     (run_is_reported at revision attempts conflicts output trace answers e)
     (record {
-      is_done = e.legal.is_done;
-      emits = e.legal.emits;
-      sees = e.legal.sees;
-      reached = ap revision_reached e.legal.applies ∙ ap Some e.legal.reached;
+      is_done = e.right.commits.is_done;
+      emits = sym e.right.emits;
+      sees = sym e.right.sees;
+      reached = ap revision_reached e.right.changes ∙ ap Some (sym e.right.reached);
       attempt = e.attempt;
       may_be_sent = e.may_be_sent;
     })
 
 -- the entry of the line leads to what the program's run leaves
-pub commit_store : (at : Situation) (revision attempts conflicts : ℕ) (output : List Value) (trace : List TraceItem) (answers : List ReadAnswer) →
-    IsEntered at revision attempts conflicts output trace answers →
-    led_by (Program at.task.program at.task.level (reads_in at.store.history (map committed_read answers)) output trace revision ∷ []) (unwatched at.store)
-    at.store.moment
+pub commit_store : (at : Situation) (revision attempts conflicts : ℕ) (output : List Value) (trace : List TraceItem) (answers : List CommittedRead) →
+    IsCommitLine at revision attempts conflicts output trace answers →
+    led_by (Program at.task.program at.task.level (reads_in at.store.history answers) output trace revision ∷ []) (unwatched at.store) at.store.moment
     ≡ unwatched (with_standing_history at.store
-    (left_by_run (run_over (seen_at at.task.level (map as_read (map committed_read answers)) at.store.history) at.task.program.statements)
+    (left_by_run (run_over (seen_at at.task.level (reads_in at.store.history answers) at.store.history) at.task.program.statements)
     (without_moment at.store)).history)
 commit_store at revision attempts conflicts output trace answers e =
     let s : Standing = at.store in
-    let run : Run = e.legal.run in
-    sym (commit_led (unwatched s) (run_with conflicts at.task) run revision output trace (map committed_read answers)
-    (run_is_reported at revision attempts conflicts output trace answers e) e.legal.is_done)
+    let run : Run = e.right.commits.run in
+    let reported : IsRunReported at.task.level s.history at.task.program answers run =
+    run_is_reported at revision attempts conflicts output trace answers e in
+    sym (commit_led (unwatched s) (run_with conflicts at.task) run revision output trace answers reported e.right.commits.is_done)
     ∙ ap (λ (r : Replayed). unwatched (with_standing_history s r.history))
-    (sym (ap (λ (look : Lookup). left_by_run (run_over look at.task.program.statements) (without_moment s)) (seen_at_again at.task.level answers s.history)
-    ∙ ap (λ (a : Answered). left_by_run a (without_moment s)) e.legal.is_run ∙ ap (λ (end : End). left_by run end (without_moment s)) e.legal.is_done))
+    (sym (ap (λ (a : Answered). left_by_run a (without_moment s)) reported.is_run
+    ∙ ap (λ (end : End). left_by run end (without_moment s)) e.right.commits.is_done))

@@ -1,8 +1,8 @@
 -- No line of the report of a right run is wrong: what a check knows at a point is what the log so far says.
-use Rattle.std.proofs.Common.{◌≡◌, ◌≢◌, ℕ, ◌+◌, suc, Bool, true, false, cond, not, List, [], ◌∷◌, ◌++◌, length, length-append, map}
+use Rattle.std.proofs.Common.{◌≡◌, ◌≢◌, ℕ, ◌+◌, suc, Bool, true, false, cond, not, List, [], ◌∷◌, ◌++◌, length, length-append, append_assoc}
 use Rattle.std.proofs.Common.{Option, Some, None, is_some, Ok, Err, refl, sym, ◌∙◌, ap, subst, arith}
+use Rattle.std.proofs.lemmas.List.{append-nil}
 use Rattle.std.specs.Prelude.{Result, nat_eq, ◌&&◌}
-use Rattle.stm_history.specs.declared.key_state.ReadAnswer.{ReadAnswer}
 use Rattle.stm_history.specs.History.{History}
 use Rattle.stm_steps.specs.declared.value.Value.{Value}
 use Rattle.stm_steps.specs.declared.trace_item.TraceItem.{TraceItem}
@@ -10,13 +10,8 @@ use Rattle.stm_txn.specs.Standing.{Standing, transacted, granted, kept_alive, re
 use Rattle.stm_txn.specs.Standing.{Setup}
 use Rattle.stm_watch.specs.declared.watched.Watched.TheVariants.{Key, Range}
 use Rattle.stm_watch.specs.Calls.{watch, poll, watcher_at}
+use Rattle.stm_compile.specs.Answers.{AreTrue}
 use Rattle.stm_entries.specs.declared.entry.Entry.{Entry}
-use Rattle.stm_entries.specs.declared.entry.Entry.TheVariants.{Program, Grant as GrantEntry, Renew, Revoke as RevokeEntry}
-use Rattle.stm_entries.specs.Replayed.{opening, without_moment}
-use Rattle.stm_entries.specs.Entered.{answers_kept}
-use Rattle.stm_entries.specs.Replay.{replay}
-use Rattle.stm_entries.specs.Legal.{AreLegal}
-use Rattle.stm_entries.proofs.Replaying.{rest_legal}
 use Rattle.stm_events.specs.declared.line.ReportLine.{ReportLine}
 use Rattle.stm_events.specs.declared.line.ReportLine.TheVariants.{Event}
 use Rattle.stm_events.specs.declared.event.WorldEvent.{WorldEvent}
@@ -27,14 +22,14 @@ use Rattle.stm_events.specs.declared.reply.Reply.TheVariants.{Granted, Kept, Rev
 use Rattle.stm_events.specs.declared.refusal.Denied.{Denied}
 use Rattle.stm_events.specs.declared.refusal.EventRefusal.TheVariants.{BadLimit, NoRunner}
 use Rattle.stm_events.specs.declared.reply.CommittedRead.{CommittedRead}
-use Rattle.stm_events.specs.Replies.{committed_read, txn_reply, denied, reply_to, advance_reply, poll_reply}
+use Rattle.stm_events.specs.Replies.{txn_reply, denied, reply_to, advance_reply, poll_reply}
 use Rattle.stm_world.specs.Task.{Task}
 use Rattle.stm_world.specs.Log.{Line, begun, is_over, running, started, failures, store, known_after_log, with_commit, commit_entry, line_entries, entries_reported}
-use Rattle.stm_world.specs.Right.{IsRight, IsCommitted, StepIsRight, RunnerIsRight, StartIsRight, Situation, situation}
+use Rattle.stm_world.specs.Right.{IsRight, StepIsRight, RunnerIsRight, StartIsRight, Situation, situation}
 use Rattle.stm_world.specs.World.{World, opened, step, world_after, replies_to}
 use Rattle.stm_world.proofs.Following.{FollowsStep, with_line}
 use Rattle.stm_world.proofs.Headlines.{Follows, step_follows, opened_follows}
-use Rattle.stm_world.proofs.RunnerSteps.{CommitLaws}
+use Rattle.stm_world.proofs.RunnerSteps.{CommitLaws, reads_truth}
 use Rattle.stm_world.proofs.Slots.{same_number, other_number}
 use Rattle.stm_world.proofs.Untouched.{IsFresh}
 use Rattle.stm_check.specs.declared.runner.Runner.{Runner}
@@ -43,26 +38,25 @@ use Rattle.stm_check.specs.Point.{Point, committed_entry, commit_entries, entrie
 use Rattle.stm_check.specs.Replays.{IsCommitOf, StepReplays, Replays}
 use Rattle.stm_check.specs.Runners.{running as running_in, runners_after}
 use Rattle.stm_check.specs.StoreLines.{end_lines}
-use Rattle.stm_check.specs.Wrong.{IsRight as IsRightLine, AreRight}
+use Rattle.stm_check.specs.Wrong.{IsRight as IsRightLine, AreRight, entries_along}
 use Rattle.stm_report.specs.Report.{event_lines}
 use Rattle.stm_report.proofs.RunsReported.{RunsAreReported, SaysNothing, none_are_reported, says_nothing, advance_says_nothing, run_with, runs_with}
 use Rattle.stm_report.proofs.RunsReported.{same_runs, Goes, goes_on, ended_runs, failed_runs, begun_runs}
 use Rattle.stm_world.proofs.EventKeeps.{store_limit}
 use Rattle.stm_report.proofs.CallsReported.{unwatched, txn_right, grant_right, keep_right, revoke_right, advance_right, watch_stays, poll_stays}
 use Rattle.stm_report.proofs.CallsReported.{compact_same, compact_store, cancel_stays, by_reply, by_poll}
-use Rattle.stm_report.proofs.CommitsReported.{IsEntered, commit_right, commit_store}
+use Rattle.stm_report.proofs.CommitsReported.{IsCommitLine, commit_right, commit_store}
 
 -- ---- a point, by the log so far
 
 abbrev pub point_at : Setup → List Line → List Runner → Point
 point_at start log rs = record { standing = unwatched (store start log); entries = length (entries_reported start log); runners = rs }
 
--- The line of the next event is right, and the point after it is that of the longer log.
+-- The line of the next event is right, its entries are those of the log, and the point after it is that of the longer log.
 record GoesOn (start : Setup) (n : ℕ) (log : List Line) (rs : List Runner) (event : WorldEvent) (reply : Result Reply Denied) : Type 0 where
   is_right : IsRightLine n (point_at start log rs) event (Event n reply)
   store_is : standing_after (unwatched (store start log)) rs event reply ≡ unwatched (store start (with_line event reply log))
-  count_is : length (reported_entries (unwatched (store start log)) rs event reply)
-      ≡ length (line_entries start (record { event = event; reply = reply }) log)
+  entries_are : reported_entries (unwatched (store start log)) rs event reply ≡ line_entries start (record { event = event; reply = reply }) log
   runs : RunsAreReported (with_line event reply log) (runners_after event reply rs)
 
 next_point : (start : Setup) (n : ℕ) (log : List Line) (rs : List Runner) (event : WorldEvent) (reply : Result Reply Denied) → GoesOn start n log rs event reply →
@@ -72,7 +66,7 @@ next_point start n log rs event reply g =
     let line : Line = record { event = event; reply = reply } in
     let count : length (entries_reported start log) + length (reported_entries (unwatched (store start log)) rs event reply)
     ≡ length (entries_reported start log ++ line_entries start line log) =
-    ap (λ k. length (entries_reported start log) + k) g.count_is ∙ sym (length-append (entries_reported start log) (line_entries start line log)) in
+    ap (λ (es : List Entry). length (entries_reported start log) + length es) g.entries_are ∙ sym (length-append (entries_reported start log) (line_entries start line log)) in
     λ i. record { standing = g.store_is i; entries = count i; runners = runners_after event reply rs }
 
 -- ---- a line has the number of its event
@@ -96,7 +90,7 @@ started_goes start n log rs task reported fresh some = record {
     tt,
   );
   store_is = refl;
-  count_is = refl;
+  entries_are = refl;
   runs = begun_runs start log rs task fresh reported;
 }
 
@@ -105,7 +99,7 @@ refused_start : (start : Setup) (n : ℕ) (log : List Line) (rs : List Runner) (
 refused_start start n log rs task reported none = record {
   is_right = (fits_there n rs (Start task.program task.level task.limit) (denied BadLimit) refl, (none, refl));
   store_is = refl;
-  count_is = refl;
+  entries_are = refl;
   runs = same_runs (record { event = Start task.program task.level task.limit; reply = denied BadLimit }) log rs
       (record { begins_is = refl; ends_is = refl; fails_is = refl }) reported;
 }
@@ -139,7 +133,7 @@ none_goes start n log rs id reported none =
     record {
       is_right = (fits_there n rs (Step id) (denied NoRunner) refl, (reported.runs id ∙ ap (runs_with (failures id log)) none, refl));
       store_is = still (unwatched (store start log)) (commit_entries h reply (running_in id rs)) nothing;
-      count_is = ap (λ (es : List Entry). length es) nothing;
+      entries_are = nothing;
       runs = same_runs (record { event = Step id; reply = denied NoRunner }) log rs (record { begins_is = refl; ends_is = refl; fails_is = refl }) reported;
     }
 
@@ -156,7 +150,7 @@ record StepsOn (start : Setup) (log : List Line) (rs : List Runner) (id : ℕ) (
   replays : StepReplays (unwatched (store start log)) (running_in id rs) (Ok reply)
   none : (r : Runner) → committed_entry (store start log).history (Ok reply) r ≡ []
   store_stays : unwatched (store start log) ≡ unwatched (store start (with_line (Step id) (Ok reply) log))
-  count_stays : 0 ≡ length (line_entries start (record { event = Step id; reply = Ok reply }) log)
+  none_entered : [] ≡ line_entries start (record { event = Step id; reply = Ok reply }) log
   runs_on : RunsAreReported (with_line (Step id) (Ok reply) log) (runners_after (Step id) (Ok reply) rs)
 
 steps_on : (start : Setup) (n : ℕ) (log : List Line) (rs : List Runner) (id : ℕ) (reply : Reply) → StepsOn start log rs id reply →
@@ -167,7 +161,7 @@ steps_on start n log rs id reply on =
     record {
       is_right = (fits_there n rs (Step id) (Ok reply) on.can, on.replays);
       store_is = still (unwatched (store start log)) (commit_entries h (Ok reply) (running_in id rs)) nothing ∙ on.store_stays;
-      count_is = ap (λ (es : List Entry). length es) nothing ∙ on.count_stays;
+      entries_are = nothing ∙ on.none_entered;
       runs = on.runs_on;
     }
 
@@ -176,214 +170,194 @@ begun_by : (over : Bool) (o : Option Task) (task : Task) → cond over None o �
 begun_by true o task is = absurd (cc)
 begun_by false o task is = is
 
-legal_entry : (revision : ℕ) (output : List Value) (trace : List TraceItem) (reads_of : Task → List ReadAnswer) (o : Option Task) (task : Task) (s : Standing) →
-    o ≡ Some task → AreLegal (commit_entry revision output trace reads_of o) (without_moment s) →
-    AreLegal (Program task.program task.level (answers_kept task.level (reads_of task)) output trace revision ∷ []) (without_moment s)
-legal_entry revision output trace reads_of o task s is legal =
-    subst (λ (x : Option Task). AreLegal (commit_entry revision output trace reads_of x) (without_moment s)) is legal
-
--- what a commit has read, of which its entry has what is kept at its level
-abbrev reads_by : Setup → List Line → ℕ → Task → List ReadAnswer
-reads_by start log id task = (known_after_log start id task log).reads
+-- what a runner that runs has read is true
+abbrev RunnersKnowTruth : Setup → List Line → Type 0
+RunnersKnowTruth start log = (id : ℕ) (task : Task) → running id log ≡ Some task → AreTrue (store start log).history (known_after_log start id task log).reads
 
 commit_goes : (start : Setup) (n : ℕ) (log : List Line) (rs : List Runner) (id revision attempts : ℕ) (task : Task) (output : List Value)
-    (trace : List TraceItem) (answers : List ReadAnswer) → RunsAreReported log rs → Goes log rs id task → begun id log ≡ Some task →
-    IsEntered (situation start log id task) revision attempts (failures id log) output trace answers →
-    GoesOn start n log rs (Step id) (Ok (Committed id revision attempts output trace (map committed_read answers)))
+    (trace : List TraceItem) (answers : List CommittedRead) → RunsAreReported log rs → Goes log rs id task → begun id log ≡ Some task →
+    IsCommitLine (situation start log id task) revision attempts (failures id log) output trace answers →
+    GoesOn start n log rs (Step id) (Ok (Committed id revision attempts output trace answers))
 commit_goes start n log rs id revision attempts task output trace answers reported goes was e =
     let at : Situation = situation start log id task in
     let s : Standing = store start log in
-    let shown : List CommittedRead = map committed_read answers in
-    let reply : Reply = Committed id revision attempts output trace shown in
+    let reply : Reply = Committed id revision attempts output trace answers in
     let r : Runner = run_with (failures id log) task in
     let entered : commit_entries s.history (Ok reply) (running_in id rs) ≡ committed_entry s.history (Ok reply) r =
     ap (commit_entries s.history (Ok reply)) goes.found in
     record {
       is_right = (
         fits_there n rs (Step id) (Ok reply) (step_can log rs id id task refl goes),
-        subst (λ (o : Option Runner). IsCommitOf (unwatched s) o revision attempts output trace shown) (sym goes.found)
+        subst (λ (o : Option Runner). IsCommitOf (unwatched s) o revision attempts output trace answers) (sym goes.found)
             (commit_right at revision attempts (failures id log) output trace answers e),
       );
       store_is = ap (λ (es : List Entry). led_by es (unwatched s) s.moment) entered
           ∙ commit_store at revision attempts (failures id log) output trace answers e
-          ∙ sym (ap (λ (o : Option Task). unwatched (with_commit s shown o)) was);
-      count_is = ap (λ (es : List Entry). length es) entered
-          ∙ sym (ap (λ (o : Option Task). length (commit_entry revision output trace (reads_by start log id) o)) was);
+          ∙ sym (ap (λ (o : Option Task). unwatched (with_commit s answers o)) was);
+      entries_are = entered ∙ sym (ap (commit_entry s.history revision output trace answers) was);
       runs = ended_runs (record { event = Step id; reply = Ok reply }) log rs id task (record { begins_is = refl; ends_is = refl; fails_is = refl }) goes reported;
     }
 
 commit_of : (start : Setup) (n : ℕ) (log : List Line) (rs : List Runner) (id runner revision attempts : ℕ) (task : Task) (output : List Value)
-    (trace : List TraceItem) (shown : List CommittedRead) → RunsAreReported log rs → Goes log rs id task →
-    AreLegal (line_entries start (record { event = Step id; reply = Ok (Committed runner revision attempts output trace shown) }) log)
-    (without_moment (store start log)) →
-    StepIsRight (situation start log id task) (Ok (Committed runner revision attempts output trace shown)) →
-    GoesOn start n log rs (Step id) (Ok (Committed runner revision attempts output trace shown))
-commit_of start n log rs id runner revision attempts task output trace shown reported goes legal right =
-    let at : Situation = situation start log id task in
+    (trace : List TraceItem) (answers : List CommittedRead) → RunsAreReported log rs → Goes log rs id task → RunnersKnowTruth start log →
+    StepIsRight (situation start log id task) (Ok (Committed runner revision attempts output trace answers)) →
+    GoesOn start n log rs (Step id) (Ok (Committed runner revision attempts output trace answers))
+commit_of start n log rs id runner revision attempts task output trace answers reported goes known right =
     let was : begun id log ≡ Some task = begun_by (is_over id log) (begun id log) task goes.runs in
-    let own : AreLegal (commit_entry revision output trace (reads_by start log id) (begun id log)) (without_moment (store start log)) =
-    subst (λ k. AreLegal (commit_entry revision output trace (reads_by start log k) (begun k log)) (without_moment (store start log))) right.0 legal in
-    let commit : IsCommitted at revision output trace shown = right.3 in
-    let answers : List ReadAnswer = answers_kept task.level at.reads in
-    subst (λ k. GoesOn start n log rs (Step id) (Ok (Committed k revision attempts output trace shown))) (sym right.0)
-    (subst (λ (xs : List CommittedRead). GoesOn start n log rs (Step id) (Ok (Committed id revision attempts output trace xs))) (sym commit.reported)
+    subst (λ k. GoesOn start n log rs (Step id) (Ok (Committed k revision attempts output trace answers))) (sym right.0)
     (commit_goes start n log rs id revision attempts task output trace answers reported goes was (record {
-      right = subst (λ (xs : List CommittedRead). IsCommitted at revision output trace xs) commit.reported commit;
-      kept = refl;
-      legal = (legal_entry revision output trace (reads_by start log id) (begun id log) task (store start log) was own).0;
+      right = right.3;
+      truth = known id task goes.runs;
       attempt = right.1;
       may_be_sent = right.2;
-    })))
+    }))
 
 live_goes : (start : Setup) (n : ℕ) (log : List Line) (rs : List Runner) (id : ℕ) (task : Task) (reply : Result Reply Denied) → RunsAreReported log rs → Goes log rs id task →
-    AreLegal (line_entries start (record { event = Step id; reply = reply }) log) (without_moment (store start log)) →
-    StepIsRight (situation start log id task) reply → GoesOn start n log rs (Step id) reply
-live_goes start n log rs id task (Err refusal) reported goes legal right = absurd right
-live_goes start n log rs id task (Ok (Prefetched runner revision reads)) reported goes legal right =
+    RunnersKnowTruth start log → StepIsRight (situation start log id task) reply → GoesOn start n log rs (Step id) reply
+live_goes start n log rs id task (Err refusal) reported goes known right = absurd right
+live_goes start n log rs id task (Ok (Prefetched runner revision reads)) reported goes known right =
     steps_on start n log rs id (Prefetched runner revision reads) (record {
       can = step_can log rs id runner task right.0 goes;
       replays = tt;
       none = λ r. refl;
       store_stays = refl;
-      count_stays = refl;
+      none_entered = refl;
       runs_on = same_runs (record { event = Step id; reply = Ok (Prefetched runner revision reads) }) log rs
           (record { begins_is = refl; ends_is = refl; fails_is = refl }) reported;
     })
-live_goes start n log rs id task (Ok (Fetched runner key mod_rev of_rev revision)) reported goes legal right =
+live_goes start n log rs id task (Ok (Fetched runner key mod_rev of_rev revision)) reported goes known right =
     steps_on start n log rs id (Fetched runner key mod_rev of_rev revision) (record {
       can = step_can log rs id runner task right.0 goes;
       replays = tt;
       none = λ r. refl;
       store_stays = refl;
-      count_stays = refl;
+      none_entered = refl;
       runs_on = same_runs (record { event = Step id; reply = Ok (Fetched runner key mod_rev of_rev revision) }) log rs
           (record { begins_is = refl; ends_is = refl; fails_is = refl }) reported;
     })
-live_goes start n log rs id task (Ok (Committed runner revision attempts output trace answers)) reported goes legal right =
-    commit_of start n log rs id runner revision attempts task output trace answers reported goes legal right
-live_goes start n log rs id task (Ok (Conflict runner key seen now)) reported goes legal right =
+live_goes start n log rs id task (Ok (Committed runner revision attempts output trace answers)) reported goes known right =
+    commit_of start n log rs id runner revision attempts task output trace answers reported goes known right
+live_goes start n log rs id task (Ok (Conflict runner key seen now)) reported goes known right =
     steps_on start n log rs id (Conflict runner key seen now) (record {
       can = step_can log rs id runner task right.0 goes;
       replays = tt;
       none = λ r. refl;
       store_stays = refl;
-      count_stays = refl;
+      none_entered = refl;
       runs_on = failed_runs (record { event = Step id; reply = Ok (Conflict runner key seen now) }) log rs id task
           (record { begins_is = refl; ends_is = refl; fails_is = ap Some right.0 }) goes reported;
     })
-live_goes start n log rs id task (Ok (GaveUp runner attempts key seen now)) reported goes legal right =
+live_goes start n log rs id task (Ok (GaveUp runner attempts key seen now)) reported goes known right =
     steps_on start n log rs id (GaveUp runner attempts key seen now) (record {
       can = step_can log rs id runner task right.0 goes;
       replays = tt;
       none = λ r. refl;
       store_stays = refl;
-      count_stays = refl;
+      none_entered = refl;
       runs_on = ended_runs (record { event = Step id; reply = Ok (GaveUp runner attempts key seen now) }) log rs id task
           (record { begins_is = refl; ends_is = ap Some right.0; fails_is = refl }) goes reported;
     })
-live_goes start n log rs id task (Ok (Aborted runner text)) reported goes legal right =
+live_goes start n log rs id task (Ok (Aborted runner text)) reported goes known right =
     steps_on start n log rs id (Aborted runner text) (record {
       can = step_can log rs id runner task right.0 goes;
       replays = tt;
       none = λ r. refl;
       store_stays = refl;
-      count_stays = refl;
+      none_entered = refl;
       runs_on = ended_runs (record { event = Step id; reply = Ok (Aborted runner text) }) log rs id task
           (record { begins_is = refl; ends_is = ap Some right.0; fails_is = refl }) goes reported;
     })
-live_goes start n log rs id task (Ok (Faulted runner fault)) reported goes legal right =
+live_goes start n log rs id task (Ok (Faulted runner fault)) reported goes known right =
     steps_on start n log rs id (Faulted runner fault) (record {
       can = step_can log rs id runner task right.0 goes;
       replays = tt;
       none = λ r. refl;
       store_stays = refl;
-      count_stays = refl;
+      none_entered = refl;
       runs_on = ended_runs (record { event = Step id; reply = Ok (Faulted runner fault) }) log rs id task
           (record { begins_is = refl; ends_is = ap Some right.0; fails_is = refl }) goes reported;
     })
-live_goes start n log rs id task (Ok (Ended runner cause)) reported goes legal right =
+live_goes start n log rs id task (Ok (Ended runner cause)) reported goes known right =
     steps_on start n log rs id (Ended runner cause) (record {
       can = step_can log rs id runner task right.0 goes;
       replays = tt;
       none = λ r. refl;
       store_stays = refl;
-      count_stays = refl;
+      none_entered = refl;
       runs_on = ended_runs (record { event = Step id; reply = Ok (Ended runner cause) }) log rs id task
           (record { begins_is = refl; ends_is = ap Some right.0; fails_is = refl }) goes reported;
     })
-live_goes start n log rs id task (Ok (Started runner)) reported goes legal right = absurd right
-live_goes start n log rs id task (Ok _) reported goes legal right = absurd right
+live_goes start n log rs id task (Ok (Started runner)) reported goes known right = absurd right
+live_goes start n log rs id task (Ok _) reported goes known right = absurd right
 
 runner_goes : (start : Setup) (n : ℕ) (log : List Line) (rs : List Runner) (id : ℕ) (o : Option Task) (reply : Result Reply Denied) → RunsAreReported log rs →
-    running id log ≡ o → AreLegal (line_entries start (record { event = Step id; reply = reply }) log) (without_moment (store start log)) →
-    RunnerIsRight start log id o reply → GoesOn start n log rs (Step id) reply
-runner_goes start n log rs id None reply reported runs legal right =
+    running id log ≡ o → RunnersKnowTruth start log → RunnerIsRight start log id o reply → GoesOn start n log rs (Step id) reply
+runner_goes start n log rs id None reply reported runs known right =
     subst (λ (x : Result Reply Denied). GoesOn start n log rs (Step id) x) (sym right) (none_goes start n log rs id reported runs)
-runner_goes start n log rs id (Some task) reply reported runs legal right =
-    live_goes start n log rs id task reply reported (goes_on log rs id task reported runs) legal right
+runner_goes start n log rs id (Some task) reply reported runs known right =
+    live_goes start n log rs id task reply reported (goes_on log rs id task reported runs) known right
 
 -- ---- calls
 
 call_goes : (start : Setup) (n : ℕ) (log : List Line) (rs : List Runner) (event : WorldEvent) (reply : Result Reply Denied) →
     can_have rs event reply ≡ true → Replays (unwatched (store start log)) rs event reply →
     standing_after (unwatched (store start log)) rs event reply ≡ unwatched (store start (with_line event reply log)) →
-    length (reported_entries (unwatched (store start log)) rs event reply) ≡ length (line_entries start (record { event = event; reply = reply }) log) →
+    reported_entries (unwatched (store start log)) rs event reply ≡ line_entries start (record { event = event; reply = reply }) log →
     RunsAreReported (with_line event reply log) (runners_after event reply rs) → GoesOn start n log rs event reply
-call_goes start n log rs event reply can replays store_is count_is runs = record {
+call_goes start n log rs event reply can replays store_is entries_are runs = record {
   is_right = (fits_there n rs event reply can, replays);
   store_is = store_is;
-  count_is = count_is;
+  entries_are = entries_are;
   runs = runs;
 }
 
 event_goes : (start : Setup) (n : ℕ) (log : List Line) (rs : List Runner) (event : WorldEvent) (reply : Result Reply Denied) → RunsAreReported log rs →
-    IsFresh start log (started log + 1) → AreLegal (line_entries start (record { event = event; reply = reply }) log) (without_moment (store start log)) →
-    IsRight start log event reply → GoesOn start n log rs event reply
-event_goes start n log rs (Start program level limit) reply reported fresh legal right =
+    IsFresh start log (started log + 1) → RunnersKnowTruth start log → IsRight start log event reply → GoesOn start n log rs event reply
+event_goes start n log rs (Start program level limit) reply reported fresh known right =
     start_goes start n log rs (record { program = program; level = level; limit = limit }) reply reported fresh right
-event_goes start n log rs (Step id) reply reported fresh legal right =
-    runner_goes start n log rs id (running id log) reply reported refl legal right
-event_goes start n log rs (Txn txn) reply reported fresh legal right =
+event_goes start n log rs (Step id) reply reported fresh known right =
+    runner_goes start n log rs id (running id log) reply reported refl known right
+event_goes start n log rs (Txn txn) reply reported fresh known right =
     let s : Standing = store start log in
     let r = transacted s txn in
     let c = txn_right s rs txn (store_limit start log) in
     subst (λ (x : Result Reply Denied). GoesOn start n log rs (Txn txn) x) (sym right)
-    (call_goes start n log rs (Txn txn) (reply_to txn_reply r) c.fits c.is_replayed c.store c.count
+    (call_goes start n log rs (Txn txn) (reply_to txn_reply r) c.fits c.is_replayed c.store c.entries
     (same_runs (record { event = Txn txn; reply = reply_to txn_reply r }) log rs
     (says_nothing txn_reply r (λ x. record { begins_is = refl; ends_is = refl; fails_is = refl })) reported))
-event_goes start n log rs (Grant id ttl) reply reported fresh legal right =
+event_goes start n log rs (Grant id ttl) reply reported fresh known right =
     let s : Standing = store start log in
     let r = granted s id ttl in
-    let c = grant_right s rs id ttl (GrantEntry id ttl s.moment) in
+    let c = grant_right s rs id ttl in
     subst (λ (x : Result Reply Denied). GoesOn start n log rs (Grant id ttl) x) (sym right)
-    (call_goes start n log rs (Grant id ttl) (reply_to (λ _. Granted id) r) c.fits c.is_replayed c.store c.count
+    (call_goes start n log rs (Grant id ttl) (reply_to (λ _. Granted id) r) c.fits c.is_replayed c.store c.entries
     (same_runs (record { event = Grant id ttl; reply = reply_to (λ _. Granted id) r }) log rs
     (says_nothing (λ _. Granted id) r (λ x. record { begins_is = refl; ends_is = refl; fails_is = refl })) reported))
-event_goes start n log rs (Keep id) reply reported fresh legal right =
+event_goes start n log rs (Keep id) reply reported fresh known right =
     let s : Standing = store start log in
     let r = kept_alive s id in
-    let c = keep_right s rs id (Renew id s.moment) in
+    let c = keep_right s rs id in
     subst (λ (x : Result Reply Denied). GoesOn start n log rs (Keep id) x) (sym right)
-    (call_goes start n log rs (Keep id) (reply_to (λ _. Kept id) r) c.fits c.is_replayed c.store c.count
+    (call_goes start n log rs (Keep id) (reply_to (λ _. Kept id) r) c.fits c.is_replayed c.store c.entries
     (same_runs (record { event = Keep id; reply = reply_to (λ _. Kept id) r }) log rs
     (says_nothing (λ _. Kept id) r (λ x. record { begins_is = refl; ends_is = refl; fails_is = refl })) reported))
-event_goes start n log rs (Revoke id) reply reported fresh legal right =
+event_goes start n log rs (Revoke id) reply reported fresh known right =
     let s : Standing = store start log in
     let r = revoked s id in
-    let c = revoke_right s rs id (RevokeEntry id) in
+    let c = revoke_right s rs id in
     subst (λ (x : Result Reply Denied). GoesOn start n log rs (Revoke id) x) (sym right)
-    (call_goes start n log rs (Revoke id) (reply_to (Revoked id) r) c.fits c.is_replayed c.store c.count
+    (call_goes start n log rs (Revoke id) (reply_to (Revoked id) r) c.fits c.is_replayed c.store c.entries
     (same_runs (record { event = Revoke id; reply = reply_to (Revoked id) r }) log rs
     (says_nothing (Revoked id) r (λ x. record { begins_is = refl; ends_is = refl; fails_is = refl })) reported))
-event_goes start n log rs (Advance moment) reply reported fresh legal right =
+event_goes start n log rs (Advance moment) reply reported fresh known right =
     let s : Standing = store start log in
     let a = advanced s moment in
     let c = advance_right s rs moment in
     subst (λ (x : Result Reply Denied). GoesOn start n log rs (Advance moment) x) (sym right)
-    (call_goes start n log rs (Advance moment) (advance_reply moment a.expired a.cause) c.fits c.is_replayed c.store c.count
+    (call_goes start n log rs (Advance moment) (advance_reply moment a.expired a.cause) c.fits c.is_replayed c.store c.entries
     (same_runs (record { event = Advance moment; reply = advance_reply moment a.expired a.cause }) log rs
     (advance_says_nothing moment a.expired a.cause) reported))
-event_goes start n log rs (Compact revision) reply reported fresh legal right =
+event_goes start n log rs (Compact revision) reply reported fresh known right =
     let s : Standing = store start log in
     let r = raised s revision in
     subst (λ (x : Result Reply Denied). GoesOn start n log rs (Compact revision) x) (sym right)
@@ -392,7 +366,7 @@ event_goes start n log rs (Compact revision) reply reported fresh legal right =
     (compact_same s revision) (compact_store s rs revision r refl) refl
     (same_runs (record { event = Compact revision; reply = reply_to (λ _. Compacted revision) r }) log rs
     (says_nothing (λ _. Compacted revision) r (λ x. record { begins_is = refl; ends_is = refl; fails_is = refl })) reported))
-event_goes start n log rs (WatchKey key from) reply reported fresh legal right =
+event_goes start n log rs (WatchKey key from) reply reported fresh known right =
     let s : Standing = store start log in
     let r = watched s (Key key) from in
     subst (λ (x : Result Reply Denied). GoesOn start n log rs (WatchKey key from) x) (sym right)
@@ -400,7 +374,7 @@ event_goes start n log rs (WatchKey key from) reply reported fresh legal right =
     (watch_stays s (watch s.history s.floor (Key key) from s.watchers)) refl
     (same_runs (record { event = WatchKey key from; reply = reply_to Watching r }) log rs
     (says_nothing Watching r (λ x. record { begins_is = refl; ends_is = refl; fails_is = refl })) reported))
-event_goes start n log rs (WatchRange first end from) reply reported fresh legal right =
+event_goes start n log rs (WatchRange first end from) reply reported fresh known right =
     let s : Standing = store start log in
     let r = watched s (Range first end) from in
     subst (λ (x : Result Reply Denied). GoesOn start n log rs (WatchRange first end from) x) (sym right)
@@ -408,7 +382,7 @@ event_goes start n log rs (WatchRange first end from) reply reported fresh legal
     (watch_stays s (watch s.history s.floor (Range first end) from s.watchers)) refl
     (same_runs (record { event = WatchRange first end from; reply = reply_to Watching r }) log rs
     (says_nothing Watching r (λ x. record { begins_is = refl; ends_is = refl; fails_is = refl })) reported))
-event_goes start n log rs (Poll watcher most) reply reported fresh legal right =
+event_goes start n log rs (Poll watcher most) reply reported fresh known right =
     let s : Standing = store start log in
     let r = polled s watcher most in
     let found = poll s.history watcher most s.watchers in
@@ -419,7 +393,7 @@ event_goes start n log rs (Poll watcher most) reply reported fresh legal right =
     (same_runs (record { event = Poll watcher most; reply = poll_reply watcher s.floor r }) log rs
     (by_poll (λ x. SaysNothing x) watcher s.floor s found (λ x. record { begins_is = refl; ends_is = refl; fails_is = refl })
     (record { begins_is = refl; ends_is = refl; fails_is = refl }) (λ cause. record { begins_is = refl; ends_is = refl; fails_is = refl })) reported))
-event_goes start n log rs (Cancel watcher) reply reported fresh legal right =
+event_goes start n log rs (Cancel watcher) reply reported fresh known right =
     let s : Standing = store start log in
     let r = cancelled s watcher in
     subst (λ (x : Result Reply Denied). GoesOn start n log rs (Cancel watcher) x) (sym right)
@@ -430,16 +404,15 @@ event_goes start n log rs (Cancel watcher) reply reported fresh legal right =
 
 -- ---- all lines
 
--- what a line adds to the entries is legal where it is entered
-line_legal : (start : Setup) (log : List Line) (w : World) (event : WorldEvent) → Follows start log w → (s : FollowsStep start log event (step event w)) →
-    AreLegal (line_entries start (record { event = event; reply = (step event w).reply }) log) (without_moment (store start log))
-line_legal start log w event f s =
-    let line : Line = record { event = event; reply = (step event w).reply } in
-    let all : AreLegal (entries_reported start log ++ line_entries start line log) (opening start.revision) =
-    subst (λ (es : List Entry). AreLegal es (opening start.revision)) s.follows.reported s.follows.legal in
-    let there : replay (entries_reported start log) (opening start.revision) ≡ without_moment (store start log) =
-    ap (λ (es : List Entry). replay es (opening start.revision)) (sym f.at.reported) ∙ f.at.replays in
-    subst (AreLegal (line_entries start line log)) there (rest_legal (entries_reported start log) (line_entries start line log) (opening start.revision) all)
+-- in a world that follows a log
+known_truth : (start : Setup) (log : List Line) (w : World) → Follows start log w → RunnersKnowTruth start log
+known_truth start log w f id task runs = reads_truth start log w.runners w.entries id task (record { follows = f.at; running = runs })
+
+-- the line of its next event
+line_goes : (start : Setup) (n : ℕ) (log : List Line) (w : World) (rs : List Runner) (event : WorldEvent) → Follows start log w → RunsAreReported log rs →
+    FollowsStep start log event (step event w) → GoesOn start n log rs event (step event w).reply
+line_goes start n log w rs event f reported s =
+    event_goes start n log rs event (step event w).reply reported (f.at.fresh (started log + 1) (omega arith)) (known_truth start log w f) s.follows.right.0
 
 lines_right : (start : Setup) (n : ℕ) (events : List WorldEvent) (log : List Line) (w : World) (rs : List Runner) → CommitLaws → Follows start log w →
     RunsAreReported log rs →
@@ -449,8 +422,7 @@ lines_right start n [] log w rs laws f reported = λ i. end_lines (f.standing i)
 lines_right start n (e ∷ es) log w rs laws f reported =
     let s : FollowsStep start log e (step e w) = step_follows start log e w laws f in
     let reply : Result Reply Denied = (step e w).reply in
-    let g : GoesOn start n log rs e reply =
-    event_goes start n log rs e reply reported (f.at.fresh (started log + 1) (omega arith)) (line_legal start log w e f s) s.follows.right.0 in
+    let g : GoesOn start n log rs e reply = line_goes start n log w rs e f reported s in
     let next : World = (step e w).next in
     let lines : List ReportLine =
     event_lines (suc n) (replies_to es next) ++ end_lines (world_after es next).standing (length (world_after es next).entries) in (
@@ -466,3 +438,35 @@ pub all_right : (start : Setup) (events : List WorldEvent) → CommitLaws →
     (event_lines 1 (replies_to events (opened start))
     ++ end_lines (world_after events (opened start)).standing (length (world_after events (opened start)).entries))
 all_right start events laws = lines_right start 1 events [] (opened start) [] laws (opened_follows start) none_are_reported
+
+-- ---- all entries
+
+-- the entries that the lines report, after those of the log so far, are the world's
+entries_right : (start : Setup) (n : ℕ) (events : List WorldEvent) (log : List Line) (w : World) (rs : List Runner) → CommitLaws → Follows start log w →
+    RunsAreReported log rs →
+    entries_reported start log ++ entries_along (point_at start log rs) events
+    (event_lines n (replies_to events w) ++ end_lines (world_after events w).standing (length (world_after events w).entries))
+    ≡ (world_after events w).entries
+entries_right start n [] log w rs laws f reported = append-nil (entries_reported start log) ∙ sym f.at.reported
+entries_right start n (e ∷ es) log w rs laws f reported =
+    let s : FollowsStep start log e (step e w) = step_follows start log e w laws f in
+    let reply : Result Reply Denied = (step e w).reply in
+    let g : GoesOn start n log rs e reply = line_goes start n log w rs e f reported s in
+    let next : World = (step e w).next in
+    let lines : List ReportLine =
+    event_lines (suc n) (replies_to es next) ++ end_lines (world_after es next).standing (length (world_after es next).entries) in
+    let before : List Entry = entries_reported start log in
+    let own : List Entry = line_entries start (record { event = e; reply = reply }) log in
+    let reported_own : List Entry = reported_entries (unwatched (store start log)) rs e reply in
+    let after_own : Point = after (point_at start log rs) e reply in
+    sym (append_assoc before reported_own (entries_along after_own es lines))
+    ∙ ap (λ (more : List Entry). (before ++ more) ++ entries_along after_own es lines) g.entries_are
+    ∙ ap (λ (p : Point). (before ++ own) ++ entries_along p es lines) (next_point start n log rs e reply g)
+    ∙ entries_right start (suc n) es (with_line e reply log) next (runners_after e reply rs) laws (record { standing = s.standing; at = s.follows }) g.runs
+
+-- from the opening of a world on
+pub all_entries : (start : Setup) (events : List WorldEvent) → CommitLaws →
+    entries_along (point_at start [] []) events (event_lines 1 (replies_to events (opened start))
+    ++ end_lines (world_after events (opened start)).standing (length (world_after events (opened start)).entries))
+    ≡ (world_after events (opened start)).entries
+all_entries start events laws = entries_right start 1 events [] (opened start) [] laws (opened_follows start) none_are_reported

@@ -14,6 +14,7 @@ use Rattle.stm_check.specs.declared.checking.Checked.TheVariants.{Yes}
 use Rattle.stm_check.specs.declared.sources.CheckFault.{CheckFault}
 use Rattle.stm_check.specs.Sources.{Sources, Judges}
 use Rattle.stm_check.specs.Judged.{IsJudged}
+use Rattle.stm_check.specs.Wrong.{opens_at, entries_along}
 use Rattle.stm_report_lines.specs.Reading.{report_in}
 use Rattle.stm_report_lines.specs.Text.{text_of}
 use Rattle.stm_report.specs.Report.{report_of, IsReport}
@@ -41,6 +42,12 @@ abbrev pub ChecksSayYes : Type 0
 ChecksSayYes =
     (s : Scenario) (replies : List (Result Reply Denied)) (w : World) → Holds (setup_of s.opening) s.events replies w
     → IsJudged s (report_of w replies) Yes
+
+-- Where the headline holds of a run, the entries that a check reads off its report are those of its world.
+abbrev pub EntriesAreReported : Type 0
+EntriesAreReported =
+    (s : Scenario) (replies : List (Result Reply Denied)) (w : World) → Holds (setup_of s.opening) s.events replies w
+    → entries_along (opens_at s) s.events (report_of w replies).lines ≡ w.entries
 
 -- a text is that of a report of a scenario that a check says yes to
 pub record IsOfRightReport (s : Scenario) (text : List ℕ) : Type 0 where

@@ -1,5 +1,5 @@
 //! Laws of reports. Each function does nothing: its contract is the law.
-ghost use Rattle.stm_report.specs.Laws.{ChecksSayYes, NeverNoToAScript, OneReport, ReportsAreOfRightRuns};
+ghost use Rattle.stm_report.specs.Laws.{ChecksSayYes, EntriesAreReported, NeverNoToAScript, OneReport, ReportsAreOfRightRuns};
 ghost use Rattle.stm_report.specs.Laws.{ScriptsAreReadAsRight, ScriptsPassChecks, YesToAScript};
 ghost use Rattle.stm_report.specs.ReadBack.{ReportsAreReadBack};
 
@@ -21,6 +21,12 @@ pub fn reports_are_of_right_runs()
 /// Where the headline holds of a run, a check says yes to its report: no line of it is wrong.
 pub fn checks_say_yes()
     ensures { ChecksSayYes }
+{}
+
+/// Where the headline holds of a run, the entries that a check reads off its report are those of its world, which `World::history`
+/// gives: each is the same, in the same order.
+pub fn entries_are_reported()
+    ensures { EntriesAreReported }
 {}
 
 /// What `script` writes of the scenario that the bytes of its input spell is the text of a report that a check says yes

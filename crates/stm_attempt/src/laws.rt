@@ -1,5 +1,6 @@
 //! The laws of attempts. Each function does nothing: its contract is the law.
-ghost use Rattle.stm_attempt.specs.Laws.{NothingServesTheSettled, SettledIsSettled, RepeatingAnswersTheSame, WhatServesIsTaken, SettlingAddsPrefetched, GoneOnIsGoneOn, ReadsBeginWithTheList, GoingOnKeepsTheBase};
+ghost use Rattle.stm_attempt.specs.Laws.{NothingServesTheSettled, SettledIsSettled, RepeatingAnswersTheSame, WhatServesIsTaken};
+ghost use Rattle.stm_attempt.specs.Laws.{SettlingAddsPrefetched, GoneOnIsGoneOn, ReadsBeginWithTheList, GoingOnKeepsTheBase};
 ghost use Rattle.stm_attempt.specs.Laws.{SuppliedListComesFirst, SuppliedKeyComesAfter, ReadyBeginsWithTheList};
 ghost use Rattle.stm_attempt.specs.Laws.{SettlingKeepsTheBase, FetchingKeepsTheBase, ReadyIsTheRun};
 

@@ -1,5 +1,6 @@
 -- A check has an answer for each report: whether a line is right can be computed, since what it is compared with can be distinguished.
-use Rattle.std.proofs.Common.{◌≡◌, ◌⊎◌, option_map, inl, inr, ℕ, suc, ◌+◌, ◌≤◌, Bool, true, false, List, [], ◌∷◌, Option, Some, None, refl, sym, ◌∙◌, ap, subst, eqb, leb, eqb-true, eq-eqb, leb-true, le-leb}
+use Rattle.std.proofs.Common.{◌≡◌, ◌⊎◌, option_map, inl, inr, ℕ, suc, ◌+◌, ◌≤◌, Bool, true, false, List, [], ◌∷◌, Option, Some, None, refl, sym, ◌∙◌}
+use Rattle.std.proofs.Common.{ap, subst, eqb, leb, eqb-true, eq-eqb, leb-true, le-leb}
 use Rattle.std.specs.Prelude.{MatchBool, Result, Ok, Err}
 use Rattle.std.specs.Coded.{Coded, coded_ℕ, coded_list, coded_option, coded_result}
 use base.Stored.{Gv, gnil, gnum, gcons}

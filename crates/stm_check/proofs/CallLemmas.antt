@@ -35,7 +35,7 @@ use Rattle.stm_events.specs.declared.event.WorldEvent.TheVariants.{Advance as Ad
 use Rattle.stm_events.specs.declared.refusal.Denied.{Denied}
 use Rattle.stm_events.specs.declared.reply.Reply.{Reply}
 use Rattle.stm_events.specs.declared.reply.Reply.TheVariants.{Compacted}
-use Rattle.stm_events.specs.Replies.{refusal_of, txn_reply, reply_to, store_after_call, advance_reply}
+use Rattle.stm_events.specs.Replies.{event_refusal, txn_reply, reply_to, store_after_call, advance_reply}
 use Rattle.stm_events.proofs.Entered.{Enters}
 use Rattle.stm_events.proofs.Calls.{txn_enters, grant_enters, keep_enters, revoke_enters, expiry_cases, advance_enters}
 use Rattle.stm_check.specs.Point.{led_by, moment_after, with_replayed, txn_entries, advance_entries, raised_by}
@@ -44,7 +44,7 @@ use Rattle.stm_check.specs.Point.{led_by, moment_after, with_replayed, txn_entri
 
 -- the refusal of an event whose call the store refused, after these leases expired
 abbrev pub refused_after : List Expired → Refusal → Result Reply Denied
-refused_after expired cause = Err (record { cause = refusal_of cause; expired = expired })
+refused_after expired cause = Err (record { cause = event_refusal cause; expired = expired })
 
 -- the reply to a call that was taken
 pub taken_reply : {A : Type 0} (report : A → Reply) (r : Result (Step A) Refusal) (answer : A) (next : Standing) →

@@ -1,5 +1,6 @@
 -- The run that the line of a commit stands for, and the store that it leads to.
-use Rattle.std.proofs.Common.{◌≡◌, ◌≢◌, ◌↔◌, ℕ, ◌+◌, ◌<◌, ◌≤◌, length, take, drop, get_or, Bool, true, false, List, [], ◌∷◌, ◌++◌, append_assoc, map, Option, Some, None, Ok, Err}
+use Rattle.std.proofs.Common.{◌≡◌, ◌≢◌, ◌↔◌, ℕ, ◌+◌, ◌<◌, ◌≤◌, length, take, drop, get_or, Bool, true, false, List, [], ◌∷◌, ◌++◌, append_assoc, map}
+use Rattle.std.proofs.Common.{Option, Some, None, Ok, Err}
 use Rattle.std.proofs.Common.{refl, sym, ◌∙◌, ap, subst}
 use Rattle.std.proofs.lemmas.List.{drop_all, take_all, take_more}
 use Rattle.std.proofs.lemmas.List.Elements.{filter-append}
@@ -96,7 +97,8 @@ wants_more _ h program answers key trace level is = absurd (cc)
 -- the run that came to its end, where its keys were compared
 pub on_keys : (look : Lookup) (program : ProgramTree) (answers : List CommittedRead) (answered : Answered) (run : Run) (o : Option Run) →
     run_over look program.statements ≡ answered → run_in answered ≡ Some run →
-    MatchOption o (keys_reported answers ≡ keys_first_read program.prefetch run.reads → ⊥) (λ same. (same ≡ run) × (keys_reported answers ≡ keys_first_read program.prefetch run.reads)) → IsRunOn look program answers o
+    MatchOption o (keys_reported answers ≡ keys_first_read program.prefetch run.reads → ⊥)
+    (λ same. (same ≡ run) × (keys_reported answers ≡ keys_first_read program.prefetch run.reads)) → IsRunOn look program answers o
 on_keys look program answers answered run None is ended differ = λ other reported keys.
     let one : run ≡ other = same_Some run other (sym ended ∙ ap run_in (sym is ∙ reported)) in
     differ (keys ∙ ap (λ (r : Run). keys_first_read program.prefetch r.reads) (sym one))

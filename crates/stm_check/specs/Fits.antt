@@ -33,7 +33,7 @@ is_watching other = false
 
 -- a poll is reported of its own watcher, which may be lost
 abbrev pub is_batch_of : ℕ → Reply → Bool
-is_batch_of id (reply.Batch watcher up_to events) = nat_eq watcher id
+is_batch_of id (reply.Batch watcher upto events) = nat_eq watcher id
 is_batch_of id (reply.Lost watcher floor) = nat_eq watcher id
 is_batch_of id other = false
 

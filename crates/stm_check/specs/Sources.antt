@@ -1,6 +1,7 @@
 -- What a check of two sources does: from the bytes of a scenario and of a report to an answer.
-use Rattle.std.specs.Prelude.{◌≡◌, ◌⊎◌, ℕ, List, take, Bool, true, false, Option, Result, Ok, Err, IfSome}
-use Rattle.stm_devices.specs.declared.transfer.TheConstants.{MOST_READ}
+use Rattle.std.specs.Prelude.{◌≡◌, ◌⊎◌, ℕ, List, Bool, true, false, Option, Result, Ok, Err, IfSome}
+use Rattle.stm_devices.specs.declared.transfer.ReadFault.{ReadFault}
+use Rattle.stm_devices.specs.declared.transfer.ReadFault.TheVariants.{OutOfMemory as NoRoom, Device as NoDevice}
 use Rattle.stm_texts.specs.declared.scenario.Scenario.{Scenario}
 use Rattle.stm_texts.specs.Reading.{scenario_in}
 use Rattle.stm_texts.specs.Opens.{IsOpening}
@@ -13,12 +14,10 @@ use Rattle.stm_check.specs.Judged.{IsJudged}
 
 -- ---- one source: its bytes, where they are known, whether it has failed then, and the answer
 
--- what reading its bytes did
-abbrev pub HasRead : {X : Type 0} → (X → List ℕ) → Option (List ℕ) → Bool → Result X CheckFault → Type 0
-HasRead view known failed (Ok x) = (failed ≡ false) × IfSome known (λ all. view x ≡ take MOST_READ all)
-HasRead view known failed (Err OutOfMemory) = failed ≡ false
-HasRead view known failed (Err Device) = failed ≡ true
-HasRead view known failed (Err other) = ⊥
+-- what is answered where a source could not be read to its end
+abbrev pub fault_of_read : ReadFault → CheckFault
+fault_of_read NoRoom = OutOfMemory
+fault_of_read NoDevice = Device
 
 -- what reading its scenario did
 abbrev pub ReadsScenario : Option (List ℕ) → Bool → Result Scenario CheckFault → Type 0

@@ -18,12 +18,11 @@ use crate::lookups::{KeysNow, are_truly_reported, reads_reported};
 use crate::runner::Runner;
 use std::alloc::{AllocError, Global};
 use stm_compile::{ReadSet, WriteBuffer, changes_of};
-use stm_events::CommittedRead;
+use stm_events::{CommittedRead, are_same_traces, are_same_values};
 use stm_history::{Sequence, Text};
 use stm_keys::Keys;
 use stm_meaning::{Answered, End, Run, TraceItem, Value, run_answered};
 use stm_program::{Program, is_listed};
-use stm_report_lines::{are_same_traces, are_same_values};
 use stm_txn::{Refusal, Store};
 
 /// What the reply to a step reports of its commit.

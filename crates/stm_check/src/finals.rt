@@ -13,11 +13,10 @@ use crate::point::Point;
 use std::alloc::{AllocError, Global};
 use std::collections::BTreeMap;
 use stm_entries::LiveLease;
-use stm_events::ReportLine;
+use stm_events::{ReportLine, are_same_lines};
 use stm_history::Text;
 use stm_journal::present_keys;
 use stm_keys::Keys;
-use stm_report_lines::are_same_lines;
 
 /// Adds the line of a key, if it is present.
 fn add_key(

@@ -21,6 +21,6 @@ mod sources;
 pub use cause::WrongCause;
 pub use checking::{Checked, check};
 pub use runner::Runner;
-pub use sources::{CheckFault, bytes_of, check_sources};
+pub use sources::{CheckFault, check_sources};
 pub use stm_events::{Report, ReportLine};
 pub use stm_texts::Scenario;

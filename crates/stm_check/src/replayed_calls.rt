@@ -4,14 +4,13 @@ ghost use Rattle.stm_check.specs.Point.{led_by, moment_after, txn_entries, grant
 ghost use Rattle.stm_history.specs.History.{now};
 ghost use Rattle.stm_txn.specs.Standing.{transacted, granted, kept_alive, revoked, advanced, raised};
 ghost use Rattle.stm_outcome.specs.declared.refusal.Refusal.TheVariants.{OutOfMemory};
-ghost use Rattle.stm_events.specs.Replies.{refusal_of, denied, txn_reply, reply_to, advance_reply};
+ghost use Rattle.stm_events.specs.Replies.{event_refusal, denied, txn_reply, reply_to, advance_reply};
 ghost use Rattle.stm_events.specs.declared.reply.Reply.TheVariants.{Granted, Kept, Revoked, Compacted};
 ghost use Rattle.stm_events.specs.declared.event.WorldEvent.TheVariants.{Advance as AdvanceEvent, Compact as CompactEvent};
 
 use std::alloc::{AllocError, Global};
-use stm_events::{Denied, EventRefusal, Reply};
+use stm_events::{Denied, EventRefusal, Reply, are_same_outcomes, is_txn_reply};
 use stm_history::Sequence;
-use stm_report_lines::{are_same_outcomes, is_txn_reply};
 use stm_txn::{AdvanceRefused, Refusal, Store, Txn, TxnAnswer};
 
 /// Whether a reply is this one.
@@ -37,7 +36,7 @@ fn is_refused(
     reply: &Result<Reply, Denied>,
     cause: Refusal,
 ) -> Result<bool, AllocError>
-    ensures replied { IfOk result (λ b. IsTrue b ↔ denied (refusal_of cause) ≡ reply.now) }
+    ensures replied { IfOk result (λ b. IsTrue b ↔ denied (event_refusal cause) ≡ reply.now) }
     ensures memory { OnOk result (cause ≢ OutOfMemory) }
 {
     if cause == Refusal::OutOfMemory {
@@ -48,7 +47,7 @@ fn is_refused(
 
 /// Whether a reply is that to an advance that was cut short, where it did not run out of memory.
 fn is_cut_short(reply: &Result<Reply, Denied>, refused: AdvanceRefused) -> Result<bool, AllocError>
-    ensures replied { IfOk result (λ b. IsTrue b ↔ Err (record { cause = refusal_of refused.cause; expired = refused.expired }) ≡ reply.now) }
+    ensures replied { IfOk result (λ b. IsTrue b ↔ Err (record { cause = event_refusal refused.cause; expired = refused.expired }) ≡ reply.now) }
     ensures memory { OnOk result (refused.cause ≢ OutOfMemory) }
 {
     if refused.cause == Refusal::OutOfMemory {

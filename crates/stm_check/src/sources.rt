@@ -1,11 +1,11 @@
 //! From the bytes of a scenario and of a report to what the check comes to.
 ghost use Rattle.std.specs.Prelude.{◌≡◌, ◌≤◌, ◌+◌, false};
 ghost use Rattle.stm_devices.specs.declared.transfer.TheConstants.{MOST_READ};
-ghost use Rattle.stm_check.specs.Sources.{HasRead, ReadsScenario, ReadsReport, Judges};
+ghost use Rattle.stm_check.specs.Sources.{ReadsScenario, ReadsReport, Judges};
 
 use crate::checking::{Checked, check};
-use std::alloc::Global;
-use stm_devices::{ReadFault, Source, read_all};
+use std::alloc::{AllocError, Global};
+use stm_devices::{DeviceFault, ReadFault, Source, read_all};
 use stm_events::Report;
 use stm_report_lines::read_report;
 use stm_texts::{BadInput, ReadError, Scenario, read_scenario};
@@ -28,18 +28,39 @@ pub enum CheckFault {
     Device,
 }
 
-/// The bytes of a source, at most `stm_devices::MOST_READ` of them.
-///
-/// The source has not failed before. It fails as `OutOfMemory` where an allocation failed, and as `Device` exactly where the source has failed.
-pub fn bytes_of<S: Source>(alloc: Global, source: &mut S) -> Result<Vec<u8>, CheckFault>
-    requires { S.failed source.old ≡ false }
-    ensures bytes { HasRead (λ bytes. bytes.items) (S.left source.old) (S.failed source.new) result }
-    ensures bounded { S.reads source.new ≤ S.reads source.old + MOST_READ }
-{
-    match read_all(alloc, source) {
-        Ok(bytes) => Ok(bytes),
-        Err(ReadFault::OutOfMemory) => Err(CheckFault::OutOfMemory),
-        Err(ReadFault::Device) => Err(CheckFault::Device),
+impl From<AllocError> for CheckFault {
+    ghost use Rattle.std.specs.Prelude.{◌≡◌};
+    ghost use Rattle.stm_check.specs.declared.sources.CheckFault.TheVariants.{OutOfMemory};
+
+    ghost from_gives = { λ _ fault. fault ≡ OutOfMemory };
+
+    fn from(_error: AllocError) -> CheckFault {
+        CheckFault::OutOfMemory
+    }
+}
+
+impl From<DeviceFault> for CheckFault {
+    ghost use Rattle.std.specs.Prelude.{◌≡◌};
+    ghost use Rattle.stm_check.specs.declared.sources.CheckFault.TheVariants.{Device};
+
+    ghost from_gives = { λ _ fault. fault ≡ Device };
+
+    fn from(_fault: DeviceFault) -> CheckFault {
+        CheckFault::Device
+    }
+}
+
+impl From<ReadFault> for CheckFault {
+    ghost use Rattle.std.specs.Prelude.{◌≡◌};
+    ghost use Rattle.stm_check.specs.Sources.{fault_of_read};
+
+    ghost from_gives = { λ read fault. fault ≡ fault_of_read read };
+
+    fn from(fault: ReadFault) -> CheckFault {
+        match fault {
+            ReadFault::OutOfMemory => CheckFault::OutOfMemory,
+            ReadFault::Device => CheckFault::Device,
+        }
     }
 }
 
@@ -49,10 +70,7 @@ fn scenario_of<S: Source>(alloc: Global, source: &mut S) -> Result<Scenario, Che
     ensures scenario { ReadsScenario (S.left source.old) (S.failed source.new) result }
     ensures bounded { S.reads source.new ≤ S.reads source.old + MOST_READ }
 {
-    let bytes = match bytes_of(alloc, source) {
-        Ok(bytes) => bytes,
-        Err(fault) => return Err(fault),
-    };
+    let bytes = read_all(alloc, source)?;
     match read_scenario(alloc, bytes.as_slice()) {
         Ok(scenario) => Ok(scenario),
         Err(ReadError::OutOfMemory) => Err(CheckFault::OutOfMemory),
@@ -66,10 +84,7 @@ fn report_of<S: Source>(alloc: Global, source: &mut S) -> Result<Report, CheckFa
     ensures report { ReadsReport (S.left source.old) (S.failed source.new) result }
     ensures bounded { S.reads source.new ≤ S.reads source.old + MOST_READ }
 {
-    let bytes = match bytes_of(alloc, source) {
-        Ok(bytes) => bytes,
-        Err(fault) => return Err(fault),
-    };
+    let bytes = read_all(alloc, source)?;
     match read_report(alloc, bytes.as_slice()) {
         Ok(report) => Ok(report),
         Err(ReadError::OutOfMemory) => Err(CheckFault::OutOfMemory),
@@ -98,22 +113,7 @@ pub fn check_sources<S: Source, R: Source>(
     ensures scenario_bounded { S.reads scenario.new ≤ S.reads scenario.old + MOST_READ }
     ensures report_bounded { R.reads report.new ≤ R.reads report.old + MOST_READ }
 {
-    let scenario = match scenario_of(alloc, scenario) {
-        Ok(scenario) => scenario,
-        Err(fault) => return Err(fault),
-    };
-    let report = match report_of(alloc, report) {
-        Ok(report) => report,
-        Err(fault) => {
-            drop(scenario);
-            return Err(fault);
-        }
-    };
-    let checked = check(alloc, &scenario, &report);
-    drop(report);
-    drop(scenario);
-    match checked {
-        Ok(checked) => Ok(checked),
-        Err(_) => Err(CheckFault::OutOfMemory),
-    }
+    let scenario = scenario_of(alloc, scenario)?;
+    let report = report_of(alloc, report)?;
+    Ok(check(alloc, &scenario, &report)?)
 }

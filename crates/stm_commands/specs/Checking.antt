@@ -35,7 +35,7 @@ fault_message (BadScenario bad) = bad_input (codes "stmrun: bad scenario at ") b
 fault_message (BadReport bad) = bad_input (codes "stmrun: bad report at ") bad
 fault_message Device = device_fault
 
--- ---- the command
+-- ---- a check of either kind, each line against the definition or the whole report against the one that a script writes
 
 -- the devices at the end: the sources, what the sink held before and holds, and whether it has failed
 pub record Devices : Type 0 where
@@ -44,27 +44,24 @@ pub record Devices : Type 0 where
   pub after : Option (List ℕ)
   pub sink_failed : Bool
 
--- what writing the line of an answer did: what the sink held before and holds, whether it has failed then, and the result
-abbrev pub Prints : {A : Type 0} → Option (List ℕ) → Option (List ℕ) → Bool → Checked → Result A CheckFault → Type 0
-Prints before after failed checked (Ok u) = (failed ≡ false) × Appends before after (answer_text checked)
-Prints before after failed checked (Err OutOfMemory) = (failed ≡ false) × Keeps before after
-Prints before after failed checked (Err Device) = (failed ≡ true) × WritesFront before after (answer_text checked)
-Prints before after failed checked (Err other) = ⊥
+-- What a check did, by its answer, given the line of each answer and when the sources are answered so. At an answer its line was written; at a
+-- bad input, out of memory and a failed source nothing was; at a failed sink a front of the line was.
+abbrev pub DoesTo : {C : Type 0} → (C → List ℕ) → (Sources → Result C CheckFault → Type 0) → Devices → Result C CheckFault → Type 0
+DoesTo {C} line IsAnswered d (Ok answer) = IsAnswered d.sources (Ok answer) × (d.sink_failed ≡ false) × Appends d.before d.after (line answer)
+DoesTo {C} line IsAnswered d (Err OutOfMemory) = NoneFailed d.sources × (d.sink_failed ≡ false) × Keeps d.before d.after
+DoesTo {C} line IsAnswered d (Err (BadScenario fault)) =
+    IsAnswered d.sources (Err (BadScenario fault)) × (d.sink_failed ≡ false) × Keeps d.before d.after
+DoesTo {C} line IsAnswered d (Err (BadReport fault)) =
+    IsAnswered d.sources (Err (BadReport fault)) × (d.sink_failed ≡ false) × Keeps d.before d.after
+DoesTo {C} line IsAnswered d (Err Device) =
+    (IsAnswered d.sources (Err Device) × (d.sink_failed ≡ false) × Keeps d.before d.after)
+    ⊎ ((d.sink_failed ≡ true) × (answer : C) × IsAnswered d.sources (Ok answer) × WritesFront d.before d.after (line answer))
 
--- What a check did, by its answer. At an answer its line was written; at a bad input, out of memory and a failed source
--- nothing was; at a failed sink a front of the line was.
-abbrev pub DoesTo : Devices → Result Checked CheckFault → Type 0
-DoesTo d (Ok checked) = Judges d.sources (Ok checked) × (d.sink_failed ≡ false) × Appends d.before d.after (answer_text checked)
-DoesTo d (Err OutOfMemory) = NoneFailed d.sources × (d.sink_failed ≡ false) × Keeps d.before d.after
-DoesTo d (Err (BadScenario fault)) = Judges d.sources (Err (BadScenario fault)) × (d.sink_failed ≡ false) × Keeps d.before d.after
-DoesTo d (Err (BadReport fault)) = Judges d.sources (Err (BadReport fault)) × (d.sink_failed ≡ false) × Keeps d.before d.after
-DoesTo d (Err Device) =
-    (Judges d.sources (Err Device) × (d.sink_failed ≡ false) × Keeps d.before d.after)
-    ⊎ ((d.sink_failed ≡ true) × (checked : Checked) × Judges d.sources (Ok checked) × WritesFront d.before d.after (answer_text checked))
+-- ---- the command
 
-abbrev pub Does : Sources → Option (List ℕ) → Option (List ℕ) → Bool → Result Checked CheckFault → Type 0
-Does sources before after failed result =
-    DoesTo (record { sources = sources; before = before; after = after; sink_failed = failed }) result
+-- what `check` did, by its answer
+abbrev pub Does : Devices → Result Checked CheckFault → Type 0
+Does d result = DoesTo answer_text Judges d result
 
 -- what is said and answered of a fault: its own message and status
 abbrev pub SaysOf : Option (List ℕ) → Option (List ℕ) → Bool → CheckFault → ℕ → Type 0
@@ -77,4 +74,4 @@ EndsBy before after failed (Err fault) status = SaysOf before after failed fault
 -- The command's end: an answer, with its status and nothing said, or a fault, with what is said of it.
 abbrev pub Ends : Devices → Option (List ℕ) → Option (List ℕ) → Bool → ℕ → Type 0
 Ends devices before after failed status =
-    (ended : Result Checked CheckFault) × DoesTo devices ended × EndsBy before after failed ended status
+    (ended : Result Checked CheckFault) × Does devices ended × EndsBy before after failed ended status

@@ -13,8 +13,8 @@ use Rattle.stm_texts.specs.Reading.{scenario_in}
 use Rattle.stm_faulted_runs.specs.Lines.{OrNothing, ExplainsRun}
 pub use Rattle.stm_explain.specs.Saying.{IsExplained, ReportsMore, SaysSome}
 use Rattle.stm_commands.specs.Statuses.{status_of, message_of}
-use Rattle.stm_commands.specs.Checking.{Devices, DoesTo, answer_status, fault_status as check_status, fault_message as check_message}
-use Rattle.stm_commands.specs.WholeChecking.{DoesTo as WholeDoesTo, SaysOfAnswer}
+use Rattle.stm_commands.specs.Checking.{Devices, Does, answer_status, fault_status as check_status, fault_message as check_message}
+use Rattle.stm_commands.specs.WholeChecking.{Does as WholeDoes, SaysOfAnswer}
 
 -- ---- script
 
@@ -45,7 +45,7 @@ CheckEndsBy before after failed (Err fault) status = CheckSays before after fail
 
 abbrev pub CheckEnds : Devices → Option (List ℕ) → Option (List ℕ) → Bool → ℕ → Type 0
 CheckEnds devices before after failed status =
-    (ended : Result Checked CheckFault) × DoesTo devices ended × CheckEndsBy before after failed ended status
+    (ended : Result Checked CheckFault) × Does devices ended × CheckEndsBy before after failed ended status
 
 abbrev pub WholeCheckEndsBy : Option (List ℕ) → Option (List ℕ) → Bool → Result WholeChecked CheckFault → ℕ → Type 0
 WholeCheckEndsBy before after failed (Ok checked) status = SaysOfAnswer before after failed checked status
@@ -53,4 +53,4 @@ WholeCheckEndsBy before after failed (Err fault) status = CheckSays before after
 
 abbrev pub WholeCheckEnds : Devices → Option (List ℕ) → Option (List ℕ) → Bool → ℕ → Type 0
 WholeCheckEnds devices before after failed status =
-    (ended : Result WholeChecked CheckFault) × WholeDoesTo devices ended × WholeCheckEndsBy before after failed ended status
+    (ended : Result WholeChecked CheckFault) × WholeDoes devices ended × WholeCheckEndsBy before after failed ended status

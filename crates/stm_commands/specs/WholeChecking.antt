@@ -1,14 +1,11 @@
 -- What the command `check --whole` does to its devices, its statuses, and what it says.
-use Rattle.std.specs.Prelude.{◌≡◌, ◌⊎◌, ◌==◌, ℕ, List, ◌++◌, length, Bool, true, false, if◌then◌else◌, Option, Result, Ok, Err, codes, decimal}
-use Rattle.std.specs.Io.KnownBytes.{Appends, Keeps}
-use Rattle.stm_devices.specs.Transfers.{WritesFront}
+use Rattle.std.specs.Prelude.{◌≡◌, ◌==◌, ℕ, List, ◌++◌, length, Bool, false, if◌then◌else◌, Option, Result, Ok, Err, codes, decimal}
+use Rattle.std.specs.Io.KnownBytes.{Keeps}
 use Rattle.stm_check.specs.declared.sources.CheckFault.{CheckFault}
-use Rattle.stm_check.specs.declared.sources.CheckFault.TheVariants.{OutOfMemory, BadScenario, BadReport, Device}
-use Rattle.stm_check.specs.Sources.{Sources, NoneFailed}
 use Rattle.stm_report.specs.declared.whole_comparing.WholeChecked.{WholeChecked}
 use Rattle.stm_report.specs.declared.whole_comparing.WholeChecked.TheVariants.{Yes, No}
 use Rattle.stm_report.specs.WholeJudging.{Judges}
-use Rattle.stm_commands.specs.Checking.{Devices, SaysOf}
+use Rattle.stm_commands.specs.Checking.{Devices, DoesTo, SaysOf}
 use Rattle.stm_commands.specs.Statuses.{Says}
 
 -- ---- answers
@@ -35,27 +32,9 @@ SaysOfAnswer before after failed (No line expected) status = SaysExpected before
 
 -- ---- the command
 
--- what writing the line of an answer did: what the sink held before and holds, whether it has failed then, and the result
-abbrev pub Prints : {A : Type 0} → Option (List ℕ) → Option (List ℕ) → Bool → WholeChecked → Result A CheckFault → Type 0
-Prints before after failed checked (Ok u) = (failed ≡ false) × Appends before after (answer_text checked)
-Prints before after failed checked (Err OutOfMemory) = (failed ≡ false) × Keeps before after
-Prints before after failed checked (Err Device) = (failed ≡ true) × WritesFront before after (answer_text checked)
-Prints before after failed checked (Err other) = ⊥
-
--- What a check of a whole report did, by its answer. At an answer its line was written; at a bad input, out of memory and a failed source
--- nothing was; at a failed sink a front of the line was.
-abbrev pub DoesTo : Devices → Result WholeChecked CheckFault → Type 0
-DoesTo d (Ok checked) = Judges d.sources (Ok checked) × (d.sink_failed ≡ false) × Appends d.before d.after (answer_text checked)
-DoesTo d (Err OutOfMemory) = NoneFailed d.sources × (d.sink_failed ≡ false) × Keeps d.before d.after
-DoesTo d (Err (BadScenario fault)) = Judges d.sources (Err (BadScenario fault)) × (d.sink_failed ≡ false) × Keeps d.before d.after
-DoesTo d (Err (BadReport fault)) = Judges d.sources (Err (BadReport fault)) × (d.sink_failed ≡ false) × Keeps d.before d.after
-DoesTo d (Err Device) =
-    (Judges d.sources (Err Device) × (d.sink_failed ≡ false) × Keeps d.before d.after)
-    ⊎ ((d.sink_failed ≡ true) × (checked : WholeChecked) × Judges d.sources (Ok checked) × WritesFront d.before d.after (answer_text checked))
-
-abbrev pub Does : Sources → Option (List ℕ) → Option (List ℕ) → Bool → Result WholeChecked CheckFault → Type 0
-Does sources before after failed result =
-    DoesTo (record { sources = sources; before = before; after = after; sink_failed = failed }) result
+-- what `check --whole` did, by its answer
+abbrev pub Does : Devices → Result WholeChecked CheckFault → Type 0
+Does d result = DoesTo answer_text Judges d result
 
 abbrev pub EndsBy : Option (List ℕ) → Option (List ℕ) → Bool → Result WholeChecked CheckFault → ℕ → Type 0
 EndsBy before after failed (Ok checked) status = SaysOfAnswer before after failed checked status
@@ -64,4 +43,4 @@ EndsBy before after failed (Err fault) status = SaysOf before after failed fault
 -- The command's end: an answer, with its status and what is said of it, or a fault, with what is said of it.
 abbrev pub Ends : Devices → Option (List ℕ) → Option (List ℕ) → Bool → ℕ → Type 0
 Ends devices before after failed status =
-    (ended : Result WholeChecked CheckFault) × DoesTo devices ended × EndsBy before after failed ended status
+    (ended : Result WholeChecked CheckFault) × Does devices ended × EndsBy before after failed ended status

@@ -3,7 +3,7 @@ ghost use Rattle.std.specs.Prelude.{◌≡◌, ◌≤◌, ◌+◌, false, IfOk, 
 ghost use Rattle.stm_devices.specs.declared.transfer.TheConstants.{MOST_READ};
 ghost use Rattle.stm_explain.specs.Saying.{status_of as code_of, text_of as message_text, IsExplained};
 ghost use Rattle.stm_check.specs.declared.checking.Checked.TheVariants.{No};
-ghost use Rattle.stm_commands.specs.Checking.{answer_status, answer_text, fault_status, fault_message, SaysOf, Prints, Does, Ends};
+ghost use Rattle.stm_commands.specs.Checking.{answer_status, answer_text, fault_status, fault_message, SaysOf, Does, Ends};
 ghost use Rattle.stm_commands.specs.Explaining.{CheckSays};
 
 use std::alloc::{AllocError, Global};
@@ -38,21 +38,7 @@ fn text_of(alloc: Global, checked: Checked) -> Result<String, AllocError>
     }
 }
 
-/// Writes the line of an answer.
-fn print<W: Sink>(alloc: Global, out: &mut W, checked: Checked) -> Result<(), CheckFault>
-    requires { W.failed out.old ≡ false }
-    ensures { Prints (W.held out.old) (W.held out.new) (W.failed out.new) checked result }
-{
-    let Ok(text) = text_of(alloc, checked) else {
-        return Err(CheckFault::OutOfMemory);
-    };
-    match write_text(out, text.as_str()) {
-        Ok(()) => Ok(()),
-        Err(_) => Err(CheckFault::Device),
-    }
-}
-
-/// Checks the report, writes the line of the answer, and gives its status.
+/// Checks the report, and writes the line of the answer.
 pub(crate) fn answer<S: Source, R: Source, W: Sink>(
     alloc: Global,
     scenario: &mut S,
@@ -63,16 +49,22 @@ pub(crate) fn answer<S: Source, R: Source, W: Sink>(
     requires report_works { R.failed report.old ≡ false }
     requires out_works { W.failed out.old ≡ false }
     ensures done { Does (record {
-      scenario = S.left scenario.old;
-      report = R.left report.old;
-      scenario_failed = S.failed scenario.new;
-      report_failed = R.failed report.new;
-    }) (W.held out.old) (W.held out.new) (W.failed out.new) result }
+      sources = record {
+        scenario = S.left scenario.old;
+        report = R.left report.old;
+        scenario_failed = S.failed scenario.new;
+        report_failed = R.failed report.new;
+      };
+      before = W.held out.old;
+      after = W.held out.new;
+      sink_failed = W.failed out.new;
+    }) result }
     ensures scenario_bounded { S.reads scenario.new ≤ S.reads scenario.old + MOST_READ }
     ensures report_bounded { R.reads report.new ≤ R.reads report.old + MOST_READ }
 {
     let checked = check_sources(alloc, scenario, report)?;
-    print(alloc, out, checked)?;
+    let line = text_of(alloc, checked)?;
+    write_text(out, line.as_str())?;
     Ok(checked)
 }
 

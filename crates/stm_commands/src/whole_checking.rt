@@ -2,7 +2,7 @@
 ghost use Rattle.std.specs.Prelude.{◌≡◌, ◌≤◌, ◌+◌, ◌++◌, codes, false, IfOk, string_bytes};
 ghost use Rattle.stm_devices.specs.declared.transfer.TheConstants.{MOST_READ};
 ghost use Rattle.stm_devices.specs.Transfers.{HasWritten};
-ghost use Rattle.stm_commands.specs.WholeChecking.{no_text, answer_text, expected_text, Prints, SaysExpected, SaysOfAnswer, Does, Ends};
+ghost use Rattle.stm_commands.specs.WholeChecking.{no_text, answer_text, expected_text, SaysExpected, SaysOfAnswer, Does, Ends};
 
 use crate::checking::report_fault;
 use std::alloc::{AllocError, Global};
@@ -27,20 +27,6 @@ fn text_of(alloc: Global, checked: &WholeChecked) -> Result<String, AllocError>
     }
 }
 
-/// Writes the line of an answer.
-fn print<W: Sink>(alloc: Global, out: &mut W, checked: &WholeChecked) -> Result<(), CheckFault>
-    requires { W.failed out.old ≡ false }
-    ensures { Prints (W.held out.old) (W.held out.new) (W.failed out.new) checked.now result }
-{
-    let Ok(text) = text_of(alloc, checked) else {
-        return Err(CheckFault::OutOfMemory);
-    };
-    match write_text(out, text.as_str()) {
-        Ok(()) => Ok(()),
-        Err(_) => Err(CheckFault::Device),
-    }
-}
-
 /// Compares the report, and writes the line of the answer.
 pub(crate) fn answer<S: Source, R: Source, W: Sink>(
     alloc: Global,
@@ -52,16 +38,22 @@ pub(crate) fn answer<S: Source, R: Source, W: Sink>(
     requires report_works { R.failed report.old ≡ false }
     requires out_works { W.failed out.old ≡ false }
     ensures done { Does (record {
-      scenario = S.left scenario.old;
-      report = R.left report.old;
-      scenario_failed = S.failed scenario.new;
-      report_failed = R.failed report.new;
-    }) (W.held out.old) (W.held out.new) (W.failed out.new) result }
+      sources = record {
+        scenario = S.left scenario.old;
+        report = R.left report.old;
+        scenario_failed = S.failed scenario.new;
+        report_failed = R.failed report.new;
+      };
+      before = W.held out.old;
+      after = W.held out.new;
+      sink_failed = W.failed out.new;
+    }) result }
     ensures scenario_bounded { S.reads scenario.new ≤ S.reads scenario.old + MOST_READ }
     ensures report_bounded { R.reads report.new ≤ R.reads report.old + MOST_READ }
 {
     let checked = check_whole(alloc, scenario, report)?;
-    print(alloc, out, &checked)?;
+    let line = text_of(alloc, &checked)?;
+    write_text(out, line.as_str())?;
     Ok(checked)
 }
 

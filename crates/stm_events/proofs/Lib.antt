@@ -1,3 +1,4 @@
+pub mod SameReplies
 pub mod Entered
 pub mod Calls
 pub mod Refusals

@@ -4,7 +4,7 @@ use Rattle.stm_outcome.specs.declared.refusal.Refusal.{Refusal as StoreRefusal}
 use Rattle.stm_outcome.specs.declared.refusal.Refusal.TheVariants as store
 use Rattle.stm_events.specs.declared.refusal.EventRefusal.{EventRefusal}
 use Rattle.stm_events.specs.declared.refusal.EventRefusal.TheVariants as event
-use Rattle.stm_events.specs.Replies.{refusal_of}
+use Rattle.stm_events.specs.Replies.{event_refusal}
 
 -- the refusal of the store with this name, where it has one
 abbrev pub store_cause : EventRefusal → Option StoreRefusal
@@ -23,7 +23,7 @@ store_cause event.DuplicateKey = Some store.DuplicateKey
 store_cause event.TimeGoesBack = Some store.TimeGoesBack
 store_cause other = None
 
-pub cause_again : (cause : StoreRefusal) → store_cause (refusal_of cause) ≡ Some cause
+pub cause_again : (cause : StoreRefusal) → store_cause (event_refusal cause) ≡ Some cause
 cause_again store.OutOfMemory = refl
 cause_again store.EmptyKey = refl
 cause_again store.FutureRevision = refl
@@ -38,5 +38,5 @@ cause_again store.TooManyOps = refl
 cause_again store.DuplicateKey = refl
 cause_again store.TimeGoesBack = refl
 
-pub one_cause : (a b : StoreRefusal) → refusal_of a ≡ refusal_of b → a ≡ b
+pub one_cause : (a b : StoreRefusal) → event_refusal a ≡ event_refusal b → a ≡ b
 one_cause a b same = let e : Some a ≡ Some b = sym (cause_again a) ∙ ap store_cause same ∙ cause_again b in cc

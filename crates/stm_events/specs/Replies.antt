@@ -47,20 +47,20 @@ abbrev pub txn_reply : TxnAnswer → Reply
 txn_reply a = Txn a.succeeded a.revision (map op_reply a.answers)
 
 -- the refusal of an event whose call the store refuses
-abbrev pub refusal_of : StoreRefusal → EventRefusal
-refusal_of store.OutOfMemory = event.OutOfMemory
-refusal_of store.EmptyKey = event.EmptyKey
-refusal_of store.FutureRevision = event.FutureRevision
-refusal_of store.Compacted = event.Compacted
-refusal_of store.RevisionsUsedUp = event.RevisionsUsedUp
-refusal_of store.LeaseExists = event.LeaseExists
-refusal_of store.TtlOutOfRange = event.TtlOutOfRange
-refusal_of store.LeaseIdOutOfRange = event.LeaseIdOutOfRange
-refusal_of store.LeaseNotFound = event.LeaseNotFound
-refusal_of store.NoWatcher = event.NoWatcher
-refusal_of store.TooManyOps = event.TooManyOps
-refusal_of store.DuplicateKey = event.DuplicateKey
-refusal_of store.TimeGoesBack = event.TimeGoesBack
+abbrev pub event_refusal : StoreRefusal → EventRefusal
+event_refusal store.OutOfMemory = event.OutOfMemory
+event_refusal store.EmptyKey = event.EmptyKey
+event_refusal store.FutureRevision = event.FutureRevision
+event_refusal store.Compacted = event.Compacted
+event_refusal store.RevisionsUsedUp = event.RevisionsUsedUp
+event_refusal store.LeaseExists = event.LeaseExists
+event_refusal store.TtlOutOfRange = event.TtlOutOfRange
+event_refusal store.LeaseIdOutOfRange = event.LeaseIdOutOfRange
+event_refusal store.LeaseNotFound = event.LeaseNotFound
+event_refusal store.NoWatcher = event.NoWatcher
+event_refusal store.TooManyOps = event.TooManyOps
+event_refusal store.DuplicateKey = event.DuplicateKey
+event_refusal store.TimeGoesBack = event.TimeGoesBack
 
 -- ---- what a reply to a step says of its runner
 
@@ -94,7 +94,7 @@ denied cause = Err (record { cause = cause; expired = [] })
 -- the reply to a call of the store, by what it answered
 abbrev pub reply_to : {A : Type 0} → (A → Reply) → Result (Step A) StoreRefusal → Result Reply Denied
 reply_to report (Ok done) = Ok (report done.answer)
-reply_to report (Err cause) = denied (refusal_of cause)
+reply_to report (Err cause) = denied (event_refusal cause)
 
 -- the store after a call: a refused one leaves it as it was
 abbrev pub store_after_call : {A : Type 0} → Standing → Result (Step A) StoreRefusal → Standing
@@ -104,7 +104,7 @@ store_after_call s (Err cause) = s
 -- the reply to an advance: what expired, also where it was refused
 abbrev pub advance_reply : ℕ → List Expired → Option StoreRefusal → Result Reply Denied
 advance_reply moment expired None = Ok (Advanced moment expired)
-advance_reply moment expired (Some cause) = Err (record { cause = refusal_of cause; expired = expired })
+advance_reply moment expired (Some cause) = Err (record { cause = event_refusal cause; expired = expired })
 
 -- the batch of a poll: the events, and up to which revision it completes what the watcher is notified of
 abbrev pub batch_reply : ℕ → Batch → Reply
@@ -115,7 +115,7 @@ batch_reply watcher batch = BatchReported watcher batch.upto batch.events
 abbrev pub poll_reply : ℕ → ℕ → Result (Step Batch) StoreRefusal → Result Reply Denied
 poll_reply watcher floor (Ok done) = Ok (batch_reply watcher done.answer)
 poll_reply watcher floor (Err store.Compacted) = Ok (Lost watcher floor)
-poll_reply watcher floor (Err cause) = denied (refusal_of cause)
+poll_reply watcher floor (Err cause) = denied (event_refusal cause)
 
 -- the store after a poll of a watcher: a refused one cancels a watcher that is lost
 abbrev pub store_after_poll : ℕ → Standing → Result (Step Batch) StoreRefusal → Standing

@@ -4,7 +4,7 @@ use crate::reply::Reply;
 use stm_history::{KeyState, Sequence, Text};
 
 /// One line of a report. Revisions are those of the store's counter; moments and times to live are in whole seconds.
-#[derive(Debug, Drop)]
+#[derive(Debug, PartialEq, Eq, Drop)]
 pub enum ReportLine {
     /// The reply to an event, or why it was refused. Events are numbered from 1.
     Event {

@@ -2,7 +2,7 @@
 ghost use Rattle.std.specs.Prelude.{◌≡◌, ◌↔◌, IsTrue};
 ghost use Rattle.stm_events.specs.declared.refusal.EventRefusal.TheVariants.{OutOfMemory};
 ghost use Rattle.stm_events.specs.Names.{refusal_name};
-ghost use Rattle.stm_events.specs.Replies.{refusal_of};
+ghost use Rattle.stm_events.specs.Replies.{event_refusal};
 
 use std::fmt;
 use stm_history::Sequence;
@@ -70,7 +70,7 @@ pub enum EventRefusal {
 impl EventRefusal {
     /// The refusal of an event whose call the store refused for this cause.
     pub fn of_store(cause: StoreRefusal) -> EventRefusal
-        ensures { result ≡ refusal_of cause }
+        ensures { result ≡ event_refusal cause }
     {
         match cause {
             StoreRefusal::OutOfMemory => EventRefusal::OutOfMemory,
@@ -135,7 +135,7 @@ impl fmt::Display for EventRefusal {
 }
 
 /// A refused event.
-#[derive(Debug, Drop)]
+#[derive(Debug, PartialEq, Eq, Drop)]
 pub struct Denied {
     /// Why it was refused.
     pub cause: EventRefusal,

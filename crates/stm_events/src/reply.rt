@@ -9,7 +9,7 @@ use stm_steps::{Fault, TraceItem, Value};
 use stm_txn::{Expired, OpAnswer};
 
 /// A key that was read, and its modification revision: 0 where it is absent.
-#[derive(Clone, Debug, Drop)]
+#[derive(Clone, Debug, PartialEq, Eq, Drop)]
 pub struct KeyRead {
     /// The key.
     pub key: Text,
@@ -18,7 +18,7 @@ pub struct KeyRead {
 }
 
 /// An answer that a commit at ReadCommitted was made on.
-#[derive(Debug, Drop)]
+#[derive(Debug, PartialEq, Eq, Drop)]
 pub struct CommittedRead {
     /// The key that was read.
     pub key: Text,
@@ -31,7 +31,7 @@ pub struct CommittedRead {
 }
 
 /// The reply to one operation of a transaction.
-#[derive(Debug, Drop)]
+#[derive(Debug, PartialEq, Eq, Drop)]
 pub enum OpReply {
     /// What a read showed, and the revision that its answer carries.
     Get { revision: u64, kv: Option<KeyState> },
@@ -58,7 +58,7 @@ impl OpReply {
 }
 
 /// The reply to an event that was taken. Revisions are those of the store's counter; moments are in whole seconds.
-#[derive(Debug, Drop)]
+#[derive(Debug, PartialEq, Eq, Drop)]
 pub enum Reply {
     /// A runner was started.
     Started {
@@ -157,7 +157,7 @@ pub enum Reply {
     /// their revisions, those of one revision in the order of its operations.
     Batch {
         watcher: u64,
-        up_to: u64,
+        upto: u64,
         events: Sequence<Event>,
     },
     /// A watcher was given up. Its number is not given again.

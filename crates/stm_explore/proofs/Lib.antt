@@ -3,7 +3,6 @@ pub mod MoveLemmas
 pub mod FewerLooks
 pub mod LookLemmas
 pub mod ExploreLemmas
-pub mod SameLemmas
 pub mod GatherLemmas
 pub mod OutcomeLemmas
 pub mod ShownLemmas

@@ -2,7 +2,6 @@
 ghost use Rattle.std.specs.Prelude.{◌↔◌, [], ◌∷◌, IsTrue, Contains, OnOk};
 ghost use Rattle.stm_explore.specs.Gathering.{Gathers};
 
-use crate::same::is_same;
 use std::alloc::AllocError;
 use stm_schedules::Outcome;
 
@@ -10,12 +9,7 @@ use stm_schedules::Outcome;
 fn is_found(found: &[Outcome], it: &Outcome) -> bool
     ensures { IsTrue result ↔ Contains found.now it.now }
 {
-    for other in found {
-        if is_same(other, it) {
-            return true;
-        }
-    }
-    false
+    found.contains(it)
 }
 
 /// Adds an outcome, unless it was found before.

@@ -21,7 +21,6 @@ mod looked;
 mod looking;
 mod moving;
 mod reporting;
-mod same;
 mod shown;
 
 pub use budget::{Budget, Nobody, Observer};

@@ -1,7 +1,8 @@
 -- What a search does: from the bytes of a scenario and of a rule's program to what is printed.
-use Rattle.std.specs.Prelude.{◌≡◌, ◌⊎◌, ℕ, List, length, take, nat_lt, if◌then◌else◌, Bool, true, false, Option, Some, None, Result, Ok, Err, IfSome, codes}
+use Rattle.std.specs.Prelude.{◌≡◌, ◌⊎◌, ℕ, List, length, nat_lt, if◌then◌else◌, Bool, true, false, Option, Some, None, Result, Ok, Err, IfSome, codes}
 use Rattle.serde_json.specs.Data.{Data}
-use Rattle.stm_devices.specs.declared.transfer.TheConstants.{MOST_READ}
+use Rattle.stm_devices.specs.declared.transfer.ReadFault.{ReadFault}
+use Rattle.stm_devices.specs.declared.transfer.ReadFault.TheVariants.{OutOfMemory as NoRoom, Device as NoDevice}
 use Rattle.stm_json.specs.Bytes.{data_of}
 use Rattle.stm_json.specs.Outcome.{Outcome, bad, ◌>>=◌}
 use Rattle.stm_json.specs.declared.cause.Cause.TheVariants.{NotJson, TooLong}
@@ -43,12 +44,10 @@ program_in bytes = if nat_lt MOST_BYTES (length bytes) then bad TooLong else pro
 
 -- ---- one source: its bytes, where they are known, whether it has failed then, and the answer
 
--- what reading its bytes did
-abbrev pub HasRead : {X : Type 0} → (X → List ℕ) → Option (List ℕ) → Bool → Result X ExploreFault → Type 0
-HasRead view known failed (Ok x) = (failed ≡ false) × IfSome known (λ all. view x ≡ take MOST_READ all)
-HasRead view known failed (Err OutOfMemory) = failed ≡ false
-HasRead view known failed (Err Device) = failed ≡ true
-HasRead view known failed (Err other) = ⊥
+-- what is answered where a source could not be read to its end
+abbrev pub fault_of_read : ReadFault → ExploreFault
+fault_of_read NoRoom = OutOfMemory
+fault_of_read NoDevice = Device
 
 -- what reading its scenario did
 abbrev pub ReadsScenario : Option Level → Option (List ℕ) → Bool → Result Scenario ExploreFault → Type 0

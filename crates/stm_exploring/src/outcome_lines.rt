@@ -2,7 +2,6 @@
 ghost use Rattle.std.specs.Prelude.{◌≡◌, ◌++◌, map, IfOk, OnOk, string_bytes};
 ghost use Rattle.std.specs.List.{concat};
 ghost use Rattle.serde_json.specs.View.{view};
-ghost use Rattle.stm_report_lines.specs.LineData.{value_data};
 ghost use Rattle.stm_schedules.specs.declared.outcome.RunnerEnd.TheVariants.{Committed};
 ghost use Rattle.stm_exploring.specs.Lines.{key_value_data, runner_end_data, outcome_line, outcome_text, each_once, outcomes_text};
 
@@ -13,19 +12,8 @@ use std::alloc::{AllocError, Global};
 use std::collections::BTreeSet;
 use stm_history::Text;
 use stm_meaning::Value;
-use stm_report_lines::push_line;
+use stm_report_lines::{array_json, push_line};
 use stm_schedules::{KeyValue, Outcome, RunnerEnd};
-
-impl Written for Value {
-    ghost written = { value_data };
-
-    fn to_json(&self, alloc: Global) -> Result<Json, AllocError> {
-        match self {
-            Value::Text(text) => Json::try_from_str(alloc, text.as_str()),
-            Value::Number(number) => Ok(Json::from(*number)),
-        }
-    }
-}
 
 impl Written for KeyValue {
     ghost written = { key_value_data };
@@ -39,7 +27,7 @@ impl Written for KeyValue {
 fn committed_json(alloc: Global, output: &[Value]) -> Result<Json, AllocError>
     ensures { IfOk result (λ v. view v ≡ runner_end_data (Committed output.now)) }
 {
-    let output = list_json(alloc, output)?;
+    let output = array_json(alloc, output)?;
     json!(in alloc; ["committed", output])
 }
 

@@ -3,7 +3,7 @@ ghost use Rattle.std.specs.Prelude.{◌≡◌, ◌≤◌, ◌+◌, false, IfOk};
 ghost use Rattle.stm_devices.specs.declared.transfer.TheConstants.{MOST_READ};
 ghost use Rattle.stm_json.specs.Returns.{Returns};
 ghost use Rattle.stm_texts.specs.Opens.{IsOpening};
-ghost use Rattle.stm_exploring.specs.Exploring.{asked_in, program_in, HasRead, ReadsScenario, ReadsProgram};
+ghost use Rattle.stm_exploring.specs.Exploring.{asked_in, program_in, ReadsScenario, ReadsProgram};
 
 use crate::asking::ask;
 use serde_json::Value;
@@ -32,16 +32,17 @@ pub enum ExploreFault {
     Device,
 }
 
-/// The bytes of a source, at most `stm_devices::MOST_READ` of them.
-fn bytes_of<S: Source>(alloc: Global, source: &mut S) -> Result<Vec<u8>, ExploreFault>
-    requires { S.failed source.old ≡ false }
-    ensures bytes { HasRead (λ bytes. bytes.items) (S.left source.old) (S.failed source.new) result }
-    ensures bounded { S.reads source.new ≤ S.reads source.old + MOST_READ }
-{
-    match read_all(alloc, source) {
-        Ok(bytes) => Ok(bytes),
-        Err(ReadFault::OutOfMemory) => Err(ExploreFault::OutOfMemory),
-        Err(ReadFault::Device) => Err(ExploreFault::Device),
+impl From<ReadFault> for ExploreFault {
+    ghost use Rattle.std.specs.Prelude.{◌≡◌};
+    ghost use Rattle.stm_exploring.specs.Exploring.{fault_of_read};
+
+    ghost from_gives = { λ read fault. fault ≡ fault_of_read read };
+
+    fn from(fault: ReadFault) -> ExploreFault {
+        match fault {
+            ReadFault::OutOfMemory => ExploreFault::OutOfMemory,
+            ReadFault::Device => ExploreFault::Device,
+        }
     }
 }
 
@@ -68,7 +69,7 @@ pub(crate) fn scenario_of<S: Source>(
     ensures scenario { ReadsScenario level (S.left source.old) (S.failed source.new) result }
     ensures bounded { S.reads source.new ≤ S.reads source.old + MOST_READ }
 {
-    let bytes = bytes_of(alloc, source)?;
+    let bytes = read_all(alloc, source)?;
     match scenario_in_bytes(alloc, bytes.as_slice(), level) {
         Ok(scenario) => Ok(scenario),
         Err(ReadError::OutOfMemory) => Err(ExploreFault::OutOfMemory),
@@ -102,7 +103,7 @@ pub(crate) fn program_of<S: Source>(alloc: Global, source: &mut S) -> Result<Pro
     ensures program { ReadsProgram (S.left source.old) (S.failed source.new) result }
     ensures bounded { S.reads source.new ≤ S.reads source.old + MOST_READ }
 {
-    let bytes = bytes_of(alloc, source)?;
+    let bytes = read_all(alloc, source)?;
     match program_in_bytes(alloc, bytes.as_slice()) {
         Ok(program) => Ok(program),
         Err(ReadError::OutOfMemory) => Err(ExploreFault::OutOfMemory),

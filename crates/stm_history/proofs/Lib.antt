@@ -1,3 +1,4 @@
+pub mod SameStates
 pub mod CutLaws
 pub mod HistoryLaws
 pub mod StatesLaws

@@ -8,7 +8,7 @@ use std::alloc::AllocError;
 /// What a store has under a present key: etcd's `KeyValue` without the key itself.
 ///
 /// The revisions are those of the store's one counter. `lease` is 0 where the key is attached to none.
-#[derive(Debug, Drop, Clone)]
+#[derive(Debug, Drop, Clone, PartialEq, Eq)]
 pub struct KeyState {
     /// The value of the last put.
     pub value: Text,
@@ -82,9 +82,5 @@ pub fn copy_found(found: Option<&KeyState>) -> Result<Option<KeyState>, AllocErr
 pub fn are_same_states(left: &KeyState, right: &KeyState) -> bool
     ensures { IsTrue result ↔ left.now ≡ right.now }
 {
-    left.create_rev == right.create_rev
-        && left.mod_rev == right.mod_rev
-        && left.version == right.version
-        && left.lease == right.lease
-        && left.value == right.value
+    left == right
 }

@@ -1,3 +1,4 @@
+pub mod SameEvents
 pub mod Recorded
 pub mod Fields
 pub mod Apart

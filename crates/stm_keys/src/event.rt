@@ -6,7 +6,7 @@ use crate::shared_text::SharedText;
 use stm_history::{KeyState, Text};
 
 /// One event of a revision: etcd's `Event` of a watch response.
-#[derive(Debug, Drop, Clone)]
+#[derive(Debug, Drop, Clone, PartialEq, Eq)]
 pub enum Event {
     /// The key was put, and has this state since.
     Put { key: SharedText, state: KeyState },

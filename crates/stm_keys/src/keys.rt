@@ -1,7 +1,8 @@
 //! The key store.
 //!
 //! What each put goes through is inlined, so that its values are not copied from call to call.
-ghost use Rattle.std.specs.Prelude.{◌≡◌, ◌+◌, ◌<◌, ◌≤◌, IfOk, OnOk, OnErr, IfSome, List, ℕ, Bool, false, length, Some, None, ◌↔◌, slice_get, option_copied, [], ◌∷◌, ◌++◌, ◌≢◌, ◌^◌, map, is_some};
+ghost use Rattle.std.specs.Prelude.{◌≡◌, ◌+◌, ◌<◌, ◌≤◌, IfOk, OnOk, OnErr, IfSome, List, ℕ, Bool, false, length, Some, None, ◌↔◌, slice_get};
+ghost use Rattle.std.specs.Prelude.{option_copied, [], ◌∷◌, ◌++◌, ◌≢◌, ◌^◌, map, is_some};
 ghost use Rattle.std.specs.VecDeque.{deque_len, deque_capacity};
 ghost use Rattle.indexmap.specs.IndexMap.{get_by_text};
 ghost use Rattle.stm_history.specs.Opening.{opened_state};

@@ -63,6 +63,28 @@ impl Clone for SharedText {
     }
 }
 
+impl PartialEq for SharedText {
+    ghost use Rattle.std.specs.Prelude.{nat_eq};
+    ghost use Rattle.std.specs.Cmp.Lexicographic.{pointwise};
+    ghost use Rattle.std.specs.Cmp.Rules.{comparing};
+    ghost use Rattle.std.proofs.Common.{rules};
+
+    ghost eq = { pointwise nat_eq };
+
+    ghost laws = { Prim.search (comparing, rules) };
+
+    fn eq(&self, other: &SharedText) -> bool {
+        self.text() == other.text()
+    }
+}
+
+impl Eq for SharedText {
+    ghost use Rattle.std.specs.Cmp.Rules.{comparing};
+    ghost use Rattle.std.proofs.Common.{rules};
+
+    ghost laws = { Prim.search (comparing, rules) };
+}
+
 impl fmt::Display for SharedText {
     ghost output = { Some };
 

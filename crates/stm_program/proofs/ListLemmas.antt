@@ -1,5 +1,6 @@
 -- The list of a program: its limits, its copies, and when two programs are the same.
-use Rattle.std.proofs.Common.{◌≡◌, ℕ, ◌≤◌, ◌-◌, Bool, true, false, not, List, [], ◌∷◌, ◌++◌, length, map, take, drop, get_or, String, refl, sym, ap, ◌∙◌, ◌↔◌, IsTrue, arith}
+use Rattle.std.proofs.Common.{◌≡◌, ℕ, ◌≤◌, ◌-◌, Bool, true, false, not, List, [], ◌∷◌, ◌++◌, length, map, take, drop, get_or, String, refl, sym, ap}
+use Rattle.std.proofs.Common.{◌∙◌, ◌↔◌, IsTrue, arith}
 use Rattle.std.specs.Prelude.{◌&&◌, ◌||◌, nat_lt, bytes_eq, string_bytes}
 use Rattle.std.specs.List.{AllZip, IsDistinct, AllByRecursion, list_any}
 use Rattle.std.proofs.lemmas.List.{take_rest}

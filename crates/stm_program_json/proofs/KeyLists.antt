@@ -1,5 +1,6 @@
 -- The list of a program as it is read, and as it is spelled.
-use Rattle.std.proofs.Common.{◌≡◌, ℕ, ◌+◌, ◌-◌, ◌<◌, ◌≤◌, Bool, true, false, cond, List, [], ◌∷◌, ◌++◌, length, map, take, drop, get_or, String, Option, Some, None, Ok, Err, refl, sym, ap, subst, ◌∙◌, arith, ltb-true, lt-ltb, append_assoc, codes}
+use Rattle.std.proofs.Common.{◌≡◌, ℕ, ◌+◌, ◌-◌, ◌<◌, ◌≤◌, Bool, true, false, cond, List, [], ◌∷◌, ◌++◌, length, map, take, drop, get_or, String}
+use Rattle.std.proofs.Common.{Option, Some, None, Ok, Err, refl, sym, ap, subst, ◌∙◌, arith, ltb-true, lt-ltb, append_assoc, codes}
 use Rattle.std.specs.Prelude.{◌||◌, nat_eq, nat_lt, bytes_eq, string_bytes}
 use Rattle.std.specs.List.{list_any}
 use Rattle.std.proofs.lemmas.List.{append-nil, length-map, map_push, take_rest}

@@ -1,7 +1,8 @@
 -- Reading a program: the value that data spell, or the first fault. At each node the depth is checked first, then the
 -- number of nodes, then the shape, and then the elements in order. A reader is given how many levels and how many nodes
 -- are left, and answers how many nodes are left after it.
-use Rattle.std.specs.Prelude.{ℕ, zero, suc, List, [], ◌∷◌, ◌++◌, length, Bool, true, false, ◌||◌, bytes_eq, Option, Some, None, Ok, is_some, if◌then◌else◌, nat_eq, nat_le, nat_lt, codes}
+use Rattle.std.specs.Prelude.{ℕ, zero, suc, List, [], ◌∷◌, ◌++◌, length, Bool, true, false, ◌||◌, bytes_eq, Option, Some, None, Ok, is_some}
+use Rattle.std.specs.Prelude.{if◌then◌else◌, nat_eq, nat_le, nat_lt, codes}
 use Rattle.std.specs.List.{list_any}
 use Rattle.serde_json.specs.Data.{Data, Items, no_items, item}
 use Rattle.serde_json.specs.Find.{as_str, as_array, as_number}

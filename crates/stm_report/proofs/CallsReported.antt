@@ -36,7 +36,7 @@ use Rattle.stm_events.specs.declared.event.WorldEvent.TheVariants.{Txn, Grant, K
 use Rattle.stm_events.specs.declared.reply.Reply.{Reply}
 use Rattle.stm_events.specs.declared.reply.Reply.TheVariants.{Granted, Kept, Revoked, Compacted, Lost}
 use Rattle.stm_events.specs.declared.refusal.Denied.{Denied}
-use Rattle.stm_events.specs.Replies.{txn_reply, refusal_of, denied, reply_to, store_after_call, store_after_poll, advance_reply, batch_reply, poll_reply}
+use Rattle.stm_events.specs.Replies.{txn_reply, event_refusal, denied, reply_to, store_after_call, store_after_poll, advance_reply, batch_reply, poll_reply}
 use Rattle.stm_world.specs.Log.{if_reported, expired_reported}
 use Rattle.stm_check.specs.declared.runner.Runner.{Runner}
 use Rattle.stm_check.specs.Fits.{can_have}
@@ -58,7 +58,7 @@ pub record CallIsRight (s next : Standing) (can : Bool) (wanted reply : Result R
 
 -- what holds of the reply to a call, taken or refused
 pub by_reply : {A : Type 0} (P : Result Reply Denied → Type 0) (report : A → Reply) (r : Result (Step A) StoreRefusal) → ((x : A) → P (Ok (report x))) →
-    ((cause : StoreRefusal) → P (denied (refusal_of cause))) → P (reply_to report r)
+    ((cause : StoreRefusal) → P (denied (event_refusal cause))) → P (reply_to report r)
 by_reply P report (Ok done) taken refused = taken done.answer
 by_reply P report (Err cause) taken refused = refused cause
 
@@ -300,7 +300,7 @@ poll_stays s watcher (Err cause) = refl
 
 -- what holds of the reply to a poll: a batch, a loss or a refusal
 pub by_poll : (P : Result Reply Denied → Type 0) (watcher floor : ℕ) (s : Standing) (o : Result (WatchStep Batch) PollRefusal) →
-    ((batch : Batch) → P (Ok (batch_reply watcher batch))) → P (Ok (Lost watcher floor)) → ((cause : StoreRefusal) → P (denied (refusal_of cause))) →
+    ((batch : Batch) → P (Ok (batch_reply watcher batch))) → P (Ok (Lost watcher floor)) → ((cause : StoreRefusal) → P (denied (event_refusal cause))) →
     P (poll_reply watcher floor (poll_step s o))
 by_poll P watcher floor s (Ok step) batch lost refused = batch step.answer
 by_poll P watcher floor s (Err NoneToPoll) batch lost refused = refused NoWatcher

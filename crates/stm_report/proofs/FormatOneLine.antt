@@ -1,5 +1,6 @@
 -- The words of a row have no line feed, and so each row is one line.
-use Rattle.std.proofs.Common.{◌≡◌, ℕ, zero, suc, ◌+◌, ◌-◌, ◌*◌, ◌/◌, ◌%◌, Bool, true, false, cond, ◌||◌, ◌==◌, List, [], ◌∷◌, ◌++◌, length, map, replicate}
+use Rattle.std.proofs.Common.{◌≡◌, ℕ, zero, suc, ◌+◌, ◌-◌, ◌*◌, ◌/◌, ◌%◌, Bool, true, false, cond, ◌||◌, ◌==◌, List, [], ◌∷◌, ◌++◌, length, map}
+use Rattle.std.proofs.Common.{replicate}
 use Rattle.std.proofs.Common.{nat_eq, nat_lt, nat_le, codes, decimal, Result, Ok, Err, refl, ap, ◌∙◌, arith}
 use Rattle.std.proofs.lemmas.Bool.Decides.{nat_tests}
 use Rattle.std.specs.Fmt.{digits, digits_onto, digit_glyph}
@@ -157,10 +158,10 @@ advanced_without now expired =
     joined_without (codes "advance to " ∷ decimal now ∷ codes ", " ∷ decimal expired ∷ codes " expired" ∷ [])
     (refl, (decimal_without now, (refl, (decimal_without expired, (refl, tt)))))
 
-batch_without : (watcher events up_to : ℕ) → has 10 (batch_words watcher events up_to) ≡ false
-batch_without watcher events up_to =
-    joined_without (codes "poll " ∷ decimal watcher ∷ codes ": " ∷ decimal events ∷ codes " events to @" ∷ decimal up_to ∷ [])
-    (refl, (decimal_without watcher, (refl, (decimal_without events, (refl, (decimal_without up_to, tt))))))
+batch_without : (watcher events upto : ℕ) → has 10 (batch_words watcher events upto) ≡ false
+batch_without watcher events upto =
+    joined_without (codes "poll " ∷ decimal watcher ∷ codes ": " ∷ decimal events ∷ codes " events to @" ∷ decimal upto ∷ [])
+    (refl, (decimal_without watcher, (refl, (decimal_without events, (refl, (decimal_without upto, tt))))))
 
 lost_without : (watcher floor : ℕ) → has 10 (lost_words watcher floor) ≡ false
 lost_without watcher floor =
@@ -189,7 +190,7 @@ reply_without e (Revoked id revision) = revoked_without id revision
 reply_without e (Advanced now expired) = advanced_without now (length expired)
 reply_without e (Compacted revision) = compacted_without revision
 reply_without e (Watching watcher) = named_without (codes "watch") watcher refl
-reply_without e (Batch watcher up_to events) = batch_without watcher (length events) up_to
+reply_without e (Batch watcher upto events) = batch_without watcher (length events) upto
 reply_without e (Lost watcher floor) = lost_without watcher floor
 reply_without e (Cancelled watcher) = named_without (codes "cancel") watcher refl
 

@@ -397,7 +397,8 @@ event_goes start n log rs (Cancel watcher) reply reported fresh known right =
     let s : Standing = store start log in
     let r = cancelled s watcher in
     subst (λ (x : Result Reply Denied). GoesOn start n log rs (Cancel watcher) x) (sym right)
-    (call_goes start n log rs (Cancel watcher) (reply_to (λ _. Cancelled watcher) r) (by_reply (λ x. can_have rs (Cancel watcher) x ≡ true) (λ _. Cancelled watcher) r (λ x. same_number watcher) (λ cause. refl)) tt
+    (call_goes start n log rs (Cancel watcher) (reply_to (λ _. Cancelled watcher) r)
+    (by_reply (λ x. can_have rs (Cancel watcher) x ≡ true) (λ _. Cancelled watcher) r (λ x. same_number watcher) (λ cause. refl)) tt
     (cancel_stays s watcher (watcher_at watcher s.watchers)) refl
     (same_runs (record { event = Cancel watcher; reply = reply_to (λ _. Cancelled watcher) r }) log rs
     (says_nothing (λ _. Cancelled watcher) r (λ x. record { begins_is = refl; ends_is = refl; fails_is = refl })) reported))

@@ -183,8 +183,8 @@ line_plain n (Ok (Revoked id revision)) few fits = (((plain n few, (tt, (plain i
 line_plain n (Ok (Advanced moment expired)) few fits = (((plain n few, (tt, (plain moment fits.0, (expireds_plain expired fits.1, tt)))), tt), tt)
 line_plain n (Ok (Compacted revision)) few fits = (((plain n few, (tt, (plain revision fits, tt))), tt), tt)
 line_plain n (Ok (Watching watcher)) few fits = (((plain n few, (tt, (plain watcher fits, tt))), tt), tt)
-line_plain n (Ok (Batch watcher up_to events)) few fits =
-    (((plain n few, (tt, (plain watcher fits.0, (plain up_to fits.1, (events_plain events fits.2, tt))))), tt), tt)
+line_plain n (Ok (Batch watcher upto events)) few fits =
+    (((plain n few, (tt, (plain watcher fits.0, (plain upto fits.1, (events_plain events fits.2, tt))))), tt), tt)
 line_plain n (Ok (Lost watcher floor)) few fits = (((plain n few, (tt, (plain watcher fits.0, (plain floor fits.1, tt)))), tt), tt)
 line_plain n (Ok (Cancelled watcher)) few fits = (((plain n few, (tt, (plain watcher fits, tt))), tt), tt)
 line_plain n (Err denied) few fits = (((plain n few, (tt, (tt, (expireds_plain denied.expired fits, tt)))), tt), tt)

@@ -91,7 +91,7 @@ ReplyFits (Revoked id revision) = Few id × Few revision
 ReplyFits (Advanced moment expired) = Few moment × AllExpiredFit expired
 ReplyFits (Compacted revision) = Few revision
 ReplyFits (WatchingReply watcher) = Few watcher
-ReplyFits (BatchReply watcher up_to events) = Few watcher × Few up_to × EventsFit events
+ReplyFits (BatchReply watcher upto events) = Few watcher × Few upto × EventsFit events
 ReplyFits (Lost watcher floor) = Few watcher × Few floor
 ReplyFits (Cancelled watcher) = Few watcher
 

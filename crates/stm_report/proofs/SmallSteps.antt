@@ -35,7 +35,7 @@ use Rattle.stm_entries.specs.Alone.{history_left}
 use Rattle.stm_events.specs.declared.reply.Reply.{Reply}
 use Rattle.stm_events.specs.declared.reply.Reply.TheVariants.{Started, Prefetched, Fetched, Conflict, GaveUp, Aborted, Faulted, Ended}
 use Rattle.stm_events.specs.declared.refusal.EventRefusal.TheVariants.{BadLimit}
-use Rattle.stm_events.specs.Replies.{refusal_of}
+use Rattle.stm_events.specs.Replies.{event_refusal}
 use Rattle.stm_world.specs.Task.{Task, answer_at, modified_now, after_list, after_fetch, after_conflict}
 use Rattle.stm_world.specs.World.{World, Runner, Slot, Over, Live as LiveSlot, Stepped, live_in, runner_at, with_slot, refused, replied, begin, start_runner}
 use Rattle.stm_world.specs.World.{fetch, fetch_list, entry_of, take_commit, decided, commit_reported, commit, finish, step_on, step_live}
@@ -46,7 +46,8 @@ use Rattle.stm_world.proofs.CommitCases.{fails, Fails}
 use Rattle.stm_world.proofs.Slots.{differ, equal_numbers, runner_there, runner_own, runner_other, count_stays, runner_new, runner_old, count_grows}
 use Rattle.stm_report.proofs.SmallRuns.{run_fits}
 use Rattle.stm_report.proofs.SmallStores.{IsSmall, HistoryFits, commit_fits}
-use Rattle.stm_report.proofs.SmallReplies.{Few, AnswersFit, ReplyFits, RunnerFits, RunnersFit, WorldFits, mod_fits, low_fits, answers_fit, found_in, keys_fit, kept_by_level, FailureFits, failure_fits, StepFits}
+use Rattle.stm_report.proofs.SmallReplies.{Few, AnswersFit, ReplyFits, RunnerFits, RunnersFit, WorldFits, mod_fits, low_fits, answers_fit, found_in}
+use Rattle.stm_report.proofs.SmallReplies.{keys_fit, kept_by_level, FailureFits, failure_fits, StepFits}
 
 -- ---- runners
 
@@ -121,16 +122,16 @@ fetch_fits n w id r key at sound =
     (at.few, mod_fits h key of_rev fits, read_by h base (nat_eq base 0) fits (worlds_are_sound.base_is_reached w id r at.fits.sound at.found), low_fits h fits)
 
 base_fits : (n : ℕ) (w : World) (id : ℕ) (r : Runner) (key : List ℕ) (below : Bool) → Stands n w id r →
-    (let o : Stepped = cond below (replied (Ended id (refusal_of CompactedRefusal)) id Over w)
+    (let o : Stepped = cond below (replied (Ended id (event_refusal CompactedRefusal)) id Over w)
     (fetch id r key (revision_read w.standing.history (at_of r.task.level r.known.reads)) w) in IsSound o.next → StepFits n o)
-base_fits n w id r key true at sound = ended_fits n w id r (Ended id (refusal_of CompactedRefusal)) at sound at.few
+base_fits n w id r key true at sound = ended_fits n w id r (Ended id (event_refusal CompactedRefusal)) at sound at.few
 base_fits n w id r key false at sound = fetch_fits n w id r key at sound
 
 list_by : (n : ℕ) (w : World) (id : ℕ) (r : Runner) (many : Bool) → Stands n w id r →
-    (let o : Stepped = cond many (replied (Ended id (refusal_of TooManyOpsRefusal)) id Over w)
+    (let o : Stepped = cond many (replied (Ended id (event_refusal TooManyOpsRefusal)) id Over w)
     (replied (Prefetched id (now w.standing.history) (map (modified_now w.standing.history) r.task.program.prefetch)) id
     (LiveSlot (record r { known = after_list r.task w.standing.history r.known })) w) in IsSound o.next → StepFits n o)
-list_by n w id r true at sound = ended_fits n w id r (Ended id (refusal_of TooManyOpsRefusal)) at sound at.few
+list_by n w id r true at sound = ended_fits n w id r (Ended id (event_refusal TooManyOpsRefusal)) at sound at.few
 list_by n w id r false at sound =
     let h : History = w.standing.history in
     let next : Runner = record r { known = after_list r.task h r.known } in
@@ -215,7 +216,7 @@ commit_by : (n : ℕ) (w : World) (id : ℕ) (r : Runner) (run : Run) (o : Resul
     run_on r.task.program r.known.reads ≡ EndedRun run → committed (terms_of w.standing) r.task.level r.known.reads run ≡ o →
     IsSound (commit_reported id r r.known.reads run o w).next → StepFits n (commit_reported id r r.known.reads run o w)
 commit_by n w id r run (Ok done) at is_run comes sound = decided_fits n w id r run done done.answer.failed at is_run comes refl sound
-commit_by n w id r run (Err cause) at is_run comes sound = ended_fits n w id r (Ended id (refusal_of cause)) at sound at.few
+commit_by n w id r run (Err cause) at is_run comes sound = ended_fits n w id r (Ended id (event_refusal cause)) at sound at.few
 
 commit_step : (n : ℕ) (w : World) (id : ℕ) (r : Runner) (run : Run) → Stands n w id r → run_on r.task.program r.known.reads ≡ EndedRun run →
     IsSound (commit id r r.known.reads run w).next → StepFits n (commit id r r.known.reads run w)

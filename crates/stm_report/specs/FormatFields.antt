@@ -50,7 +50,7 @@ reply_fields (Advanced now expired) = numbered (codes "now" ∷ codes "expired" 
 reply_fields (Compacted revision) = numbered (codes "revision" ∷ [])
 reply_fields (Watching watcher) = numbered (codes "watcher" ∷ [])
 reply_fields (Cancelled watcher) = numbered (codes "watcher" ∷ [])
-reply_fields (Batch watcher up_to events) = numbered (codes "watcher" ∷ codes "upto" ∷ codes "events" ∷ [])
+reply_fields (Batch watcher upto events) = numbered (codes "watcher" ∷ codes "upto" ∷ codes "events" ∷ [])
 reply_fields (Lost watcher floor) = numbered (codes "watcher" ∷ codes "floor" ∷ [])
 
 abbrev pub event_fields : Result Reply Denied → List (List ℕ)

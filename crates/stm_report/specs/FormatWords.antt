@@ -56,8 +56,8 @@ abbrev pub advanced_words : ℕ → ℕ → List ℕ
 advanced_words now expired = joined (codes "advance to " ∷ decimal now ∷ codes ", " ∷ decimal expired ∷ codes " expired" ∷ [])
 
 abbrev pub batch_words : ℕ → ℕ → ℕ → List ℕ
-batch_words watcher events up_to =
-    joined (codes "poll " ∷ decimal watcher ∷ codes ": " ∷ decimal events ∷ codes " events to @" ∷ decimal up_to ∷ [])
+batch_words watcher events upto =
+    joined (codes "poll " ∷ decimal watcher ∷ codes ": " ∷ decimal events ∷ codes " events to @" ∷ decimal upto ∷ [])
 
 -- a watcher that was lost, and the first revision whose events are kept
 abbrev pub lost_words : ℕ → ℕ → List ℕ
@@ -80,7 +80,7 @@ reply_words event (Revoked id revision) = revoked_words id revision
 reply_words event (Advanced now expired) = advanced_words now (length expired)
 reply_words event (Compacted revision) = changed_words (codes "compact") revision
 reply_words event (Watching watcher) = named_words (codes "watch") watcher
-reply_words event (Batch watcher up_to events) = batch_words watcher (length events) up_to
+reply_words event (Batch watcher upto events) = batch_words watcher (length events) upto
 reply_words event (Lost watcher floor) = lost_words watcher floor
 reply_words event (Cancelled watcher) = named_words (codes "cancel") watcher
 

@@ -162,8 +162,8 @@ fn advanced(alloc: Global, now: u64, expired: u64) -> Result<Sequence<u8>, Alloc
 }
 
 /// The words of a poll.
-fn batch(alloc: Global, watcher: u64, events: u64, up_to: u64) -> Result<Sequence<u8>, AllocError>
-    ensures { IfOk result (λ words. words ≡ batch_words watcher events up_to) }
+fn batch(alloc: Global, watcher: u64, events: u64, upto: u64) -> Result<Sequence<u8>, AllocError>
+    ensures { IfOk result (λ words. words ≡ batch_words watcher events upto) }
 {
     let pieces = [
         Piece::Say("poll "),
@@ -171,7 +171,7 @@ fn batch(alloc: Global, watcher: u64, events: u64, up_to: u64) -> Result<Sequenc
         Piece::Say(": "),
         Piece::Number(events),
         Piece::Say(" events to @"),
-        Piece::Number(up_to),
+        Piece::Number(upto),
     ];
     said(alloc, &pieces)
 }
@@ -233,9 +233,9 @@ fn taken_words(alloc: Global, event: &WorldEvent, reply: &Reply) -> Result<Seque
         Reply::Watching { watcher } => named(alloc, "watch", *watcher),
         Reply::Batch {
             watcher,
-            up_to,
+            upto,
             events,
-        } => batch(alloc, *watcher, events.len() as u64, *up_to),
+        } => batch(alloc, *watcher, events.len() as u64, *upto),
         Reply::Lost { watcher, floor } => lost(alloc, *watcher, *floor),
         Reply::Cancelled { watcher } => named(alloc, "cancel", *watcher),
     }

@@ -8,8 +8,8 @@ ghost use Rattle.stm_report.specs.WholeJudging.{HasForm, JudgesText, MakesReport
 use crate::run_script::{ScriptFault, script};
 use crate::whole_comparing::{WholeChecked, compared};
 use std::alloc::Global;
-use stm_check::{CheckFault, bytes_of};
-use stm_devices::{Source, Std};
+use stm_check::CheckFault;
+use stm_devices::{Source, Std, read_all};
 use stm_json::{MOST_BYTES, ReadError};
 use stm_report_lines::read_report;
 
@@ -43,9 +43,7 @@ fn is_settled(given: &[u8], checked: &WholeChecked) -> bool
 fn judge_text(alloc: Global, expected: &[u8], given: &[u8]) -> Result<WholeChecked, CheckFault>
     ensures { JudgesText expected.now given.now result }
 {
-    let Ok(checked) = compared(alloc, expected, given) else {
-        return Err(CheckFault::OutOfMemory);
-    };
+    let checked = compared(alloc, expected, given)?;
     if is_settled(given, &checked) {
         return Ok(checked);
     }
@@ -93,6 +91,6 @@ pub fn check_whole<S: Source, R: Source>(
     ensures report_bounded { R.reads report.new ≤ R.reads report.old + MOST_READ }
 {
     let expected = expected_of(alloc, scenario)?;
-    let given = bytes_of(alloc, report)?;
+    let given = read_all(alloc, report)?;
     judge_text(alloc, expected.as_slice(), given.as_slice())
 }

@@ -1,7 +1,7 @@
 -- The lines of events: the parts after each word, and what is made of them. Their faults are those that reading answers, what was read is
 -- spelled, and what is spelled is read.
-use Rattle.std.proofs.Common.{◌≡◌, ℕ, List, map, Bool, true, cond, eqb, length, Some, Ok, Err, refl, sym, subst, ap, ◌∙◌, codes}
-use Rattle.serde_json.specs.Data.{Data, boolean, Items}
+use Rattle.std.proofs.Common.{◌≡◌, ℕ, List, map, Bool, true, false, cond, eqb, length, Option, Some, None, Ok, Err, refl, sym, subst, ap, ◌∙◌, codes}
+use Rattle.serde_json.specs.Data.{Data, boolean, Items, item}
 use Rattle.serde_json.specs.View.{items_of}
 use Rattle.stm_json.specs.declared.cause.Cause.TheVariants.{Shape}
 use Rattle.stm_json.specs.Outcome.{Outcome, bad, ◌>>=◌, within}
@@ -11,7 +11,7 @@ use Rattle.stm_steps.specs.declared.trace_item.TraceItem.{TraceItem}
 use Rattle.stm_steps.specs.declared.value.Value.{Value}
 use Rattle.stm_meaning.specs.Faults.{fault_name}
 use Rattle.stm_outcome.specs.declared.advance.Expired.{Expired}
-use Rattle.stm_json.specs.Faults.{Sort, AnyText, WordOf, By, first_of, at, faults_by, worded_faults, is_count, parts_faults, any_number}
+use Rattle.stm_json.specs.Faults.{Sort, WordOf, By, first_of, at, faults_by, worded_faults, is_count, parts_faults, any_number}
 use Rattle.stm_json.proofs.FaultLemmas.{fault_of, part_then, made, number_reported}
 use Rattle.stm_events.specs.declared.refusal.EventRefusal.{EventRefusal}
 use Rattle.stm_events.specs.declared.line.ReportLine.{ReportLine}
@@ -24,25 +24,27 @@ use Rattle.stm_events.specs.declared.reply.OpReply.{OpReply}
 use Rattle.stm_events.specs.declared.reply.KeyRead.{KeyRead}
 use Rattle.stm_report_lines.specs.declared.words.EventWord.{EventWord}
 use Rattle.stm_report_lines.specs.declared.words.EventWord.TheVariants as event
-use Rattle.stm_report_lines.specs.FirstFault.{flag_faults, value_faults, plain_faults, list_of as list_faults, fault_names, refusal_names, trace_table}
-use Rattle.stm_report_lines.specs.FirstFault.{answer_sorts, op_table, read_sorts, expired_sorts, expired_list, watched_table, numbered_faults}
-use Rattle.stm_report_lines.specs.Grammar.{Spells, SpellsItems, SpellsLine, CountsFit, AllCountsFit}
-use Rattle.stm_report_lines.specs.LineData.{list, word, numbered, value_data, trace_data, answer_data, op_data, read_data, expired_data, event_data, line_data}
+use Rattle.stm_report_lines.specs.FirstFault.{flag_faults, value_faults, plain_faults, list_of as list_faults, fault_names, refusal_names}
+use Rattle.stm_report_lines.specs.FirstFault.{trace_table}
+use Rattle.stm_report_lines.specs.FirstFault.{answer_sorts, op_table, read_sorts, expired_sorts, watched_table, numbered_faults}
+use Rattle.stm_report_lines.specs.Grammar.{Spells, SpellsItems, SpellsLine, CountFits, CountsFit, AllCountsFit}
+use Rattle.stm_report_lines.specs.LineData.{list, word, numbered, value_data, trace_data, answer_data, op_data, read_data, expired_data, event_data}
+use Rattle.stm_report_lines.specs.LineData.{line_data}
 use Rattle.stm_events.specs.Names.{refusal_name}
-use Rattle.stm_report_lines.specs.Parts.{number_of, flag_of, fault_of as fault_part_of, cause_of, value_of, trace_of, answer_of, read_of, expired_of, event_of}
+use Rattle.stm_report_lines.specs.Parts.{part_at, number_of, flag_of, fault_of as fault_part_of, cause_of, value_of, trace_of, answer_of, op_of}
+use Rattle.stm_report_lines.specs.Parts.{read_of, expired_of, event_of}
 use Rattle.stm_report_lines.specs.Elements.{count}
-use Rattle.stm_report_lines.specs.Reading.{ops_of, EventReply, started_of, prefetched_of, fetched_of, committed_of, conflict_of, gave_up_of, aborted_of}
-use Rattle.stm_report_lines.specs.Reading.{faulted_of, ended_of, txn_of, granted_of, kept_of, revoked_of, advanced_of, compacted_of, watching_of, cancelled_of}
-use Rattle.stm_report_lines.specs.Reading.{batch_of, lost_of, denied_with, refused_of, event_reply_of, event_line_of}
-use Rattle.stm_report_lines.specs.Words.{named, event_words, elements_after}
+use Rattle.stm_report_lines.specs.Reading.{ops_of, EventReply, denied_with, event_reply_of, event_line_of, event_named}
+use Rattle.stm_report_lines.specs.Words.{named, event_words}
 use Rattle.stm_report_lines.proofs.ArrayLemmas.{numbered_array, numbered_spells}
-use Rattle.stm_report_lines.proofs.ElementLaws.{trace_reported, trace_means, trace_reads, answer_reported, answer_means, answer_reads}
-use Rattle.stm_report_lines.proofs.ElementLaws.{read_reported, read_means, read_reads, expired_reported, expired_means, expired_reads, event_reported, event_means, event_reads}
-use Rattle.stm_report_lines.proofs.ElementLaws.{ops_reported, ops_means, ops_reads}
-use Rattle.stm_report_lines.proofs.PartLaws.{number_means, flag_reported, flag_means, flag_reads, fault_reported, fault_means, fault_reads, cause_reported}
-use Rattle.stm_report_lines.proofs.PartLaws.{cause_means, cause_reads, value_reported, value_means, value_reads}
-use Rattle.stm_report_lines.proofs.Rows.{Part, part, list_part, Row, nothing, ◌&◌, second, third, fourth, fifth, sixth, counted, counted_reported, counted_ok, count_is}
-use Rattle.stm_report_lines.proofs.Rows.{one_counted, two_counted, three_counted, four_counted, five_counted, six_counted}
+use Rattle.stm_report_lines.proofs.WordLaws.{named-is}
+use Rattle.stm_report_lines.proofs.ReadLaws.{list_laws}
+use Rattle.stm_report_lines.proofs.ElementLaws.{trace_laws, answer_laws, op_laws, read_laws, expired_laws, event_laws}
+use Rattle.stm_report_lines.proofs.PartLaws.{number_means, flag_reported, flag_means, flag_reads, fault_reported, fault_means, fault_reads}
+use Rattle.stm_report_lines.proofs.PartLaws.{cause_reported}
+use Rattle.stm_report_lines.proofs.PartLaws.{cause_means, cause_reads, value_laws}
+use Rattle.stm_report_lines.proofs.Rows.{Part, part, part_by, list_part, Row, nothing, ◌&◌, second, third, fourth, fifth, sixth}
+use Rattle.stm_report_lines.proofs.Rows.{Agree, agree, counted, counted_reported, counted_ok, count_is}
 use Rattle.stm_report_lines.proofs.StateLaws.{whole_part, text_part}
 
 -- ---- parts
@@ -57,33 +59,27 @@ abbrev cause_part : Part EventRefusal
 cause_part = part cause_of (λ c. word (refusal_name c)) (WordOf refusal_names) cause_reported cause_means cause_reads
 
 abbrev values_part : Part (List Value)
-values_part = list_part value_faults value_of value_data value_reported value_means value_reads
+values_part = list_part value_of value_data value_faults value_laws
 
 abbrev traces_part : Part (List TraceItem)
-traces_part = list_part (worded_faults trace_table) trace_of trace_data trace_reported trace_means trace_reads
+traces_part = list_part trace_of trace_data (worded_faults trace_table) trace_laws
 
 abbrev answers_part : Part (List CommittedRead)
-answers_part = list_part (plain_faults answer_sorts) answer_of answer_data answer_reported answer_means answer_reads
+answers_part = list_part answer_of answer_data (plain_faults answer_sorts) answer_laws
 
 abbrev reads_part : Part (List KeyRead)
-reads_part = list_part (plain_faults read_sorts) read_of read_data read_reported read_means read_reads
+reads_part = list_part read_of read_data (plain_faults read_sorts) read_laws
 
 abbrev expireds_part : Part (List Expired)
-expireds_part = list_part (plain_faults expired_sorts) expired_of expired_data expired_reported expired_means expired_reads
+expireds_part = list_part expired_of expired_data (plain_faults expired_sorts) expired_laws
 
 abbrev events_part : Part (List Event)
-events_part = list_part (worded_faults watched_table) event_of event_data event_reported event_means event_reads
+events_part = list_part event_of event_data (worded_faults watched_table) event_laws
 
 abbrev ops_part : Part (List OpReply)
-ops_part = record {
-  read = ops_of;
-  spell = λ xs. list (map op_data xs);
-  sort = By (list_faults (worded_faults op_table));
-  Fits = AllCountsFit;
-  reported = ops_reported;
-  means = ops_means;
-  reads = ops_reads;
-}
+ops_part =
+    part_by ops_of (λ xs. list (map op_data xs)) AllCountsFit (By (list_faults (worded_faults op_table)))
+    (list_laws op_of op_data CountFits (worded_faults op_table) op_laws AllCountsFit tt (λ x xs f. f) (λ x xs f. f))
 
 -- ---- the parts after each word, and the reply or the refusal that is made of them
 
@@ -154,9 +150,19 @@ event_text event.Batch = codes "batch"
 event_text event.Lost = codes "lost"
 event_text event.Refused = codes "refused"
 
-pub event_named-text : (w : EventWord) → named event_words (event_text w) ≡ Some w
+pub event_named-text : (w : EventWord) → named event_words (event_text w) ≡ Some (w, length (event_sorts w))
 event_named-text event.Started = refl
 event_named-text _ = refl
+
+abbrev elements_after : Option (EventWord × ℕ) → ℕ
+elements_after None = 0
+elements_after (Some r) = r.1
+
+-- what is found has its word, and as many elements come after as there are parts
+pub event_found : (t : List ℕ) (r : EventWord × ℕ) → named event_words t ≡ Some r → (t ≡ event_text r.0) × (r.1 ≡ length (event_sorts r.0))
+event_found t r h =
+    let is : t ≡ event_text r.0 = named-is (λ (q : EventWord × ℕ). event_text q.0) event_words t r refl h in
+    (is, ap elements_after (sym h ∙ ap (named event_words) is ∙ event_named-text r.0))
 
 -- the line's data are the number, the word and what spells the parts
 pub event_spelled : (w : EventWord) (n : ℕ) (x : event_parts w) → line_data (event_made w n x) ≡ numbered n (event_text w) ((event_row w).row.spell x)
@@ -173,82 +179,78 @@ event_fits _ n x fits = tt
 abbrev row_read : EventWord → Items → Outcome EventReply
 row_read w ds = (event_row w).row.read EventReply 2 (event_row w).make ds
 
-reply_is : (w : EventWord) (ds : Items) → event_reply_of w ds ≡ counted (event_sorts w) (row_read w) ds
-reply_is event.Started = one_counted (row_read event.Started) any_number started_of refl (λ a. refl)
-reply_is event.Prefetched =
-    three_counted (row_read event.Prefetched) any_number any_number (By (list_faults (plain_faults read_sorts))) prefetched_of refl (λ a b c. refl)
-reply_is event.Fetched =
-    five_counted (row_read event.Fetched) any_number AnyText any_number any_number any_number fetched_of refl (λ a b c d e. refl)
-reply_is event.Committed =
-    six_counted (row_read event.Committed) any_number any_number any_number (By (list_faults value_faults))
-    (By (list_faults (worded_faults trace_table))) (By (list_faults (plain_faults answer_sorts))) committed_of refl (λ a b c d e g. refl)
-reply_is event.Conflict = four_counted (row_read event.Conflict) any_number AnyText any_number any_number conflict_of refl (λ a b c d. refl)
-reply_is event.GaveUp = five_counted (row_read event.GaveUp) any_number any_number AnyText any_number any_number gave_up_of refl (λ a b c d e. refl)
-reply_is event.Aborted = two_counted (row_read event.Aborted) any_number AnyText aborted_of refl (λ a b. refl)
-reply_is event.Faulted = two_counted (row_read event.Faulted) any_number (WordOf fault_names) faulted_of refl (λ a b. refl)
-reply_is event.Ended = two_counted (row_read event.Ended) any_number (WordOf refusal_names) ended_of refl (λ a b. refl)
-reply_is event.Txn =
-    three_counted (row_read event.Txn) (By flag_faults) any_number (By (list_faults (worded_faults op_table))) txn_of refl (λ a b c. refl)
-reply_is event.Granted = one_counted (row_read event.Granted) any_number granted_of refl (λ a. refl)
-reply_is event.Kept = one_counted (row_read event.Kept) any_number kept_of refl (λ a. refl)
-reply_is event.Revoked = two_counted (row_read event.Revoked) any_number any_number revoked_of refl (λ a b. refl)
-reply_is event.Advanced = two_counted (row_read event.Advanced) any_number expired_list advanced_of refl (λ a b. refl)
-reply_is event.Compacted = one_counted (row_read event.Compacted) any_number compacted_of refl (λ a. refl)
-reply_is event.Watching = one_counted (row_read event.Watching) any_number watching_of refl (λ a. refl)
-reply_is event.Cancelled = one_counted (row_read event.Cancelled) any_number cancelled_of refl (λ a. refl)
-reply_is event.Batch =
-    three_counted (row_read event.Batch) any_number any_number (By (list_faults (worded_faults watched_table))) batch_of refl (λ a b c. refl)
-reply_is event.Lost = two_counted (row_read event.Lost) any_number any_number lost_of refl (λ a b. refl)
-reply_is event.Refused = two_counted (row_read event.Refused) (WordOf refusal_names) expired_list refused_of refl (λ a b. refl)
-
-reply_read : (w : EventWord) (ds : Items) → is_count (event_sorts w) ds ≡ true → event_reply_of w ds ≡ row_read w ds
-reply_read w ds h = reply_is w ds ∙ ap (λ (b : Bool). cond b (row_read w ds) (bad Shape)) h
-
--- there are as many elements as parts
-as_many : (w : EventWord) → elements_after w ≡ length (event_sorts w)
-as_many event.Started = refl
-as_many _ = refl
-
-is_whole : (w : EventWord) (ds : Items) → is_count (event_sorts w) ds ≡ eqb (count ds) (elements_after w)
-is_whole w ds = count_is (event_sorts w) ds ∙ ap (eqb (count ds)) (sym (as_many w))
+-- of an array that has a number and a word in front
+same : (w : EventWord) (n v : Data) → Agree (event_sorts w) (λ ds. event_reply_of w (item n (item v ds))) (row_read w)
+unfolding part_at
+same event.Started n v = λ a. refl
+same event.Prefetched n v = λ a b c. refl
+same event.Fetched n v = λ a b c d e. refl
+same event.Committed n v = λ a b c d e g. refl
+same event.Conflict n v = λ a b c d. refl
+same event.GaveUp n v = λ a b c d e. refl
+same event.Txn n v = λ a b c. refl
+same event.Granted n v = λ a. refl
+same event.Kept n v = λ a. refl
+same event.Compacted n v = λ a. refl
+same event.Watching n v = λ a. refl
+same event.Cancelled n v = λ a. refl
+same event.Batch n v = λ a b c. refl
+same _ n v = λ a b. refl
 
 -- the number, and then what comes after the word
 abbrev reply_then : EventWord → Items → ℕ → Outcome ReportLine
-reply_then w ds x = event_reply_of w ds >>= λ r. Ok (line.Event x r)
+reply_then w ds x = row_read w ds >>= λ r. Ok (line.Event x r)
 
 abbrev numbered_read : EventWord → Data → Items → Outcome ReportLine
 numbered_read w n ds = within 0 (number_of n) >>= reply_then w ds
 
--- ---- the three laws
+numbered_is : (w : EventWord) (n v : Data) (ds : Items) → is_count (event_sorts w) ds ≡ true
+    → event_line_of w (item n (item v ds)) ≡ numbered_read w n ds
+unfolding part_at
+numbered_is w n v ds h =
+    ap (λ (o : Outcome EventReply). within 0 (number_of n) >>= λ x. o >>= λ r. Ok (line.Event x r))
+    (agree (event_sorts w) (λ es. event_reply_of w (item n (item v es))) (row_read w) (same w n v) ds h)
 
-pub event_line_reported : (p : List ℕ) (n : Data) (w : EventWord) (ds : Items)
-    → first_of (numbered_faults p n (Some (event_sorts w)) ds) ≡ fault_of p (event_line_of w n ds)
-event_line_reported p n w ds =
-    let sorts : List Sort = event_sorts w in
-    let row = (event_row w).row in
-    counted_reported p (is_count sorts ds) _ (numbered_read w n ds)
-    (λ h. part_then p 0 (number_of n) (reply_then w ds) (faults_by any_number (at p 0) n) (parts_faults p 2 sorts ds) (number_reported (at p 0) n)
-    (λ (x : ℕ). made p (event_reply_of w ds) (λ (r : EventReply). line.Event x r) (parts_faults p 2 sorts ds)
-    (row.reported EventReply p 2 (event_row w).make ds h ∙ ap (λ (o : Outcome EventReply). fault_of p o) (sym (reply_read w ds h)))))
-    ∙ ap (λ (b : Bool). fault_of p (cond b (numbered_read w n ds) (bad Shape))) (is_whole w ds)
+where_true : {Y : Type 0} (b : Bool) (o q : Outcome Y) → (b ≡ true → o ≡ q) → cond b o (bad Shape) ≡ cond b q (bad Shape)
+where_true true o q h = h refl
+where_true false o q h = refl
 
-pub event_line_means : (n : Data) (w : EventWord) (ds : Items) (l : ReportLine) → event_line_of w n ds ≡ Ok l
-    → SpellsLine (numbered_array n (event_text w) ds) l
-event_line_means n w ds l h =
-    let k = counted_ok (eqb (count ds) (elements_after w)) (numbered_read w n ds) l h in
-    let q = bind_ok (within 0 (number_of n)) (reply_then w ds) l k.1 in
-    let r = bind_ok (event_reply_of w ds) (λ (y : EventReply). Ok (line.Event q.0 y)) l q.2 in
-    let many : is_count (event_sorts w) ds ≡ true = is_whole w ds ∙ k.0 in
-    let m = (event_row w).row.means EventReply 2 (event_row w).make ds r.0 many (sym (reply_read w ds many) ∙ r.1) in
-    let is : line.Event q.0 r.0 ≡ l = cc r.2 in
-    let s = numbered_spells n ds q.0 (event_text w) ((event_row w).row.spell m.0) (number_means n q.0 (within_ok 0 _ _ q.1)) m.2 in
-    subst (λ (y : ReportLine). SpellsLine (numbered_array n (event_text w) ds) y) (ap (λ (y : EventReply). line.Event q.0 y) m.1 ∙ is)
-    (subst (λ (e : Data). Spells (numbered_array n (event_text w) ds) e) (sym (event_spelled w q.0 m.0)) s, event_fits w q.0 m.0 m.3)
+named_is : (n v : Data) (r : EventWord × ℕ) (ds : Items) → r.1 ≡ length (event_sorts r.0)
+    → event_named (Some r) (item n (item v ds)) ds ≡ counted (event_sorts r.0) (numbered_read r.0 n) ds
+named_is n v r ds many =
+    ap (λ (b : Bool). cond b (event_line_of r.0 (item n (item v ds))) (bad Shape)) (ap (eqb (count ds)) many ∙ sym (count_is (event_sorts r.0) ds))
+    ∙ where_true (is_count (event_sorts r.0) ds) (event_line_of r.0 (item n (item v ds))) (numbered_read r.0 n ds) (numbered_is r.0 n v ds)
 
-pub event_line_reads : (n : Data) (w : EventWord) (ds : Items) (number : ℕ) (x : event_parts w) → number_of n ≡ Ok number
-    → SpellsItems ds (items_of ((event_row w).row.spell x)) → (event_row w).row.Fits x → event_line_of w n ds ≡ Ok (event_made w number x)
-event_line_reads n w ds number x known s fits =
-    let r = (event_row w).row.reads EventReply 2 (event_row w).make ds x s fits in
-    ap (λ (b : Bool). cond b (numbered_read w n ds) (bad Shape)) (sym (is_whole w ds) ∙ r.0)
-    ∙ ap (λ (o : Outcome ℕ). within 0 o >>= reply_then w ds) known
-    ∙ ap (λ (o : Outcome EventReply). o >>= λ y. Ok (line.Event number y)) (reply_read w ds r.0 ∙ r.1)
+-- ---- the three laws, of a row of the words
+
+module _ (n v : Data) (r : EventWord × ℕ) (ds : Items) (many : r.1 ≡ length (event_sorts r.0)) where
+  pub event_line_reported : (p : List ℕ) → first_of (numbered_faults p n (Some (event_sorts r.0)) ds)
+      ≡ fault_of p (event_named (Some r) (item n (item v ds)) ds)
+  event_line_reported p =
+      let sorts : List Sort = event_sorts r.0 in
+      counted_reported p (is_count sorts ds) _ (numbered_read r.0 n ds)
+      (λ h. part_then p 0 (number_of n) (reply_then r.0 ds) (faults_by any_number (at p 0) n) (parts_faults p 2 sorts ds) (number_reported (at p 0) n)
+      (λ (x : ℕ). made p (row_read r.0 ds) (λ (y : EventReply). line.Event x y) (parts_faults p 2 sorts ds)
+      ((event_row r.0).row.reported EventReply p 2 (event_row r.0).make ds h)))
+      ∙ ap (λ (o : Outcome ReportLine). fault_of p o) (sym (named_is n v r ds many))
+
+  pub event_line_means : (l : ReportLine) → event_named (Some r) (item n (item v ds)) ds ≡ Ok l → SpellsLine (numbered_array n (event_text r.0) ds) l
+  event_line_means l h =
+      let w : EventWord = r.0 in
+      let k = counted_ok (is_count (event_sorts w) ds) (numbered_read w n ds) l (sym (named_is n v r ds many) ∙ h) in
+      let q = bind_ok (within 0 (number_of n)) (reply_then w ds) l k.1 in
+      let y = bind_ok (row_read w ds) (λ (z : EventReply). Ok (line.Event q.0 z)) l q.2 in
+      let m = (event_row w).row.means EventReply 2 (event_row w).make ds y.0 k.0 y.1 in
+      let is : line.Event q.0 y.0 ≡ l = cc y.2 in
+      let s = numbered_spells n ds q.0 (event_text w) ((event_row w).row.spell m.0) (number_means n q.0 (within_ok 0 _ _ q.1)) m.2 in
+      subst (λ (z : ReportLine). SpellsLine (numbered_array n (event_text w) ds) z) (ap (λ (z : EventReply). line.Event q.0 z) m.1 ∙ is)
+      (subst (λ (e : Data). Spells (numbered_array n (event_text w) ds) e) (sym (event_spelled w q.0 m.0)) s, event_fits w q.0 m.0 m.3)
+
+  pub event_line_reads : (number : ℕ) (x : event_parts r.0) → number_of n ≡ Ok number → SpellsItems ds (items_of ((event_row r.0).row.spell x))
+      → (event_row r.0).row.Fits x → event_named (Some r) (item n (item v ds)) ds ≡ Ok (event_made r.0 number x)
+  event_line_reads number x known s fits =
+      let e = (event_row r.0).row.reads EventReply 2 (event_row r.0).make ds x s fits in
+      named_is n v r ds many
+      ∙ ap (λ (b : Bool). cond b (numbered_read r.0 n ds) (bad Shape)) e.0
+      ∙ ap (λ (o : Outcome ℕ). within 0 o >>= reply_then r.0 ds) known
+      ∙ ap (λ (o : Outcome EventReply). o >>= λ y. Ok (line.Event number y)) e.1

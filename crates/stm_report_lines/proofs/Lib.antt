@@ -1,11 +1,11 @@
-pub mod SameLists
-pub mod SameLemmas
 pub mod Shallow
 pub mod WordLaws
 pub mod NameLaws
+pub mod ReadLaws
 pub mod PartLaws
 pub mod ArrayLemmas
 pub mod Rows
+pub mod Forms
 pub mod StateLaws
 pub mod ElementLaws
 pub mod EventRows

@@ -9,11 +9,11 @@ use Rattle.stm_outcome.specs.Names.{refusal_name as store_refusal_name}
 use Rattle.stm_events.specs.declared.refusal.EventRefusal.{EventRefusal}
 use Rattle.stm_events.specs.declared.refusal.EventRefusal.TheVariants as cause
 use Rattle.stm_events.specs.Names.{refusal_name}
-use Rattle.stm_events.specs.Replies.{refusal_of}
+use Rattle.stm_events.specs.Replies.{event_refusal}
 use Rattle.stm_report_lines.specs.RefusalNames.{NamesAgree}
 use Rattle.stm_report_lines.proofs.WordLaws.{refusal_named-text, refusal_named-is, fault_named-text, fault_named-is}
 
-refusals : (c : StoreRefusal) → refusal_name (refusal_of c) ≡ store_refusal_name c
+refusals : (c : StoreRefusal) → refusal_name (event_refusal c) ≡ store_refusal_name c
 refusals store.OutOfMemory = refl
 refusals _ = refl
 

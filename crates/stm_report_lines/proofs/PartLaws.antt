@@ -1,31 +1,30 @@
 -- The parts of lines: their faults are those that reading answers, what was read is spelled, and what is spelled is read.
-use Rattle.std.proofs.Common.{◌≡◌, ℕ, suc, ◌^◌, ◌<◌, ◌≤◌, ℤ, pos, negsuc, List, [], ◌∷◌, map, Bool, true, false, cond, Option, Some, None, Ok}
+use Rattle.std.proofs.Common.{◌≡◌, ℕ, ◌^◌, ◌<◌, ◌≤◌, ℤ, pos, negsuc, List, [], Bool, true, false, cond, Option, Some, None, Ok}
 use Rattle.std.proofs.Common.{refl, sym, ap, subst, ◌∙◌, arith, ltb, ltb-true, lt-ltb}
-use Rattle.serde_json.specs.Data.{unsigned, negative, float, Data, null, boolean, number, string, array, object, Items, no_items, item}
-use Rattle.serde_json.specs.Find.{as_str, as_array, as_integer, of_integer}
-use Rattle.serde_json.specs.View.{items_of}
+use Rattle.serde_json.specs.Data.{unsigned, negative, float, Data, null, boolean, number, string}
+use Rattle.serde_json.specs.Find.{as_str, as_integer, of_integer}
 use Rattle.stm_history.specs.declared.revisions.TheConstants.{HIGHEST_NUMBER}
 use Rattle.stm_json.specs.declared.cause.Cause.TheVariants.{Shape, Range}
 use Rattle.stm_json.specs.Elements.{SpellsNumber, is_64_bit, in_64_bits, whole_number, number_up_to}
-use Rattle.stm_json.specs.Outcome.{Outcome, bad, ◌>>=◌}
+use Rattle.stm_json.specs.Outcome.{bad, ◌>>=◌}
 use Rattle.stm_json.proofs.ElementLemmas.{is_64_bit-fits, whole_number-is, number_up_to-is, whole_number-reads, number_up_to-reads}
 use Rattle.stm_json.proofs.OutcomeLemmas.{bind_ok}
 use Rattle.stm_steps.specs.declared.fault.Fault.{Fault}
 use Rattle.stm_meaning.specs.Faults.{fault_name}
 use Rattle.stm_steps.specs.declared.value.Value.{Value}
 use Rattle.stm_steps.specs.declared.value.Value.TheVariants.{Text, Number}
-use Rattle.stm_json.specs.Faults.{Faults, first_of, wrong, at, AnyText, WordOf, NumberIn, By, faults_by}
-use Rattle.stm_json.specs.Parts.{SpellsEach, text_of, each_from, list_of}
-use Rattle.stm_json.proofs.FaultLemmas.{fault_of, wrong_is, part_then, made, text_faulted, number_up_faulted}
-use Rattle.stm_json.proofs.ListLemmas.{list_sound, each_reads}
-use Rattle.stm_json.proofs.PartLemmas.{text_is, on_text-is, text_of-is}
+use Rattle.stm_json.specs.Faults.{first_of, wrong, AnyText, WordOf, NumberIn, By, faults_by}
+use Rattle.stm_json.specs.Parts.{text_of}
+use Rattle.stm_json.proofs.FaultLemmas.{fault_of, wrong_is, text_faulted, number_up_faulted}
+use Rattle.stm_json.proofs.PartLemmas.{text_is, on_text-is, text_of-is, text_reads}
 use Rattle.stm_events.specs.declared.refusal.EventRefusal.{EventRefusal}
-use Rattle.stm_report_lines.specs.FirstFault.{flag_faults, value_faults, or_null, each_of, list_of as list_faults, fault_names, refusal_names}
-use Rattle.stm_report_lines.specs.Grammar.{Spells, SpellsItems}
-use Rattle.stm_report_lines.specs.LineData.{list, whole, word, value_data, text_or_null}
+use Rattle.stm_report_lines.specs.FirstFault.{flag_faults, value_faults, or_null, fault_names, refusal_names}
+use Rattle.stm_report_lines.specs.Grammar.{Spells}
+use Rattle.stm_report_lines.specs.LineData.{whole, word, value_data, text_or_null}
 use Rattle.stm_events.specs.Names.{refusal_name}
-use Rattle.stm_report_lines.specs.Parts.{if_there, number_of, flag_of, fault_of as fault_part_of, cause_of, value_from, value_of, text_or_null_of}
+use Rattle.stm_report_lines.specs.Parts.{if_there, number_of, flag_of, fault_of as fault_part_of, cause_of, value_from, value_of, or_null_of}
 use Rattle.stm_report_lines.specs.Words.{named, fault_words, refusal_words}
+use Rattle.stm_report_lines.proofs.ReadLaws.{Laws, AnyFits, or_null_laws}
 use Rattle.stm_report_lines.proofs.WordLaws.{name_reported, fault_named-is, fault_named-text, refusal_named-is, refusal_named-text}
 
 -- ---- numbers
@@ -131,7 +130,7 @@ value_means_at d None v e h =
     let w = whole_number-is d q.0 q.1 in
     subst (λ (x : Value). Spells d (value_data x)) is (q.0, w.0, of_integer-is q.0, w.1)
 
-pub value_means : (d : Data) (v : Value) → value_of d ≡ Ok v → Spells d (value_data v)
+value_means : (d : Data) (v : Value) → value_of d ≡ Ok v → Spells d (value_data v)
 unfolding value_of
 value_means d v h = value_means_at d (as_str d) v refl h
 
@@ -139,7 +138,7 @@ integer_reads : (d : Data) (z : ℤ) → as_str d ≡ None → whole_number d �
 unfolding value_of
 integer_reads d z none e = rw none (rw e refl)
 
-pub value_reads : (d : Data) (v : Value) → Spells d (value_data v) → value_of d ≡ Ok v
+value_reads : (d : Data) (v : Value) → Spells d (value_data v) → value_of d ≡ Ok v
 unfolding value_of
 value_reads d (Text s) is = rw is refl
 value_reads d (Number z) (y, (m, e, f), is, fits) =
@@ -160,7 +159,7 @@ unsigned_tested : (p : List ℕ) (b : Bool) (m : ℕ) → ltb m (2 ^ 63) ≡ b
 unsigned_tested p true m e = rw e refl
 unsigned_tested p false m e = wrong_is {A = Value} p Range (bad Range) refl
 
-pub value_reported : (p : List ℕ) (d : Data) → first_of (value_faults p d) ≡ fault_of p (value_of d)
+value_reported : (p : List ℕ) (d : Data) → first_of (value_faults p d) ≡ fault_of p (value_of d)
 unfolding value_of whole_number
 value_reported p (string s) = refl
 value_reported p (number (unsigned m)) = unsigned_tested p (ltb m (2 ^ 63)) m refl
@@ -168,78 +167,17 @@ value_reported p (number (negative z)) = value_tested p (is_64_bit z) z
 value_reported p (number (float x)) = wrong_is {A = Value} p Shape (bad Shape) refl
 value_reported p _ = wrong_is {A = Value} p Shape (bad Shape) refl
 
+pub value_laws : Laws Value value_of value_data AnyFits value_faults
+value_laws = record { reported = value_reported; means = λ d v h. (value_means d v h, tt); reads = λ d v s fits. value_reads d v s }
+
 -- ---- null for what is absent
 
-some_text-reported : (p : List ℕ) (d : Data) → first_of (faults_by AnyText p d) ≡ fault_of p (text_of d >>= λ s. Ok (Some s))
-some_text-reported p d = made p (text_of d) (λ (s : List ℕ). Some s) (faults_by AnyText p d) (text_faulted p d)
+text_laws : Laws (List ℕ) text_of string AnyFits (faults_by AnyText)
+text_laws = record { reported = text_faulted; means = λ d s h. (text_of-is d s h, tt); reads = λ d s is fits. text_reads d s is }
 
-pub text_or_null-reported : (p : List ℕ) (d : Data) → first_of (or_null (faults_by AnyText) p d) ≡ fault_of p (text_or_null_of d)
-unfolding text_or_null_of
-text_or_null-reported p null = refl
-text_or_null-reported p (boolean b) = some_text-reported p (boolean b)
-text_or_null-reported p (number n) = some_text-reported p (number n)
-text_or_null-reported p (string s) = some_text-reported p (string s)
-text_or_null-reported p (array ds) = some_text-reported p (array ds)
-text_or_null-reported p (object ms) = some_text-reported p (object ms)
+no_null : text_of null ≡ bad Shape
+unfolding text_of
+no_null = refl
 
-text_there : (d : Data) (o : Option (List ℕ)) → (text_of d >>= λ s. Ok (Some s)) ≡ Ok o → Spells d (text_or_null o)
-text_there d o h =
-    let q = bind_ok (text_of d) _ o h in
-    let is : Some q.0 ≡ o = cc q.2 in
-    subst (λ (x : Option (List ℕ)). Spells d (text_or_null x)) is (text_of-is d q.0 q.1)
-
-pub text_or_null-means : (d : Data) (o : Option (List ℕ)) → text_or_null_of d ≡ Ok o → Spells d (text_or_null o)
-unfolding text_or_null_of
-text_or_null-means null o h =
-    let is : None ≡ o = cc h in
-    subst (λ (x : Option (List ℕ)). Spells null (text_or_null x)) is refl
-text_or_null-means (boolean b) o h = text_there (boolean b) o h
-text_or_null-means (number n) o h = text_there (number n) o h
-text_or_null-means (string s) o h = text_there (string s) o h
-text_or_null-means (array ds) o h = text_there (array ds) o h
-text_or_null-means (object ms) o h = text_there (object ms) o h
-
-pub text_or_null-reads : (d : Data) (o : Option (List ℕ)) → Spells d (text_or_null o) → text_or_null_of d ≡ Ok o
-unfolding text_or_null_of text_of
-text_or_null-reads d None is = rw is refl
-text_or_null-reads d (Some s) is = rw is refl
-
--- ---- lists
-
-each_reported : {A : Type 0} (faults : List ℕ → Data → Faults) (read : Data → Outcome A)
-    → ((p : List ℕ) (d : Data) → first_of (faults p d) ≡ fault_of p (read d))
-    → (p : List ℕ) (index : ℕ) (ds : Items) → first_of (each_of faults p index ds) ≡ fault_of p (each_from read index ds)
-unfolding each_from
-each_reported faults read reported p index no_items = refl
-each_reported {A} faults read reported p index (item d ds) =
-    part_then p index (read d) _ (faults (at p index) d) (each_of faults p (suc index) ds) (reported (at p index) d)
-    (λ (x : A). made p (each_from read (suc index) ds) (λ (xs : List A). x ∷ xs) (each_of faults p (suc index) ds)
-    (each_reported faults read reported p (suc index) ds))
-
-pub list_reported : {A : Type 0} (faults : List ℕ → Data → Faults) (read : Data → Outcome A)
-    → ((p : List ℕ) (d : Data) → first_of (faults p d) ≡ fault_of p (read d))
-    → (p : List ℕ) (d : Data) → first_of (faults_by (By (list_faults faults)) p d) ≡ fault_of p (list_of read (as_array d))
-list_reported faults read reported p (array ds) = each_reported faults read reported p 0 ds
-list_reported {A} faults read reported p null = wrong_is {A = List A} p Shape (bad Shape) refl
-list_reported {A} faults read reported p _ = wrong_is {A = List A} p Shape (bad Shape) refl
-
-pub items_spelled : {A : Type 0} (spell : A → Data) (ds : Items) (xs : List A) → SpellsEach (λ (e : Data) (x : A). Spells e (spell x)) ds xs
-    → SpellsItems ds (items_of (map spell xs))
-items_spelled spell ds [] is = is
-items_spelled spell ds (x ∷ xs) (d, rest, is, s, more) = (d, rest, is, s, items_spelled spell rest xs more)
-
-pub each_spelled : {A : Type 0} (spell : A → Data) (ds : Items) (xs : List A) → SpellsItems ds (items_of (map spell xs))
-    → SpellsEach (λ (e : Data) (x : A). Spells e (spell x)) ds xs
-each_spelled spell ds [] is = is
-each_spelled spell ds (x ∷ xs) (d, rest, is, s, more) = (d, rest, is, s, each_spelled spell rest xs more)
-
-pub list_means : {A : Type 0} (read : Data → Outcome A) (spell : A → Data) → ((d : Data) (x : A) → read d ≡ Ok x → Spells d (spell x))
-    → (d : Data) (xs : List A) → list_of read (as_array d) ≡ Ok xs → Spells d (list (map spell xs))
-list_means {A} read spell means d xs h =
-    let s = list_sound read (λ (e : Data) (x : A). Spells e (spell x)) means d xs h in
-    (s.0, s.1, items_spelled spell s.0 xs s.2)
-
-pub list_reads : {A : Type 0} (read : Data → Outcome A) (spell : A → Data) → ((d : Data) (x : A) → Spells d (spell x) → read d ≡ Ok x)
-    → (d : Data) (xs : List A) → Spells d (list (map spell xs)) → list_of read (as_array d) ≡ Ok xs
-list_reads {A} read spell reads d xs (ds, is, m) =
-    rw is (each_reads read (λ (e : Data) (x : A). Spells e (spell x)) reads 0 ds xs (each_spelled spell ds xs m))
+pub text_or_null_laws : Laws (Option (List ℕ)) (λ d. or_null_of text_of d) text_or_null AnyFits (or_null (faults_by AnyText))
+text_or_null_laws = or_null_laws text_of string (faults_by AnyText) text_laws text_or_null refl (λ s. refl) no_null

@@ -130,7 +130,7 @@ reply_shallow n (Advanced now expired) = (refl, (tt, (refl, (listed expired_data
 reply_shallow n (Compacted revision) = (refl, (tt, (refl, tt)))
 reply_shallow n (Watching id) = (refl, (tt, (refl, tt)))
 reply_shallow n (Cancelled id) = (refl, (tt, (refl, tt)))
-reply_shallow n (Batch id up_to events) = (refl, (tt, (refl, (refl, (listed event_data 3 event_shallow events, tt)))))
+reply_shallow n (Batch id upto events) = (refl, (tt, (refl, (refl, (listed event_data 3 event_shallow events, tt)))))
 reply_shallow n (Lost id floor) = (refl, (tt, (refl, (refl, tt))))
 
 event_shallow_of : (n : ℕ) (reply : Result Reply Denied) → IsShallow (event_data_of n reply) 5

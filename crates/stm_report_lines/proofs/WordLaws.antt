@@ -21,9 +21,13 @@ abbrev pub texts : {W : Type 0} → List (List ℕ × W) → List (List ℕ)
 texts rows = map (λ r. r.0) rows
 
 -- each word is the text of what it stands for
-abbrev pub AreTexts : {W : Type 0} → (W → List ℕ) → List (List ℕ × W) → Type 0
-AreTexts text [] = Unit {0}
-AreTexts text (r ∷ rows) = (r.0 ≡ text r.1) × AreTexts text rows
+abbrev pub are_texts : {W : Type 0} → (W → List ℕ) → List (List ℕ × W) → Bool
+are_texts text [] = true
+are_texts text (r ∷ rows) = cond (same r.0 (text r.1)) (are_texts text rows) false
+
+both : (b c : Bool) → cond b c false ≡ true → (b ≡ true) × (c ≡ true)
+both true c h = (refl, h)
+both false c h = cc
 
 found_by : {W : Type 0} (text : W → List ℕ) (w t : List ℕ) (b : Bool) (y x : W) (rest : Option W) → (b ≡ true → w ≡ t) → t ≡ text y
     → (rest ≡ Some x → w ≡ text x) → cond b (Some y) rest ≡ Some x → w ≡ text x
@@ -32,10 +36,13 @@ found_by text w t true y x rest found is others h =
     found refl ∙ is ∙ ap text e
 found_by text w t false y x rest found is others h = others h
 
-pub named-is : {W : Type 0} (text : W → List ℕ) (rows : List (List ℕ × W)) (w : List ℕ) (x : W) → AreTexts text rows → named rows w ≡ Some x → w ≡ text x
+pub named-is : {W : Type 0} (text : W → List ℕ) (rows : List (List ℕ × W)) (w : List ℕ) (x : W) → are_texts text rows ≡ true → named rows w ≡ Some x
+    → w ≡ text x
 named-is text [] w x are h = cc
 named-is text (r ∷ rows) w x are h =
-    found_by text w r.0 (same w r.0) r.1 x (named rows w) (bytes_eq-Decides w r.0).0 are.0 (named-is text rows w x are.1) h
+    let b = both (same r.0 (text r.1)) (are_texts text rows) are in
+    found_by text w r.0 (same w r.0) r.1 x (named rows w) (bytes_eq-Decides w r.0).0 ((bytes_eq-Decides r.0 (text r.1)).0 b.0)
+    (named-is text rows w x b.1) h
 
 word_tested : {W : Type 0} (p : List ℕ) (b rest : Bool) (y : W) (o : Option W)
     → first_of (cond rest [] (wrong p Shape)) ≡ fault_of p (if_there o)
@@ -72,7 +79,7 @@ fault_named-text Kind = refl
 fault_named-text _ = refl
 
 pub fault_named-is : (w : List ℕ) (f : Fault) → named fault_words w ≡ Some f → w ≡ fault_name f
-fault_named-is w f h = named-is fault_name fault_words w f (refl, (refl, (refl, (refl, (refl, (refl, (refl, (refl, tt)))))))) h
+fault_named-is w f h = named-is fault_name fault_words w f refl h
 
 -- ---- refusals
 
@@ -80,9 +87,5 @@ pub refusal_named-text : (c : EventRefusal) → named refusal_words (refusal_nam
 refusal_named-text cause.Kind = refl
 refusal_named-text _ = refl
 
-refusals_are_texts : AreTexts refusal_name refusal_words
-refusals_are_texts =
-    (refl, (refl, (refl, (refl, (refl, (refl, (refl, (refl, (refl, (refl, (refl, (refl, (refl, (refl, (refl, (refl, (refl, (refl, (refl, (refl, (refl, (refl, (refl, (refl, (refl, tt)))))))))))))))))))))))))
-
 pub refusal_named-is : (w : List ℕ) (c : EventRefusal) → named refusal_words w ≡ Some c → w ≡ refusal_name c
-refusal_named-is w c h = named-is refusal_name refusal_words w c refusals_are_texts h
+refusal_named-is w c h = named-is refusal_name refusal_words w c refl h

@@ -113,7 +113,7 @@ reply_data n (Advanced now expired) = numbered n (codes "advanced") (whole now �
 reply_data n (Compacted revision) = numbered n (codes "compacted") (whole revision ∷ [])
 reply_data n (Watching watcher) = numbered n (codes "watching") (whole watcher ∷ [])
 reply_data n (Cancelled watcher) = numbered n (codes "cancelled") (whole watcher ∷ [])
-reply_data n (Batch watcher up_to events) = numbered n (codes "batch") (whole watcher ∷ whole up_to ∷ list (map event_data events) ∷ [])
+reply_data n (Batch watcher upto events) = numbered n (codes "batch") (whole watcher ∷ whole upto ∷ list (map event_data events) ∷ [])
 reply_data n (Lost watcher floor) = numbered n (codes "lost") (whole watcher ∷ whole floor ∷ [])
 
 -- the line of the event with this number: the reply to it, or why it was refused and which leases had expired before

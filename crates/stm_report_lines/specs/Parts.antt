@@ -21,13 +21,31 @@ use Rattle.stm_events.specs.declared.reply.CommittedRead.{CommittedRead}
 use Rattle.stm_events.specs.declared.reply.KeyRead.{KeyRead}
 use Rattle.stm_events.specs.declared.reply.OpReply.{OpReply}
 use Rattle.stm_events.specs.declared.reply.OpReply.TheVariants as op
-use Rattle.stm_report_lines.specs.Elements.{five_of, six_of}
+use Rattle.stm_report_lines.specs.Elements.{element, five_of, six_of}
 use Rattle.stm_report_lines.specs.Words.{named, fault_words, refusal_words}
 
 -- what stands there, or Shape
 abbrev pub if_there : {A : Type 0} → Option A → Outcome A
 if_there (Some x) = Ok x
 if_there None = bad Shape
+
+abbrev pub read_at : {A : Type 0} → ℕ → (Data → Outcome A) → Option Data → Outcome A
+read_at index read None = bad Shape
+read_at index read (Some d) = within index (read d)
+
+-- what is read of the element at an index
+unfoldable pub part_at : {A : Type 0} → ℕ → (Data → Outcome A) → Items → Outcome A
+part_at index read ds = read_at index read (element index ds)
+
+-- an array whose elements are read so
+abbrev pub on_array : {A : Type 0} → (Items → Outcome A) → Option Items → Outcome A
+on_array read None = bad Shape
+on_array read (Some ds) = read ds
+
+-- an array of a word and elements that are read so
+abbrev pub on_word : {A : Type 0} → (List ℕ → Items → Outcome A) → Option (List ℕ × Items) → Outcome A
+on_word read None = bad Shape
+on_word read (Some p) = read p.0 p.1
 
 -- a number from 0 on
 abbrev pub number_of : Data → Outcome ℕ
@@ -63,12 +81,8 @@ state_parts (Some p) =
     within 0 (text_of p.0) >>= λ value. within 1 (number_of p.1) >>= λ create_rev. within 2 (number_of p.2) >>= λ mod_rev.
     within 3 (number_of p.3) >>= λ version. within 4 (number_of p.4) >>= λ lease. Ok (state_with value create_rev mod_rev version lease)
 
-abbrev pub state_array : Option Items → Outcome KeyState
-state_array None = bad Shape
-state_array (Some ds) = state_parts (five_of ds)
-
 unfoldable pub state_of : Data → Outcome KeyState
-state_of d = state_array (as_array d)
+state_of d = on_array (λ ds. state_parts (five_of ds)) (as_array d)
 
 -- a key and what it had, after a word
 abbrev pub keyed_of : Option (Data × Data × Data × Data × Data × Data) → Outcome (List ℕ × KeyState)
@@ -79,12 +93,8 @@ keyed_of (Some p) =
     (key, state_with value create_rev mod_rev version lease)
 
 -- null stands for an absent key
-
-unfoldable pub text_or_null_of : Data → Outcome (Option (List ℕ))
-text_or_null_of d = if is_some (as_null d) then Ok None else text_of d >>= λ s. Ok (Some s)
-
-unfoldable pub state_or_null_of : Data → Outcome (Option KeyState)
-state_or_null_of d = if is_some (as_null d) then Ok None else state_of d >>= λ s. Ok (Some s)
+abbrev pub or_null_of : {A : Type 0} → (Data → Outcome A) → Data → Outcome (Option A)
+or_null_of read d = if is_some (as_null d) then Ok None else read d >>= λ x. Ok (Some x)
 
 -- ---- what stands in lists
 
@@ -96,15 +106,14 @@ abbrev pub trace_rev_of : Option (Data × Data) → Outcome TraceItem
 trace_rev_of None = bad Shape
 trace_rev_of (Some p) = within 1 (text_of p.0) >>= λ key. within 2 (number_of p.1) >>= λ mod_rev. Ok (trace.Rev key mod_rev)
 
-abbrev pub trace_worded : Option (List ℕ × Items) → Outcome TraceItem
-trace_worded None = bad Shape
-trace_worded (Some p) =
-    if same p.0 (codes "get") then trace_get_of (two_of p.1)
-    else (if same p.0 (codes "rev") then trace_rev_of (two_of p.1)
+abbrev pub trace_worded : List ℕ → Items → Outcome TraceItem
+trace_worded w ds =
+    if same w (codes "get") then trace_get_of (two_of ds)
+    else (if same w (codes "rev") then trace_rev_of (two_of ds)
     else bad Shape)
 
 unfoldable pub trace_of : Data → Outcome TraceItem
-trace_of d = trace_worded (worded d)
+trace_of d = on_word trace_worded (worded d)
 
 abbrev pub answer_with : List ℕ → Option (List ℕ) → ℕ → ℕ → CommittedRead
 answer_with key value mod_rev of_rev = record { key = key; value = value; mod_rev = mod_rev; of_rev = of_rev }
@@ -112,19 +121,15 @@ answer_with key value mod_rev of_rev = record { key = key; value = value; mod_re
 abbrev pub answer_parts : Option (Data × Data × Data × Data) → Outcome CommittedRead
 answer_parts None = bad Shape
 answer_parts (Some p) =
-    within 0 (text_of p.0) >>= λ key. within 1 (text_or_null_of p.1) >>= λ value. within 2 (number_of p.2) >>= λ mod_rev.
+    within 0 (text_of p.0) >>= λ key. within 1 (or_null_of text_of p.1) >>= λ value. within 2 (number_of p.2) >>= λ mod_rev.
     within 3 (number_of p.3) >>= λ of_rev. Ok (answer_with key value mod_rev of_rev)
 
-abbrev pub answer_array : Option Items → Outcome CommittedRead
-answer_array None = bad Shape
-answer_array (Some ds) = answer_parts (four_of ds)
-
 unfoldable pub answer_of : Data → Outcome CommittedRead
-answer_of d = answer_array (as_array d)
+answer_of d = on_array (λ ds. answer_parts (four_of ds)) (as_array d)
 
 abbrev pub op_get_of : Option (Data × Data) → Outcome OpReply
 op_get_of None = bad Shape
-op_get_of (Some p) = within 1 (number_of p.0) >>= λ revision. within 2 (state_or_null_of p.1) >>= λ kv. Ok (op.Get revision kv)
+op_get_of (Some p) = within 1 (number_of p.0) >>= λ revision. within 2 (or_null_of state_of p.1) >>= λ kv. Ok (op.Get revision kv)
 
 abbrev pub op_put_of : Items → Outcome OpReply
 op_put_of no_items = Ok op.Put
@@ -134,16 +139,15 @@ abbrev pub op_del_of : Option Data → Outcome OpReply
 op_del_of None = bad Shape
 op_del_of (Some d) = within 1 (number_up_to 1 d) >>= λ count. Ok (op.Del count)
 
-abbrev pub op_worded : Option (List ℕ × Items) → Outcome OpReply
-op_worded None = bad Shape
-op_worded (Some p) =
-    if same p.0 (codes "get") then op_get_of (two_of p.1)
-    else (if same p.0 (codes "put") then op_put_of p.1
-    else (if same p.0 (codes "del") then op_del_of (one_of p.1)
+abbrev pub op_worded : List ℕ → Items → Outcome OpReply
+op_worded w ds =
+    if same w (codes "get") then op_get_of (two_of ds)
+    else (if same w (codes "put") then op_put_of ds
+    else (if same w (codes "del") then op_del_of (one_of ds)
     else bad Shape))
 
 unfoldable pub op_of : Data → Outcome OpReply
-op_of d = op_worded (worded d)
+op_of d = on_word op_worded (worded d)
 
 abbrev pub read_with : List ℕ → ℕ → KeyRead
 read_with key mod_rev = record { key = key; mod_rev = mod_rev }
@@ -152,12 +156,8 @@ abbrev pub read_parts : Option (Data × Data) → Outcome KeyRead
 read_parts None = bad Shape
 read_parts (Some p) = within 0 (text_of p.0) >>= λ key. within 1 (number_of p.1) >>= λ mod_rev. Ok (read_with key mod_rev)
 
-abbrev pub read_array : Option Items → Outcome KeyRead
-read_array None = bad Shape
-read_array (Some ds) = read_parts (two_of ds)
-
 unfoldable pub read_of : Data → Outcome KeyRead
-read_of d = read_array (as_array d)
+read_of d = on_array (λ ds. read_parts (two_of ds)) (as_array d)
 
 abbrev pub expired_with : ℕ → ℕ → Expired
 expired_with id revision = record { id = id; revision = revision }
@@ -166,12 +166,8 @@ abbrev pub expired_parts : Option (Data × Data) → Outcome Expired
 expired_parts None = bad Shape
 expired_parts (Some p) = within 0 (number_of p.0) >>= λ id. within 1 (number_of p.1) >>= λ revision. Ok (expired_with id revision)
 
-abbrev pub expired_array : Option Items → Outcome Expired
-expired_array None = bad Shape
-expired_array (Some ds) = expired_parts (two_of ds)
-
 unfoldable pub expired_of : Data → Outcome Expired
-expired_of d = expired_array (as_array d)
+expired_of d = on_array (λ ds. expired_parts (two_of ds)) (as_array d)
 
 abbrev pub event_put_of : Option (Data × Data × Data × Data × Data × Data) → Outcome Event
 event_put_of o = keyed_of o >>= λ p. Ok (event.Put p.0 p.1)
@@ -180,12 +176,11 @@ abbrev pub event_delete_of : Option (Data × Data) → Outcome Event
 event_delete_of None = bad Shape
 event_delete_of (Some p) = within 1 (text_of p.0) >>= λ key. within 2 (number_of p.1) >>= λ revision. Ok (event.Delete key revision)
 
-abbrev pub event_worded : Option (List ℕ × Items) → Outcome Event
-event_worded None = bad Shape
-event_worded (Some p) =
-    if same p.0 (codes "PUT") then event_put_of (six_of p.1)
-    else (if same p.0 (codes "DELETE") then event_delete_of (two_of p.1)
+abbrev pub event_worded : List ℕ → Items → Outcome Event
+event_worded w ds =
+    if same w (codes "PUT") then event_put_of (six_of ds)
+    else (if same w (codes "DELETE") then event_delete_of (two_of ds)
     else bad Shape)
 
 unfoldable pub event_of : Data → Outcome Event
-event_of d = event_worded (worded d)
+event_of d = on_word event_worded (worded d)

@@ -4,7 +4,7 @@ use Rattle.std.specs.Prelude.{ℕ, suc, List, [], ◌∷◌, length, Option, Som
 use Rattle.serde_json.specs.Data.{Data, Items, no_items, item}
 use Rattle.serde_json.specs.Find.{as_str, as_array}
 use Rattle.stm_json.specs.declared.cause.Cause.TheVariants.{NotJson, Shape, TooLong}
-use Rattle.stm_json.specs.Elements.{first_word, one_of, two_of, three_of, four_of}
+use Rattle.stm_json.specs.Elements.{first_word, two_of, three_of}
 use Rattle.stm_json.specs.Outcome.{Outcome, bad, ◌>>=◌, within}
 use Rattle.stm_steps.specs.declared.value.Value.{Value}
 use Rattle.stm_steps.specs.declared.trace_item.TraceItem.{TraceItem}
@@ -29,9 +29,10 @@ use Rattle.stm_report_lines.specs.declared.words.StandingWord.{StandingWord}
 use Rattle.stm_report_lines.specs.declared.words.StandingWord.TheVariants as standing
 use Rattle.stm_json.specs.Bytes.{data_of}
 use Rattle.stm_report_lines.specs.Bytes.{parts_of}
-use Rattle.stm_report_lines.specs.Elements.{count, five_of, six_of}
-use Rattle.stm_report_lines.specs.Parts.{number_of, flag_of, fault_of, cause_of, keyed_of, value_of, trace_of, answer_of, op_of, read_of, expired_of, event_of}
-use Rattle.stm_report_lines.specs.Words.{named, event_words, elements_after, standing_words}
+use Rattle.stm_report_lines.specs.Elements.{count, six_of}
+use Rattle.stm_report_lines.specs.Parts.{part_at, number_of, flag_of, fault_of, cause_of, keyed_of, value_of, trace_of, answer_of, op_of, read_of}
+use Rattle.stm_report_lines.specs.Parts.{expired_of, event_of}
+use Rattle.stm_report_lines.specs.Words.{named, event_words, standing_words}
 
 -- ---- lists
 
@@ -56,137 +57,55 @@ expireds_of d = list_of expired_of (as_array d)
 abbrev pub events_of : Data → Outcome (List Event)
 events_of d = list_of event_of (as_array d)
 
--- ---- the reply to an event, or its refusal: the elements after the word
+-- ---- lines of events: the number, the word, and as many elements as come after this word
 
+-- the reply to an event, or its refusal
 abbrev pub EventReply : Type 0
 EventReply = Result Reply Denied
-
-abbrev pub started_of : Option Data → Outcome EventReply
-started_of None = bad Shape
-started_of (Some d) = within 2 (number_of d) >>= λ runner. Ok (Ok (Started runner))
-
-abbrev pub prefetched_of : Option (Data × Data × Data) → Outcome EventReply
-prefetched_of None = bad Shape
-prefetched_of (Some p) =
-    within 2 (number_of p.0) >>= λ runner. within 3 (number_of p.1) >>= λ revision. within 4 (key_reads_of p.2) >>= λ reads.
-    Ok (Ok (Prefetched runner revision reads))
-
-abbrev pub fetched_of : Option (Data × Data × Data × Data × Data) → Outcome EventReply
-fetched_of None = bad Shape
-fetched_of (Some p) =
-    within 2 (number_of p.0) >>= λ runner. within 3 (text_of p.1) >>= λ key. within 4 (number_of p.2) >>= λ mod_rev.
-    within 5 (number_of p.3) >>= λ of_rev. within 6 (number_of p.4) >>= λ revision. Ok (Ok (Fetched runner key mod_rev of_rev revision))
-
-abbrev pub committed_of : Option (Data × Data × Data × Data × Data × Data) → Outcome EventReply
-committed_of None = bad Shape
-committed_of (Some p) =
-    within 2 (number_of p.0) >>= λ runner. within 3 (number_of p.1) >>= λ revision. within 4 (number_of p.2) >>= λ attempts.
-    within 5 (values_of p.3) >>= λ output. within 6 (traces_of p.4) >>= λ trace. within 7 (answers_of p.5) >>= λ answers.
-    Ok (Ok (Committed runner revision attempts output trace answers))
-
-abbrev pub conflict_of : Option (Data × Data × Data × Data) → Outcome EventReply
-conflict_of None = bad Shape
-conflict_of (Some p) =
-    within 2 (number_of p.0) >>= λ runner. within 3 (text_of p.1) >>= λ key. within 4 (number_of p.2) >>= λ seen.
-    within 5 (number_of p.3) >>= λ now. Ok (Ok (Conflict runner key seen now))
-
-abbrev pub gave_up_of : Option (Data × Data × Data × Data × Data) → Outcome EventReply
-gave_up_of None = bad Shape
-gave_up_of (Some p) =
-    within 2 (number_of p.0) >>= λ runner. within 3 (number_of p.1) >>= λ attempts. within 4 (text_of p.2) >>= λ key.
-    within 5 (number_of p.3) >>= λ seen. within 6 (number_of p.4) >>= λ now. Ok (Ok (GaveUp runner attempts key seen now))
-
-abbrev pub aborted_of : Option (Data × Data) → Outcome EventReply
-aborted_of None = bad Shape
-aborted_of (Some p) = within 2 (number_of p.0) >>= λ runner. within 3 (text_of p.1) >>= λ text. Ok (Ok (Aborted runner text))
-
-abbrev pub faulted_of : Option (Data × Data) → Outcome EventReply
-faulted_of None = bad Shape
-faulted_of (Some p) = within 2 (number_of p.0) >>= λ runner. within 3 (fault_of p.1) >>= λ fault. Ok (Ok (Faulted runner fault))
-
-abbrev pub ended_of : Option (Data × Data) → Outcome EventReply
-ended_of None = bad Shape
-ended_of (Some p) = within 2 (number_of p.0) >>= λ runner. within 3 (cause_of p.1) >>= λ cause. Ok (Ok (Ended runner cause))
-
-abbrev pub txn_of : Option (Data × Data × Data) → Outcome EventReply
-txn_of None = bad Shape
-txn_of (Some p) =
-    within 2 (flag_of p.0) >>= λ succeeded. within 3 (number_of p.1) >>= λ revision. within 4 (ops_of p.2) >>= λ answers.
-    Ok (Ok (Txn succeeded revision answers))
-
-abbrev pub granted_of : Option Data → Outcome EventReply
-granted_of None = bad Shape
-granted_of (Some d) = within 2 (number_of d) >>= λ id. Ok (Ok (Granted id))
-
-abbrev pub kept_of : Option Data → Outcome EventReply
-kept_of None = bad Shape
-kept_of (Some d) = within 2 (number_of d) >>= λ id. Ok (Ok (Kept id))
-
-abbrev pub revoked_of : Option (Data × Data) → Outcome EventReply
-revoked_of None = bad Shape
-revoked_of (Some p) = within 2 (number_of p.0) >>= λ id. within 3 (number_of p.1) >>= λ revision. Ok (Ok (Revoked id revision))
-
-abbrev pub advanced_of : Option (Data × Data) → Outcome EventReply
-advanced_of None = bad Shape
-advanced_of (Some p) = within 2 (number_of p.0) >>= λ now. within 3 (expireds_of p.1) >>= λ expired. Ok (Ok (Advanced now expired))
-
-abbrev pub compacted_of : Option Data → Outcome EventReply
-compacted_of None = bad Shape
-compacted_of (Some d) = within 2 (number_of d) >>= λ revision. Ok (Ok (Compacted revision))
-
-abbrev pub watching_of : Option Data → Outcome EventReply
-watching_of None = bad Shape
-watching_of (Some d) = within 2 (number_of d) >>= λ watcher. Ok (Ok (Watching watcher))
-
-abbrev pub cancelled_of : Option Data → Outcome EventReply
-cancelled_of None = bad Shape
-cancelled_of (Some d) = within 2 (number_of d) >>= λ watcher. Ok (Ok (Cancelled watcher))
-
-abbrev pub batch_of : Option (Data × Data × Data) → Outcome EventReply
-batch_of None = bad Shape
-batch_of (Some p) =
-    within 2 (number_of p.0) >>= λ watcher. within 3 (number_of p.1) >>= λ up_to. within 4 (events_of p.2) >>= λ events.
-    Ok (Ok (Batch watcher up_to events))
-
-abbrev pub lost_of : Option (Data × Data) → Outcome EventReply
-lost_of None = bad Shape
-lost_of (Some p) = within 2 (number_of p.0) >>= λ watcher. within 3 (number_of p.1) >>= λ floor. Ok (Ok (Lost watcher floor))
 
 abbrev pub denied_with : EventRefusal → List Expired → Denied
 denied_with cause expired = record { cause = cause; expired = expired }
 
-abbrev pub refused_of : Option (Data × Data) → Outcome EventReply
-refused_of None = bad Shape
-refused_of (Some p) = within 2 (cause_of p.0) >>= λ cause. within 3 (expireds_of p.1) >>= λ expired. Ok (Err (denied_with cause expired))
-
+-- the elements after the word, which are of the indices from 2 on
 abbrev pub event_reply_of : EventWord → Items → Outcome EventReply
-event_reply_of event.Started ds = started_of (one_of ds)
-event_reply_of event.Prefetched ds = prefetched_of (three_of ds)
-event_reply_of event.Fetched ds = fetched_of (five_of ds)
-event_reply_of event.Committed ds = committed_of (six_of ds)
-event_reply_of event.Conflict ds = conflict_of (four_of ds)
-event_reply_of event.GaveUp ds = gave_up_of (five_of ds)
-event_reply_of event.Aborted ds = aborted_of (two_of ds)
-event_reply_of event.Faulted ds = faulted_of (two_of ds)
-event_reply_of event.Ended ds = ended_of (two_of ds)
-event_reply_of event.Txn ds = txn_of (three_of ds)
-event_reply_of event.Granted ds = granted_of (one_of ds)
-event_reply_of event.Kept ds = kept_of (one_of ds)
-event_reply_of event.Revoked ds = revoked_of (two_of ds)
-event_reply_of event.Advanced ds = advanced_of (two_of ds)
-event_reply_of event.Compacted ds = compacted_of (one_of ds)
-event_reply_of event.Watching ds = watching_of (one_of ds)
-event_reply_of event.Cancelled ds = cancelled_of (one_of ds)
-event_reply_of event.Batch ds = batch_of (three_of ds)
-event_reply_of event.Lost ds = lost_of (two_of ds)
-event_reply_of event.Refused ds = refused_of (two_of ds)
+event_reply_of event.Started ds = part_at 2 number_of ds >>= λ runner. Ok (Ok (Started runner))
+event_reply_of event.Prefetched ds =
+    part_at 2 number_of ds >>= λ runner. part_at 3 number_of ds >>= λ revision. part_at 4 key_reads_of ds >>= λ reads.
+    Ok (Ok (Prefetched runner revision reads))
+event_reply_of event.Fetched ds =
+    part_at 2 number_of ds >>= λ runner. part_at 3 text_of ds >>= λ key. part_at 4 number_of ds >>= λ mod_rev.
+    part_at 5 number_of ds >>= λ of_rev. part_at 6 number_of ds >>= λ revision. Ok (Ok (Fetched runner key mod_rev of_rev revision))
+event_reply_of event.Committed ds =
+    part_at 2 number_of ds >>= λ runner. part_at 3 number_of ds >>= λ revision. part_at 4 number_of ds >>= λ attempts.
+    part_at 5 values_of ds >>= λ output. part_at 6 traces_of ds >>= λ trace. part_at 7 answers_of ds >>= λ answers.
+    Ok (Ok (Committed runner revision attempts output trace answers))
+event_reply_of event.Conflict ds =
+    part_at 2 number_of ds >>= λ runner. part_at 3 text_of ds >>= λ key. part_at 4 number_of ds >>= λ seen.
+    part_at 5 number_of ds >>= λ now. Ok (Ok (Conflict runner key seen now))
+event_reply_of event.GaveUp ds =
+    part_at 2 number_of ds >>= λ runner. part_at 3 number_of ds >>= λ attempts. part_at 4 text_of ds >>= λ key.
+    part_at 5 number_of ds >>= λ seen. part_at 6 number_of ds >>= λ now. Ok (Ok (GaveUp runner attempts key seen now))
+event_reply_of event.Aborted ds = part_at 2 number_of ds >>= λ runner. part_at 3 text_of ds >>= λ text. Ok (Ok (Aborted runner text))
+event_reply_of event.Faulted ds = part_at 2 number_of ds >>= λ runner. part_at 3 fault_of ds >>= λ fault. Ok (Ok (Faulted runner fault))
+event_reply_of event.Ended ds = part_at 2 number_of ds >>= λ runner. part_at 3 cause_of ds >>= λ cause. Ok (Ok (Ended runner cause))
+event_reply_of event.Txn ds =
+    part_at 2 flag_of ds >>= λ succeeded. part_at 3 number_of ds >>= λ revision. part_at 4 ops_of ds >>= λ answers.
+    Ok (Ok (Txn succeeded revision answers))
+event_reply_of event.Granted ds = part_at 2 number_of ds >>= λ id. Ok (Ok (Granted id))
+event_reply_of event.Kept ds = part_at 2 number_of ds >>= λ id. Ok (Ok (Kept id))
+event_reply_of event.Revoked ds = part_at 2 number_of ds >>= λ id. part_at 3 number_of ds >>= λ revision. Ok (Ok (Revoked id revision))
+event_reply_of event.Advanced ds = part_at 2 number_of ds >>= λ now. part_at 3 expireds_of ds >>= λ expired. Ok (Ok (Advanced now expired))
+event_reply_of event.Compacted ds = part_at 2 number_of ds >>= λ revision. Ok (Ok (Compacted revision))
+event_reply_of event.Watching ds = part_at 2 number_of ds >>= λ watcher. Ok (Ok (Watching watcher))
+event_reply_of event.Cancelled ds = part_at 2 number_of ds >>= λ watcher. Ok (Ok (Cancelled watcher))
+event_reply_of event.Batch ds =
+    part_at 2 number_of ds >>= λ watcher. part_at 3 number_of ds >>= λ upto. part_at 4 events_of ds >>= λ events.
+    Ok (Ok (Batch watcher upto events))
+event_reply_of event.Lost ds = part_at 2 number_of ds >>= λ watcher. part_at 3 number_of ds >>= λ floor. Ok (Ok (Lost watcher floor))
+event_reply_of event.Refused ds = part_at 2 cause_of ds >>= λ cause. part_at 3 expireds_of ds >>= λ expired. Ok (Err (denied_with cause expired))
 
--- ---- lines of events: the number, the word, and as many elements as come after this word
-
-abbrev pub event_line_of : EventWord → Data → Items → Outcome ReportLine
-event_line_of w n ds =
-    if count ds == elements_after w then (within 0 (number_of n) >>= λ number. event_reply_of w ds >>= λ reply. Ok (line.Event number reply))
-    else bad Shape
+abbrev pub event_line_of : EventWord → Items → Outcome ReportLine
+event_line_of w ds = part_at 0 number_of ds >>= λ number. event_reply_of w ds >>= λ reply. Ok (line.Event number reply)
 
 -- ---- lines of what is left at the end: the elements after the word
 
@@ -213,17 +132,18 @@ abbrev pub standing_named : Option StandingWord → Items → Outcome ReportLine
 standing_named None ds = bad Shape
 standing_named (Some w) ds = standing_line_of w ds
 
-abbrev pub event_named : Option EventWord → Data → Items → Outcome ReportLine
-event_named None n ds = bad Shape
-event_named (Some w) n ds = event_line_of w n ds
+-- the number of elements after the word comes first
+abbrev pub event_named : Option (EventWord × ℕ) → Items → Items → Outcome ReportLine
+event_named None ds after = bad Shape
+event_named (Some row) ds after = if count after == row.1 then event_line_of row.0 ds else bad Shape
 
-abbrev pub event_worded : Data → Option (List ℕ × Items) → Outcome ReportLine
-event_worded n None = bad Shape
-event_worded n (Some p) = event_named (named event_words p.0) n p.1
+abbrev pub event_worded : Items → Option (List ℕ × Items) → Outcome ReportLine
+event_worded ds None = bad Shape
+event_worded ds (Some p) = event_named (named event_words p.0) ds p.1
 
 abbrev pub line_front : Data → Option (List ℕ) → Items → Outcome ReportLine
 line_front d (Some w) ds = standing_named (named standing_words w) ds
-line_front d None ds = event_worded d (first_word ds)
+line_front d None ds = event_worded (item d ds) (first_word ds)
 
 abbrev pub line_array : Option Items → Outcome ReportLine
 line_array None = bad Shape

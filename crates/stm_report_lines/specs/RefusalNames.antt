@@ -6,12 +6,12 @@ use Rattle.stm_outcome.specs.declared.refusal.Refusal.{Refusal as StoreRefusal}
 use Rattle.stm_outcome.specs.Names.{refusal_name as store_refusal_name}
 use Rattle.stm_events.specs.declared.refusal.EventRefusal.{EventRefusal}
 use Rattle.stm_events.specs.Names.{refusal_name}
-use Rattle.stm_events.specs.Replies.{refusal_of}
+use Rattle.stm_events.specs.Replies.{event_refusal}
 use Rattle.stm_report_lines.specs.Words.{named, fault_words, refusal_words}
 
 pub record NamesAgree : Type 0 where
   -- the line of an event or a run that the store refused has the name under which the store's refusal is printed elsewhere
-  pub refusals : (cause : StoreRefusal) → refusal_name (refusal_of cause) ≡ store_refusal_name cause
+  pub refusals : (cause : StoreRefusal) → refusal_name (event_refusal cause) ≡ store_refusal_name cause
   -- a report may say a program's fault as a refusal: it has one name as either
   pub faults : (fault : Fault) → (cause : EventRefusal) × (refusal_name cause ≡ fault_name fault)
   -- a word is read as a refusal exactly where it is the refusal's name

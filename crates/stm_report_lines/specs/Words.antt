@@ -6,8 +6,10 @@ use Rattle.stm_json.specs.Parts.{same}
 use Rattle.stm_events.specs.declared.refusal.EventRefusal.{EventRefusal}
 use Rattle.stm_events.specs.declared.refusal.EventRefusal.TheVariants as cause
 use Rattle.stm_report_lines.specs.declared.words.EventWord.{EventWord}
-use Rattle.stm_report_lines.specs.declared.words.EventWord.TheVariants.{Started, Prefetched, Fetched, Committed, Conflict, GaveUp, Aborted, Faulted, Ended}
-use Rattle.stm_report_lines.specs.declared.words.EventWord.TheVariants.{Txn, Granted, Kept, Revoked, Advanced, Compacted, Watching, Cancelled, Batch, Lost, Refused}
+use Rattle.stm_report_lines.specs.declared.words.EventWord.TheVariants.{Started, Prefetched, Fetched, Committed, Conflict, GaveUp, Aborted, Faulted}
+use Rattle.stm_report_lines.specs.declared.words.EventWord.TheVariants.{Ended}
+use Rattle.stm_report_lines.specs.declared.words.EventWord.TheVariants.{Txn, Granted, Kept, Revoked, Advanced, Compacted, Watching, Cancelled}
+use Rattle.stm_report_lines.specs.declared.words.EventWord.TheVariants.{Batch, Lost, Refused}
 use Rattle.stm_report_lines.specs.declared.words.StandingWord.{StandingWord}
 use Rattle.stm_report_lines.specs.declared.words.StandingWord.TheVariants.{Key, Lease, End}
 
@@ -16,52 +18,30 @@ abbrev pub named : {W : Type 0} → List (List ℕ × W) → List ℕ → Option
 named [] w = None
 named (row ∷ rows) w = if same w row.0 then Some row.1 else named rows w
 
-abbrev pub event_words : List (List ℕ × EventWord)
+-- the words of events' lines: the kind of the line, and how many elements come after the word
+abbrev pub event_words : List (List ℕ × (EventWord × ℕ))
 event_words =
-    (codes "started", Started)
-    ∷ (codes "prefetched", Prefetched)
-    ∷ (codes "fetched", Fetched)
-    ∷ (codes "committed", Committed)
-    ∷ (codes "conflict", Conflict)
-    ∷ (codes "gaveup", GaveUp)
-    ∷ (codes "aborted", Aborted)
-    ∷ (codes "faulted", Faulted)
-    ∷ (codes "ended", Ended)
-    ∷ (codes "txn", Txn)
-    ∷ (codes "granted", Granted)
-    ∷ (codes "kept", Kept)
-    ∷ (codes "revoked", Revoked)
-    ∷ (codes "advanced", Advanced)
-    ∷ (codes "compacted", Compacted)
-    ∷ (codes "watching", Watching)
-    ∷ (codes "cancelled", Cancelled)
-    ∷ (codes "batch", Batch)
-    ∷ (codes "lost", Lost)
-    ∷ (codes "refused", Refused)
+    (codes "started", (Started, 1))
+    ∷ (codes "prefetched", (Prefetched, 3))
+    ∷ (codes "fetched", (Fetched, 5))
+    ∷ (codes "committed", (Committed, 6))
+    ∷ (codes "conflict", (Conflict, 4))
+    ∷ (codes "gaveup", (GaveUp, 5))
+    ∷ (codes "aborted", (Aborted, 2))
+    ∷ (codes "faulted", (Faulted, 2))
+    ∷ (codes "ended", (Ended, 2))
+    ∷ (codes "txn", (Txn, 3))
+    ∷ (codes "granted", (Granted, 1))
+    ∷ (codes "kept", (Kept, 1))
+    ∷ (codes "revoked", (Revoked, 2))
+    ∷ (codes "advanced", (Advanced, 2))
+    ∷ (codes "compacted", (Compacted, 1))
+    ∷ (codes "watching", (Watching, 1))
+    ∷ (codes "cancelled", (Cancelled, 1))
+    ∷ (codes "batch", (Batch, 3))
+    ∷ (codes "lost", (Lost, 2))
+    ∷ (codes "refused", (Refused, 2))
     ∷ []
-
--- how many elements come after the word
-abbrev pub elements_after : EventWord → ℕ
-elements_after Started = 1
-elements_after Prefetched = 3
-elements_after Fetched = 5
-elements_after Committed = 6
-elements_after Conflict = 4
-elements_after GaveUp = 5
-elements_after Aborted = 2
-elements_after Faulted = 2
-elements_after Ended = 2
-elements_after Txn = 3
-elements_after Granted = 1
-elements_after Kept = 1
-elements_after Revoked = 2
-elements_after Advanced = 2
-elements_after Compacted = 1
-elements_after Watching = 1
-elements_after Cancelled = 1
-elements_after Batch = 3
-elements_after Lost = 2
-elements_after Refused = 2
 
 abbrev pub standing_words : List (List ℕ × StandingWord)
 standing_words = (codes "key", Key) ∷ (codes "lease", Lease) ∷ (codes "end", End) ∷ []

@@ -1,349 +1,252 @@
 //! Reading the lines of events: the number, the word, and the elements after it.
-ghost use Rattle.serde_json.specs.View.{view, items_view};
-ghost use Rattle.stm_json.specs.Elements.{one_of, two_of, three_of, four_of};
+ghost use Rattle.serde_json.specs.View.{items_view};
 ghost use Rattle.stm_json.specs.Returns.{Returns};
-ghost use Rattle.stm_report_lines.specs.Elements.{five_of, six_of};
-ghost use Rattle.stm_report_lines.specs.Reading.{started_of, prefetched_of, fetched_of, committed_of, conflict_of, gave_up_of, aborted_of, faulted_of, ended_of};
-ghost use Rattle.stm_report_lines.specs.Reading.{txn_of, granted_of, kept_of, revoked_of, advanced_of, compacted_of, watching_of, cancelled_of, batch_of, lost_of};
-ghost use Rattle.stm_report_lines.specs.Reading.{refused_of, event_reply_of, event_line_of};
+ghost use Rattle.stm_report_lines.specs.declared.words.EventWord.TheVariants as word;
+ghost use Rattle.stm_report_lines.specs.Reading.{event_reply_of, event_line_of};
 
-use crate::elements::{five, is_count, six};
-use crate::parts::{fault_part, flag_part, list_part, refusal_part};
-use crate::words::{EventWord, elements_after};
+use crate::parts::part;
+use crate::words::EventWord;
 use serde_json::Value as Json;
 use std::alloc::Global;
 use stm_events::{Denied, Reply, ReportLine};
-use stm_json::{Cause, ReadError, fault, four, number_part, one, text_part, three, two};
+use stm_json::ReadError;
 
 /// What the line of an event says after its number: the reply, or why it was refused.
 type EventReply = Result<Reply, Denied>;
 
 /// A runner was started.
-fn started(alloc: Global, elements: &[Json]) -> Result<EventReply, ReadError>
-    ensures { Returns (λ r. r) result (started_of (one_of (items_view elements.now))) }
+fn started(alloc: Global, line: &[Json]) -> Result<EventReply, ReadError>
+    ensures { Returns (λ r. r) result (event_reply_of word.Started (items_view line.now)) }
 {
-    let Some(runner) = one(elements) else {
-        return Err(fault(alloc, Cause::Shape));
-    };
-    let runner = number_part(alloc, 2, runner)?;
+    let runner = part(alloc, line, 2)?;
     Ok(Ok(Reply::Started { runner }))
 }
 
 /// The keys of a list were fetched.
-fn prefetched(alloc: Global, elements: &[Json]) -> Result<EventReply, ReadError>
-    ensures { Returns (λ r. r) result (prefetched_of (three_of (items_view elements.now))) }
+fn prefetched(alloc: Global, line: &[Json]) -> Result<EventReply, ReadError>
+    ensures { Returns (λ r. r) result (event_reply_of word.Prefetched (items_view line.now)) }
 {
-    let Some((runner, revision, reads)) = three(elements) else {
-        return Err(fault(alloc, Cause::Shape));
-    };
-    let runner = number_part(alloc, 2, runner)?;
-    let revision = number_part(alloc, 3, revision)?;
-    let reads = list_part(alloc, 4, reads)?;
     Ok(Ok(Reply::Prefetched {
-        runner,
-        revision,
-        reads,
+        runner: part(alloc, line, 2)?,
+        revision: part(alloc, line, 3)?,
+        reads: part(alloc, line, 4)?,
     }))
 }
 
 /// A key was fetched.
-fn fetched(alloc: Global, elements: &[Json]) -> Result<EventReply, ReadError>
-    ensures { Returns (λ r. r) result (fetched_of (five_of (items_view elements.now))) }
+fn fetched(alloc: Global, line: &[Json]) -> Result<EventReply, ReadError>
+    ensures { Returns (λ r. r) result (event_reply_of word.Fetched (items_view line.now)) }
 {
-    let Some((runner, key, mod_rev, of_rev, revision)) = five(elements) else {
-        return Err(fault(alloc, Cause::Shape));
-    };
-    let runner = number_part(alloc, 2, runner)?;
-    let key = text_part(alloc, 3, key)?;
-    let mod_rev = number_part(alloc, 4, mod_rev)?;
-    let of_rev = number_part(alloc, 5, of_rev)?;
-    let revision = number_part(alloc, 6, revision)?;
     Ok(Ok(Reply::Fetched {
-        runner,
-        key,
-        mod_rev,
-        of_rev,
-        revision,
+        runner: part(alloc, line, 2)?,
+        key: part(alloc, line, 3)?,
+        mod_rev: part(alloc, line, 4)?,
+        of_rev: part(alloc, line, 5)?,
+        revision: part(alloc, line, 6)?,
     }))
 }
 
 /// A commit.
-fn committed(alloc: Global, elements: &[Json]) -> Result<EventReply, ReadError>
-    ensures { Returns (λ r. r) result (committed_of (six_of (items_view elements.now))) }
+fn committed(alloc: Global, line: &[Json]) -> Result<EventReply, ReadError>
+    ensures { Returns (λ r. r) result (event_reply_of word.Committed (items_view line.now)) }
 {
-    let Some((runner, revision, attempts, output, trace, answers)) = six(elements) else {
-        return Err(fault(alloc, Cause::Shape));
-    };
-    let runner = number_part(alloc, 2, runner)?;
-    let revision = number_part(alloc, 3, revision)?;
-    let attempts = number_part(alloc, 4, attempts)?;
-    let output = list_part(alloc, 5, output)?;
-    let trace = list_part(alloc, 6, trace)?;
-    let answers = list_part(alloc, 7, answers)?;
     Ok(Ok(Reply::Committed {
-        runner,
-        revision,
-        attempts,
-        output,
-        trace,
-        answers,
+        runner: part(alloc, line, 2)?,
+        revision: part(alloc, line, 3)?,
+        attempts: part(alloc, line, 4)?,
+        output: part(alloc, line, 5)?,
+        trace: part(alloc, line, 6)?,
+        answers: part(alloc, line, 7)?,
     }))
 }
 
 /// A failed commit after which the run goes on.
-fn conflict(alloc: Global, elements: &[Json]) -> Result<EventReply, ReadError>
-    ensures { Returns (λ r. r) result (conflict_of (four_of (items_view elements.now))) }
+fn conflict(alloc: Global, line: &[Json]) -> Result<EventReply, ReadError>
+    ensures { Returns (λ r. r) result (event_reply_of word.Conflict (items_view line.now)) }
 {
-    let Some((runner, key, seen, now)) = four(elements) else {
-        return Err(fault(alloc, Cause::Shape));
-    };
-    let runner = number_part(alloc, 2, runner)?;
-    let key = text_part(alloc, 3, key)?;
-    let seen = number_part(alloc, 4, seen)?;
-    let now = number_part(alloc, 5, now)?;
     Ok(Ok(Reply::Conflict {
-        runner,
-        key,
-        seen,
-        now,
+        runner: part(alloc, line, 2)?,
+        key: part(alloc, line, 3)?,
+        seen: part(alloc, line, 4)?,
+        now: part(alloc, line, 5)?,
     }))
 }
 
 /// The last commit that a run may send, which failed.
-fn gave_up(alloc: Global, elements: &[Json]) -> Result<EventReply, ReadError>
-    ensures { Returns (λ r. r) result (gave_up_of (five_of (items_view elements.now))) }
+fn gave_up(alloc: Global, line: &[Json]) -> Result<EventReply, ReadError>
+    ensures { Returns (λ r. r) result (event_reply_of word.GaveUp (items_view line.now)) }
 {
-    let Some((runner, attempts, key, seen, now)) = five(elements) else {
-        return Err(fault(alloc, Cause::Shape));
-    };
-    let runner = number_part(alloc, 2, runner)?;
-    let attempts = number_part(alloc, 3, attempts)?;
-    let key = text_part(alloc, 4, key)?;
-    let seen = number_part(alloc, 5, seen)?;
-    let now = number_part(alloc, 6, now)?;
     Ok(Ok(Reply::GaveUp {
-        runner,
-        attempts,
-        key,
-        seen,
-        now,
+        runner: part(alloc, line, 2)?,
+        attempts: part(alloc, line, 3)?,
+        key: part(alloc, line, 4)?,
+        seen: part(alloc, line, 5)?,
+        now: part(alloc, line, 6)?,
     }))
 }
 
 /// A program that aborted.
-fn aborted(alloc: Global, elements: &[Json]) -> Result<EventReply, ReadError>
-    ensures { Returns (λ r. r) result (aborted_of (two_of (items_view elements.now))) }
+fn aborted(alloc: Global, line: &[Json]) -> Result<EventReply, ReadError>
+    ensures { Returns (λ r. r) result (event_reply_of word.Aborted (items_view line.now)) }
 {
-    let Some((runner, text)) = two(elements) else {
-        return Err(fault(alloc, Cause::Shape));
-    };
-    let runner = number_part(alloc, 2, runner)?;
-    let text = text_part(alloc, 3, text)?;
+    let runner = part(alloc, line, 2)?;
+    let text = part(alloc, line, 3)?;
     Ok(Ok(Reply::Aborted { runner, text }))
 }
 
 /// A program that a fault ended.
-fn faulted(alloc: Global, elements: &[Json]) -> Result<EventReply, ReadError>
-    ensures { Returns (λ r. r) result (faulted_of (two_of (items_view elements.now))) }
+fn faulted(alloc: Global, line: &[Json]) -> Result<EventReply, ReadError>
+    ensures { Returns (λ r. r) result (event_reply_of word.Faulted (items_view line.now)) }
 {
-    let Some((runner, fault)) = two(elements) else {
-        return Err(fault(alloc, Cause::Shape));
-    };
-    let runner = number_part(alloc, 2, runner)?;
-    let fault = fault_part(alloc, 3, fault)?;
+    let runner = part(alloc, line, 2)?;
+    let fault = part(alloc, line, 3)?;
     Ok(Ok(Reply::Faulted { runner, fault }))
 }
 
 /// A run that the store refused.
-fn ended(alloc: Global, elements: &[Json]) -> Result<EventReply, ReadError>
-    ensures { Returns (λ r. r) result (ended_of (two_of (items_view elements.now))) }
+fn ended(alloc: Global, line: &[Json]) -> Result<EventReply, ReadError>
+    ensures { Returns (λ r. r) result (event_reply_of word.Ended (items_view line.now)) }
 {
-    let Some((runner, cause)) = two(elements) else {
-        return Err(fault(alloc, Cause::Shape));
-    };
-    let runner = number_part(alloc, 2, runner)?;
-    let cause = refusal_part(alloc, 3, cause)?;
+    let runner = part(alloc, line, 2)?;
+    let cause = part(alloc, line, 3)?;
     Ok(Ok(Reply::Ended { runner, cause }))
 }
 
 /// Another client's transaction.
-fn txn(alloc: Global, elements: &[Json]) -> Result<EventReply, ReadError>
-    ensures { Returns (λ r. r) result (txn_of (three_of (items_view elements.now))) }
+fn txn(alloc: Global, line: &[Json]) -> Result<EventReply, ReadError>
+    ensures { Returns (λ r. r) result (event_reply_of word.Txn (items_view line.now)) }
 {
-    let Some((succeeded, revision, answers)) = three(elements) else {
-        return Err(fault(alloc, Cause::Shape));
-    };
-    let succeeded = flag_part(alloc, 2, succeeded)?;
-    let revision = number_part(alloc, 3, revision)?;
-    let answers = list_part(alloc, 4, answers)?;
     Ok(Ok(Reply::Txn {
-        succeeded,
-        revision,
-        answers,
+        succeeded: part(alloc, line, 2)?,
+        revision: part(alloc, line, 3)?,
+        answers: part(alloc, line, 4)?,
     }))
 }
 
 /// A lease that was granted.
-fn granted(alloc: Global, elements: &[Json]) -> Result<EventReply, ReadError>
-    ensures { Returns (λ r. r) result (granted_of (one_of (items_view elements.now))) }
+fn granted(alloc: Global, line: &[Json]) -> Result<EventReply, ReadError>
+    ensures { Returns (λ r. r) result (event_reply_of word.Granted (items_view line.now)) }
 {
-    let Some(id) = one(elements) else {
-        return Err(fault(alloc, Cause::Shape));
-    };
-    let id = number_part(alloc, 2, id)?;
+    let id = part(alloc, line, 2)?;
     Ok(Ok(Reply::Granted { id }))
 }
 
 /// A lease that was renewed.
-fn kept(alloc: Global, elements: &[Json]) -> Result<EventReply, ReadError>
-    ensures { Returns (λ r. r) result (kept_of (one_of (items_view elements.now))) }
+fn kept(alloc: Global, line: &[Json]) -> Result<EventReply, ReadError>
+    ensures { Returns (λ r. r) result (event_reply_of word.Kept (items_view line.now)) }
 {
-    let Some(id) = one(elements) else {
-        return Err(fault(alloc, Cause::Shape));
-    };
-    let id = number_part(alloc, 2, id)?;
+    let id = part(alloc, line, 2)?;
     Ok(Ok(Reply::Kept { id }))
 }
 
 /// A lease that was revoked.
-fn revoked(alloc: Global, elements: &[Json]) -> Result<EventReply, ReadError>
-    ensures { Returns (λ r. r) result (revoked_of (two_of (items_view elements.now))) }
+fn revoked(alloc: Global, line: &[Json]) -> Result<EventReply, ReadError>
+    ensures { Returns (λ r. r) result (event_reply_of word.Revoked (items_view line.now)) }
 {
-    let Some((id, revision)) = two(elements) else {
-        return Err(fault(alloc, Cause::Shape));
-    };
-    let id = number_part(alloc, 2, id)?;
-    let revision = number_part(alloc, 3, revision)?;
+    let id = part(alloc, line, 2)?;
+    let revision = part(alloc, line, 3)?;
     Ok(Ok(Reply::Revoked { id, revision }))
 }
 
 /// The moment that was set.
-fn advanced(alloc: Global, elements: &[Json]) -> Result<EventReply, ReadError>
-    ensures { Returns (λ r. r) result (advanced_of (two_of (items_view elements.now))) }
+fn advanced(alloc: Global, line: &[Json]) -> Result<EventReply, ReadError>
+    ensures { Returns (λ r. r) result (event_reply_of word.Advanced (items_view line.now)) }
 {
-    let Some((now, expired)) = two(elements) else {
-        return Err(fault(alloc, Cause::Shape));
-    };
-    let now = number_part(alloc, 2, now)?;
-    let expired = list_part(alloc, 3, expired)?;
+    let now = part(alloc, line, 2)?;
+    let expired = part(alloc, line, 3)?;
     Ok(Ok(Reply::Advanced { now, expired }))
 }
 
 /// A compaction of the store.
-fn compacted(alloc: Global, elements: &[Json]) -> Result<EventReply, ReadError>
-    ensures { Returns (λ r. r) result (compacted_of (one_of (items_view elements.now))) }
+fn compacted(alloc: Global, line: &[Json]) -> Result<EventReply, ReadError>
+    ensures { Returns (λ r. r) result (event_reply_of word.Compacted (items_view line.now)) }
 {
-    let Some(revision) = one(elements) else {
-        return Err(fault(alloc, Cause::Shape));
-    };
-    let revision = number_part(alloc, 2, revision)?;
+    let revision = part(alloc, line, 2)?;
     Ok(Ok(Reply::Compacted { revision }))
 }
 
 /// A new watcher.
-fn watching(alloc: Global, elements: &[Json]) -> Result<EventReply, ReadError>
-    ensures { Returns (λ r. r) result (watching_of (one_of (items_view elements.now))) }
+fn watching(alloc: Global, line: &[Json]) -> Result<EventReply, ReadError>
+    ensures { Returns (λ r. r) result (event_reply_of word.Watching (items_view line.now)) }
 {
-    let Some(watcher) = one(elements) else {
-        return Err(fault(alloc, Cause::Shape));
-    };
-    let watcher = number_part(alloc, 2, watcher)?;
+    let watcher = part(alloc, line, 2)?;
     Ok(Ok(Reply::Watching { watcher }))
 }
 
 /// A watcher that was given up.
-fn cancelled(alloc: Global, elements: &[Json]) -> Result<EventReply, ReadError>
-    ensures { Returns (λ r. r) result (cancelled_of (one_of (items_view elements.now))) }
+fn cancelled(alloc: Global, line: &[Json]) -> Result<EventReply, ReadError>
+    ensures { Returns (λ r. r) result (event_reply_of word.Cancelled (items_view line.now)) }
 {
-    let Some(watcher) = one(elements) else {
-        return Err(fault(alloc, Cause::Shape));
-    };
-    let watcher = number_part(alloc, 2, watcher)?;
+    let watcher = part(alloc, line, 2)?;
     Ok(Ok(Reply::Cancelled { watcher }))
 }
 
 /// What a watcher had pending.
-fn batch(alloc: Global, elements: &[Json]) -> Result<EventReply, ReadError>
-    ensures { Returns (λ r. r) result (batch_of (three_of (items_view elements.now))) }
+fn batch(alloc: Global, line: &[Json]) -> Result<EventReply, ReadError>
+    ensures { Returns (λ r. r) result (event_reply_of word.Batch (items_view line.now)) }
 {
-    let Some((watcher, up_to, events)) = three(elements) else {
-        return Err(fault(alloc, Cause::Shape));
-    };
-    let watcher = number_part(alloc, 2, watcher)?;
-    let up_to = number_part(alloc, 3, up_to)?;
-    let events = list_part(alloc, 4, events)?;
     Ok(Ok(Reply::Batch {
-        watcher,
-        up_to,
-        events,
+        watcher: part(alloc, line, 2)?,
+        upto: part(alloc, line, 3)?,
+        events: part(alloc, line, 4)?,
     }))
 }
 
 /// A watcher that was found lost.
-fn lost(alloc: Global, elements: &[Json]) -> Result<EventReply, ReadError>
-    ensures { Returns (λ r. r) result (lost_of (two_of (items_view elements.now))) }
+fn lost(alloc: Global, line: &[Json]) -> Result<EventReply, ReadError>
+    ensures { Returns (λ r. r) result (event_reply_of word.Lost (items_view line.now)) }
 {
-    let Some((watcher, floor)) = two(elements) else {
-        return Err(fault(alloc, Cause::Shape));
-    };
-    let watcher = number_part(alloc, 2, watcher)?;
-    let floor = number_part(alloc, 3, floor)?;
+    let watcher = part(alloc, line, 2)?;
+    let floor = part(alloc, line, 3)?;
     Ok(Ok(Reply::Lost { watcher, floor }))
 }
 
 /// A refused event.
-fn refused(alloc: Global, elements: &[Json]) -> Result<EventReply, ReadError>
-    ensures { Returns (λ r. r) result (refused_of (two_of (items_view elements.now))) }
+fn refused(alloc: Global, line: &[Json]) -> Result<EventReply, ReadError>
+    ensures { Returns (λ r. r) result (event_reply_of word.Refused (items_view line.now)) }
 {
-    let Some((cause, expired)) = two(elements) else {
-        return Err(fault(alloc, Cause::Shape));
-    };
-    let cause = refusal_part(alloc, 2, cause)?;
-    let expired = list_part(alloc, 3, expired)?;
+    let cause = part(alloc, line, 2)?;
+    let expired = part(alloc, line, 3)?;
     Ok(Err(Denied { cause, expired }))
 }
 
-/// The reply to an event or its refusal, by the word and the elements after it.
-fn event_reply(alloc: Global, word: EventWord, elements: &[Json]) -> Result<EventReply, ReadError>
-    ensures { Returns (λ r. r) result (event_reply_of word (items_view elements.now)) }
+/// The reply to an event or its refusal, by the word of its line.
+fn event_reply(alloc: Global, word: EventWord, line: &[Json]) -> Result<EventReply, ReadError>
+    ensures { Returns (λ r. r) result (event_reply_of word (items_view line.now)) }
 {
     match word {
-        EventWord::Started => started(alloc, elements),
-        EventWord::Prefetched => prefetched(alloc, elements),
-        EventWord::Fetched => fetched(alloc, elements),
-        EventWord::Committed => committed(alloc, elements),
-        EventWord::Conflict => conflict(alloc, elements),
-        EventWord::GaveUp => gave_up(alloc, elements),
-        EventWord::Aborted => aborted(alloc, elements),
-        EventWord::Faulted => faulted(alloc, elements),
-        EventWord::Ended => ended(alloc, elements),
-        EventWord::Txn => txn(alloc, elements),
-        EventWord::Granted => granted(alloc, elements),
-        EventWord::Kept => kept(alloc, elements),
-        EventWord::Revoked => revoked(alloc, elements),
-        EventWord::Advanced => advanced(alloc, elements),
-        EventWord::Compacted => compacted(alloc, elements),
-        EventWord::Watching => watching(alloc, elements),
-        EventWord::Cancelled => cancelled(alloc, elements),
-        EventWord::Batch => batch(alloc, elements),
-        EventWord::Lost => lost(alloc, elements),
-        EventWord::Refused => refused(alloc, elements),
+        EventWord::Started => started(alloc, line),
+        EventWord::Prefetched => prefetched(alloc, line),
+        EventWord::Fetched => fetched(alloc, line),
+        EventWord::Committed => committed(alloc, line),
+        EventWord::Conflict => conflict(alloc, line),
+        EventWord::GaveUp => gave_up(alloc, line),
+        EventWord::Aborted => aborted(alloc, line),
+        EventWord::Faulted => faulted(alloc, line),
+        EventWord::Ended => ended(alloc, line),
+        EventWord::Txn => txn(alloc, line),
+        EventWord::Granted => granted(alloc, line),
+        EventWord::Kept => kept(alloc, line),
+        EventWord::Revoked => revoked(alloc, line),
+        EventWord::Advanced => advanced(alloc, line),
+        EventWord::Compacted => compacted(alloc, line),
+        EventWord::Watching => watching(alloc, line),
+        EventWord::Cancelled => cancelled(alloc, line),
+        EventWord::Batch => batch(alloc, line),
+        EventWord::Lost => lost(alloc, line),
+        EventWord::Refused => refused(alloc, line),
     }
 }
 
-/// The line of an event, by its word, its number and the elements after the word. Their count is looked at before the number.
+/// The line of an event, by its word: its number, and then the elements after the word, of which there are enough.
 pub(crate) fn event_line(
     alloc: Global,
     word: EventWord,
-    number: &Json,
-    elements: &[Json],
+    line: &[Json],
 ) -> Result<ReportLine, ReadError>
-    ensures { Returns (λ l. l) result (event_line_of word (view number.now) (items_view elements.now)) }
+    ensures { Returns (λ l. l) result (event_line_of word (items_view line.now)) }
 {
-    if !is_count(elements, elements_after(word)) {
-        return Err(fault(alloc, Cause::Shape));
-    }
-    let number = number_part(alloc, 0, number)?;
-    let reply = event_reply(alloc, word, elements)?;
+    let number = part(alloc, line, 0)?;
+    let reply = event_reply(alloc, word, line)?;
     Ok(ReportLine::Event { number, reply })
 }

@@ -3,10 +3,11 @@ ghost use Rattle.serde_json.specs.View.{view, items_view};
 ghost use Rattle.stm_json.specs.Elements.{first_word, two_of, three_of};
 ghost use Rattle.stm_json.specs.Returns.{Returns};
 ghost use Rattle.stm_report_lines.specs.Elements.{six_of};
-ghost use Rattle.stm_report_lines.specs.Reading.{key_of, lease_of, end_of, standing_line_of, standing_named, event_named, event_worded, line_front, line_of};
+ghost use Rattle.stm_report_lines.specs.Reading.{key_of, lease_of, end_of, standing_line_of, standing_named, event_named, event_worded, line_front};
+ghost use Rattle.stm_report_lines.specs.Reading.{line_of};
 ghost use Rattle.stm_report_lines.specs.Words.{named, standing_words};
 
-use crate::elements::front_word;
+use crate::elements::{front_word, is_count};
 use crate::event_lines::event_line;
 use crate::parts::keyed;
 use crate::words::{StandingWord, event_word, standing_word};
@@ -59,17 +60,20 @@ fn standing_line(alloc: Global, word: &str, elements: &[Json]) -> Result<ReportL
     }
 }
 
-/// The line of an event, by its first element and the elements after it.
-fn numbered_line(alloc: Global, number: &Json, rest: &[Json]) -> Result<ReportLine, ReadError>
-    ensures { Returns (λ l. l) result (event_worded (view number.now) (first_word (items_view rest.now))) }
+/// The line of an event, by its elements, and those after its number. How many come after the word is looked at first.
+fn numbered_line(alloc: Global, line: &[Json], rest: &[Json]) -> Result<ReportLine, ReadError>
+    ensures { Returns (λ l. l) result (event_worded (items_view line.now) (first_word (items_view rest.now))) }
 {
-    let Some((word, elements)) = front_word(rest) else {
+    let Some((word, after)) = front_word(rest) else {
         return Err(fault(alloc, Cause::Shape));
     };
-    match event_word(word) {
-        Some(word) => event_line(alloc, word, number, elements),
-        None => Err(fault(alloc, Cause::Shape)),
+    let Some((word, count)) = event_word(word) else {
+        return Err(fault(alloc, Cause::Shape));
+    };
+    if !is_count(after, count) {
+        return Err(fault(alloc, Cause::Shape));
     }
+    event_line(alloc, word, line)
 }
 
 /// A line. Its first word, which is the first element or else the second, says what kind it is.
@@ -85,6 +89,6 @@ pub(crate) fn line(alloc: Global, value: &Json) -> Result<ReportLine, ReadError>
     };
     match first.as_str() {
         Some(word) => standing_line(alloc, word, rest),
-        None => numbered_line(alloc, first, rest),
+        None => numbered_line(alloc, elements.as_slice(), rest),
     }
 }

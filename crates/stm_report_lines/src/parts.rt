@@ -8,7 +8,8 @@ ghost use Rattle.stm_json.specs.Outcome.{Outcome, within as within_list};
 ghost use Rattle.stm_json.specs.Returns.{Returns};
 ghost use Rattle.stm_json.specs.Parts.{text_of, each_from, list_of};
 ghost use Rattle.stm_report_lines.specs.Elements.{five_of, six_of};
-ghost use Rattle.stm_report_lines.specs.Parts.{flag_of, fault_of, cause_of, value_of, state_parts, state_of, keyed_of, text_or_null_of, state_or_null_of};
+ghost use Rattle.stm_report_lines.specs.Parts.{part_at, number_of, flag_of, fault_of, cause_of, value_of, state_parts, state_of, keyed_of};
+ghost use Rattle.stm_report_lines.specs.Parts.{or_null_of};
 ghost use Rattle.stm_report_lines.specs.Parts.{trace_get_of, trace_rev_of, trace_of, answer_parts, answer_of, op_get_of, op_del_of, op_put_of, op_of};
 ghost use Rattle.stm_report_lines.specs.Parts.{read_parts, read_of, expired_parts, expired_of, event_put_of, event_delete_of, event_of};
 
@@ -20,72 +21,12 @@ use stm_events::{
     CommittedRead, Event, EventRefusal, Expired, Fault, KeyRead, KeyState, OpReply, Sequence, Text,
     TraceItem, Value,
 };
+use stm_history::HIGHEST_NUMBER;
 use stm_json::{
     Cause, ReadError, fault, four, number_part, number_within, one, text, text_part, two, whole,
     within, worded_array,
 };
 use stm_keys::SharedText;
-
-#[tactic(auto, unfolding(crate::specs::Parts::flag_of))]
-fn flag(alloc: Global, value: &Json) -> Result<bool, ReadError>
-    ensures { Returns (λ b. b) result (flag_of (view value.now)) }
-{
-    match value.as_bool() {
-        Some(flag) => Ok(flag),
-        None => Err(fault(alloc, Cause::Shape)),
-    }
-}
-
-/// True or false, as an element of an array.
-pub(crate) fn flag_part(alloc: Global, index: usize, value: &Json) -> Result<bool, ReadError>
-    ensures { Returns (λ b. b) result (within_list index (flag_of (view value.now))) }
-{
-    within(alloc, index, flag(alloc, value))
-}
-
-#[tactic(auto, unfolding(crate::specs::Parts::fault_of))]
-fn program_fault(alloc: Global, value: &Json) -> Result<Fault, ReadError>
-    ensures { Returns (λ f. f) result (fault_of (view value.now)) }
-{
-    let Some(word) = value.as_str() else {
-        return Err(fault(alloc, Cause::Shape));
-    };
-    match fault_named(word) {
-        Some(named) => Ok(named),
-        None => Err(fault(alloc, Cause::Shape)),
-    }
-}
-
-/// The name of a fault, as an element of an array.
-pub(crate) fn fault_part(alloc: Global, index: usize, value: &Json) -> Result<Fault, ReadError>
-    ensures { Returns (λ f. f) result (within_list index (fault_of (view value.now))) }
-{
-    within(alloc, index, program_fault(alloc, value))
-}
-
-#[tactic(auto, unfolding(crate::specs::Parts::cause_of))]
-fn refusal(alloc: Global, value: &Json) -> Result<EventRefusal, ReadError>
-    ensures { Returns (λ c. c) result (cause_of (view value.now)) }
-{
-    let Some(word) = value.as_str() else {
-        return Err(fault(alloc, Cause::Shape));
-    };
-    match refusal_name(word) {
-        Some(named) => Ok(named),
-        None => Err(fault(alloc, Cause::Shape)),
-    }
-}
-
-/// The name of a refusal, as an element of an array.
-pub(crate) fn refusal_part(
-    alloc: Global,
-    index: usize,
-    value: &Json,
-) -> Result<EventRefusal, ReadError>
-    ensures { Returns (λ c. c) result (within_list index (cause_of (view value.now))) }
-{
-    within(alloc, index, refusal(alloc, value))
-}
 
 /// What a key had, from the five elements that spell it.
 fn state_in(alloc: Global, elements: &[Json]) -> Result<KeyState, ReadError>
@@ -106,16 +47,6 @@ fn state_in(alloc: Global, elements: &[Json]) -> Result<KeyState, ReadError>
         version,
         lease,
     })
-}
-
-#[tactic(auto, unfolding(crate::specs::Parts::state_of))]
-fn state(alloc: Global, value: &Json) -> Result<KeyState, ReadError>
-    ensures { Returns (λ s. s) result (state_of (view value.now)) }
-{
-    match value.as_array() {
-        Some(elements) => state_in(alloc, elements.as_slice()),
-        None => Err(fault(alloc, Cause::Shape)),
-    }
 }
 
 /// A key and what it had, from the six elements after a word.
@@ -141,33 +72,9 @@ pub(crate) fn keyed(alloc: Global, elements: &[Json]) -> Result<(Text, KeyState)
     Ok((key, state))
 }
 
-#[tactic(auto, unfolding(crate::specs::Parts::text_or_null_of))]
-fn text_or_null(alloc: Global, value: &Json) -> Result<Option<Text>, ReadError>
-    ensures { Returns (λ o. o) result (text_or_null_of (view value.now)) }
-{
-    if value.is_null() {
-        Ok(None)
-    } else {
-        let text = text(alloc, value)?;
-        Ok(Some(text))
-    }
-}
+// ---- elements
 
-#[tactic(auto, unfolding(crate::specs::Parts::state_or_null_of))]
-fn state_or_null(alloc: Global, value: &Json) -> Result<Option<KeyState>, ReadError>
-    ensures { Returns (λ o. o) result (state_or_null_of (view value.now)) }
-{
-    if value.is_null() {
-        Ok(None)
-    } else {
-        let state = state(alloc, value)?;
-        Ok(Some(state))
-    }
-}
-
-// ---- lists
-
-/// What stands in a list of a line.
+/// What stands in a line, or in a list of a line.
 pub(crate) trait Element {
     /// What is read of data.
     ghost reading: { Data → Outcome Self };
@@ -177,11 +84,106 @@ pub(crate) trait Element {
         ensures { Returns (λ x. x) result (reading (view value.now)) };
 }
 
-/// An element at an index. A fault's place is that in the list.
+/// An element at an index. A fault's place is that in the array.
 fn element_at<T: Element>(alloc: Global, index: usize, value: &Json) -> Result<T, ReadError>
     ensures { Returns (λ x. x) result (within_list index (T.reading (view value.now))) }
 {
     within(alloc, index, T::read(alloc, value))
+}
+
+/// The part of a line at an index.
+pub(crate) fn part<T: Element>(alloc: Global, line: &[Json], index: usize) -> Result<T, ReadError>
+    ensures { Returns (λ x. x) result (part_at index T.reading (items_view line.now)) }
+{
+    if index < line.len() {
+        element_at(alloc, index, &line[index])
+    } else {
+        Err(fault(alloc, Cause::Shape))
+    }
+}
+
+impl Element for u64 {
+    ghost reading = { number_of };
+
+    fn read(alloc: Global, value: &Json) -> Result<u64, ReadError> {
+        number_within(alloc, HIGHEST_NUMBER, value)
+    }
+}
+
+impl Element for Text {
+    ghost reading = { text_of };
+
+    fn read(alloc: Global, value: &Json) -> Result<Text, ReadError> {
+        text(alloc, value)
+    }
+}
+
+impl Element for bool {
+    ghost reading = { flag_of };
+
+    #[tactic(auto, unfolding(crate::specs::Parts::flag_of))]
+    fn read(alloc: Global, value: &Json) -> Result<bool, ReadError> {
+        match value.as_bool() {
+            Some(flag) => Ok(flag),
+            None => Err(fault(alloc, Cause::Shape)),
+        }
+    }
+}
+
+impl Element for Fault {
+    ghost reading = { fault_of };
+
+    #[tactic(auto, unfolding(crate::specs::Parts::fault_of))]
+    fn read(alloc: Global, value: &Json) -> Result<Fault, ReadError> {
+        let Some(word) = value.as_str() else {
+            return Err(fault(alloc, Cause::Shape));
+        };
+        match fault_named(word) {
+            Some(named) => Ok(named),
+            None => Err(fault(alloc, Cause::Shape)),
+        }
+    }
+}
+
+impl Element for EventRefusal {
+    ghost reading = { cause_of };
+
+    #[tactic(auto, unfolding(crate::specs::Parts::cause_of))]
+    fn read(alloc: Global, value: &Json) -> Result<EventRefusal, ReadError> {
+        let Some(word) = value.as_str() else {
+            return Err(fault(alloc, Cause::Shape));
+        };
+        match refusal_name(word) {
+            Some(named) => Ok(named),
+            None => Err(fault(alloc, Cause::Shape)),
+        }
+    }
+}
+
+impl Element for KeyState {
+    ghost reading = { state_of };
+
+    #[tactic(auto, unfolding(crate::specs::Parts::state_of))]
+    fn read(alloc: Global, value: &Json) -> Result<KeyState, ReadError> {
+        match value.as_array() {
+            Some(elements) => state_in(alloc, elements.as_slice()),
+            None => Err(fault(alloc, Cause::Shape)),
+        }
+    }
+}
+
+/// Null stands for what is absent.
+impl<T: Element> Element for Option<T> {
+    ghost reading = { or_null_of T.reading };
+
+    fn read(alloc: Global, value: &Json) -> Result<Option<T>, ReadError> {
+        if value.is_null() {
+            Ok(None)
+        } else {
+            let present = T::read(alloc, value)?;
+            Ok(Some(present))
+        }
+    }
 }
 
 fn each_element<T: Element + Drop>(alloc: Global, values: &[Json]) -> Result<Vec<T>, ReadError>
@@ -195,27 +197,18 @@ fn each_element<T: Element + Drop>(alloc: Global, values: &[Json]) -> Result<Vec
     Ok(elements)
 }
 
-fn list<T: Element + Drop>(alloc: Global, value: &Json) -> Result<Sequence<T>, ReadError>
-    ensures { Returns (λ s. s) result (list_of T.reading (as_array (view value.now))) }
-{
-    match value.as_array() {
-        Some(values) => {
-            let elements = each_element(alloc, values.as_slice())?;
-            Ok(Sequence::of(elements))
-        }
-        None => Err(fault(alloc, Cause::Shape)),
-    }
-}
+impl<T: Element + Drop> Element for Sequence<T> {
+    ghost reading = { λ d. list_of T.reading (as_array d) };
 
-/// A list that is an element of an array.
-pub(crate) fn list_part<T: Element + Drop>(
-    alloc: Global,
-    index: usize,
-    value: &Json,
-) -> Result<Sequence<T>, ReadError>
-    ensures { Returns (λ s. s) result (within_list index (list_of T.reading (as_array (view value.now)))) }
-{
-    within(alloc, index, list(alloc, value))
+    fn read(alloc: Global, value: &Json) -> Result<Sequence<T>, ReadError> {
+        match value.as_array() {
+            Some(values) => {
+                let elements = each_element(alloc, values.as_slice())?;
+                Ok(Sequence::of(elements))
+            }
+            None => Err(fault(alloc, Cause::Shape)),
+        }
+    }
 }
 
 impl Element for Value {
@@ -286,7 +279,7 @@ fn answer(alloc: Global, elements: &[Json]) -> Result<CommittedRead, ReadError>
         return Err(fault(alloc, Cause::Shape));
     };
     let key = text_part(alloc, 0, key)?;
-    let value = within(alloc, 1, text_or_null(alloc, value))?;
+    let value = element_at(alloc, 1, value)?;
     let mod_rev = number_part(alloc, 2, mod_rev)?;
     let of_rev = number_part(alloc, 3, of_rev)?;
     Ok(CommittedRead {
@@ -317,7 +310,7 @@ fn op_get(alloc: Global, elements: &[Json]) -> Result<OpReply, ReadError>
         return Err(fault(alloc, Cause::Shape));
     };
     let revision = number_part(alloc, 1, revision)?;
-    let kv = within(alloc, 2, state_or_null(alloc, kv))?;
+    let kv = element_at(alloc, 2, kv)?;
     Ok(OpReply::Get { revision, kv })
 }
 

@@ -1,6 +1,6 @@
 //! The words that distinguish the lines, and the names of faults and refusals.
 ghost use Rattle.std.specs.Prelude.{◌≡◌, map};
-ghost use Rattle.stm_report_lines.specs.Words.{named, event_words, elements_after as number_after, standing_words, fault_words, refusal_words};
+ghost use Rattle.stm_report_lines.specs.Words.{named, event_words, standing_words, fault_words, refusal_words};
 
 use stm_events::{EventRefusal, Fault};
 
@@ -76,63 +76,35 @@ fn found<W: Copy>(rows: &[(&str, W)], word: &str) -> Option<W>
     }
 }
 
-/// The words of the lines of events.
-static EVENT_WORDS: [(&str, EventWord); 20] = [
-    ("started", EventWord::Started),
-    ("prefetched", EventWord::Prefetched),
-    ("fetched", EventWord::Fetched),
-    ("committed", EventWord::Committed),
-    ("conflict", EventWord::Conflict),
-    ("gaveup", EventWord::GaveUp),
-    ("aborted", EventWord::Aborted),
-    ("faulted", EventWord::Faulted),
-    ("ended", EventWord::Ended),
-    ("txn", EventWord::Txn),
-    ("granted", EventWord::Granted),
-    ("kept", EventWord::Kept),
-    ("revoked", EventWord::Revoked),
-    ("advanced", EventWord::Advanced),
-    ("compacted", EventWord::Compacted),
-    ("watching", EventWord::Watching),
-    ("cancelled", EventWord::Cancelled),
-    ("batch", EventWord::Batch),
-    ("lost", EventWord::Lost),
-    ("refused", EventWord::Refused),
+/// The words of the lines of events: the kind of the line, and how many elements come after the word.
+static EVENT_WORDS: [(&str, (EventWord, usize)); 20] = [
+    ("started", (EventWord::Started, 1)),
+    ("prefetched", (EventWord::Prefetched, 3)),
+    ("fetched", (EventWord::Fetched, 5)),
+    ("committed", (EventWord::Committed, 6)),
+    ("conflict", (EventWord::Conflict, 4)),
+    ("gaveup", (EventWord::GaveUp, 5)),
+    ("aborted", (EventWord::Aborted, 2)),
+    ("faulted", (EventWord::Faulted, 2)),
+    ("ended", (EventWord::Ended, 2)),
+    ("txn", (EventWord::Txn, 3)),
+    ("granted", (EventWord::Granted, 1)),
+    ("kept", (EventWord::Kept, 1)),
+    ("revoked", (EventWord::Revoked, 2)),
+    ("advanced", (EventWord::Advanced, 2)),
+    ("compacted", (EventWord::Compacted, 1)),
+    ("watching", (EventWord::Watching, 1)),
+    ("cancelled", (EventWord::Cancelled, 1)),
+    ("batch", (EventWord::Batch, 3)),
+    ("lost", (EventWord::Lost, 2)),
+    ("refused", (EventWord::Refused, 2)),
 ];
 
-/// Which event's line begins with a word, if any does.
-pub(crate) fn event_word(word: &str) -> Option<EventWord>
+/// Which event's line has a word, if any has, and how many elements come after the word.
+pub(crate) fn event_word(word: &str) -> Option<(EventWord, usize)>
     ensures { result ≡ named event_words word.now }
 {
     found(&EVENT_WORDS, word)
-}
-
-/// How many elements come after the word of an event's line.
-pub(crate) fn elements_after(word: EventWord) -> usize
-    ensures { result ≡ number_after word }
-{
-    match word {
-        EventWord::Started => 1,
-        EventWord::Prefetched => 3,
-        EventWord::Fetched => 5,
-        EventWord::Committed => 6,
-        EventWord::Conflict => 4,
-        EventWord::GaveUp => 5,
-        EventWord::Aborted => 2,
-        EventWord::Faulted => 2,
-        EventWord::Ended => 2,
-        EventWord::Txn => 3,
-        EventWord::Granted => 1,
-        EventWord::Kept => 1,
-        EventWord::Revoked => 2,
-        EventWord::Advanced => 2,
-        EventWord::Compacted => 1,
-        EventWord::Watching => 1,
-        EventWord::Cancelled => 1,
-        EventWord::Batch => 3,
-        EventWord::Lost => 2,
-        EventWord::Refused => 2,
-    }
 }
 
 /// The words of the lines of the end.

@@ -1,59 +1,44 @@
 //! What stands in the lists of a report's lines, as JSON.
-ghost use Rattle.std.specs.Prelude.{◌≡◌, ◌++◌, [], ◌∷◌, map, IfOk};
+ghost use Rattle.std.specs.Prelude.{◌≡◌, ◌++◌, [], ◌∷◌, map, IfOk, OnOk};
 ghost use Rattle.serde_json.specs.Data.{Data};
 ghost use Rattle.serde_json.specs.View.{view};
-ghost use Rattle.stm_steps.specs.declared.trace_item.TraceItem.TheVariants.{Get, Rev};
-ghost use Rattle.stm_keys.specs.declared.event.Event.TheVariants.{Put as PutEvent, Delete as DeleteEvent};
-ghost use Rattle.stm_report_lines.specs.LineData.{list, value_data, trace_data, answer_data, read_data, expired_data, event_data};
+ghost use Rattle.stm_events.specs.declared.reply.OpReply.TheVariants.{Get as GetReply};
+ghost use Rattle.stm_report_lines.specs.LineData.{list, value_data, trace_data, text_or_null, answer_data, state_data, state_or_null};
+ghost use Rattle.stm_report_lines.specs.LineData.{op_data, read_data, expired_data, keyed_data, event_data};
 
-use crate::written_parts::Parts;
-use serde_json::Value as Json;
+use serde_json::{Value as Json, json};
 use std::alloc::{AllocError, Global};
-use stm_events::{CommittedRead, KeyRead};
-use stm_history::KeyState;
-use stm_keys::Event;
-use stm_meaning::{TraceItem, Value};
-use stm_outcome::Expired;
+use stm_events::{CommittedRead, Event, Expired, KeyRead, OpReply, TraceItem, Value};
+use stm_history::{KeyState, Text};
 
 /// A value that a line spells.
-pub(crate) trait Spelled {
+pub trait Spelled {
     /// The data that spell it.
     ghost spelled: { Self → Data };
 
-    /// It as JSON.
+    /// It as JSON. It fails where an allocation failed.
     fn to_json(&self, alloc: Global) -> Result<Json, AllocError>
         ensures { IfOk result (λ v. view v ≡ spelled self.now) };
 }
 
-/// One item more among the parts of an array.
-fn with_item<T: Spelled>(alloc: Global, parts: Parts, item: &T) -> Result<Parts, AllocError>
-    ensures { IfOk result (λ longer. map view longer.values.items ≡ map view parts.values.items ++ T.spelled item.now ∷ []) }
+/// Appends the JSON of one more item.
+fn push_item<T: Spelled>(alloc: Global, values: &mut Vec<Json>, item: &T) -> Result<(), AllocError>
+    ensures { OnOk result (map view values.new.items ≡ map view values.old.items ++ T.spelled item.now ∷ []) }
 {
-    let item = item.to_json(alloc)?;
-    parts.part(item)
+    let value = item.to_json(alloc)?;
+    values.push(value)?;
+    Ok(())
 }
 
-/// A list as a JSON array.
-fn array<T: Spelled>(alloc: Global, items: &[T]) -> Result<Json, AllocError>
+/// A list as a JSON array. It fails where an allocation failed.
+pub fn array_json<T: Spelled>(alloc: Global, items: &[T]) -> Result<Json, AllocError>
     ensures { IfOk result (λ v. view v ≡ list (map T.spelled items.now)) }
 {
-    let mut parts = Parts::none(alloc);
+    let mut values = Vec::new(alloc);
     for item in items {
-        parts = with_item(alloc, parts, item)?;
+        push_item(alloc, &mut values, item)?;
     }
-    Ok(parts.array())
-}
-
-/// A list more among the parts of an array.
-pub(crate) fn with_list<T: Spelled>(
-    alloc: Global,
-    parts: Parts,
-    items: &[T],
-) -> Result<Parts, AllocError>
-    ensures { IfOk result (λ longer. map view longer.values.items ≡ map view parts.values.items ++ list (map T.spelled items.now) ∷ []) }
-{
-    let list = array(alloc, items)?;
-    parts.part(list)
+    Ok(Json::Array(values))
 }
 
 impl Spelled for Value {
@@ -67,33 +52,24 @@ impl Spelled for Value {
     }
 }
 
-/// What a `get` gave.
-fn get_json(alloc: Global, key: &str, value: &str) -> Result<Json, AllocError>
-    ensures { IfOk result (λ v. view v ≡ trace_data (Get key.now value.now)) }
-{
-    Ok(Parts::worded(alloc, "get")?.word(key)?.word(value)?.array())
-}
-
-/// What a `rev` gave.
-fn rev_json(alloc: Global, key: &str, mod_rev: u64) -> Result<Json, AllocError>
-    ensures { IfOk result (λ v. view v ≡ trace_data (Rev key.now mod_rev)) }
-{
-    Ok(
-        Parts::worded(alloc, "rev")?
-            .word(key)?
-            .whole(mod_rev)?
-            .array(),
-    )
-}
-
 impl Spelled for TraceItem {
     ghost spelled = { trace_data };
 
     fn to_json(&self, alloc: Global) -> Result<Json, AllocError> {
         match self {
-            TraceItem::Get { key, value } => get_json(alloc, key.as_str(), value.as_str()),
-            TraceItem::Rev { key, mod_rev } => rev_json(alloc, key.as_str(), *mod_rev),
+            TraceItem::Get { key, value } => json!(in alloc; ["get", key.as_str(), value.as_str()]),
+            TraceItem::Rev { key, mod_rev } => json!(in alloc; ["rev", key.as_str(), *mod_rev]),
         }
+    }
+}
+
+/// A text, or null where there is none.
+fn text_or_null(alloc: Global, text: &Option<Text>) -> Result<Json, AllocError>
+    ensures { IfOk result (λ v. view v ≡ text_or_null text.now) }
+{
+    match text {
+        None => Ok(Json::Null),
+        Some(text) => Json::try_from_str(alloc, text.as_str()),
     }
 }
 
@@ -101,8 +77,8 @@ impl Spelled for CommittedRead {
     ghost spelled = { answer_data };
 
     fn to_json(&self, alloc: Global) -> Result<Json, AllocError> {
-        let parts = Parts::worded(alloc, self.key.as_str())?.text_or_null(&self.value)?;
-        Ok(parts.whole(self.mod_rev)?.whole(self.of_rev)?.array())
+        let value = text_or_null(alloc, &self.value)?;
+        json!(in alloc; [self.key.as_str(), value, self.mod_rev, self.of_rev])
     }
 }
 
@@ -110,11 +86,7 @@ impl Spelled for KeyRead {
     ghost spelled = { read_data };
 
     fn to_json(&self, alloc: Global) -> Result<Json, AllocError> {
-        Ok(
-            Parts::worded(alloc, self.key.as_str())?
-                .whole(self.mod_rev)?
-                .array(),
-        )
+        json!(in alloc; [self.key.as_str(), self.mod_rev])
     }
 }
 
@@ -122,29 +94,57 @@ impl Spelled for Expired {
     ghost spelled = { expired_data };
 
     fn to_json(&self, alloc: Global) -> Result<Json, AllocError> {
-        let parts = Parts::none(alloc);
-        Ok(parts.whole(self.id)?.whole(self.revision)?.array())
+        json!(in alloc; [self.id, self.revision])
     }
 }
 
-/// What a watcher is shown of a put.
-fn put_json(alloc: Global, key: &str, state: &KeyState) -> Result<Json, AllocError>
-    ensures { IfOk result (λ v. view v ≡ event_data (PutEvent key.now state.now)) }
+/// What a key has.
+fn state_json(alloc: Global, state: &KeyState) -> Result<Json, AllocError>
+    ensures { IfOk result (λ v. view v ≡ state_data state.now) }
 {
-    Ok(
-        Parts::worded(alloc, "PUT")?
-            .word(key)?
-            .state(state)?
-            .array(),
-    )
+    json!(in alloc; [state.value.as_str(), state.create_rev, state.mod_rev, state.version, state.lease])
 }
 
-/// What a watcher is shown of a deletion.
-fn delete_json(alloc: Global, key: &str, revision: u64) -> Result<Json, AllocError>
-    ensures { IfOk result (λ v. view v ≡ event_data (DeleteEvent key.now revision)) }
+/// What a key has, null where it is absent.
+fn state_or_null(alloc: Global, kv: &Option<KeyState>) -> Result<Json, AllocError>
+    ensures { IfOk result (λ v. view v ≡ state_or_null kv.now) }
 {
-    let parts = Parts::worded(alloc, "DELETE")?;
-    Ok(parts.word(key)?.whole(revision)?.array())
+    match kv {
+        None => Ok(Json::Null),
+        Some(state) => state_json(alloc, state),
+    }
+}
+
+/// The reply to a read.
+fn read_json(alloc: Global, revision: u64, kv: &Option<KeyState>) -> Result<Json, AllocError>
+    ensures { IfOk result (λ v. view v ≡ op_data (GetReply revision kv.now)) }
+{
+    let kv = state_or_null(alloc, kv)?;
+    json!(in alloc; ["get", revision, kv])
+}
+
+impl Spelled for OpReply {
+    ghost spelled = { op_data };
+
+    fn to_json(&self, alloc: Global) -> Result<Json, AllocError> {
+        match self {
+            OpReply::Get { revision, kv } => read_json(alloc, *revision, kv),
+            OpReply::Put => json!(in alloc; ["put"]),
+            OpReply::Del { count } => json!(in alloc; ["del", *count]),
+        }
+    }
+}
+
+/// A word, a key, and what it has.
+pub(crate) fn keyed_json(
+    alloc: Global,
+    word: &str,
+    key: &str,
+    state: &KeyState,
+) -> Result<Json, AllocError>
+    ensures { IfOk result (λ v. view v ≡ keyed_data word.now key.now state.now) }
+{
+    json!(in alloc; [word, key, state.value.as_str(), state.create_rev, state.mod_rev, state.version, state.lease])
 }
 
 impl Spelled for Event {
@@ -152,8 +152,8 @@ impl Spelled for Event {
 
     fn to_json(&self, alloc: Global) -> Result<Json, AllocError> {
         match self {
-            Event::Put { key, state } => put_json(alloc, key.as_str(), state),
-            Event::Delete { key, revision } => delete_json(alloc, key.as_str(), *revision),
+            Event::Put { key, state } => keyed_json(alloc, "PUT", key.as_str(), state),
+            Event::Delete { key, revision } => json!(in alloc; ["DELETE", key.as_str(), *revision]),
         }
     }
 }

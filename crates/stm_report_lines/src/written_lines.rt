@@ -1,41 +1,135 @@
-//! The line of each event.
-ghost use Rattle.std.specs.Prelude.{◌≡◌, [], ◌∷◌, false, IfOk};
-ghost use Rattle.serde_json.specs.View.{view};
+//! The lines of a report, as JSON.
+ghost use Rattle.std.specs.Prelude.{◌≡◌, [], ◌∷◌, false, Err, IfOk};
 ghost use Rattle.serde_json.specs.Data.{string};
+ghost use Rattle.serde_json.specs.View.{view};
 ghost use Rattle.serde_json.specs.Written.{has_float};
-ghost use Rattle.stm_events.specs.declared.reply.Reply.TheVariants.{Txn, Revoked, Advanced, Batch, Lost};
-ghost use Rattle.stm_report_lines.specs.LineData.{list, whole, reply_data, event_data_of};
+ghost use Rattle.stm_events.specs.declared.line.ReportLine.TheVariants.{Key, Lease, End};
+ghost use Rattle.stm_events.specs.declared.reply.Reply.TheVariants.{Prefetched, Fetched, Committed, Conflict, GaveUp, Txn, Advanced, Batch};
+ghost use Rattle.stm_report_lines.specs.LineData.{whole, numbered, line_data, reply_data, event_data_of};
 
-use crate::written_items::with_list;
-use crate::written_parts::Parts;
-use crate::written_runners::{
-    Commit, committed_json, conflict_json, fetched_json, gave_up_json, prefetched_json,
-};
-use serde_json::Value as Json;
+use crate::written_items::{array_json, keyed_json};
+use serde_json::{Value as Json, json};
 use std::alloc::{AllocError, Global};
-use stm_events::{Denied, OpReply, Reply};
-use stm_keys::Event;
-use stm_outcome::Expired;
+use stm_events::{
+    CommittedRead, Denied, Event, Expired, KeyRead, OpReply, Reply, TraceItem, Value,
+};
+use stm_history::KeyState;
 
 /// The line of a runner, a lease, a revision or a watcher that is named and no more.
 fn named_json(alloc: Global, number: u64, word: &str, id: u64) -> Result<Json, AllocError>
-    ensures { IfOk result (λ v. view v ≡ list (whole number ∷ string word.now ∷ whole id ∷ [])) }
+    ensures { IfOk result (λ v. view v ≡ numbered number word.now (whole id ∷ [])) }
 {
-    Ok(Parts::numbered(alloc, number, word)?.whole(id)?.array())
+    json!(in alloc; [number, word, id])
+}
+
+/// The line of a lease that was revoked, or of a watcher that was lost, with a revision.
+fn revised_json(
+    alloc: Global,
+    number: u64,
+    word: &str,
+    id: u64,
+    revision: u64,
+) -> Result<Json, AllocError>
+    ensures { IfOk result (λ v. view v ≡ numbered number word.now (whole id ∷ whole revision ∷ [])) }
+{
+    json!(in alloc; [number, word, id, revision])
 }
 
 /// The line of a runner's end, with the text that says why.
-fn reported_json(
+fn ended_json(
     alloc: Global,
     number: u64,
     word: &str,
     runner: u64,
     text: &str,
 ) -> Result<Json, AllocError>
-    ensures { IfOk result (λ v. view v ≡ list (whole number ∷ string word.now ∷ whole runner ∷ string text.now ∷ [])) }
+    ensures { IfOk result (λ v. view v ≡ numbered number word.now (whole runner ∷ string text.now ∷ [])) }
 {
-    let parts = Parts::numbered(alloc, number, word)?;
-    Ok(parts.whole(runner)?.word(text)?.array())
+    json!(in alloc; [number, word, runner, text])
+}
+
+/// The line of a fetch.
+fn fetched_json(
+    alloc: Global,
+    number: u64,
+    runner: u64,
+    key: &str,
+    mod_rev: u64,
+    of_rev: u64,
+    revision: u64,
+) -> Result<Json, AllocError>
+    ensures { IfOk result (λ v. view v ≡ reply_data number (Fetched runner key.now mod_rev of_rev revision)) }
+{
+    json!(in alloc; [number, "fetched", runner, key, mod_rev, of_rev, revision])
+}
+
+/// The line of a failed commit after which the run goes on.
+fn conflict_json(
+    alloc: Global,
+    number: u64,
+    runner: u64,
+    key: &str,
+    seen: u64,
+    now: u64,
+) -> Result<Json, AllocError>
+    ensures { IfOk result (λ v. view v ≡ reply_data number (Conflict runner key.now seen now)) }
+{
+    json!(in alloc; [number, "conflict", runner, key, seen, now])
+}
+
+/// The line of the last commit that a run may send, which failed.
+fn gave_up_json(
+    alloc: Global,
+    number: u64,
+    runner: u64,
+    attempts: u64,
+    key: &str,
+    seen: u64,
+    now: u64,
+) -> Result<Json, AllocError>
+    ensures { IfOk result (λ v. view v ≡ reply_data number (GaveUp runner attempts key.now seen now)) }
+{
+    json!(in alloc; [number, "gaveup", runner, attempts, key, seen, now])
+}
+
+/// The line of a program's list that was fetched.
+fn prefetched_json(
+    alloc: Global,
+    number: u64,
+    runner: u64,
+    revision: u64,
+    reads: &[KeyRead],
+) -> Result<Json, AllocError>
+    ensures { IfOk result (λ v. view v ≡ reply_data number (Prefetched runner revision reads.now)) }
+{
+    let reads = array_json(alloc, reads)?;
+    json!(in alloc; [number, "prefetched", runner, revision, reads])
+}
+
+/// What the line of a commit lists.
+#[derive(Clone, Copy)]
+struct Listed<'a> {
+    output: &'a [Value],
+    trace: &'a [TraceItem],
+    answers: &'a [CommittedRead],
+}
+
+/// The line of a commit.
+fn committed_json(
+    alloc: Global,
+    number: u64,
+    runner: u64,
+    revision: u64,
+    attempts: u64,
+    listed: Listed<'_>,
+) -> Result<Json, AllocError>
+    ensures { IfOk result (λ v. view v ≡ reply_data number (Committed runner revision attempts
+        listed.entry.output.now listed.entry.trace.now listed.entry.answers.now)) }
+{
+    let output = array_json(alloc, listed.output)?;
+    let trace = array_json(alloc, listed.trace)?;
+    let answers = array_json(alloc, listed.answers)?;
+    json!(in alloc; [number, "committed", runner, revision, attempts, output, trace, answers])
 }
 
 /// The line of another client's transaction.
@@ -48,17 +142,8 @@ fn txn_json(
 ) -> Result<Json, AllocError>
     ensures { IfOk result (λ v. view v ≡ reply_data number (Txn succeeded revision answers.now)) }
 {
-    let parts = Parts::numbered(alloc, number, "txn")?;
-    let parts = parts.flag(succeeded)?.whole(revision)?;
-    Ok(with_list(alloc, parts, answers)?.array())
-}
-
-/// The line of a revocation.
-fn revoked_json(alloc: Global, number: u64, id: u64, revision: u64) -> Result<Json, AllocError>
-    ensures { IfOk result (λ v. view v ≡ reply_data number (Revoked id revision)) }
-{
-    let parts = Parts::numbered(alloc, number, "revoked")?;
-    Ok(parts.whole(id)?.whole(revision)?.array())
+    let answers = array_json(alloc, answers)?;
+    json!(in alloc; [number, "txn", succeeded, revision, answers])
 }
 
 /// The line of an advance.
@@ -70,8 +155,8 @@ fn advanced_json(
 ) -> Result<Json, AllocError>
     ensures { IfOk result (λ v. view v ≡ reply_data number (Advanced now expired.now)) }
 {
-    let parts = Parts::numbered(alloc, number, "advanced")?.whole(now)?;
-    Ok(with_list(alloc, parts, expired)?.array())
+    let expired = array_json(alloc, expired)?;
+    json!(in alloc; [number, "advanced", now, expired])
 }
 
 /// The line of what a watcher was given.
@@ -79,22 +164,13 @@ fn batch_json(
     alloc: Global,
     number: u64,
     watcher: u64,
-    up_to: u64,
+    upto: u64,
     events: &[Event],
 ) -> Result<Json, AllocError>
-    ensures { IfOk result (λ v. view v ≡ reply_data number (Batch watcher up_to events.now)) }
+    ensures { IfOk result (λ v. view v ≡ reply_data number (Batch watcher upto events.now)) }
 {
-    let parts = Parts::numbered(alloc, number, "batch")?;
-    let parts = parts.whole(watcher)?.whole(up_to)?;
-    Ok(with_list(alloc, parts, events)?.array())
-}
-
-/// The line of a watcher that was lost.
-fn lost_json(alloc: Global, number: u64, watcher: u64, floor: u64) -> Result<Json, AllocError>
-    ensures { IfOk result (λ v. view v ≡ reply_data number (Lost watcher floor)) }
-{
-    let parts = Parts::numbered(alloc, number, "lost")?;
-    Ok(parts.whole(watcher)?.whole(floor)?.array())
+    let events = array_json(alloc, events)?;
+    json!(in alloc; [number, "batch", watcher, upto, events])
 }
 
 /// The line of a reply.
@@ -114,10 +190,15 @@ fn reply_json(alloc: Global, number: u64, reply: &Reply) -> Result<Json, AllocEr
             mod_rev,
             of_rev,
             revision,
-        } => {
-            let key = key.as_str();
-            fetched_json(alloc, number, *runner, key, *mod_rev, *of_rev, *revision)
-        }
+        } => fetched_json(
+            alloc,
+            number,
+            *runner,
+            key.as_str(),
+            *mod_rev,
+            *of_rev,
+            *revision,
+        ),
         Reply::Committed {
             runner,
             revision,
@@ -126,15 +207,12 @@ fn reply_json(alloc: Global, number: u64, reply: &Reply) -> Result<Json, AllocEr
             trace,
             answers,
         } => {
-            let commit = Commit {
-                runner: *runner,
-                revision: *revision,
-                attempts: *attempts,
+            let listed = Listed {
                 output: output.as_slice(),
                 trace: trace.as_slice(),
                 answers: answers.as_slice(),
             };
-            committed_json(alloc, number, commit)
+            committed_json(alloc, number, *runner, *revision, *attempts, listed)
         }
         Reply::Conflict {
             runner,
@@ -150,13 +228,13 @@ fn reply_json(alloc: Global, number: u64, reply: &Reply) -> Result<Json, AllocEr
             now,
         } => gave_up_json(alloc, number, *runner, *attempts, key.as_str(), *seen, *now),
         Reply::Aborted { runner, text } => {
-            reported_json(alloc, number, "aborted", *runner, text.as_str())
+            ended_json(alloc, number, "aborted", *runner, text.as_str())
         }
         Reply::Faulted { runner, fault } => {
-            reported_json(alloc, number, "faulted", *runner, fault.name())
+            ended_json(alloc, number, "faulted", *runner, fault.name())
         }
         Reply::Ended { runner, cause } => {
-            reported_json(alloc, number, "ended", *runner, cause.name())
+            ended_json(alloc, number, "ended", *runner, cause.name())
         }
         Reply::Txn {
             succeeded,
@@ -165,19 +243,17 @@ fn reply_json(alloc: Global, number: u64, reply: &Reply) -> Result<Json, AllocEr
         } => txn_json(alloc, number, *succeeded, *revision, answers.as_slice()),
         Reply::Granted { id } => named_json(alloc, number, "granted", *id),
         Reply::Kept { id } => named_json(alloc, number, "kept", *id),
-        Reply::Revoked { id, revision } => revoked_json(alloc, number, *id, *revision),
-        Reply::Advanced { now, expired } => {
-            advanced_json(alloc, number, *now, expired.as_slice())
-        }
+        Reply::Revoked { id, revision } => revised_json(alloc, number, "revoked", *id, *revision),
+        Reply::Advanced { now, expired } => advanced_json(alloc, number, *now, expired.as_slice()),
+        Reply::Compacted { revision } => named_json(alloc, number, "compacted", *revision),
         Reply::Watching { watcher } => named_json(alloc, number, "watching", *watcher),
         Reply::Batch {
             watcher,
-            up_to,
+            upto,
             events,
-        } => batch_json(alloc, number, *watcher, *up_to, events.as_slice()),
+        } => batch_json(alloc, number, *watcher, *upto, events.as_slice()),
         Reply::Cancelled { watcher } => named_json(alloc, number, "cancelled", *watcher),
-        Reply::Compacted { revision } => named_json(alloc, number, "compacted", *revision),
-        Reply::Lost { watcher, floor } => lost_json(alloc, number, *watcher, *floor),
+        Reply::Lost { watcher, floor } => revised_json(alloc, number, "lost", *watcher, *floor),
     }
 }
 
@@ -185,8 +261,8 @@ fn reply_json(alloc: Global, number: u64, reply: &Reply) -> Result<Json, AllocEr
 fn refused_json(alloc: Global, number: u64, denied: &Denied) -> Result<Json, AllocError>
     ensures { IfOk result (λ v. view v ≡ event_data_of number (Err denied.now)) }
 {
-    let parts = Parts::numbered(alloc, number, "refused")?.word(denied.cause.name())?;
-    Ok(with_list(alloc, parts, denied.expired.as_slice())?.array())
+    let expired = array_json(alloc, denied.expired.as_slice())?;
+    json!(in alloc; [number, "refused", denied.cause.name(), expired])
 }
 
 /// The line of the event with this number, by the reply to it. It fails where an allocation failed.
@@ -202,4 +278,26 @@ pub fn event_json(
         Ok(reply) => reply_json(alloc, number, reply),
         Err(denied) => refused_json(alloc, number, denied),
     }
+}
+
+/// The line of a present key. It fails where an allocation failed.
+pub fn key_json(alloc: Global, key: &str, state: &KeyState) -> Result<Json, AllocError>
+    ensures { IfOk result (λ v. view v ≡ line_data (Key key.now state.now)) }
+{
+    keyed_json(alloc, "key", key, state)
+}
+
+/// The line of a live lease: how many seconds it lives without a renewal, and the moment, in seconds, when it was
+/// last renewed or else granted. It fails where an allocation failed.
+pub fn lease_json(alloc: Global, id: u64, ttl: u64, renewed: u64) -> Result<Json, AllocError>
+    ensures { IfOk result (λ v. view v ≡ line_data (Lease id ttl renewed)) }
+{
+    json!(in alloc; ["lease", id, ttl, renewed])
+}
+
+/// The last line: the store's revision, and how many entries were made. It fails where an allocation failed.
+pub fn end_json(alloc: Global, revision: u64, entries: u64) -> Result<Json, AllocError>
+    ensures { IfOk result (λ v. view v ≡ line_data (End revision entries)) }
+{
+    json!(in alloc; ["end", revision, entries])
 }

@@ -22,7 +22,7 @@ use Rattle.stm_events.specs.declared.event.WorldEvent.TheVariants.{Advance}
 use Rattle.stm_events.specs.declared.reply.Reply.{Reply}
 use Rattle.stm_events.specs.declared.reply.Reply.TheVariants.{Advanced}
 use Rattle.stm_events.specs.declared.refusal.Denied.{Denied}
-use Rattle.stm_events.specs.Replies.{txn_reply, refusal_of, denied, reply_to, store_after_call, advance_reply}
+use Rattle.stm_events.specs.Replies.{txn_reply, event_refusal, denied, reply_to, store_after_call, advance_reply}
 use Rattle.stm_world.specs.World.{World, Slot, Stepped, called, step}
 use Rattle.stm_world.proofs.Wants.{NeverWants, NoOutOfMemory, advanced_never}
 use Rattle.stm_retry.specs.Returns.{IsStep, IsUnchanged, IsCutShort, OutOfMemoryReturns, RefusalReturns, Returns}
@@ -34,7 +34,7 @@ use Rattle.stm_retry.specs.CallReturns.{CallReturns}
 -- what is reported of a refusal, whether it is that memory ran out or not
 pub refusal_reports : (event : WorldEvent) (d : Denied) (cause : StoreRefusal) (old new : World) →
     (cause ≡ OutOfMemory → OutOfMemoryReturns event d.expired old new) → (cause ≢ OutOfMemory → IsStep (step event old) (Err d) new) →
-    RefusalReturns (refusal_of cause) event d old new
+    RefusalReturns (event_refusal cause) event d old new
 refusal_reports event d OutOfMemory old new want other = want refl
 refusal_reports event d EmptyKey old new want other = other (λ e. absurd (cc))
 refusal_reports event d FutureRevision old new want other = other (λ e. absurd (cc))
@@ -54,7 +54,7 @@ refusal_reports event d TimeGoesBack old new want other = other (λ e. absurd (c
 -- what the world's step makes of a call of the journal, by what the call comes to
 abbrev pub stepped_as : {A : Type 0} → (A → Reply) → JournalState → List Slot → Result (JournalStep A) StoreRefusal → Stepped
 stepped_as report j runners (Ok done) = record { reply = Ok (report done.answer); next = world_of done.next runners }
-stepped_as report j runners (Err cause) = record { reply = denied (refusal_of cause); next = world_of j runners }
+stepped_as report j runners (Err cause) = record { reply = denied (event_refusal cause); next = world_of j runners }
 
 -- the world's step at an event is this call of the journal
 abbrev pub IsCall : {A : Type 0} → WorldEvent → (A → Reply) → JournalState → Result (JournalStep A) StoreRefusal → Type 0
@@ -84,25 +84,25 @@ never_is : {A : Type 0} (o : Result A StoreRefusal) (cause : StoreRefusal) → N
 never_is o cause never is = subst NeverWants is never
 
 refused_by : {A : Type 0} (event : WorldEvent) (report : A → Reply) (j : JournalState) (o : Result (JournalStep A) StoreRefusal) (cause : StoreRefusal) →
-    IsCall event report j o → MayRunOut event j → NeverWants o → (o ≡ Err cause) ⊎ ((cause ≡ OutOfMemory) × IsOk o) → CallReturns event (denied (refusal_of cause)) j j
+    IsCall event report j o → MayRunOut event j → NeverWants o → (o ≡ Err cause) ⊎ ((cause ≡ OutOfMemory) × IsOk o) → CallReturns event (denied (event_refusal cause)) j j
 refused_by event report j o cause call may never (inl refused) runners =
-    let one : step event (world_of j runners) ≡ record { reply = denied (refusal_of cause); next = world_of j runners } =
+    let one : step event (world_of j runners) ≡ record { reply = denied (event_refusal cause); next = world_of j runners } =
     call runners ∙ ap (stepped_as report j runners) refused in
-    refusal_reports event (record { cause = refusal_of cause; expired = [] }) cause (world_of j runners) (world_of j runners)
+    refusal_reports event (record { cause = event_refusal cause; expired = [] }) cause (world_of j runners) (world_of j runners)
     (λ want. absurd (never_is o cause never refused want))
     (λ not. record { reply_is = ap (λ (x : Stepped). x.reply) one; next_is = ap (λ (x : Stepped). x.next) one })
 refused_by event report j o cause call may never (inr (want, ok)) runners =
-    refusal_reports event (record { cause = refusal_of cause; expired = [] }) cause (world_of j runners) (world_of j runners)
+    refusal_reports event (record { cause = event_refusal cause; expired = [] }) cause (world_of j runners) (world_of j runners)
     (λ e. may runners (subst (λ (x : Stepped). IsOk x.reply) (sym (call runners)) (taken_is_ok report j runners o ok)))
     (λ not. absurd (not want))
 
 -- one that was refused, by the store or since memory ran out
 pub call_refused : {A : Type 0} (event : WorldEvent) (report : A → Reply) (before after : JournalState) (o : Result (JournalStep A) StoreRefusal)
     (cause : StoreRefusal) (reply : Result Reply Denied) → IsCall event report before o → MayRunOut event before → NeverWants o →
-    ((o ≡ Err cause) ⊎ ((cause ≡ OutOfMemory) × IsOk o)) × (after ≡ before) → reply ≡ denied (refusal_of cause) → CallReturns event reply before after
+    ((o ≡ Err cause) ⊎ ((cause ≡ OutOfMemory) × IsOk o)) × (after ≡ before) → reply ≡ denied (event_refusal cause) → CallReturns event reply before after
 call_refused event report before after o cause reply call may never (refused, same) replied runners =
     subst (λ (r : Result Reply Denied). Returns event r (world_of before runners) (world_of after runners)) (sym replied)
-    (subst (λ (j : JournalState). Returns event (denied (refusal_of cause)) (world_of before runners) (world_of j runners)) (sym same)
+    (subst (λ (j : JournalState). Returns event (denied (event_refusal cause)) (world_of before runners) (world_of j runners)) (sym same)
     (refused_by event report before o cause call may never refused runners))
 
 -- ---- which calls these are ----
@@ -111,7 +111,7 @@ pub entry_is_call : {A : Type 0} (report : A → Reply) (j : JournalState) (runn
     called (reply_to report o) (store_after_call j.standing o) (if_taken o entry) (world_of j runners) ≡ stepped_as report j runners (one_entry j entry o)
 entry_is_call report j runners entry (Ok done) = refl
 entry_is_call report j runners entry (Err cause) =
-    ap (λ (l : List Entry). record { reply = denied (refusal_of cause); next = record { standing = j.standing; runners = runners; entries = l } })
+    ap (λ (l : List Entry). record { reply = denied (event_refusal cause); next = record { standing = j.standing; runners = runners; entries = l } })
     (append-nil j.entries)
 
 pub entry_never : {A : Type 0} (j : JournalState) (entry : Entry) (o : Result (StoreStep A) StoreRefusal) → NeverWants o → NeverWants (one_entry j entry o)
@@ -131,7 +131,7 @@ pub txn_is_call : (j : JournalState) (txn : StoreTxn) (runners : List Slot) (o :
     ≡ stepped_as txn_reply j runners (entered j txn o)
 txn_is_call j txn runners (Ok done) = refl
 txn_is_call j txn runners (Err cause) =
-    ap (λ (l : List Entry). record { reply = denied (refusal_of cause); next = record { standing = j.standing; runners = runners; entries = l } })
+    ap (λ (l : List Entry). record { reply = denied (event_refusal cause); next = record { standing = j.standing; runners = runners; entries = l } })
     (ap (λ (l : List Entry). j.entries ++ l) (none_changed j.standing txn) ∙ append-nil j.entries)
 
 pub txn_never : (j : JournalState) (txn : StoreTxn) (o : Result (StoreStep TxnAnswer) StoreRefusal) → NeverWants o → NeverWants (entered j txn o)
@@ -170,13 +170,13 @@ cause_of_advance s moment expired next cause is = subst (λ (a : StoreAdvance). 
 
 -- an advance that stopped, for its definition's cause or since memory ran out
 pub advance_stopped : (before after : JournalState) (moment : ℕ) (expired : List Expired) (cause : StoreRefusal) →
-    HasStopped before moment expired cause after → CallReturns (Advance moment) (Err record { cause = refusal_of cause; expired = expired }) before after
+    HasStopped before moment expired cause after → CallReturns (Advance moment) (Err record { cause = event_refusal cause; expired = expired }) before after
 advance_stopped before after moment expired cause (inl x) runners =
-    refusal_reports (Advance moment) (record { cause = refusal_of cause; expired = expired }) cause (world_of before runners) (world_of after runners)
+    refusal_reports (Advance moment) (record { cause = event_refusal cause; expired = expired }) cause (world_of before runners) (world_of after runners)
     (λ want. absurd (cause_of_advance before.standing moment expired after.standing cause x.advance want))
     (λ other. advance_is before after moment expired (Some cause) runners x)
 advance_stopped before after moment expired cause (inr x) runners =
-    refusal_reports (Advance moment) (record { cause = refusal_of cause; expired = expired }) cause (world_of before runners) (world_of after runners)
+    refusal_reports (Advance moment) (record { cause = event_refusal cause; expired = expired }) cause (world_of before runners) (world_of after runners)
     (λ want. (x.forward, left_by before after moment expired runners x.left))
     (λ other. absurd (other x.is_want))
 

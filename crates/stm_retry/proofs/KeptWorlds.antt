@@ -1,5 +1,6 @@
 -- What is kept of a world goes on as the whole world does.
-use Rattle.std.proofs.Common.{◌≡◌, ◌≢◌, ◌⊎◌, ◌∙◌, inl, inr, ℕ, ◌+◌, ◌-◌, ◌≤◌, Bool, true, false, cond, List, [], ◌∷◌, ◌++◌, length, map, Option, Some, None}
+use Rattle.std.proofs.Common.{◌≡◌, ◌≢◌, ◌⊎◌, ◌∙◌, inl, inr, ℕ, ◌+◌, ◌-◌, ◌≤◌, Bool, true, false, cond, List, [], ◌∷◌, ◌++◌, length, map, Option, Some}
+use Rattle.std.proofs.Common.{None}
 use Rattle.std.proofs.Common.{Result, Ok, Err, refl, sym, ap, subst, arith, append-nil, OnOk, OnErr}
 use Rattle.std.specs.Prelude.{nat_eq, nat_lt, slice_get, IsOk, IfOk}
 use Rattle.std.specs.declared.alloc.AllocError.{AllocError}
@@ -62,7 +63,7 @@ use Rattle.stm_events.specs.declared.reply.Reply.TheVariants.{Granted, Kept, Rev
 use Rattle.stm_events.specs.declared.refusal.EventRefusal.{EventRefusal}
 use Rattle.stm_events.specs.declared.refusal.EventRefusal.TheVariants.{OutOfMemory as RanOut, BadLimit}
 use Rattle.stm_events.specs.declared.refusal.Denied.{Denied}
-use Rattle.stm_events.specs.Replies.{committed_read, txn_reply, refusal_of, denied, reply_to, store_after_call, advance_reply, poll_reply, store_after_poll}
+use Rattle.stm_events.specs.Replies.{committed_read, txn_reply, event_refusal, denied, reply_to, store_after_call, advance_reply, poll_reply, store_after_poll}
 use Rattle.stm_world.specs.Task.{Task, with_served, after_conflict}
 use Rattle.stm_world.specs.World.{World, Stepped, Runner, Over, Live, runner_at, with_slot, begin, replied, refused, start_runner, entry_of}
 use Rattle.stm_world.specs.World.{decided, commit_reported, commit, finish, fetch_at, fetch_list, step_on, step_live, step_runner, called}
@@ -261,7 +262,7 @@ txn_by txn w (Ok done) reached still =
     ap (λ n. entered n (now (kept done.next).history)) (counted s reached) ∙ ap (entered (now s.history)) (counted done.next still)
 txn_by txn w (Err cause) reached still =
     let s : Standing = w.standing in
-    let entered : ℕ → Stepped = λ n. called (denied (refusal_of cause)) (kept s) (cond (nat_lt n n) (Foreign txn ∷ []) []) (kept_world w) in
+    let entered : ℕ → Stepped = λ n. called (denied (event_refusal cause)) (kept s) (cond (nat_lt n n) (Foreign txn ∷ []) []) (kept_world w) in
     ap entered (counted s reached)
 
 call_kept : {A : Type 0} (report : A → Reply) (entry : Entry) (o : Result (StoreStep A) StoreRefusal) (w : World) →
@@ -434,7 +435,7 @@ reports_lift event (Err d) w next reached same reports =
     refused_lifts event d w next reached same (refusal_cases d.cause event d (kept_world w) next reports)
 
 -- a compaction wants no memory
-is_plain : (cause : StoreRefusal) → cause ≢ OutOfMemory → is_out_of_memory (refusal_of cause) ≡ false
+is_plain : (cause : StoreRefusal) → cause ≢ OutOfMemory → is_out_of_memory (event_refusal cause) ≡ false
 is_plain OutOfMemory not = absurd (not refl)
 is_plain other not = refl
 
@@ -446,7 +447,7 @@ compact_reports revision w (Ok done) reply never reported is =
     (subst (λ (r : Result Reply Denied). IsStep (step (Compact revision) w) r (step (Compact revision) w).next) (sym reported) is)
 compact_reports revision w (Err cause) reply never reported is =
     subst (λ (r : Result Reply Denied). Returns (Compact revision) r w (step (Compact revision) w).next) reported
-    (step_reports_by (refusal_of cause) (Compact revision) (record { cause = refusal_of cause; expired = [] }) w (step (Compact revision) w).next (is_plain cause never)
+    (step_reports_by (event_refusal cause) (Compact revision) (record { cause = event_refusal cause; expired = [] }) w (step (Compact revision) w).next (is_plain cause never)
     (subst (λ (r : Result Reply Denied). IsStep (step (Compact revision) w) r (step (Compact revision) w).next) (sym reported) is))
 
 compact_lifts : (revision : ℕ) (reply : Result Reply Denied) (w next : World) → HasKept w.standing →

@@ -47,7 +47,7 @@ use Rattle.stm_events.specs.declared.reply.KeyRead.{KeyRead}
 use Rattle.stm_events.specs.declared.reply.Reply.TheVariants.{Started, Prefetched, Fetched, Committed, Conflict, GaveUp, Ended}
 use Rattle.stm_events.specs.declared.refusal.EventRefusal.TheVariants.{BadLimit}
 use Rattle.stm_events.specs.declared.reply.CommittedRead.{CommittedRead}
-use Rattle.stm_events.specs.Replies.{committed_read, refusal_of}
+use Rattle.stm_events.specs.Replies.{committed_read, event_refusal}
 use Rattle.stm_world.specs.Task.{Task, modified_now, after_fetch}
 use Rattle.stm_world.specs.World.{World, Stepped, Runner, Slot, Over, Live, begin, runner_at, with_slot, start_runner, step_runner, step_live}
 use Rattle.stm_world.specs.World.{step_on, fetch, fetch_at, fetch_list, finish, commit, commit_reported, decided, take_commit, fail_commit, replied, refused}
@@ -121,14 +121,14 @@ is_listing r keys at reported = listing_by r keys at (is_due r.task.program.pref
 -- a fetch of the list in the step of a runner, by what it comes to
 abbrev pub listed_step : ℕ → Runner → ℕ → Result (List ReadAnswer) StoreRefusal → World → Stepped
 listed_step id r revision (Ok answers) w = replied (Prefetched id revision (map key_read answers)) id (Live (with_answers answers r)) w
-listed_step id r revision (Err cause) w = replied (Ended id (refusal_of cause)) id Over w
+listed_step id r revision (Err cause) w = replied (Ended id (event_refusal cause)) id Over w
 
 reported_now : (h : History) (keys : List (List ℕ)) → map key_read (map (answer_now h) keys) ≡ map (modified_now h) keys
 reported_now h [] = refl
 reported_now h (key ∷ keys) = ap (λ (l : List KeyRead). modified_now h key ∷ l) (reported_now h keys)
 
 listed_by : (id : ℕ) (r : Runner) (w : World) (many : Bool) →
-    cond many (replied (Ended id (refusal_of TooManyOps)) id Over w)
+    cond many (replied (Ended id (event_refusal TooManyOps)) id Over w)
     (replied (Prefetched id (now w.standing.history) (map (modified_now w.standing.history) r.task.program.prefetch)) id
     (Live (with_answers (map (answer_now w.standing.history) r.task.program.prefetch) r)) w)
     ≡ listed_step id r (now w.standing.history) (cond many (Err TooManyOps) (Ok (map (answer_now w.standing.history) r.task.program.prefetch))) w
@@ -153,7 +153,7 @@ listed_leaves id r q j after slots revision (Ok answers) reported reported_is ru
     record { reply = Ok (reply_in t); next = world_around (workplace x p) (with_slot id (slot_after t p) slots) } in
     sym (ap (λ (t : StepOutcome). made t q after) reported_is ∙ ap (λ (p : Runner). made says p after) runner_is ∙ ap (λ (x : JournalState). made says new x) journal_is)
 listed_leaves id r q j after slots revision (Err cause) reported reported_is runner_is journal_is =
-    let says : StepOutcome = Ends (Ended id (refusal_of cause)) in
+    let says : StepOutcome = Ends (Ended id (event_refusal cause)) in
     let made : StepOutcome → JournalState → Stepped = λ t x.
     record { reply = Ok (reply_in t); next = world_around (workplace x q) (with_slot id (slot_after t q) slots) } in
     sym (ap (λ (t : StepOutcome). made t after) reported_is ∙ ap (λ (x : JournalState). made says x) journal_is)
@@ -225,7 +225,7 @@ list_cause s keys cause not (inl want) = absurd (not want)
 list_cause s keys cause not (inr is) = is
 
 pub list_refused : (s : Standing) (id : ℕ) (keys : List (List ℕ)) (cause : StoreRefusal) (outcome : Result StepOutcome AllocError) →
-    IsRefusalOfAll s keys cause → IfOk outcome (λ reported. reported ≡ Ends (Ended id (refusal_of cause))) → OnOk outcome (cause ≢ OutOfMemory) →
+    IsRefusalOfAll s keys cause → IfOk outcome (λ reported. reported ≡ Ends (Ended id (event_refusal cause))) → OnOk outcome (cause ≢ OutOfMemory) →
     IfOk outcome (λ reported. reported ≡ reported_of_list id (now s.history) (fetch_all_reported s keys))
 list_refused s id keys cause (Ok reported) refused reported_is not =
     reported_is ∙ ap (reported_of_list id (now s.history)) (sym (list_cause s keys cause not refused))
@@ -271,10 +271,10 @@ wanted_is_named r key at x = (wanted_keys_are_unknown (look_up r.known.reads) r.
 -- a fetch in the step of a runner, by what it comes to
 abbrev pub fetched_step : ℕ → Runner → List ℕ → Result ReadAnswer StoreRefusal → World → Stepped
 fetched_step id r key (Ok a) w = replied (Fetched id key (mod_of a.kv) a.of_rev a.revision) id (Live (record r { known = after_fetch r.task a r.known })) w
-fetched_step id r key (Err cause) w = replied (Ended id (refusal_of cause)) id Over w
+fetched_step id r key (Err cause) w = replied (Ended id (event_refusal cause)) id Over w
 
 fetched_by : (id : ℕ) (r : Runner) (key : List ℕ) (base : ℕ) (w : World) (below : Bool) →
-    cond below (replied (Ended id (refusal_of Compacted)) id Over w) (fetch id r key (revision_read w.standing.history base) w)
+    cond below (replied (Ended id (event_refusal Compacted)) id Over w) (fetch id r key (revision_read w.standing.history base) w)
     ≡ fetched_step id r key (cond below (Err Compacted) (Ok (fetched w.standing.history key base))) w
 unfolding fetch
 fetched_by id r key base w true = refl
@@ -295,7 +295,7 @@ fetched_leaves id r q j after slots key (Ok a) reported reported_is runner_is jo
     record { reply = Ok (reply_in t); next = world_around (workplace x p) (with_slot id (slot_after t p) slots) } in
     sym (ap (λ (t : StepOutcome). made t q after) reported_is ∙ ap (λ (p : Runner). made says p after) runner_is ∙ ap (λ (x : JournalState). made says new x) journal_is)
 fetched_leaves id r q j after slots key (Err cause) reported reported_is runner_is journal_is =
-    let says : StepOutcome = Ends (Ended id (refusal_of cause)) in
+    let says : StepOutcome = Ends (Ended id (event_refusal cause)) in
     let made : StepOutcome → JournalState → Stepped = λ t x.
     record { reply = Ok (reply_in t); next = world_around (workplace x q) (with_slot id (slot_after t q) slots) } in
     sym (ap (λ (t : StepOutcome). made t after) reported_is ∙ ap (λ (x : JournalState). made says x) journal_is)
@@ -339,7 +339,7 @@ refused_cause s key at cause not (inl want) = absurd (not want)
 refused_cause s key at cause not (inr is) = is
 
 pub fetch_refused : (s : Standing) (id : ℕ) (key : List ℕ) (at : ℕ) (cause : StoreRefusal) (outcome : Result StepOutcome AllocError) →
-    (cause ≡ OutOfMemory) ⊎ (fetch_reported s key at ≡ Err cause) → IfOk outcome (λ reported. reported ≡ Ends (Ended id (refusal_of cause))) → OnOk outcome (cause ≢ OutOfMemory) →
+    (cause ≡ OutOfMemory) ⊎ (fetch_reported s key at ≡ Err cause) → IfOk outcome (λ reported. reported ≡ Ends (Ended id (event_refusal cause))) → OnOk outcome (cause ≢ OutOfMemory) →
     IfOk outcome (λ reported. reported ≡ reported_of_fetch id key (fetch_reported s key at))
 fetch_refused s id key at cause (Ok reported) refused reported_is not = reported_is ∙ ap (reported_of_fetch id key) (sym (refused_cause s key at cause not refused))
 fetch_refused s id key at cause (Err e) refused reported_is not = tt
@@ -568,14 +568,14 @@ fail_leaves id r q run ready j after key seen modified answers reported x y repo
 
 -- a commit that the store refused
 refused_leaves : (id : ℕ) (r q : Runner) (run : Run) (ready : ReadyRun) (j after : JournalState) (cause : StoreRefusal) (reported : StepOutcome) →
-    IsReady r run ready → reported ≡ Ends (Ended id (refusal_of cause)) → outcome_of j.standing ready run ≡ Err cause → after ≡ j →
+    IsReady r run ready → reported ≡ Ends (Ended id (event_refusal cause)) → outcome_of j.standing ready run ≡ Err cause → after ≡ j →
     Leaves id (Ok reported) (workplace j r) (workplace after q) (commit id r r.known.reads run)
 refused_leaves id r q run ready j after cause reported x reported_is refused same slots =
     let made : StepOutcome → JournalState → Stepped = λ t y.
     record { reply = Ok (reply_in t); next = world_around (workplace y q) (with_slot id (slot_after t q) slots) } in
     commit_by id r run ready j slots x
     ∙ ap (λ (o : Result Done StoreRefusal). commit_reported id r r.known.reads run o (world_around (workplace j r) slots)) refused
-    ∙ sym (ap (λ (t : StepOutcome). made t after) reported_is ∙ ap (λ (y : JournalState). made (Ends (Ended id (refusal_of cause))) y) same)
+    ∙ sym (ap (λ (t : StepOutcome). made t after) reported_is ∙ ap (λ (y : JournalState). made (Ends (Ended id (event_refusal cause))) y) same)
 
 -- the cause of a refusal that is not that memory ran out
 cause_is : (j : JournalState) (ready : ReadyRun) (run : Run) (cause : StoreRefusal) → IsOfRun ready run → cause ≢ OutOfMemory →
@@ -597,7 +597,7 @@ fail_comes_to id r q run ready j after key seen modified answers (Err e) x y rep
 -- what a commit that the store refused comes to, also where memory ran out
 pub refusal_comes_to : (id : ℕ) (r : Runner) (run : Run) (ready : ReadyRun) (j after : JournalState) (cause : StoreRefusal)
     (outcome : Result StepOutcome AllocError) → IsReady r run ready → IsOfRun ready run →
-    IfOk outcome (λ reported. reported ≡ Ends (Ended id (refusal_of cause))) → OnOk outcome (cause ≢ OutOfMemory) →
+    IfOk outcome (λ reported. reported ≡ Ends (Ended id (event_refusal cause))) → OnOk outcome (cause ≢ OutOfMemory) →
     (cause ≡ OutOfMemory) ⊎ (sent j ready ≡ Err cause) → after ≡ j →
     Leaves id outcome (workplace j r) (workplace after r) (commit id r r.known.reads run)
 refusal_comes_to id r run ready j after cause (Ok reported) x of reported_is other refused same =
@@ -657,7 +657,7 @@ on_is_taken : (id : ℕ) (r : Runner) (reads : List ReadAnswer) (answered : Answ
 on_is_taken id r reads (Wants key trace) w =
     let base : ℕ = at_of r.task.level reads in
     let of_rev : ℕ = revision_read w.standing.history base in
-    either_is_taken (is_below_floor w.standing.floor base) (replied (Ended id (refusal_of Compacted)) id Over w) (fetch id r key of_rev w) refl
+    either_is_taken (is_below_floor w.standing.floor base) (replied (Ended id (event_refusal Compacted)) id Over w) (fetch id r key of_rev w) refl
     (fetch_is_taken id r key of_rev w)
 on_is_taken id r reads (EndedRun run) w = finish_is_taken id r reads run run.end w
 

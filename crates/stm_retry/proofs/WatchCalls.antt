@@ -15,7 +15,7 @@ use Rattle.stm_events.specs.declared.event.WorldEvent.TheVariants.{Poll}
 use Rattle.stm_events.specs.declared.reply.Reply.{Reply}
 use Rattle.stm_events.specs.declared.reply.Reply.TheVariants.{Lost}
 use Rattle.stm_events.specs.declared.refusal.Denied.{Denied}
-use Rattle.stm_events.specs.Replies.{refusal_of, denied, reply_to, batch_reply, poll_reply, store_after_call, store_after_poll}
+use Rattle.stm_events.specs.Replies.{event_refusal, denied, reply_to, batch_reply, poll_reply, store_after_call, store_after_poll}
 use Rattle.stm_world.specs.World.{Slot, Stepped, step, quietly_called}
 use Rattle.stm_retry.specs.Returns.{OutOfMemoryReturns, Returns}
 use Rattle.stm_retry.specs.WorldOf.{world_of}
@@ -37,16 +37,16 @@ MayWant event s = (runners : List Slot) (es : List Entry) → IsOk (step event (
     OutOfMemoryReturns event [] (world_with runners s es) (world_with runners s es)
 
 refused_by : {A : Type 0} (event : WorldEvent) (report : A → Reply) (s : Standing) (o : Result (StoreStep A) StoreRefusal) (cause : StoreRefusal) →
-    IsWatchCall event report s o → MayWant event s → NeverWants o → IsRefusalOf o cause → QuietReturns event (denied (refusal_of cause)) s s
+    IsWatchCall event report s o → MayWant event s → NeverWants o → IsRefusalOf o cause → QuietReturns event (denied (event_refusal cause)) s s
 refused_by event report s (Ok done) cause call want never refusal es runners =
-    refusal_reports event (record { cause = refusal_of cause; expired = [] }) cause (world_with runners s es) (world_with runners s es)
+    refusal_reports event (record { cause = event_refusal cause; expired = [] }) cause (world_with runners s es) (world_with runners s es)
     (λ e. want runners es (subst (λ (x : Stepped). IsOk x.reply) (sym (call runners es)) refl))
     (λ not. absurd (not refusal))
 refused_by event report s (Err c) cause call want never refusal es runners =
-    refusal_reports event (record { cause = refusal_of cause; expired = [] }) cause (world_with runners s es) (world_with runners s es)
+    refusal_reports event (record { cause = event_refusal cause; expired = [] }) cause (world_with runners s es) (world_with runners s es)
     (λ e. absurd (never (sym refusal ∙ e)))
     (λ not. record {
-      reply_is = ap (λ (x : Stepped). x.reply) (call runners es) ∙ ap (λ (r : StoreRefusal). denied (refusal_of r)) (sym refusal);
+      reply_is = ap (λ (x : Stepped). x.reply) (call runners es) ∙ ap (λ (r : StoreRefusal). denied (event_refusal r)) (sym refusal);
       next_is = ap (λ (x : Stepped). x.next) (call runners es);
     })
 
@@ -70,10 +70,10 @@ watch_taken event report before after o answer reply call taken same replied =
 -- one that was refused, by the store or since memory ran out
 pub watch_refused : {A : Type 0} (event : WorldEvent) (report : A → Reply) (before after : JournalState) (o : Result (StoreStep A) StoreRefusal)
     (reply : Result Reply Denied) (cause : StoreRefusal) → IsWatchCall event report before.standing o → MayWant event before.standing → NeverWants o →
-    IsRefusalOf o cause → reply ≡ denied (refusal_of cause) → after ≡ before → CallReturns event reply before after
+    IsRefusalOf o cause → reply ≡ denied (event_refusal cause) → after ≡ before → CallReturns event reply before after
 watch_refused event report before after o reply cause call want never refusal replied same runners =
     subst (λ (r : Result Reply Denied). Returns event r (world_of before runners) (world_of after runners)) (sym replied)
-    (subst (λ (j : JournalState). Returns event (denied (refusal_of cause)) (world_of before runners) (world_of j runners)) (sym same)
+    (subst (λ (j : JournalState). Returns event (denied (event_refusal cause)) (world_of before runners) (world_of j runners)) (sym same)
     (refused_by event report before.standing o cause call want never refusal before.entries runners))
 
 -- ---- a poll that was refused ----
@@ -94,7 +94,7 @@ stepped_as : (s : Standing) (id most : ℕ) (o : Result (StoreStep Batch) StoreR
 stepped_as s id most o is runners es = ap (λ (x : Result (StoreStep Batch) StoreRefusal). poll_stepped s id x runners es) is
 
 -- none was there
-none_reports : (s : Standing) (id most : ℕ) → polled s id most ≡ Err NoWatcher → QuietReturns (Poll id most) (denied (refusal_of NoWatcher)) s (poll_refused s id)
+none_reports : (s : Standing) (id most : ℕ) → polled s id most ≡ Err NoWatcher → QuietReturns (Poll id most) (denied (event_refusal NoWatcher)) s (poll_refused s id)
 none_reports s id most is es runners =
     let one : step (Poll id most) (world_with runners s es) ≡ poll_stepped s id (Err NoWatcher) runners es = stepped_as s id most (Err NoWatcher) is runners es in
     record { reply_is = ap (λ (x : Stepped). x.reply) one; next_is = ap (λ (x : Stepped). x.next) one }
@@ -107,7 +107,7 @@ lost_reports s id most is es runners =
 
 -- an allocation failed
 out_of_memory_reports : (s : Standing) (id most : ℕ) (done : StoreStep Batch) → polled s id most ≡ Ok done →
-    QuietReturns (Poll id most) (denied (refusal_of OutOfMemory)) s s
+    QuietReturns (Poll id most) (denied (event_refusal OutOfMemory)) s s
 out_of_memory_reports s id most done is es runners =
     let one : step (Poll id most) (world_with runners s es) ≡ poll_stepped s id (Ok done) runners es = stepped_as s id most (Ok done) is runners es in
     ((refl, refl), subst (λ (x : Stepped). IsOk x.reply) (sym one) refl)
@@ -126,24 +126,24 @@ not_lost_stays s id w found kept =
 
 refusal_by_lost : (s next : Standing) (id most floor : ℕ) (reply : Result Reply Denied) (cause : StoreRefusal) (w : Watching) (lost : Bool) →
     watcher_at id s.watchers ≡ Some w → w.lost ≡ lost → polled s id most ≡ poll_of s id most w lost → IsRefusalOf (poll_of s id most w lost) cause →
-    (cause ≡ Compacted → reply ≡ Ok (Lost id floor)) → (cause ≢ Compacted → reply ≡ denied (refusal_of cause)) → floor ≡ s.floor → next ≡ poll_refused s id →
+    (cause ≡ Compacted → reply ≡ Ok (Lost id floor)) → (cause ≢ Compacted → reply ≡ denied (event_refusal cause)) → floor ≡ s.floor → next ≡ poll_refused s id →
     QuietReturns (Poll id most) reply s next
 refusal_by_lost s next id most floor reply cause w true found is step refusal lost other floor_is left =
     reported_alike (Poll id most) s next (poll_refused s id) reply (Ok (Lost id s.floor)) (lost refusal ∙ ap (λ n. Ok (Lost id n)) floor_is) left
     (lost_reports s id most step)
 refusal_by_lost s next id most floor reply cause w false found is step refusal lost other floor_is left =
     let not : cause ≢ Compacted = λ e. let both : OutOfMemory ≡ Compacted = sym refusal ∙ e in absurd (cc) in
-    reported_alike (Poll id most) s next s reply (denied (refusal_of OutOfMemory)) (other not ∙ ap (λ (c : StoreRefusal). denied (refusal_of c)) refusal)
+    reported_alike (Poll id most) s next s reply (denied (event_refusal OutOfMemory)) (other not ∙ ap (λ (c : StoreRefusal). denied (event_refusal c)) refusal)
     (left ∙ not_lost_stays s id w found is) (out_of_memory_reports s id most _ step)
 
 refusal_by_place : (s next : Standing) (id most floor : ℕ) (reply : Result Reply Denied) (cause : StoreRefusal) (o : Option Watching) →
     watcher_at id s.watchers ≡ o → polled s id most ≡ poll_step s (poll_found s.history id most s.watchers o) →
     IsRefusalOf (poll_step s (poll_found s.history id most s.watchers o)) cause →
-    (cause ≡ Compacted → reply ≡ Ok (Lost id floor)) → (cause ≢ Compacted → reply ≡ denied (refusal_of cause)) → floor ≡ s.floor → next ≡ poll_refused s id →
+    (cause ≡ Compacted → reply ≡ Ok (Lost id floor)) → (cause ≢ Compacted → reply ≡ denied (event_refusal cause)) → floor ≡ s.floor → next ≡ poll_refused s id →
     QuietReturns (Poll id most) reply s next
 refusal_by_place s next id most floor reply cause None found step refusal lost other floor_is left =
     let not : cause ≢ Compacted = λ e. let both : NoWatcher ≡ Compacted = sym refusal ∙ e in absurd (cc) in
-    reported_alike (Poll id most) s next (poll_refused s id) reply (denied (refusal_of NoWatcher)) (other not ∙ ap (λ (c : StoreRefusal). denied (refusal_of c)) refusal)
+    reported_alike (Poll id most) s next (poll_refused s id) reply (denied (event_refusal NoWatcher)) (other not ∙ ap (λ (c : StoreRefusal). denied (event_refusal c)) refusal)
     left (none_reports s id most step)
 refusal_by_place s next id most floor reply cause (Some w) found step refusal lost other floor_is left =
     refusal_by_lost s next id most floor reply cause w w.lost found refl step refusal lost other floor_is left
@@ -151,7 +151,7 @@ refusal_by_place s next id most floor reply cause (Some w) found step refusal lo
 -- a poll that was refused, by the store, since the watcher is lost, or since memory ran out
 pub poll_refusal_reports : (before after : JournalState) (id most floor : ℕ) (reply : Result Reply Denied) (cause : StoreRefusal) →
     IsRefusalOf (polled before.standing id most) cause → (cause ≡ Compacted → reply ≡ Ok (Lost id floor)) →
-    (cause ≢ Compacted → reply ≡ denied (refusal_of cause)) → floor ≡ before.standing.floor → after.standing ≡ poll_refused before.standing id →
+    (cause ≢ Compacted → reply ≡ denied (event_refusal cause)) → floor ≡ before.standing.floor → after.standing ≡ poll_refused before.standing id →
     after ≡ with_store before after.standing → CallReturns (Poll id most) reply before after
 poll_refusal_reports before after id most floor reply cause refusal lost other floor_is left same =
     let s : Standing = before.standing in

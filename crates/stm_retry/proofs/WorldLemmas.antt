@@ -35,7 +35,7 @@ use Rattle.stm_events.specs.declared.event.WorldEvent.TheVariants.{Start, Step, 
 use Rattle.stm_events.specs.declared.reply.Reply.{Reply}
 use Rattle.stm_events.specs.declared.refusal.EventRefusal.{EventRefusal}
 use Rattle.stm_events.specs.declared.refusal.EventRefusal.TheVariants.{OutOfMemory, BadLimit}
-use Rattle.stm_events.specs.Replies.{refusal_of}
+use Rattle.stm_events.specs.Replies.{event_refusal}
 use Rattle.stm_events.specs.declared.refusal.Denied.{Denied}
 use Rattle.stm_world.specs.Task.{Task}
 use Rattle.stm_world.specs.World.{World, Runner, Stepped, Over, runner_at, refused, replied, start_runner, fetch, fail_commit, decided, commit_reported, commit, finish}
@@ -97,7 +97,7 @@ unfolding fetch
 fetch_plain id r key of_rev w = tt
 
 base_plain : (id : ℕ) (r : Runner) (key : List ℕ) (base : ℕ) (w : World) (below : Bool) →
-    PlainOnly (cond below (replied (Ended id (refusal_of Compacted)) id Over w) (fetch id r key (revision_read w.standing.history base) w)).reply
+    PlainOnly (cond below (replied (Ended id (event_refusal Compacted)) id Over w) (fetch id r key (revision_read w.standing.history base) w)).reply
 base_plain id r key base w true = tt
 base_plain id r key base w false = fetch_plain id r key (revision_read w.standing.history base) w
 

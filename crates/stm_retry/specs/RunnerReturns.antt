@@ -16,7 +16,7 @@ use Rattle.stm_events.specs.declared.reply.Reply.{Reply}
 use Rattle.stm_events.specs.declared.reply.KeyRead.{KeyRead}
 use Rattle.stm_events.specs.declared.reply.Reply.TheVariants.{Prefetched, Fetched, Conflict, GaveUp, Aborted, Faulted, Ended}
 use Rattle.stm_events.specs.declared.refusal.Denied.{Denied}
-use Rattle.stm_events.specs.Replies.{refusal_of}
+use Rattle.stm_events.specs.Replies.{event_refusal}
 use Rattle.stm_world.specs.World.{World, Stepped, Runner, Slot, Over, Live, with_slot}
 use Rattle.stm_retry.specs.declared.step_outcome.StepOutcome.{StepOutcome}
 use Rattle.stm_retry.specs.declared.step_outcome.StepOutcome.TheVariants.{GoesOn, Ends}
@@ -65,7 +65,7 @@ Leaves id (Err e) before after step = after ≡ before
 -- what a fetch of a key reports, by what it comes to: one that the store refuses ends the run
 abbrev pub reported_of_fetch : ℕ → List ℕ → Result ReadAnswer StoreRefusal → StepOutcome
 reported_of_fetch id key (Ok a) = GoesOn (Fetched id key (mod_of a.kv) a.of_rev a.revision)
-reported_of_fetch id key (Err cause) = Ends (Ended id (refusal_of cause))
+reported_of_fetch id key (Err cause) = Ends (Ended id (event_refusal cause))
 
 -- the runner after it
 abbrev pub after_reported_fetch : Result ReadAnswer StoreRefusal → Runner → Runner
@@ -79,7 +79,7 @@ key_read a = record { key = a.key; mod_rev = mod_of a.kv }
 -- what a fetch of a list reports where this is the store's revision: one that the store refuses ends the run
 abbrev pub reported_of_list : ℕ → ℕ → Result (List ReadAnswer) StoreRefusal → StepOutcome
 reported_of_list id revision (Ok answers) = GoesOn (Prefetched id revision (map key_read answers))
-reported_of_list id revision (Err cause) = Ends (Ended id (refusal_of cause))
+reported_of_list id revision (Err cause) = Ends (Ended id (event_refusal cause))
 
 -- the runner after it
 abbrev pub after_reported_list : Result (List ReadAnswer) StoreRefusal → Runner → Runner

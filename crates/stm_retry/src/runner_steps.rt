@@ -12,12 +12,14 @@ ghost use Rattle.stm_attempt.specs.Known.{HaveDistinctKeys};
 ghost use Rattle.stm_attempt.specs.Fetches.{ShowOneRevision, at_of};
 ghost use Rattle.stm_journal.specs.Fetched.{fetch_reported, fetch_all_reported};
 ghost use Rattle.stm_events.specs.declared.reply.Reply.TheVariants.{Prefetched, Fetched, Started, Committed, Ended};
-ghost use Rattle.stm_events.specs.Replies.{refusal_of};
+ghost use Rattle.stm_events.specs.Replies.{event_refusal};
 ghost use Rattle.stm_world.specs.World.{Runner as LiveRunner, start_runner, step_runner, step_live, commit as commit_of, runner_at};
 ghost use Rattle.stm_retry.specs.declared.step_outcome.StepOutcome.TheVariants.{GoesOn, Ends};
 ghost use Rattle.stm_retry.specs.StepReturns.{Returns};
 ghost use Rattle.stm_retry.specs.RunnerView.{task_of, AreNamed, with_answer, with_answers, begun_again};
-ghost use Rattle.stm_retry.specs.RunnerReturns.{workplace, Leaves, ReturnsEnd, IsReady, reported_of_fetch, after_reported_fetch, key_read, reported_of_list, after_reported_list, reported_of_failure, may_go_on, reply_in, reply_reported, slot_left};
+ghost use Rattle.stm_retry.specs.RunnerReturns.{workplace, Leaves, ReturnsEnd, IsReady, reported_of_fetch, after_reported_fetch, key_read};
+ghost use Rattle.stm_retry.specs.RunnerReturns.{reported_of_list, after_reported_list, reported_of_failure, may_go_on, reply_in, reply_reported};
+ghost use Rattle.stm_retry.specs.RunnerReturns.{slot_left};
 
 use crate::copies::{Copies, copies_of};
 use crate::kept_world::{KeptWorld, denied};
@@ -209,7 +211,7 @@ fn fail_commit(
 
 /// What a fetch or a commit that the store refused comes to: the end of the run, unless memory ran out.
 fn end_refused(id: u64, cause: StoreRefusal) -> Result<StepOutcome, AllocError>
-    ensures reported { IfOk result (λ reported. reported ≡ Ends (Ended id (refusal_of cause))) }
+    ensures reported { IfOk result (λ reported. reported ≡ Ends (Ended id (event_refusal cause))) }
     ensures refused { OnOk result (cause ≢ OutOfMemory) }
 {
     if cause == StoreRefusal::OutOfMemory {

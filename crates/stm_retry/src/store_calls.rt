@@ -1,9 +1,9 @@
 //! The events that change a store and are no runner's. Each is one call of the journal, which enters it where it is an entry.
 ghost use Rattle.std.specs.Prelude.{◌≡◌, ◌+◌, ◌≤◌, [], ◌++◌, map, length, reverse, vec_len, vec_capacity, IfOk};
-ghost use Rattle.stm_txn.specs.Standing.{transacted, refusal_of as refusal_of_call};
+ghost use Rattle.stm_txn.specs.Standing.{transacted, refusal_of};
 ghost use Rattle.stm_journal.specs.Entering.{or_out_of_memory};
 ghost use Rattle.stm_events.specs.declared.event.WorldEvent.TheVariants.{Txn as TxnEvent, Grant as GrantEvent, Keep as KeepEvent, Revoke as RevokeEvent, Advance as AdvanceEvent};
-ghost use Rattle.stm_events.specs.Replies.{denied as denied_for, refusal_of, op_reply, txn_reply};
+ghost use Rattle.stm_events.specs.Replies.{denied as denied_for, event_refusal, op_reply, txn_reply};
 ghost use Rattle.stm_retry.specs.CallReturns.{CallReturns};
 
 use crate::kept_world::denied;
@@ -16,7 +16,7 @@ use stm_txn::{Refusal as StoreRefusal, Store, Txn};
 
 /// The store's refusal of a call.
 pub(crate) fn refuse(alloc: Global, cause: StoreRefusal) -> Result<Reply, Denied>
-    ensures { result ≡ denied_for (refusal_of cause) }
+    ensures { result ≡ denied_for (event_refusal cause) }
 {
     Err(denied(alloc, EventRefusal::of_store(cause)))
 }
@@ -63,7 +63,7 @@ fn room_for(alloc: Global, txn: &Txn) -> Result<Vec<OpReply>, AllocError>
 
 /// Why a transaction is refused where there was no room for its replies: the store's cause, or else that memory ran out.
 fn cause_without_room(store: &Store, txn: &Txn) -> StoreRefusal
-    ensures { result ≡ or_out_of_memory (refusal_of_call (transacted store.now.standing txn.now)) }
+    ensures { result ≡ or_out_of_memory (refusal_of (transacted store.now.standing txn.now)) }
 {
     match store.txn_refusal(txn) {
         Some(cause) => cause,

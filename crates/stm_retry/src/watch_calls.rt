@@ -3,7 +3,7 @@ ghost use Rattle.std.specs.Prelude.{◌≡◌, ◌≢◌, Ok};
 ghost use Rattle.stm_outcome.specs.declared.refusal.Refusal.TheVariants.{Compacted as CompactedRefusal};
 ghost use Rattle.stm_txn.specs.Standing.{compacted};
 ghost use Rattle.stm_events.specs.declared.reply.Reply.TheVariants.{Compacted as CompactedReply, Lost as LostReply};
-ghost use Rattle.stm_events.specs.Replies.{denied as denied_for, refusal_of, reply_to, store_after_call};
+ghost use Rattle.stm_events.specs.Replies.{denied as denied_for, event_refusal, reply_to, store_after_call};
 ghost use Rattle.stm_events.specs.declared.event.WorldEvent.TheVariants.{WatchKey as WatchKeyEvent, WatchRange as WatchRangeEvent};
 ghost use Rattle.stm_events.specs.declared.event.WorldEvent.TheVariants.{Poll as PollEvent, Cancel as CancelEvent};
 ghost use Rattle.stm_retry.specs.CallReturns.{CallReturns};
@@ -54,7 +54,7 @@ fn refuse_poll(
     cause: StoreRefusal,
 ) -> Result<Reply, Denied>
     ensures lost { cause ≡ CompactedRefusal → result ≡ Ok (LostReply watcher floor) }
-    ensures other { cause ≢ CompactedRefusal → result ≡ denied_for (refusal_of cause) }
+    ensures other { cause ≢ CompactedRefusal → result ≡ denied_for (event_refusal cause) }
 {
     if cause == StoreRefusal::Compacted {
         return Ok(Reply::Lost { watcher, floor });
@@ -74,7 +74,7 @@ pub(crate) fn poll(
     match journal.poll(watcher, most) {
         Ok(batch) => Ok(Reply::Batch {
             watcher,
-            up_to: batch.upto,
+            upto: batch.upto,
             events: batch.events,
         }),
         Err(cause) => refuse_poll(alloc, watcher, journal.store().floor(), cause),

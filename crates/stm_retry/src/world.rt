@@ -9,6 +9,7 @@ ghost use Rattle.stm_entries.specs.Replay.{replay};
 ghost use Rattle.stm_entries.specs.Legal.{AreLegal};
 ghost use Rattle.stm_journal.specs.StateOf.{IsStateOf};
 ghost use Rattle.stm_events.specs.declared.event.WorldEvent.{WorldEvent};
+ghost use Rattle.stm_events.specs.declared.event.WorldEvent.TheVariants.{Start};
 ghost use Rattle.stm_events.specs.declared.refusal.Denied.{Denied};
 ghost use Rattle.stm_events.specs.declared.refusal.EventRefusal.TheVariants.{OutOfMemory, BadLimit};
 ghost use Rattle.stm_events.specs.declared.reply.Reply.{Reply};
@@ -143,12 +144,16 @@ impl World {
     ///
     /// It is refused as `BadLimit` where the limit is 0, and as `OutOfMemory` where an allocation failed.
     /// A refused start takes no number and leaves the world as it was; the program is dropped.
+    ///
+    /// Where the headline holds of what the world was asked and has replied so far, it holds with this start and its reply added.
     pub fn start(&mut self, program: Program, level: Level, limit: u32) -> Result<u64, EventRefusal>
         ensures number { IfOk result (λ id. (start_runner (record { program = program; level = level; limit = limit }) self.old).reply ≡ Ok (Started id)) }
         ensures ok { OnOk result (self.new ≡ (start_runner (record { program = program; level = level; limit = limit }) self.old).next) }
         ensures bad_limit { limit ≡ 0 → result ≡ Err BadLimit }
         ensures memory_alone { limit ≢ 0 → IfErr result (λ e. e ≡ OutOfMemory) }
         ensures err { OnErr result (self.new ≡ self.old) }
+        ensures headline { IfOk result (λ id. (setup : Setup) (before : List WorldEvent) (earlier : List (Result Reply Denied))
+            → Holds setup before earlier self.old → Holds setup (before ++ Start program level limit ∷ []) (earlier ++ Ok (Started id) ∷ []) self.new) }
     {
         if limit == 0 {
             return Err(EventRefusal::BadLimit);

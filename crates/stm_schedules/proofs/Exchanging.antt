@@ -29,7 +29,7 @@ use Rattle.stm_events.specs.declared.reply.Reply.{Reply}
 use Rattle.stm_events.specs.declared.reply.Reply.TheVariants.{Prefetched, Fetched, Committed, Conflict, GaveUp, Aborted, Faulted, Ended}
 use Rattle.stm_events.specs.declared.refusal.Denied.{Denied}
 use Rattle.stm_events.specs.declared.refusal.EventRefusal.TheVariants.{NoRunner, TooManyOps as TooManyOpsRefusal, Compacted as CompactedRefusal}
-use Rattle.stm_events.specs.Replies.{committed_read, refusal_of, denied}
+use Rattle.stm_events.specs.Replies.{committed_read, event_refusal, denied}
 use Rattle.stm_world.specs.Task.{answer_at, modified_now, after_list, after_fetch, after_conflict}
 use Rattle.stm_world.specs.World.{World, Runner, Slot, Over, Live, Stepped, runner_at, with_slot, replied, fetch, fetch_list, entry_of, decided}
 use Rattle.stm_world.specs.World.{commit_reported, commit, finish, step_on, step_live, step_runner, step}
@@ -166,9 +166,9 @@ reported_does : (id : ℕ) (r : Runner) (reads : List ReadAnswer) (run : Run) (o
     Does id s (commit_reported id r reads run o)
 reported_does id r reads run (Ok done) s = decided_does id r reads run done done.answer.failed s
 reported_does id r reads run (Err cause) s = inl (record {
-  reply = Ok (Ended id (refusal_of cause));
+  reply = Ok (Ended id (event_refusal cause));
   slot = Some Over;
-  end = Some (EndedEnd (refusal_of cause));
+  end = Some (EndedEnd (event_refusal cause));
   is = λ slots entries. refl;
   reported = refl;
   known = λ ends. refl;

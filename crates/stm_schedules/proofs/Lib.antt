@@ -1,3 +1,4 @@
+pub mod SameOutcomes
 pub mod Members
 pub mod MoveLemmas
 pub mod Runs

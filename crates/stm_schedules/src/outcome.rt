@@ -4,7 +4,7 @@ use stm_history::{Sequence, Text};
 use stm_meaning::{Fault, Value};
 
 /// How the run of a runner ended.
-#[derive(Debug, Drop)]
+#[derive(Debug, PartialEq, Eq, Drop)]
 pub enum RunnerEnd {
     /// It committed, with this output of its program.
     Committed { output: Sequence<Value> },
@@ -28,7 +28,7 @@ pub struct KeyValue {
 }
 
 /// What a whole schedule comes to.
-#[derive(Debug, Drop)]
+#[derive(Debug, PartialEq, Eq, Drop)]
 pub struct Outcome {
     /// The keys that are present, ascending by bytes, each with its value.
     pub state: Sequence<KeyValue>,

@@ -1,3 +1,4 @@
+pub mod SameValues
 pub mod IntegerRange
 pub mod WrittenNumber
 pub mod PlaceLemmas

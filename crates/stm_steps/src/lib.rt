@@ -27,5 +27,5 @@ pub use stm_history::{Sequence, Text};
 pub use stm_program::{Operator, Variable, Write};
 pub use stop::{Halt, Stop};
 pub use texts::{are_equal, deletion, is_below, join, put, turns, wanted_key, wanted_text};
-pub use trace_item::TraceItem;
-pub use value::Value;
+pub use trace_item::{TraceItem, are_same_traces};
+pub use value::{Value, are_same_values};

@@ -1,4 +1,6 @@
 //! What a run saw.
+ghost use Rattle.std.specs.Prelude.{◌≡◌, ◌↔◌, IsTrue};
+
 use stm_history::Text;
 
 /// One `get` or `rev` of a run, with what it gave.
@@ -18,4 +20,11 @@ pub enum TraceItem {
         /// What it gave.
         mod_rev: u64,
     },
+}
+
+/// Whether two traces are the same.
+pub fn are_same_traces(left: &[TraceItem], right: &[TraceItem]) -> bool
+    ensures { IsTrue result ↔ left.now ≡ right.now }
+{
+    left == right
 }

@@ -1,5 +1,5 @@
 //! The values that expressions have.
-ghost use Rattle.std.specs.Prelude.{◌≡◌};
+ghost use Rattle.std.specs.Prelude.{◌≡◌, ◌↔◌, IsTrue};
 
 use std::alloc::AllocError;
 use stm_history::Text;
@@ -22,4 +22,11 @@ impl Clone for Value {
             Value::Number(number) => Ok(Value::Number(*number)),
         }
     }
+}
+
+/// Whether two lists of values are the same.
+pub fn are_same_values(left: &[Value], right: &[Value]) -> bool
+    ensures { IsTrue result ↔ left.now ≡ right.now }
+{
+    left == right
 }

@@ -52,7 +52,7 @@ use Rattle.stm_entries.proofs.Replaying.{replay_goes_on, all_legal}
 use Rattle.stm_entries.specs.Entered.{if_taken, if_changed, expiries}
 use Rattle.stm_events.specs.declared.reply.Reply.{Reply}
 use Rattle.stm_events.specs.declared.refusal.Denied.{Denied}
-use Rattle.stm_events.specs.Replies.{txn_reply, refusal_of, denied, reply_to, advance_reply, poll_reply}
+use Rattle.stm_events.specs.Replies.{txn_reply, event_refusal, denied, reply_to, advance_reply, poll_reply}
 use Rattle.stm_events.specs.declared.refusal.EventRefusal.TheVariants.{BadLimit, NoRunner, TooManyOps as TooManyOpsRefusal, Compacted as CompactedRefusal}
 use Rattle.stm_events.specs.declared.reply.Reply.TheVariants.{Granted, Kept, Revoked, Watching, Cancelled, Compacted}
 use Rattle.stm_world.specs.World.{Stepped, world_after}
@@ -138,7 +138,7 @@ decided_appends w id r run done (Some failed) x comes_to some =
 commit_by : (w : World) (id : ℕ) (r : Runner) (run : Run) (o : Result Done StoreRefusal) → IsDone w r run →
     committed (terms_of w.standing) r.task.level r.known.reads run ≡ o → Appends w (commit_reported id r r.known.reads run o w)
 commit_by w id r run (Ok done) x is = decided_appends w id r run done done.answer.failed x is refl
-commit_by w id r run (Err cause) x is = ended_appends w id (Ended id (refusal_of cause))
+commit_by w id r run (Err cause) x is = ended_appends w id (Ended id (event_refusal cause))
 
 commit_appends : (w : World) (id : ℕ) (r : Runner) (run : Run) → IsDone w r run → Appends w (commit id r r.known.reads run w)
 unfolding commit

@@ -93,17 +93,15 @@ real_failure start log id runner task key seen now_modified runs same c =
       run = c.commits.run;
       is_run = c.commits.is_run;
       is_done = c.commits.is_done;
-      conflict = record {
+      named = record {
         compare = c.failed;
         fails = commit_fails (sends_too_many terms.limit task.level (known_after_log start id task log).reads (latest_writes c.commits.run.writes)) terms
             task.level (known_after_log start id task log).reads c.commits.run
             (conflict_now h task.level (known_after_log start id task log).reads (latest_writes c.commits.run.writes)) c.done c.failed c.commits.comes_to c.fails;
-        seen = c.conflict.seen;
-        about = c.conflict.about;
+        conflict = c.conflict;
         key = c.about;
         was = c.was;
-        is = c.is ∙ c.conflict.reported ∙ ap (λ (k : List ℕ). mod_of (key_now h k)) (sym c.about);
-        changed = subst (λ (k : List ℕ). IsChangedAbove h c.conflict.seen.at k) (sym c.about) c.conflict.changed;
+        is = c.is;
       };
     })
 

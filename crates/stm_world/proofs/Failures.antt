@@ -185,7 +185,8 @@ failure_moves_on start log id task failed same runs real low m =
     subst (λ n. KnowsFrom (least start log id) (known_after_log start n real.task log)) (sym same)
     (subst (λ (t : Task). KnowsFrom (least start log id) (known_after_log start id t log)) (sym is) (m.known task runs)) in
     conflict_moves_on (least start log id) (store start log).history (known_after_log start failed.runner real.task log).reads
-    (latest_writes real.run.writes) real.conflict.seen real.conflict.compare.index failed.key (omega arith) knows.0 real.conflict.about real.conflict.changed
+    (latest_writes real.run.writes) real.named.conflict.seen real.named.compare.index real.named.conflict.seen.key (omega arith) knows.0
+    real.named.conflict.about real.named.conflict.changed
 
 conflict_by : (start : Setup) (log : List Line) (id : ℕ) (task : Task) (key : List ℕ) (seen now_modified : ℕ) → running id log ≡ Some task →
     least start log id + 1 ≤ now (store start log).history → HasMovedOn start (with_line (Step id) (Ok (Conflict id key seen now_modified)) log) id

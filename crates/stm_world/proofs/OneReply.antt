@@ -1,5 +1,6 @@
 -- There is one right reply to an event after a log.
-use Rattle.std.proofs.Common.{◌≡◌, inl, inr, ℕ, ◌+◌, ◌≤◌, List, [], ◌∷◌, length, map, reverse, Option, Some, None, Ok, Err, Bool, true, false, refl, sym, ◌∙◌, ap, subst, arith}
+use Rattle.std.proofs.Common.{◌≡◌, inl, inr, ℕ, ◌+◌, ◌≤◌, List, [], ◌∷◌, length, map, reverse, Option, Some, None, Ok, Err, Bool, true, false, refl}
+use Rattle.std.proofs.Common.{sym, ◌∙◌, ap, subst, arith}
 use Rattle.std.proofs.lemmas.List.{reverse-reverse}
 use Rattle.std.proofs.lemmas.Bool.{lt-ltb, le-ltb}
 use Rattle.std.specs.Prelude.{nat_lt, slice_get, Result}
@@ -30,7 +31,7 @@ use Rattle.stm_events.specs.declared.reply.Reply.{Reply}
 use Rattle.stm_events.specs.declared.reply.Reply.TheVariants.{Started, Prefetched, Fetched, Committed, Conflict, GaveUp, Aborted, Faulted, Ended}
 use Rattle.stm_events.specs.declared.reply.Reply.TheVariants.{Txn as TxnDone, Granted, Kept, Revoked, Advanced, Watching, Batch, Cancelled, Compacted, Lost}
 use Rattle.stm_events.specs.declared.refusal.Denied.{Denied}
-use Rattle.stm_events.specs.Replies.{committed_read, refusal_of}
+use Rattle.stm_events.specs.Replies.{committed_read, event_refusal}
 use Rattle.stm_world.specs.Task.{Task, modified_now}
 use Rattle.stm_entries.specs.Entered.{answers_kept}
 use Rattle.stm_world.specs.Log.{Line, IsLogOf, running, started}
@@ -53,7 +54,7 @@ by_compare at run done (Some failed) =
 
 abbrev by_commit : Situation → Run → Result Done StoreRefusal → Reply
 by_commit at run (Ok done) = by_compare at run done done.answer.failed
-by_commit at run (Err cause) = Ended at.id (refusal_of cause)
+by_commit at run (Err cause) = Ended at.id (event_refusal cause)
 
 abbrev by_end : Situation → Run → End → Reply
 by_end at run DoneEnd = by_commit at run (committed (terms_of at.store) at.task.level at.reads run)
@@ -65,7 +66,7 @@ fetched_at at key of_rev = Fetched at.id key (mod_of (key_at at.store.history ke
 
 -- by whether the base is compacted
 abbrev by_base : Situation → List ℕ → Bool → Reply
-by_base at key true = Ended at.id (refusal_of CompactedRefusal)
+by_base at key true = Ended at.id (event_refusal CompactedRefusal)
 by_base at key false = fetched_at at key (revision_read at.store.history (at_of at.task.level at.reads))
 
 abbrev by_run : Situation → Answered → Reply
@@ -74,7 +75,7 @@ by_run at (EndedRun run) = by_end at run run.end
 
 -- by whether the list has too many keys
 abbrev by_count : Situation → Bool → Reply
-by_count at true = Ended at.id (refusal_of TooManyOpsRefusal)
+by_count at true = Ended at.id (event_refusal TooManyOpsRefusal)
 by_count at false = Prefetched at.id (now at.store.history) (map (modified_now at.store.history) at.task.program.prefetch)
 
 -- and by whether it is due
@@ -101,13 +102,13 @@ by_conflict at key seen now_modified c more left =
     ∙ ap (by_limit at c.conflict.seen c.failed.mod_rev) left
 
 -- so does the refusal of what the step asks of the store
-by_refusal : (at : Situation) (cause : StoreRefusal) → IsRefused at cause → reply_at at ≡ Ended at.id (refusal_of cause)
+by_refusal : (at : Situation) (cause : StoreRefusal) → IsRefused at cause → reply_at at ≡ Ended at.id (event_refusal cause)
 by_refusal at cause (inl c) = by_outcome at (Err cause) c
 by_refusal at cause (inr (inr (same, overfull))) =
     ap (by_list at) overfull.due ∙ ap (by_count at) (lt-ltb at.store.limit (length at.task.program.prefetch) overfull.many)
-    ∙ ap (λ (e : StoreRefusal). Ended at.id (refusal_of e)) (sym same)
+    ∙ ap (λ (e : StoreRefusal). Ended at.id (event_refusal e)) (sym same)
 by_refusal at cause (inr (inl (same, behind))) =
-    ap (by_list at) behind.has_list ∙ ap (by_run at) behind.wants ∙ ap (by_base at behind.key) behind.compacted ∙ ap (λ (e : StoreRefusal). Ended at.id (refusal_of e)) (sym same)
+    ap (by_list at) behind.has_list ∙ ap (by_run at) behind.wants ∙ ap (by_base at behind.key) behind.compacted ∙ ap (λ (e : StoreRefusal). Ended at.id (event_refusal e)) (sym same)
 
 one_reply : (at : Situation) (reply : Reply) → ReplyIsRight at reply → reply ≡ reply_at at
 one_reply at (Prefetched runner revision reads) right =
@@ -141,7 +142,7 @@ one_reply at (Faulted runner fault) right =
     ap (λ n. Faulted n fault) right.0 ∙ sym (by_stop at right.1.run (FaultedEnd fault) right.1.has_list right.1.is_run right.1.ended)
 one_reply at (Ended runner cause) right =
     let ended = right.1 in
-    let reported : Ended runner cause ≡ Ended at.id (refusal_of ended.by_store) = (λ i. Ended (right.0 i) (ended.named i)) in
+    let reported : Ended runner cause ≡ Ended at.id (event_refusal ended.by_store) = (λ i. Ended (right.0 i) (ended.named i)) in
     reported ∙ sym (by_refusal at ended.by_store ended.refused)
 one_reply at (Started runner) right = absurd right
 one_reply at (TxnDone succeeded revision answers) right = absurd right

@@ -40,7 +40,7 @@ use Rattle.stm_events.specs.declared.reply.Reply.{Reply}
 use Rattle.stm_events.specs.declared.reply.Reply.TheVariants.{Prefetched, Fetched, Committed, Conflict, GaveUp, Aborted, Faulted, Ended}
 use Rattle.stm_events.specs.declared.reply.KeyRead.{KeyRead}
 use Rattle.stm_events.specs.declared.reply.CommittedRead.{CommittedRead}
-use Rattle.stm_events.specs.Replies.{committed_read, reads_in, refusal_of}
+use Rattle.stm_events.specs.Replies.{committed_read, reads_in, event_refusal}
 use Rattle.stm_world.specs.Task.{Task, answer_at, modified_now, after_list, after_fetch, after_conflict}
 use Rattle.stm_world.specs.Log.{Line, begun, is_over, running, failures, is_id, runner_started, runner_ended, store, known_after_log, with_commit, commit_entry}
 use Rattle.stm_world.specs.Log.{line_entries}
@@ -199,12 +199,12 @@ fetch_follows start log runners entries id task key trace x listed wants readabl
 list_follows : (start : Setup) (log : List Line) (runners : List Slot) (entries : List Entry) (id : ℕ) (task : Task) (many : Bool) →
     Runs start log runners entries id task → is_due task.program.prefetch (known_after_log start id task log).reads ≡ true →
     nat_lt (store start log).limit (length task.program.prefetch) ≡ many →
-    FollowsStep start log (Step id) (cond many (replied (Ended id (refusal_of TooManyOpsRefusal)) id Over (world_at start log runners entries))
+    FollowsStep start log (Step id) (cond many (replied (Ended id (event_refusal TooManyOpsRefusal)) id Over (world_at start log runners entries))
     (replied (Prefetched id (now (store start log).history) (map (modified_now (store start log).history) task.program.prefetch)) id
     (Live (record { task = task; failures = failures id log; known = after_list task (store start log).history (known_after_log start id task log) }))
     (world_at start log runners entries)))
 list_follows start log runners entries id task true x due is =
-    ended_follows start log runners entries id task (Ended id (refusal_of TooManyOpsRefusal)) x (
+    ended_follows start log runners entries id task (Ended id (event_refusal TooManyOpsRefusal)) x (
       refl,
       record {
         by_store = TooManyOpsRefusal;
@@ -231,11 +231,11 @@ list_follows start log runners entries id task false x due is =
 base_follows : (start : Setup) (log : List Line) (runners : List Slot) (entries : List Entry) (id : ℕ) (task : Task) (key : List ℕ) (trace : List TraceItem)
     (below : Bool) → Runs start log runners entries id task → HasList (situation start log id task) → run_on task.program (known_after_log start id task log).reads ≡ Wants key trace →
     is_below_floor (store start log).floor (at_of task.level (known_after_log start id task log).reads) ≡ below →
-    FollowsStep start log (Step id) (cond below (replied (Ended id (refusal_of CompactedRefusal)) id Over (world_at start log runners entries))
+    FollowsStep start log (Step id) (cond below (replied (Ended id (event_refusal CompactedRefusal)) id Over (world_at start log runners entries))
     (fetch id (runner_for start log id task) key
     (revision_read (store start log).history (at_of task.level (known_after_log start id task log).reads)) (world_at start log runners entries)))
 base_follows start log runners entries id task key trace true x listed wants is =
-    ended_follows start log runners entries id task (Ended id (refusal_of CompactedRefusal)) x (
+    ended_follows start log runners entries id task (Ended id (event_refusal CompactedRefusal)) x (
       refl,
       record {
         by_store = CompactedRefusal;
@@ -405,7 +405,7 @@ commit_follows : (start : Setup) (log : List Line) (runners : List Slot) (entrie
 commit_follows start log runners entries id task run (Ok done) laws x listed is_run is_done is =
     decided_follows start log runners entries id task run done done.answer.failed laws x listed is_run is_done is refl
 commit_follows start log runners entries id task run (Err cause) laws x listed is_run is_done is =
-    ended_follows start log runners entries id task (Ended id (refusal_of cause)) x (
+    ended_follows start log runners entries id task (Ended id (event_refusal cause)) x (
       refl,
       record {
         by_store = cause;

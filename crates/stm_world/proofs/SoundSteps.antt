@@ -40,7 +40,7 @@ use Rattle.stm_events.specs.declared.event.WorldEvent.TheVariants.{WatchKey, Wat
 use Rattle.stm_events.specs.declared.reply.Reply.{Reply}
 use Rattle.stm_events.specs.declared.reply.Reply.TheVariants.{Started, Prefetched, Fetched, Conflict, GaveUp, Aborted, Faulted, Ended}
 use Rattle.stm_events.specs.declared.refusal.EventRefusal.TheVariants.{BadLimit, TooManyOps as TooManyOpsRefusal, Compacted as CompactedRefusal}
-use Rattle.stm_events.specs.Replies.{refusal_of, store_after_call, store_after_poll}
+use Rattle.stm_events.specs.Replies.{event_refusal, store_after_call, store_after_poll}
 use Rattle.stm_world.specs.Task.{Task, answer_at, modified_now, after_list, after_fetch, after_conflict}
 use Rattle.stm_world.specs.World.{World, Runner, Slot, Over, Live, live_in, runner_at, with_slot, refused, replied, begin, start_runner, fetch, fetch_list, entry_of}
 use Rattle.stm_world.specs.World.{take_commit, decided, commit_reported, commit, finish, step_on, step_live, step_runner}
@@ -213,7 +213,7 @@ commit_by : (w : World) (id : ℕ) (r : Runner) (run : Run) (o : Result Done Sto
     committed (terms_of w.standing) r.task.level r.known.reads run ≡ o →
     IsSound (commit_reported id r r.known.reads run o w).next
 commit_by w id r run (Ok done) law x is = decided_sound w id r run done done.answer.failed law x is refl
-commit_by w id r run (Err cause) law x is = ended_sound w id r (Ended id (refusal_of cause)) x.sound x.found
+commit_by w id r run (Err cause) law x is = ended_sound w id r (Ended id (event_refusal cause)) x.sound x.found
 
 commit_sound : (w : World) (id : ℕ) (r : Runner) (run : Run) → CommitIsTheRunNow → IsDone w id r run → IsSound (commit id r r.known.reads run w).next
 unfolding commit

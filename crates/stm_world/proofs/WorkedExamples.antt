@@ -247,15 +247,13 @@ conflict_is_real = record {
   run = quotient_run;
   is_run = refl;
   is_done = refl;
-  conflict = record {
+  named = record {
     compare = record { index = 0; mod_rev = 3 };
     fails = refl;
-    seen = record { key = codes "x"; mod_rev = 2; at = 2 };
-    about = refl;
+    conflict = record { seen = record { key = codes "x"; mod_rev = 2; at = 2 }; about = refl; reported = refl; changed = refl };
     key = refl;
     was = refl;
     is = refl;
-    changed = refl;
   };
 }
 

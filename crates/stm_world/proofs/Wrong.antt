@@ -1,5 +1,6 @@
 -- Wrong logs are rejected.
-use Rattle.std.proofs.Common.{◌≡◌, ◌≢◌, inl, inr, ℕ, ◌+◌, ◌-◌, ◌<◌, ◌≤◌, zero, suc, List, [], ◌∷◌, length, take, Option, Some, None, Ok, Err, Bool, true, false, cond}
+use Rattle.std.proofs.Common.{◌≡◌, ◌≢◌, inl, inr, ℕ, ◌+◌, ◌-◌, ◌<◌, ◌≤◌, zero, suc, List, [], ◌∷◌, length, take, Option, Some, None, Ok, Err, Bool}
+use Rattle.std.proofs.Common.{true, false, cond}
 use Rattle.std.proofs.Common.{refl, sym, ◌∙◌, ap, subst, arith}
 use Rattle.std.specs.Prelude.{nat_eq, nat_lt, slice_set, Result}
 use Rattle.std.proofs.lemmas.Bool.{le-leb}

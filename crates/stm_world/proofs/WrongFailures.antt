@@ -314,13 +314,13 @@ record Fails (start : Setup) (log : List Line) (failed : FailedCommit) (task : T
   run : Run
   is_run : run_on task.program (reads_of start log failed.runner task) ≡ EndedRun run
   is_done : run.end ≡ DoneEnd
-  conflict : NamesAConflict (store start log).history task.level (reads_of start log failed.runner task) (latest_writes run.writes) failed
+  named : NamesAConflict (store start log).history task.level (reads_of start log failed.runner task) (latest_writes run.writes) failed
 
 fails_as : (start : Setup) (log : List Line) (failed : FailedCommit) (task : Task) → running failed.runner log ≡ Some task → IsRealFailure start log failed →
     Fails start log failed task
 fails_as start log failed task runs real =
     subst (Fails start log failed) (same_Some real.task task (sym real.runs ∙ runs))
-    (record { run = real.run; is_run = real.is_run; is_done = real.is_done; conflict = real.conflict })
+    (record { run = real.run; is_run = real.is_run; is_done = real.is_done; named = real.named })
 
 one_run : (a b : Run) → EndedRun a ≡ EndedRun b → a ≡ b
 one_run a b same = cc
@@ -353,7 +353,7 @@ not_compared : (start : Setup) (log : List Line) (task : Task) (failed : FailedC
     task.level ≡ ReadCommitted → IsRealFailure start log failed → ⊥
 not_compared start log task failed runs level real =
     let f : Fails start log failed task = fails_as start log failed task runs real in
-    none_at (store start log).history task.level (reads_of start log failed.runner task) (latest_writes f.run.writes) f.conflict.compare level f.conflict.fails
+    none_at (store start log).history task.level (reads_of start log failed.runner task) (latest_writes f.run.writes) f.named.compare level f.named.fails
 
 -- a key that has no answer was not read
 unread : (h : History) (reads : List ReadAnswer) (key : List ℕ) (seen : Seen) → key ≡ seen.key → answer_in key reads ≡ None → IsOfRead h reads seen → ⊥
@@ -368,8 +368,8 @@ never_read start log task failed runs level none real =
     let f : Fails start log failed task = fails_as start log failed task runs real in
     let h : History = (store start log).history in
     let reads : List ReadAnswer = reads_of start log failed.runner task in
-    unread h reads failed.key f.conflict.seen f.conflict.key none
-    (of_level h task.level reads (latest_writes f.run.writes) f.conflict.compare f.conflict.seen level f.conflict.fails f.conflict.about)
+    unread h reads failed.key f.named.conflict.seen f.named.key none
+    (of_level h task.level reads (latest_writes f.run.writes) f.named.compare f.named.conflict.seen level f.named.fails f.named.conflict.about)
 
 untouched : (h : History) (reads : List ReadAnswer) (writes : List Write) (key : List ℕ) (seen : Seen) → key ≡ seen.key → answer_in key reads ≡ None →
     is_written key writes ≡ false → IsOfRead h reads seen ⊎ IsOfWrite h (latest_writes writes) seen → ⊥
@@ -387,8 +387,8 @@ never_touched start log task failed run runs is none unwritten real =
     let h : History = (store start log).history in
     let reads : List ReadAnswer = reads_of start log failed.runner task in
     let same : run ≡ f.run = one_run run f.run (sym is ∙ f.is_run) in
-    untouched h reads f.run.writes failed.key f.conflict.seen f.conflict.key none (ap (λ (r : Run). is_written failed.key r.writes) (sym same) ∙ unwritten)
-    (touched h task.level reads (latest_writes f.run.writes) f.conflict.compare f.conflict.seen f.conflict.fails f.conflict.about)
+    untouched h reads f.run.writes failed.key f.named.conflict.seen f.named.key none (ap (λ (r : Run). is_written failed.key r.writes) (sym same) ∙ unwritten)
+    (touched h task.level reads (latest_writes f.run.writes) f.named.compare f.named.conflict.seen f.named.fails f.named.conflict.about)
 
 other_number : (h : History) (reads : List ReadAnswer) (writes : List Write) (seen : Seen) → IsOfRead h reads seen ⊎ IsOfWrite h writes seen →
     mod_of (key_now h seen.key) ≢ seen.mod_rev
@@ -400,9 +400,9 @@ as_it_was start log failed equal real =
     let h : History = (store start log).history in
     let reads : List ReadAnswer = reads_of start log failed.runner real.task in
     let writes : List Write = latest_writes real.run.writes in
-    let c : NamesAConflict h real.task.level reads writes failed = real.conflict in
-    other_number h reads writes c.seen (touched h real.task.level reads writes c.compare c.seen c.fails c.about)
-    (ap (λ (k : List ℕ). mod_of (key_now h k)) (sym c.key) ∙ sym c.is ∙ equal ∙ c.was)
+    let c : NamesAConflict h real.task.level reads writes failed = real.named in
+    other_number h reads writes c.conflict.seen (touched h real.task.level reads writes c.compare c.conflict.seen c.fails c.conflict.about)
+    (sym c.conflict.reported ∙ sym c.is ∙ equal ∙ c.was)
 
 not_above : (start : Setup) (log : List Line) (failed : FailedCommit) → 0 < failed.now_modified → failed.now_modified ≤ failed.seen →
     IsRealFailure start log failed → ⊥
@@ -410,14 +410,15 @@ not_above start log failed present below real =
     let h : History = (store start log).history in
     let reads : List ReadAnswer = reads_of start log failed.runner real.task in
     let writes : List Write = latest_writes real.run.writes in
-    let c : NamesAConflict h real.task.level reads writes failed = real.conflict in
-    let small : c.seen.mod_rev ≤ c.seen.at =
-    seen_at_index IsSeenSmall (seen_by reads writes) c.compare.index c.seen
-    (seen_small reads writes (reported_small start failed.runner real.task log).0) c.about in
-    let above : c.seen.at < mod_of (key_now h failed.key) =
-    modified_above h.opening c.seen.at failed.key h.revisions c.changed (subst (λ n. 0 < n) c.is present) in
-    let is : failed.now_modified ≡ mod_of (key_now h failed.key) = c.is in
-    let was : failed.seen ≡ c.seen.mod_rev = c.was in
+    let c : NamesAConflict h real.task.level reads writes failed = real.named in
+    let seen : Seen = c.conflict.seen in
+    let small : seen.mod_rev ≤ seen.at =
+    seen_at_index IsSeenSmall (seen_by reads writes) c.compare.index seen
+    (seen_small reads writes (reported_small start failed.runner real.task log).0) c.conflict.about in
+    let is : failed.now_modified ≡ mod_of (key_now h seen.key) = c.is ∙ c.conflict.reported in
+    let above : seen.at < mod_of (key_now h seen.key) =
+    modified_above h.opening seen.at seen.key h.revisions c.conflict.changed (subst (λ n. 0 < n) is present) in
+    let was : failed.seen ≡ seen.mod_rev = c.was in
     omega (arith, small, above, is, was, below)
 
 -- ---- ends ----

@@ -11,13 +11,13 @@ use Rattle.stm_events.specs.declared.reply.Reply.TheVariants.{Ended}
 use Rattle.stm_events.specs.declared.refusal.EventRefusal.{EventRefusal}
 use Rattle.stm_events.specs.declared.refusal.EventRefusal.TheVariants.{BadLimit, NoRunner}
 use Rattle.stm_events.specs.declared.refusal.Denied.{Denied}
-use Rattle.stm_events.specs.Replies.{refusal_of}
+use Rattle.stm_events.specs.Replies.{event_refusal}
 use Rattle.stm_world.specs.Log.{Line}
 use Rattle.stm_world.specs.Right.{IsRight}
 
 -- a cause for which the store refuses a call
 abbrev pub IsOfStore : EventRefusal → Type 0
-IsOfStore cause = (by_store : StoreRefusal) × (cause ≡ refusal_of by_store)
+IsOfStore cause = (by_store : StoreRefusal) × (cause ≡ event_refusal by_store)
 
 -- a cause for which an event can be refused
 abbrev pub IsCauseAt : WorldEvent → EventRefusal → Type 0

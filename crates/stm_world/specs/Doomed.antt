@@ -3,10 +3,10 @@
 -- The documentation of the Go package `clientv3/concurrency`, "STM" and "Isolation": a commit fails only where a key that was
 -- read, or at serializable snapshot one that is written, has changed since; and what an attempt at a serializable level reads is
 -- of one revision, so that no abort and no fault comes of reads that never held together.
-use Rattle.std.specs.Prelude.{◌≡◌, ℕ, ◌+◌, ◌≤◌, nat_eq, Bool, true, false, if◌then◌else◌, List, [], ◌∷◌, Option, Some, None, Result, Ok, slice_get}
+use Rattle.std.specs.Prelude.{◌≡◌, ℕ, ◌+◌, ◌≤◌, nat_eq, Bool, true, false, if◌then◌else◌, List, [], ◌∷◌, Option, Some, None, Result, Ok}
 use Rattle.stm_history.specs.declared.revisions.TheConstants.{HIGHEST_REVISION}
 use Rattle.stm_history.specs.declared.key_state.ReadAnswer.{ReadAnswer}
-use Rattle.stm_history.specs.History.{History, now, key_now, mod_of}
+use Rattle.stm_history.specs.History.{History, now}
 use Rattle.stm_program.specs.declared.level.Level.{Level}
 use Rattle.stm_program.specs.declared.write.Write.{Write}
 use Rattle.stm_program.specs.Writes.{latest_writes}
@@ -20,7 +20,7 @@ use Rattle.stm_outcome.specs.Commits.{revision_read}
 use Rattle.stm_program.specs.Levels.{is_serializable}
 use Rattle.stm_compile.specs.Committed.{conflict_now}
 use Rattle.stm_compile.specs.Answers.{state_as_of}
-use Rattle.stm_compile.specs.Conflicts.{Seen, seen_by, IsChangedAbove}
+use Rattle.stm_compile.specs.Conflicts.{IsConflict}
 use Rattle.stm_attempt.specs.Settled.{run_on}
 use Rattle.stm_attempt.specs.Entering.{is_due}
 use Rattle.stm_attempt.specs.Fetches.{base_of}
@@ -52,17 +52,15 @@ failed_commit (Ok (Conflict runner key seen now)) = Some record { runner = runne
 failed_commit (Ok (GaveUp runner attempts key seen now)) = Some record { runner = runner; key = key; seen = seen; now_modified = now }
 failed_commit other = None
 
--- The first compare of its commit that fails is about this key: what is reported as seen is what was seen of the key, the history changes the key
--- above the revision that it was seen at, and the other number is the key's modification revision now.
+-- The first compare of its commit that fails is a conflict about this key: what is reported as seen is what was seen of the key, and the other
+-- number is the key's modification revision now.
 pub record NamesAConflict (h : History) (level : Level) (reads : List ReadAnswer) (writes : List Write) (failed : FailedCommit) : Type 0 where
   pub compare : FailedCompare
   pub fails : conflict_now h level reads writes ≡ Some compare
-  pub seen : Seen
-  pub about : slice_get (seen_by reads writes) compare.index ≡ Some seen
-  pub key : failed.key ≡ seen.key
-  pub was : failed.seen ≡ seen.mod_rev
-  pub is : failed.now_modified ≡ mod_of (key_now h failed.key)
-  pub changed : IsChangedAbove h seen.at failed.key
+  pub conflict : IsConflict h reads writes compare
+  pub key : failed.key ≡ conflict.seen.key
+  pub was : failed.seen ≡ conflict.seen.mod_rev
+  pub is : failed.now_modified ≡ compare.mod_rev
 
 -- The commit of a runner that runs after these lines and whose program is done on what it has read, its list first, which failed by a conflict
 -- with the store that the lines lead to.
@@ -73,7 +71,7 @@ pub record IsRealFailure (start : Setup) (log : List Line) (failed : FailedCommi
   pub run : Run
   pub is_run : run_on task.program (known_after_log start failed.runner task log).reads ≡ EndedRun run
   pub is_done : run.end ≡ DoneEnd
-  pub conflict : NamesAConflict (store start log).history task.level (known_after_log start failed.runner task log).reads (latest_writes run.writes) failed
+  pub named : NamesAConflict (store start log).history task.level (known_after_log start failed.runner task log).reads (latest_writes run.writes) failed
 
 abbrev pub IfFailedIsReal : Setup → List Line → Option FailedCommit → Type 0
 IfFailedIsReal start log None = Unit {0}

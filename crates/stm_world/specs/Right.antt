@@ -41,7 +41,7 @@ use Rattle.stm_events.specs.declared.reply.CommittedRead.{CommittedRead}
 use Rattle.stm_events.specs.declared.refusal.EventRefusal.{EventRefusal}
 use Rattle.stm_events.specs.declared.refusal.EventRefusal.TheVariants.{BadLimit, NoRunner}
 use Rattle.stm_events.specs.declared.refusal.Denied.{Denied}
-use Rattle.stm_events.specs.Replies.{committed_read, txn_reply, refusal_of, denied, reply_to, advance_reply, poll_reply}
+use Rattle.stm_events.specs.Replies.{committed_read, txn_reply, event_refusal, denied, reply_to, advance_reply, poll_reply}
 use Rattle.stm_world.specs.Task.{Task, modified_now}
 use Rattle.stm_events.specs.FirstReads.{keys_first_read}
 use Rattle.stm_world.specs.Asked.{keys_read}
@@ -141,7 +141,7 @@ IsRefused at cause = Commits at (Err cause) ⊎ ((cause ≡ CompactedRefusal) ×
 -- the run is ended by a refusal of the store, which is reported under its name
 pub record IsEndedBy (at : Situation) (cause : EventRefusal) : Type 0 where
   pub by_store : StoreRefusal
-  pub named : cause ≡ refusal_of by_store
+  pub named : cause ≡ event_refusal by_store
   pub refused : IsRefused at by_store
 
 -- A reply to the step of a runner that runs. It names this runner; no run sends more commits than it may, and it gives up exactly at the

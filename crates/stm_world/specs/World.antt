@@ -44,7 +44,7 @@ use Rattle.stm_events.specs.declared.reply.Reply.TheVariants.{Granted, Kept, Rev
 use Rattle.stm_events.specs.declared.refusal.EventRefusal.{EventRefusal}
 use Rattle.stm_events.specs.declared.refusal.EventRefusal.TheVariants.{BadLimit, NoRunner}
 use Rattle.stm_events.specs.declared.refusal.Denied.{Denied}
-use Rattle.stm_events.specs.Replies.{committed_read, txn_reply, refusal_of, denied, reply_to, store_after_call, advance_reply, poll_reply, store_after_poll}
+use Rattle.stm_events.specs.Replies.{committed_read, txn_reply, event_refusal, denied, reply_to, store_after_call, advance_reply, poll_reply, store_after_poll}
 use Rattle.stm_world.specs.Task.{Task, nothing_known, answer_at, modified_now, after_list, after_fetch, after_conflict}
 
 -- a runner whose run goes on: its task, the commits of it that failed, and what it knows in its attempt
@@ -120,7 +120,7 @@ fetch id r key of_rev w =
 -- A fetch of the key at the base of the attempt, 0 for the current revision. The store refuses one that is compacted, which ends the run.
 abbrev pub fetch_at : ℕ → Runner → List ℕ → ℕ → World → Stepped
 fetch_at id r key base w =
-    if is_below_floor w.standing.floor base then replied (Ended id (refusal_of CompactedRefusal)) id Over w
+    if is_below_floor w.standing.floor base then replied (Ended id (event_refusal CompactedRefusal)) id Over w
     else fetch id r key (revision_read w.standing.history base) w
 
 -- A fetch of all keys of the list, as they are now. The store refuses one of more keys than it takes operations, which ends the run.
@@ -128,7 +128,7 @@ abbrev pub fetch_list : ℕ → Runner → World → Stepped
 fetch_list id r w =
     let h = w.standing.history in
     let keys = r.task.program.prefetch in
-    if nat_lt w.standing.limit (length keys) then replied (Ended id (refusal_of TooManyOpsRefusal)) id Over w
+    if nat_lt w.standing.limit (length keys) then replied (Ended id (event_refusal TooManyOpsRefusal)) id Over w
     else replied (Prefetched id (now h) (map (modified_now h) keys)) id (Live (record r { known = after_list r.task h r.known })) w
 
 -- the entry of a commit
@@ -162,7 +162,7 @@ decided id r reads run done (Some failed) w =
 
 abbrev pub commit_reported : ℕ → Runner → List ReadAnswer → Run → Result Done StoreRefusal → World → Stepped
 commit_reported id r reads run (Ok done) w = decided id r reads run done done.answer.failed w
-commit_reported id r reads run (Err cause) w = replied (Ended id (refusal_of cause)) id Over w
+commit_reported id r reads run (Err cause) w = replied (Ended id (event_refusal cause)) id Over w
 
 -- the commit of a run that is done, one transaction; a refused one ends the run
 unfoldable pub commit : ℕ → Runner → List ReadAnswer → Run → World → Stepped

@@ -32,6 +32,7 @@ pub returns-in-Err : goal.returns-in-Err
 returns-in-Err c = λ start.
     let s : Standing = c.args.store.now.standing in
     let es : List Entry = c.args.entries.now.items in
-    reports_refused_entry (journal_of s es start) (journal_of c.grant.new.self.standing c.reserve.new.self.items start) (Grant c.args.id c.args.ttl s.moment) (granted s c.args.id c.args.ttl) c.in-Err.cause
+    reports_refused_entry (journal_of s es start) (journal_of c.grant.new.self.standing c.reserve.new.self.items start)
+    (Grant c.args.id c.args.ttl s.moment) (granted s c.args.id c.args.ttl) c.in-Err.cause
     (c.in-Err.ensures.step)
     (same_journal s c.grant.new.self.standing es c.reserve.new.self.items start (ap (λ (v : StoreView). v.standing) c.in-Err.ensures.err) c.reserve.ensures.items)

@@ -8,6 +8,6 @@ returns-clause-judged g c =
       scenario = g.S.Source.left c.args.scenario.now;
       report = g.R.Source.left c.args.report.now;
       scenario_failed = g.S.Source.failed c.expected_of.new.scenario;
-      report_failed = g.R.Source.failed c.bytes_of.new.source;
+      report_failed = g.R.Source.failed c.read_all.new.source;
     }) c.in_ok-expected.expected.items c.in_ok-given.given.items c.judge_text.result
     (c.in_ok-expected.ensures.report.0, c.in_ok-given.ensures.bytes.0) c.in_ok-expected.ensures.report.1 c.in_ok-given.ensures.bytes.1 reported

@@ -18,7 +18,8 @@ take_answers-requires-clause-one_revision c =
 pub returns-in-Ok-clause-reported : goal.returns-in-Ok-clause-reported
 returns-in-Ok-clause-reported c =
     let s : Standing = c.args.journal.now.standing in
-    let counts : c.revision-revision.result ≡ now s.history = c.revision-revision.ensures.value ∙ ap (λ (h : History). now h) (c.keys.ensures.history ∙ ap (λ (x : Standing). x.history) c.store.ensures) in
+    let counts : c.revision-revision.result ≡ now s.history =
+    c.revision-revision.ensures.value ∙ ap (λ (h : History). now h) (c.keys.ensures.history ∙ ap (λ (x : Standing). x.history) c.store.ensures) in
     list_answers s c.args.id c.revision-revision.result c.args.keys.now c.in-Ok.answers.items c.take_answers.result counts c.in-Ok.ensures.reported
     c.take_answers.ensures.reported
 

@@ -11,12 +11,14 @@ use Rattle.stm_retry.proofs.watch_calls.watch_range.Goals as goal
 pub returns-in-Ok : goal.returns-in-Ok
 returns-in-Ok c =
     let j : JournalState = c.args.journal.now in
-    watch_taken (WatchRange c.args.first.now c.args.end.now c.args.from) Watching j c.watch_range.new.self (watched j.standing (Range c.args.first.now c.args.end.now) c.args.from) c.in-Ok.watcher (Ok (Watching c.in-Ok.watcher))
+    watch_taken (WatchRange c.args.first.now c.args.end.now c.args.from) Watching j c.watch_range.new.self
+    (watched j.standing (Range c.args.first.now c.args.end.now) c.args.from) c.in-Ok.watcher (Ok (Watching c.in-Ok.watcher))
     (λ runners es. refl) c.in-Ok.ensures.step c.in-Ok.ensures.same refl
 
 pub returns-in-Err : goal.returns-in-Err
 returns-in-Err c =
     let j : JournalState = c.args.journal.now in
-    watch_refused (WatchRange c.args.first.now c.args.end.now c.args.from) Watching j c.watch_range.new.self (watched j.standing (Range c.args.first.now c.args.end.now) c.args.from) c.refuse.result c.in-Err.cause
+    watch_refused (WatchRange c.args.first.now c.args.end.now c.args.from) Watching j c.watch_range.new.self
+    (watched j.standing (Range c.args.first.now c.args.end.now) c.args.from) c.refuse.result c.in-Err.cause
     (λ runners es. refl) (λ runners es taken. ((refl, refl), taken)) (watched_never j.standing (Range c.args.first.now c.args.end.now) c.args.from)
     c.in-Err.ensures.step c.refuse.ensures c.in-Err.ensures.err

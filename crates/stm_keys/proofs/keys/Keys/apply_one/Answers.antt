@@ -1,4 +1,5 @@
-use Rattle.std.proofs.Common.{◌≡◌, ℕ, ◌+◌, ◌≤◌, ◌∙◌, ◌∷◌, [], refl, sym, ap, subst, arith, length, map, reverse, is_some, Bool, List, Option, Some, None, IfSome, slice_get}
+use Rattle.std.proofs.Common.{◌≡◌, ℕ, ◌+◌, ◌≤◌, ◌∙◌, ◌∷◌, [], refl, sym, ap, subst, arith, length, map, reverse, is_some, Bool, List, Option, Some}
+use Rattle.std.proofs.Common.{None, IfSome, slice_get}
 use Rattle.std.proofs.lemmas.List.{length-map, length_push}
 use Rattle.indexmap.specs.IndexMap.{get_by_text}
 use Rattle.stm_history.specs.declared.change.Change.{Change}

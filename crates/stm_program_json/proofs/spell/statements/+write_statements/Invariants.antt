@@ -26,4 +26,5 @@ decreases-statements_after l = 4 * block_weight (block_of l.statements.now)
 -- the values so far, and then what is written of the rest
 abbrev pub invariant-statements_after-loop-statement : goal.invariant-statements_after-loop-statement
 invariant-statements_after-loop-statement l =
-    items_after (map view l.values.items) (written_statements (block_of (drop l.statement-index l.statements))) ≡ items_after (map view l.fn.before.items) (written_statements (block_of l.statements))
+    items_after (map view l.values.items) (written_statements (block_of (drop l.statement-index l.statements)))
+    ≡ items_after (map view l.fn.before.items) (written_statements (block_of l.statements))

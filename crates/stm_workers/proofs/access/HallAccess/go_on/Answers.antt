@@ -1,4 +1,5 @@
-use Rattle.stm_workers.proofs.NextLemmas.{aborted_is_not_done, faulted_is_not_done, ready_is_of, left_is_of, left_at_fetch, left_at_list, left_at_abort, left_at_fault, supplied_is_of, all_supplied_is_of, waits_for, waits_for_list, list_is_named}
+use Rattle.stm_workers.proofs.NextLemmas.{aborted_is_not_done, faulted_is_not_done, ready_is_of, left_is_of, left_at_fetch, left_at_list}
+use Rattle.stm_workers.proofs.NextLemmas.{left_at_abort, left_at_fault, supplied_is_of, all_supplied_is_of, waits_for, waits_for_list, list_is_named}
 use Rattle.stm_workers.proofs.NextLemmas.{aborted_is_run, faulted_is_run, aborted_has_list, faulted_has_list, reads_taken}
 use Rattle.std.proofs.Common.{◌≡◌, ◌⊎◌, ℕ, List, Some, inl, inr, refl, ap, subst, sym, ◌∙◌}
 use Rattle.stm_history.specs.declared.key_state.ReadAnswer.{ReadAnswer}
@@ -99,7 +100,8 @@ returns-in-Aborted-clause-stops g c = inr (
     is_run = aborted_is_run c.args.job.now.program c.args.attempt.now.level c.args.attempt.now.known c.in-Aborted.run' (sym c.in_ok-next.ensures.next ∙ c.in-Aborted.is);
     reported = c.of_run.ensures.end;
     reads = c.of_run.ensures.reads ∙ ap (λ (rs : List ReadAnswer). Some rs) (reads_taken c.args.job.now.program c.args.attempt.now c.advance_and_give.new.self
-        c.take_reads.result (left_at_abort (advanced c.args.job.now.program c.args.attempt.now) c.advance_and_give.new.self c.in_ok-next.next c.in-Aborted.run' c.in_ok-next.ensures.left c.in-Aborted.is) c.take_reads.ensures.reads);
+        c.take_reads.result
+        (left_at_abort (advanced c.args.job.now.program c.args.attempt.now) c.advance_and_give.new.self c.in_ok-next.next c.in-Aborted.run' c.in_ok-next.ensures.left c.in-Aborted.is) c.take_reads.ensures.reads);
   }),
   refl,
 )
@@ -113,7 +115,8 @@ returns-in-Faulted-clause-stops g c = inr (
     reported = c.of_run-in-Faulted.ensures.end;
     reads = c.of_run-in-Faulted.ensures.reads
         ∙ ap (λ (rs : List ReadAnswer). Some rs) (reads_taken c.args.job.now.program c.args.attempt.now c.advance_and_give.new.self
-        c.take_reads-in-Faulted.result (left_at_fault (advanced c.args.job.now.program c.args.attempt.now) c.advance_and_give.new.self c.in_ok-next.next c.in-Faulted.run' c.in_ok-next.ensures.left c.in-Faulted.is)
+        c.take_reads-in-Faulted.result
+        (left_at_fault (advanced c.args.job.now.program c.args.attempt.now) c.advance_and_give.new.self c.in_ok-next.next c.in-Faulted.run' c.in_ok-next.ensures.left c.in-Faulted.is)
         c.take_reads-in-Faulted.ensures.reads);
   }),
   refl,

@@ -3,7 +3,7 @@ ghost use Rattle.std.specs.Prelude.{◌≡◌, ◌++◌, [], ◌∷◌, false, m
 ghost use Rattle.serde_json.specs.View.{view};
 ghost use Rattle.serde_json.specs.Written.{compact_text, has_float};
 ghost use Rattle.stm_meaning.specs.States.{IsAscending};
-ghost use Rattle.stm_report_lines.specs.LineData.{list, value_data};
+ghost use Rattle.stm_report_lines.specs.LineData.{list};
 ghost use Rattle.stm_job.specs.declared.job_end.JobEnd.TheVariants.{Committed};
 ghost use Rattle.stm_job_texts.specs.Outcomes.{end_data, front_text, output_in, output_of, pair_data, pairs, IsFrontOf};
 
@@ -13,36 +13,7 @@ use std::alloc::{AllocError, Global};
 use stm_entries::Entry;
 use stm_job::{Gathered, JobEnd};
 use stm_meaning::{State, Value};
-
-/// A value as JSON.
-fn value_json(alloc: Global, value: &Value) -> Result<Json, AllocError>
-    ensures { IfOk result (λ v. view v ≡ value_data value.now) }
-{
-    match value {
-        Value::Text(text) => Json::try_from_str(alloc, text.as_str()),
-        Value::Number(number) => Ok(Json::from(*number)),
-    }
-}
-
-/// Adds a value.
-fn push_value(alloc: Global, values: &mut Vec<Json>, value: &Value) -> Result<(), AllocError>
-    ensures { OnOk result (map view values.new.items ≡ map view values.old.items ++ value_data value.now ∷ []) }
-{
-    let value = value_json(alloc, value)?;
-    values.push(value)?;
-    Ok(())
-}
-
-/// What a program emitted.
-fn output_json(alloc: Global, output: &[Value]) -> Result<Json, AllocError>
-    ensures { IfOk result (λ v. view v ≡ list (map value_data output.now)) }
-{
-    let mut values = Vec::new(alloc);
-    for value in output {
-        push_value(alloc, &mut values, value)?;
-    }
-    Ok(Json::Array(values))
-}
+use stm_report_lines::array_json;
 
 /// What the program of an entry emitted, if it is one of a commit.
 fn output_of(entry: &Entry) -> &[Value]
@@ -68,7 +39,7 @@ fn output_at(entries: &[Entry], index: usize) -> &[Value]
 fn committed_json(alloc: Global, entries: &[Entry], index: usize) -> Result<Json, AllocError>
     ensures { IfOk result (λ v. view v ≡ end_data entries.now (Committed index 0)) }
 {
-    let output = output_json(alloc, output_at(entries, index))?;
+    let output = array_json(alloc, output_at(entries, index))?;
     json!(in alloc; ["committed", output])
 }
 

@@ -4,15 +4,10 @@ use Rattle.serde_json.specs.Data.{Data, string, array, Items, item}
 use Rattle.serde_json.specs.Find.{as_str}
 use Rattle.serde_json.specs.View.{view, items_of, items_view}
 use Rattle.serde_json.specs.declared.value.Value.{Value}
-use Rattle.stm_json.specs.declared.cause.Cause.TheVariants.{Shape}
-use Rattle.stm_json.specs.declared.read_error.ReadError.{ReadError}
-use Rattle.stm_json.specs.declared.read_error.ReadError.TheVariants.{Bad}
-use Rattle.stm_json.specs.Outcome.{Outcome, within}
-use Rattle.stm_json.specs.Returns.{ReturnsFault}
 use Rattle.stm_report_lines.specs.Elements.{count, element}
 use Rattle.stm_report_lines.specs.Grammar.{Spells, SpellsItems}
 use Rattle.stm_report_lines.specs.LineData.{list, whole, word, numbered}
-use Rattle.stm_report_lines.specs.Parts.{number_of, read_at, part_at}
+use Rattle.stm_report_lines.specs.Parts.{number_of}
 use Rattle.stm_report_lines.proofs.PartLaws.{number_reads, number_no_text}
 
 -- ---- a word and parts
@@ -49,22 +44,13 @@ pub count_view : (values : List Value) → count (items_view values) ≡ length 
 count_view [] = refl
 count_view (v ∷ values) = ap suc (count_view values)
 
-element_is : (values : List Value) (i : ℕ) (v : Value) → i < length values → v ≡ get_or values i v → element i (items_view values) ≡ Some (view v)
+pub element_is : (values : List Value) (i : ℕ) (v : Value) → i < length values → v ≡ get_or values i v
+    → element i (items_view values) ≡ Some (view v)
 element_is [] i v h e = absurd (omega (arith, h))
 element_is (x ∷ values) zero v h e = ap (λ (y : Value). Some (view y)) (sym e)
 element_is (x ∷ values) (suc i) v h e = element_is values i v (omega (arith, h)) e
 
-no_element : (values : List Value) (i : ℕ) → length values ≤ i → element i (items_view values) ≡ None
+pub no_element : (values : List Value) (i : ℕ) → length values ≤ i → element i (items_view values) ≡ None
 no_element [] i h = refl
 no_element (x ∷ values) zero h = absurd (omega (arith, h))
 no_element (x ∷ values) (suc i) h = no_element values i (omega (arith, h))
-
-pub part_there : {A : Type 0} (read : Data → Outcome A) (values : List Value) (i : ℕ) (v : Value) → i < length values → v ≡ get_or values i v
-    → part_at i read (items_view values) ≡ within i (read (view v))
-unfolding part_at
-part_there read values i v h e = ap (read_at i read) (element_is values i v h e)
-
-pub no_part : {A : Type 0} (read : Data → Outcome A) (values : List Value) (i : ℕ) (e : ReadError) → length values ≤ i
-    → e ≡ Bad (record { place = []; cause = Shape }) → ReturnsFault e (part_at i read (items_view values))
-unfolding part_at
-no_part read values i e h is = rw (is, no_element values i h) refl

@@ -2,7 +2,7 @@
 use Rattle.std.proofs.Common.{◌≡◌, ℕ, ◌≤◌, List, Option, Ok, refl, codes}
 use Rattle.serde_json.specs.Data.{Data}
 use Rattle.stm_history.specs.declared.key_state.KeyState.{KeyState}
-use Rattle.stm_json.specs.Elements.{one_of, two_of, four_of, number_up_to}
+use Rattle.stm_json.specs.Elements.{number_up_to}
 use Rattle.stm_json.specs.Faults.{AnyText, NumberIn, By, faults_by, worded_faults}
 use Rattle.stm_steps.specs.declared.trace_item.TraceItem.{TraceItem}
 use Rattle.stm_steps.specs.declared.trace_item.TraceItem.TheVariants as trace
@@ -30,13 +30,13 @@ use Rattle.stm_report_lines.proofs.StateLaws.{State, whole_part, text_part, stat
 
 abbrev get_form : Form (List ℕ × (List ℕ × Unit {0})) TraceItem 1
 get_form =
-    form 1 (text_part & text_part & nothing) (λ x. trace.Get x.0 (second x)) (λ ds. trace_get_of (two_of ds))
-    (refl, λ a. (refl, λ b. (refl, λ c ds. refl)))
+    form 1 (text_part & text_part & nothing) (λ x. trace.Get x.0 (second x)) trace_get_of
+    (λ es. refl)
 
 abbrev rev_form : Form (List ℕ × (ℕ × Unit {0})) TraceItem 1
 rev_form =
-    form 1 (text_part & whole_part & nothing) (λ x. trace.Rev x.0 (second x)) (λ ds. trace_rev_of (two_of ds))
-    (refl, λ a. (refl, λ b. (refl, λ c ds. refl)))
+    form 1 (text_part & whole_part & nothing) (λ x. trace.Rev x.0 (second x)) trace_rev_of
+    (λ es. refl)
 
 abbrev trace_words : Words TraceItem trace_data AnyFits
 trace_words =
@@ -60,7 +60,7 @@ text_or_null_part = part_by (λ d. or_null_of text_of d) text_or_null AnyFits (B
 abbrev answer_form : Form (List ℕ × (Option (List ℕ) × (ℕ × (ℕ × Unit {0})))) CommittedRead 0
 answer_form =
     form 0 (text_part & text_or_null_part & whole_part & whole_part & nothing) (λ x. answer_with x.0 (second x) (third x) (fourth x))
-    (λ ds. answer_parts (four_of ds)) (refl, λ a. (refl, λ b. (refl, λ c. (refl, λ d. (refl, λ e ds. refl)))))
+    answer_parts (λ es. refl)
 
 pub answer_laws : Laws CommittedRead answer_of answer_data AnyFits (plain_faults answer_sorts)
 unfolding answer_of
@@ -72,11 +72,11 @@ answer_laws =
 
 abbrev op_get_form : Form (ℕ × (Option KeyState × Unit {0})) OpReply 1
 op_get_form =
-    form 1 (whole_part & state_or_null_part & nothing) (λ x. op.Get x.0 (second x)) (λ ds. op_get_of (two_of ds))
-    (refl, λ a. (refl, λ b. (refl, λ c ds. refl)))
+    form 1 (whole_part & state_or_null_part & nothing) (λ x. op.Get x.0 (second x)) op_get_of
+    (λ es. refl)
 
 abbrev op_put_form : Form (Unit {0}) OpReply 1
-op_put_form = form 1 nothing (λ x. op.Put) op_put_of (refl, λ a ds. refl)
+op_put_form = form 1 nothing (λ x. op.Put) op_put_of (λ es. refl)
 
 abbrev count_part : Part ℕ
 count_part = record {
@@ -90,7 +90,7 @@ count_part = record {
 }
 
 abbrev op_del_form : Form (ℕ × Unit {0}) OpReply 1
-op_del_form = form 1 (count_part & nothing) (λ x. op.Del x.0) (λ ds. op_del_of (one_of ds)) (refl, λ a. (refl, λ b ds. refl))
+op_del_form = form 1 (count_part & nothing) (λ x. op.Del x.0) op_del_of (λ es. refl)
 
 abbrev op_words : Words OpReply op_data CountFits
 op_words =
@@ -112,8 +112,8 @@ op_laws = words_laws op_data CountFits op_words op_table (λ w. refl) op_reads
 
 abbrev read_form : Form (List ℕ × (ℕ × Unit {0})) KeyRead 0
 read_form =
-    form 0 (text_part & whole_part & nothing) (λ x. read_with x.0 (second x)) (λ ds. read_parts (two_of ds))
-    (refl, λ a. (refl, λ b. (refl, λ c ds. refl)))
+    form 0 (text_part & whole_part & nothing) (λ x. read_with x.0 (second x)) read_parts
+    (λ es. refl)
 
 pub read_laws : Laws KeyRead read_of read_data AnyFits (plain_faults read_sorts)
 unfolding read_of
@@ -123,8 +123,8 @@ read_laws = array_laws read_form read_data (λ r. (r.key, (r.mod_rev, tt))) (λ 
 
 abbrev expired_form : Form (ℕ × (ℕ × Unit {0})) Expired 0
 expired_form =
-    form 0 (whole_part & whole_part & nothing) (λ x. expired_with x.0 (second x)) (λ ds. expired_parts (two_of ds))
-    (refl, λ a. (refl, λ b. (refl, λ c ds. refl)))
+    form 0 (whole_part & whole_part & nothing) (λ x. expired_with x.0 (second x)) expired_parts
+    (λ es. refl)
 
 pub expired_laws : Laws Expired expired_of expired_data AnyFits (plain_faults expired_sorts)
 unfolding expired_of
@@ -137,8 +137,8 @@ put_form = also_made 1 keyed_form (λ q. event.Put q.0 q.1)
 
 abbrev delete_form : Form (List ℕ × (ℕ × Unit {0})) Event 1
 delete_form =
-    form 1 (text_part & whole_part & nothing) (λ x. event.Delete x.0 (second x)) (λ ds. event_delete_of (two_of ds))
-    (refl, λ a. (refl, λ b. (refl, λ c ds. refl)))
+    form 1 (text_part & whole_part & nothing) (λ x. event.Delete x.0 (second x)) event_delete_of
+    (λ es. refl)
 
 abbrev event_words : Words Event event_data AnyFits
 event_words =

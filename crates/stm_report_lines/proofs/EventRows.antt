@@ -1,6 +1,6 @@
 -- The lines of events: the parts after each word, and what is made of them. Their faults are those that reading answers, what was read is
 -- spelled, and what is spelled is read.
-use Rattle.std.proofs.Common.{◌≡◌, ℕ, List, map, Bool, true, false, cond, eqb, length, Option, Some, None, Ok, Err, refl, sym, subst, ap, ◌∙◌, codes}
+use Rattle.std.proofs.Common.{◌≡◌, ℕ, List, [], ◌∷◌, map, Bool, cond, length, Option, Some, None, Ok, Err, refl, sym, subst, ap, ◌∙◌, codes}
 use Rattle.serde_json.specs.Data.{Data, boolean, Items, item}
 use Rattle.serde_json.specs.View.{items_of}
 use Rattle.stm_json.specs.declared.cause.Cause.TheVariants.{Shape}
@@ -31,10 +31,9 @@ use Rattle.stm_report_lines.specs.Grammar.{Spells, SpellsItems, SpellsLine, Coun
 use Rattle.stm_report_lines.specs.LineData.{list, word, numbered, value_data, trace_data, answer_data, op_data, read_data, expired_data, event_data}
 use Rattle.stm_report_lines.specs.LineData.{line_data}
 use Rattle.stm_events.specs.Names.{refusal_name}
-use Rattle.stm_report_lines.specs.Parts.{part_at, number_of, flag_of, fault_of as fault_part_of, cause_of, value_of, trace_of, answer_of, op_of}
+use Rattle.stm_report_lines.specs.Parts.{exactly, listed, number_of, flag_of, fault_of as fault_part_of, cause_of, value_of, trace_of, answer_of, op_of}
 use Rattle.stm_report_lines.specs.Parts.{read_of, expired_of, event_of}
-use Rattle.stm_report_lines.specs.Elements.{count}
-use Rattle.stm_report_lines.specs.Reading.{ops_of, EventReply, denied_with, event_reply_of, event_line_of, event_named}
+use Rattle.stm_report_lines.specs.Reading.{EventReply, denied_with, event_reply_of, event_line_of, event_named}
 use Rattle.stm_report_lines.specs.Words.{named, event_words}
 use Rattle.stm_report_lines.proofs.ArrayLemmas.{numbered_array, numbered_spells}
 use Rattle.stm_report_lines.proofs.WordLaws.{named-is}
@@ -44,7 +43,7 @@ use Rattle.stm_report_lines.proofs.PartLaws.{number_means, flag_reported, flag_m
 use Rattle.stm_report_lines.proofs.PartLaws.{cause_reported}
 use Rattle.stm_report_lines.proofs.PartLaws.{cause_means, cause_reads, value_laws}
 use Rattle.stm_report_lines.proofs.Rows.{Part, part, part_by, list_part, Row, nothing, ◌&◌, second, third, fourth, fifth, sixth}
-use Rattle.stm_report_lines.proofs.Rows.{Agree, agree, counted, counted_reported, counted_ok, count_is}
+use Rattle.stm_report_lines.proofs.Rows.{no_more, part_here, counted_reported, counted_ok, exactly_is}
 use Rattle.stm_report_lines.proofs.StateLaws.{whole_part, text_part}
 
 -- ---- parts
@@ -78,7 +77,7 @@ events_part = list_part event_of event_data (worded_faults watched_table) event_
 
 abbrev ops_part : Part (List OpReply)
 ops_part =
-    part_by ops_of (λ xs. list (map op_data xs)) AllCountsFit (By (list_faults (worded_faults op_table)))
+    part_by (listed op_of) (λ xs. list (map op_data xs)) AllCountsFit (By (list_faults (worded_faults op_table)))
     (list_laws op_of op_data CountFits (worded_faults op_table) op_laws AllCountsFit tt (λ x xs f. f) (λ x xs f. f))
 
 -- ---- the parts after each word, and the reply or the refusal that is made of them
@@ -175,51 +174,33 @@ event_fits _ n x fits = tt
 
 -- ---- what is read is read so
 
--- the parts, where there are as many
+-- the parts, where there are as many, of a whole line
 abbrev row_read : EventWord → Items → Outcome EventReply
-row_read w ds = (event_row w).row.read EventReply 2 (event_row w).make ds
+row_read w es = (event_row w).row.read EventReply 2 (event_row w).make es
 
--- of an array that has a number and a word in front
-same : (w : EventWord) (n v : Data) → Agree (event_sorts w) (λ ds. event_reply_of w (item n (item v ds))) (row_read w)
-unfolding part_at
-same event.Started n v = λ a. refl
-same event.Prefetched n v = λ a b c. refl
-same event.Fetched n v = λ a b c d e. refl
-same event.Committed n v = λ a b c d e g. refl
-same event.Conflict n v = λ a b c d. refl
-same event.GaveUp n v = λ a b c d e. refl
-same event.Txn n v = λ a b c. refl
-same event.Granted n v = λ a. refl
-same event.Kept n v = λ a. refl
-same event.Compacted n v = λ a. refl
-same event.Watching n v = λ a. refl
-same event.Cancelled n v = λ a. refl
-same event.Batch n v = λ a b c. refl
-same _ n v = λ a b. refl
+reply_is : (w : EventWord) (es : Items) → event_reply_of w es ≡ row_read w es
+reply_is event.Started es = refl
+reply_is _ es = refl
 
 -- the number, and then what comes after the word
 abbrev reply_then : EventWord → Items → ℕ → Outcome ReportLine
-reply_then w ds x = row_read w ds >>= λ r. Ok (line.Event x r)
+reply_then w es x = row_read w es >>= λ r. Ok (line.Event x r)
 
-abbrev numbered_read : EventWord → Data → Items → Outcome ReportLine
-numbered_read w n ds = within 0 (number_of n) >>= reply_then w ds
+abbrev numbered_read : EventWord → Data → Data → Items → Outcome ReportLine
+numbered_read w n v ds = within 0 (number_of n) >>= reply_then w (item n (item v ds))
 
-numbered_is : (w : EventWord) (n v : Data) (ds : Items) → is_count (event_sorts w) ds ≡ true
-    → event_line_of w (item n (item v ds)) ≡ numbered_read w n ds
-unfolding part_at
-numbered_is w n v ds h =
-    ap (λ (o : Outcome EventReply). within 0 (number_of n) >>= λ x. o >>= λ r. Ok (line.Event x r))
-    (agree (event_sorts w) (λ es. event_reply_of w (item n (item v es))) (row_read w) (same w n v) ds h)
-
-where_true : {Y : Type 0} (b : Bool) (o q : Outcome Y) → (b ≡ true → o ≡ q) → cond b o (bad Shape) ≡ cond b q (bad Shape)
-where_true true o q h = h refl
-where_true false o q h = refl
+numbered_is : (w : EventWord) (n v : Data) (ds : Items) → event_line_of w (item n (item v ds)) ≡ numbered_read w n v ds
+numbered_is w n v ds =
+    let es : Items = item n (item v ds) in
+    ap (λ (o : Outcome ℕ). o >>= λ x. event_reply_of w es >>= λ r. Ok (line.Event x r)) (part_here number_of [] n (item v ds))
+    ∙ ap (λ (o : Outcome EventReply). within 0 (number_of n) >>= λ x. o >>= λ r. Ok (line.Event x r)) (reply_is w es)
 
 named_is : (n v : Data) (r : EventWord × ℕ) (ds : Items) → r.1 ≡ length (event_sorts r.0)
-    → event_named (Some r) (item n (item v ds)) ds ≡ counted (event_sorts r.0) (numbered_read r.0 n) ds
+    → event_named (Some r) (item n (item v ds)) ds ≡ cond (is_count (event_sorts r.0) ds) (numbered_read r.0 n v ds) (bad Shape)
 named_is n v r ds many =
-    ap (λ (b : Bool). cond b (event_line_of r.0 (item n (item v ds))) (bad Shape)) (ap (eqb (count ds)) many ∙ sym (count_is (event_sorts r.0) ds))
-    ∙ where_true (is_count (event_sorts r.0) ds) (event_line_of r.0 (item n (item v ds))) (numbered_read r.0 n ds) (numbered_is r.0 n v ds)
+    ap (λ (k : ℕ). exactly k ds >>= λ es. event_line_of r.0 (item n (item v ds))) (many ∙ sym (no_more (length (event_sorts r.0))))
+    ∙ exactly_is [] (event_sorts r.0) ds (λ es. event_line_of r.0 (item n (item v ds)))
+    ∙ ap (λ (o : Outcome ReportLine). cond (is_count (event_sorts r.0) ds) o (bad Shape)) (numbered_is r.0 n v ds)
 
 -- ---- the three laws, of a row of the words
 
@@ -228,19 +209,19 @@ module _ (n v : Data) (r : EventWord × ℕ) (ds : Items) (many : r.1 ≡ length
       ≡ fault_of p (event_named (Some r) (item n (item v ds)) ds)
   event_line_reported p =
       let sorts : List Sort = event_sorts r.0 in
-      counted_reported p (is_count sorts ds) _ (numbered_read r.0 n ds)
-      (λ h. part_then p 0 (number_of n) (reply_then r.0 ds) (faults_by any_number (at p 0) n) (parts_faults p 2 sorts ds) (number_reported (at p 0) n)
-      (λ (x : ℕ). made p (row_read r.0 ds) (λ (y : EventReply). line.Event x y) (parts_faults p 2 sorts ds)
-      ((event_row r.0).row.reported EventReply p 2 (event_row r.0).make ds h)))
+      counted_reported p (is_count sorts ds) _ (numbered_read r.0 n v ds)
+      (λ h. part_then p 0 (number_of n) (reply_then r.0 (item n (item v ds))) (faults_by any_number (at p 0) n) (parts_faults p 2 sorts ds) (number_reported (at p 0) n)
+      (λ (x : ℕ). made p (row_read r.0 (item n (item v ds))) (λ (y : EventReply). line.Event x y) (parts_faults p 2 sorts ds)
+      ((event_row r.0).row.reported EventReply p (v ∷ n ∷ []) (event_row r.0).make ds h)))
       ∙ ap (λ (o : Outcome ReportLine). fault_of p o) (sym (named_is n v r ds many))
 
   pub event_line_means : (l : ReportLine) → event_named (Some r) (item n (item v ds)) ds ≡ Ok l → SpellsLine (numbered_array n (event_text r.0) ds) l
   event_line_means l h =
       let w : EventWord = r.0 in
-      let k = counted_ok (is_count (event_sorts w) ds) (numbered_read w n ds) l (sym (named_is n v r ds many) ∙ h) in
-      let q = bind_ok (within 0 (number_of n)) (reply_then w ds) l k.1 in
-      let y = bind_ok (row_read w ds) (λ (z : EventReply). Ok (line.Event q.0 z)) l q.2 in
-      let m = (event_row w).row.means EventReply 2 (event_row w).make ds y.0 k.0 y.1 in
+      let k = counted_ok (is_count (event_sorts w) ds) (numbered_read w n v ds) l (sym (named_is n v r ds many) ∙ h) in
+      let q = bind_ok (within 0 (number_of n)) (reply_then w (item n (item v ds))) l k.1 in
+      let y = bind_ok (row_read w (item n (item v ds))) (λ (z : EventReply). Ok (line.Event q.0 z)) l q.2 in
+      let m = (event_row w).row.means EventReply (v ∷ n ∷ []) (event_row w).make ds y.0 k.0 y.1 in
       let is : line.Event q.0 y.0 ≡ l = cc y.2 in
       let s = numbered_spells n ds q.0 (event_text w) ((event_row w).row.spell m.0) (number_means n q.0 (within_ok 0 _ _ q.1)) m.2 in
       subst (λ (z : ReportLine). SpellsLine (numbered_array n (event_text w) ds) z) (ap (λ (z : EventReply). line.Event q.0 z) m.1 ∙ is)
@@ -249,8 +230,8 @@ module _ (n v : Data) (r : EventWord × ℕ) (ds : Items) (many : r.1 ≡ length
   pub event_line_reads : (number : ℕ) (x : event_parts r.0) → number_of n ≡ Ok number → SpellsItems ds (items_of ((event_row r.0).row.spell x))
       → (event_row r.0).row.Fits x → event_named (Some r) (item n (item v ds)) ds ≡ Ok (event_made r.0 number x)
   event_line_reads number x known s fits =
-      let e = (event_row r.0).row.reads EventReply 2 (event_row r.0).make ds x s fits in
+      let e = (event_row r.0).row.reads EventReply (v ∷ n ∷ []) (event_row r.0).make ds x s fits in
       named_is n v r ds many
-      ∙ ap (λ (b : Bool). cond b (numbered_read r.0 n ds) (bad Shape)) e.0
-      ∙ ap (λ (o : Outcome ℕ). within 0 o >>= reply_then r.0 ds) known
+      ∙ ap (λ (b : Bool). cond b (numbered_read r.0 n v ds) (bad Shape)) e.0
+      ∙ ap (λ (o : Outcome ℕ). within 0 o >>= reply_then r.0 (item n (item v ds))) known
       ∙ ap (λ (o : Outcome EventReply). o >>= λ y. Ok (line.Event number y)) e.1

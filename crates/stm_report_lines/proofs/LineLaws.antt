@@ -1,14 +1,14 @@
 -- Lines: the first fault is that which reading answers, what was read is spelled, and what is spelled is read.
 use Rattle.std.proofs.Common.{◌≡◌, ℕ, List, length, Option, Some, None, Ok, Err, option_map, refl, sym, ap, subst, ◌∙◌, codes}
-use Rattle.serde_json.specs.Data.{Data, null, boolean, number, string, array, object, Items, no_items, item}
-use Rattle.serde_json.specs.Find.{as_str, as_array}
+use Rattle.serde_json.specs.Data.{Data, null, boolean, number, string, array, object, Items, item}
+use Rattle.serde_json.specs.Find.{as_str}
 use Rattle.stm_json.specs.declared.cause.Cause.TheVariants.{Shape}
-use Rattle.stm_json.specs.Elements.{first_word, two_of, three_of}
+use Rattle.stm_json.specs.Elements.{first_word}
 use Rattle.stm_json.specs.Outcome.{bad}
 use Rattle.stm_json.proofs.ElementLemmas.{first_word-is}
-use Rattle.stm_json.specs.Faults.{Sort, first_of, sorts_of, sorted_faults}
+use Rattle.stm_json.specs.Faults.{Sort, first_of, sorts_of}
 use Rattle.stm_json.proofs.FaultLemmas.{fault_of, wrong_is}
-use Rattle.stm_json.proofs.PartLemmas.{text_is, list_is}
+use Rattle.stm_json.proofs.PartLemmas.{text_is}
 use Rattle.stm_events.specs.declared.line.ReportLine.{ReportLine}
 use Rattle.stm_events.specs.declared.line.ReportLine.TheVariants.{Event, Key, Lease, End}
 use Rattle.stm_events.specs.declared.reply.Reply.{Reply}
@@ -17,22 +17,20 @@ use Rattle.stm_events.specs.declared.reply.Reply.TheVariants.{Txn, Granted}
 use Rattle.stm_events.specs.declared.reply.Reply.TheVariants.{Kept, Revoked, Advanced, Compacted, Watching, Cancelled, Batch, Lost}
 use Rattle.stm_report_lines.specs.declared.words.EventWord.{EventWord}
 use Rattle.stm_report_lines.specs.declared.words.EventWord.TheVariants as event
-use Rattle.stm_report_lines.specs.declared.words.StandingWord.{StandingWord}
-use Rattle.stm_report_lines.specs.declared.words.StandingWord.TheVariants as standing
-use Rattle.stm_report_lines.specs.FirstFault.{event_table, standing_table, numbered_faults, line_faults}
+use Rattle.stm_report_lines.specs.FirstFault.{event_table, numbered_faults, line_faults}
 use Rattle.stm_report_lines.specs.Grammar.{Spells, SpellsLine, CountsFit}
 use Rattle.stm_report_lines.specs.LineData.{line_data}
-use Rattle.stm_report_lines.specs.Reading.{lease_of, end_of, standing_line_of, standing_named, event_named, event_worded, line_front, line_array}
+use Rattle.stm_report_lines.specs.Reading.{lease_of, end_of, standing_worded, event_named, event_worded, line_front}
 use Rattle.stm_report_lines.specs.Reading.{line_of}
-use Rattle.stm_report_lines.specs.Words.{named, event_words, standing_words}
-use Rattle.stm_report_lines.proofs.ArrayLemmas.{worded_array, numbered_array, numbered_shape}
+use Rattle.stm_report_lines.specs.Words.{named, event_words}
+use Rattle.stm_report_lines.proofs.ArrayLemmas.{numbered_array, numbered_shape}
 use Rattle.stm_report_lines.proofs.EventRows.{event_parts, event_row, event_sorts, event_made, event_text, event_named-text, event_found}
 use Rattle.stm_report_lines.proofs.EventRows.{event_spelled}
 use Rattle.stm_report_lines.proofs.EventRows.{event_line_reported, event_line_means, event_line_reads}
 use Rattle.stm_report_lines.proofs.Rows.{nothing, ◌&◌, second, third}
-use Rattle.stm_report_lines.proofs.Forms.{Form, form, also_made, form_reported, after_reads, after_means}
+use Rattle.stm_report_lines.proofs.Forms.{Form, form, also_made, after_reads, Words, no_word, or_word}
 use Rattle.stm_report_lines.proofs.StateLaws.{State, whole_part, keyed_form, parts_of_keyed}
-use Rattle.stm_report_lines.proofs.WordLaws.{named-is, sorts_named}
+use Rattle.stm_report_lines.proofs.WordLaws.{sorts_named}
 
 -- ---- lines of what is left at the end
 
@@ -41,43 +39,20 @@ key_form = also_made 1 keyed_form (λ q. Key q.0 q.1)
 
 abbrev lease_form : Form (ℕ × (ℕ × (ℕ × Unit {0}))) ReportLine 1
 lease_form =
-    form 1 (whole_part & whole_part & whole_part & nothing) (λ x. Lease x.0 (second x) (third x)) (λ ds. lease_of (three_of ds))
-    (refl, λ a. (refl, λ b. (refl, λ c. (refl, λ d ds. refl))))
+    form 1 (whole_part & whole_part & whole_part & nothing) (λ x. Lease x.0 (second x) (third x)) lease_of
+    (λ es. refl)
 
 abbrev end_form : Form (ℕ × (ℕ × Unit {0})) ReportLine 1
 end_form =
-    form 1 (whole_part & whole_part & nothing) (λ x. End x.0 (second x)) (λ ds. end_of (two_of ds)) (refl, λ a. (refl, λ b. (refl, λ c ds. refl)))
+    form 1 (whole_part & whole_part & nothing) (λ x. End x.0 (second x)) end_of (λ es. refl)
 
-abbrev standing_sorts : StandingWord → List Sort
-standing_sorts standing.Key = key_form.row.sorts
-standing_sorts standing.Lease = lease_form.row.sorts
-standing_sorts standing.End = end_form.row.sorts
-
-abbrev standing_text : StandingWord → List ℕ
-standing_text standing.Key = codes "key"
-standing_text standing.Lease = codes "lease"
-standing_text standing.End = codes "end"
-
-standing_reported : (p : List ℕ) (o : Option StandingWord) (ds : Items)
-    → first_of (sorted_faults p (option_map standing_sorts o) ds) ≡ fault_of p (standing_named o ds)
-standing_reported p None ds = wrong_is {A = ReportLine} p Shape (bad Shape) refl
-standing_reported p (Some standing.Key) ds = form_reported 1 key_form p ds
-standing_reported p (Some standing.Lease) ds = form_reported 1 lease_form p ds
-standing_reported p (Some standing.End) ds = form_reported 1 end_form p ds
-
-standing_line_means : (w : StandingWord) (ds : Items) (l : ReportLine) → standing_line_of w ds ≡ Ok l → SpellsLine (worded_array
-    (standing_text w) ds) l
-standing_line_means standing.Key ds l h = after_means key_form (codes "key") line_data CountsFit (λ x. refl) (λ x f. tt) ds l h
-standing_line_means standing.Lease ds l h = after_means lease_form (codes "lease") line_data CountsFit (λ x. refl) (λ x f. tt) ds l h
-standing_line_means standing.End ds l h = after_means end_form (codes "end") line_data CountsFit (λ x. refl) (λ x f. tt) ds l h
+abbrev standing : Words ReportLine line_data CountsFit
+standing =
+    or_word line_data CountsFit (codes "key") key_form (λ x. refl) (λ x f. tt)
+    (or_word line_data CountsFit (codes "lease") lease_form (λ x. refl) (λ x f. tt)
+    (or_word line_data CountsFit (codes "end") end_form (λ x. refl) (λ x f. tt) (no_word line_data CountsFit)))
 
 -- ---- the first fault
-
-standing_word-reported : (p w : List ℕ) (ds : Items) → first_of (sorted_faults p (sorts_of standing_table w) ds) ≡ fault_of p (standing_named
-    (named standing_words w) ds)
-standing_word-reported p w ds =
-    ap (λ (o : Option (List Sort)). first_of (sorted_faults p o ds)) (sorts_named standing_sorts standing_words w)
-    ∙ standing_reported p (named standing_words w) ds
 
 event_reported : (p : List ℕ) (n v : Data) (o : Option (EventWord × ℕ)) (ds : Items)
     → ((r : EventWord × ℕ) → o ≡ Some r → r.1 ≡ length (event_sorts r.0))
@@ -93,7 +68,7 @@ event_word-reported p n w ds =
 
 pub line_reported : (p : List ℕ) (d : Data) → first_of (line_faults p d) ≡ fault_of p (line_of d)
 unfolding line_of
-line_reported p (array (item (string w) ds)) = standing_word-reported p w ds
+line_reported p (array (item (string w) ds)) = standing.reported p w ds
 line_reported p (array (item null (item (string w) ds))) = event_word-reported p null w ds
 line_reported p (array (item (boolean b) (item (string w) ds))) = event_word-reported p (boolean b) w ds
 line_reported p (array (item (number n) (item (string w) ds))) = event_word-reported p (number n) w ds
@@ -102,13 +77,6 @@ line_reported p (array (item (object ms) (item (string w) ds))) = event_word-rep
 line_reported p _ = wrong_is {A = ReportLine} p Shape (bad Shape) refl
 
 -- ---- what was read is spelled
-
-standing_named-means : (w : List ℕ) (o : Option StandingWord) (ds : Items) (l : ReportLine) → named standing_words w ≡ o → standing_named o ds ≡ Ok l
-    → SpellsLine (worded_array w ds) l
-standing_named-means w None ds l is h = cc
-standing_named-means w (Some k) ds l is h =
-    let e : w ≡ standing_text k = named-is standing_text standing_words w k refl is in
-    subst (λ (v : List ℕ). SpellsLine (worded_array v ds) l) (sym e) (standing_line_means k ds l h)
 
 event_named-means : (n : Data) (w : List ℕ) (o : Option (EventWord × ℕ)) (ds : Items) (l : ReportLine) → named event_words w ≡ o
     → event_named o (item n (item (string w) ds)) ds ≡ Ok l → SpellsLine (numbered_array n w ds) l
@@ -129,17 +97,15 @@ front_means : (a : Data) (o : Option (List ℕ)) (ds : Items) (l : ReportLine) �
     (item a ds)) l
 front_means a None ds l is h = event_worded-means a ds (first_word ds) l refl h
 front_means a (Some w) ds l is h =
-    subst (λ (b : Data). SpellsLine (array (item b ds)) l) (sym (text_is a w is)) (standing_named-means w (named standing_words w) ds l refl h)
-
-array_means : (d : Data) (o : Option Items) (l : ReportLine) → as_array d ≡ o → line_array o ≡ Ok l → SpellsLine d l
-array_means d None l is h = cc
-array_means d (Some no_items) l is h = cc
-array_means d (Some (item a ds)) l is h =
-    subst (λ (e : Data). SpellsLine e l) (sym (list_is d (item a ds) is)) (front_means a (as_str a) ds l refl h)
+    let e : a ≡ string w = text_is a w is in
+    let read = subst (λ (b : Data). standing_worded w (item b ds) ≡ Ok l) e h in
+    subst (λ (b : Data). SpellsLine (array (item b ds)) l) (sym e) (standing.means w ds l read)
 
 pub line_means : (d : Data) (l : ReportLine) → line_of d ≡ Ok l → SpellsLine d l
 unfolding line_of
-line_means d l h = array_means d (as_array d) l refl h
+line_means (array (item a ds)) l h = front_means a (as_str a) ds l refl h
+line_means null l h = cc
+line_means _ l h = cc
 
 -- ---- what is spelled is read
 

@@ -1,5 +1,5 @@
 -- Reading lines one after the other, as a loop does.
-use Rattle.std.proofs.Common.{◌≡◌, ℕ, suc, ◌<◌, List, [], ◌∷◌, ◌++◌, length, Option, Some, None, Ok, Err, refl, sym, ap, subst, ◌∙◌, arith}
+use Rattle.std.proofs.Common.{◌≡◌, ℕ, suc, List, [], ◌∷◌, ◌++◌, length, Ok, Err, refl, sym, ap, subst, ◌∙◌, arith}
 use Rattle.std.proofs.Common.{length-append}
 use Rattle.std.proofs.lemmas.List.{append-nil}
 use Rattle.stm_json.specs.declared.read_error.ReadError.{ReadError}
@@ -8,9 +8,9 @@ use Rattle.stm_json.specs.Outcome.{Outcome, ◌>>=◌, within}
 use Rattle.stm_json.specs.Returns.{ReturnsFault}
 use Rattle.stm_json.proofs.ListLemmas.{with_front, regroup}
 use Rattle.stm_events.specs.declared.line.ReportLine.{ReportLine}
-use Rattle.stm_report_lines.specs.Bytes.{parts_of, first_cut}
+use Rattle.stm_report_lines.specs.Bytes.{parts_of}
 use Rattle.stm_report_lines.specs.Reading.{line_in, rest_of, lines_from}
-use Rattle.stm_report_lines.proofs.CutLemmas.{Cut, cuts, parts_start}
+use Rattle.stm_report_lines.proofs.CutLemmas.{parts_start}
 
 -- the lines so far, and then what is read of the rest
 abbrev pub so_far : List ReportLine → List ℕ → Outcome (List ReportLine)
@@ -20,50 +20,41 @@ stepped : (index : ℕ) (part : List ℕ) (parts : List (List ℕ)) → (p : Lis
     → lines_from index (part ∷ parts) ≡ (within index (line_in part) >>= λ l. lines_from (suc index) parts >>= λ ls. Ok (l ∷ ls))
 stepped index part parts (p, ps, is) = rw is refl
 
-cut_is : (rest : List ℕ) (o : Option (List ℕ × List ℕ)) → first_cut rest ≡ o → Cut rest o
-cut_is rest o e = rw (sym e) (cuts rest)
-
 pub goes_on : (lines : List ReportLine) (rest part after : List ℕ) (l : ReportLine) (total : Outcome (List ReportLine)) (n : ℕ) → n ≡ length lines
-    → first_cut rest ≡ Some (part, after) → within n (line_in part) ≡ Ok l → so_far lines rest ≡ total → so_far (lines ++ l ∷ []) after ≡ total
+    → parts_of rest ≡ part ∷ parts_of after → within n (line_in part) ≡ Ok l → so_far lines rest ≡ total → so_far (lines ++ l ∷ []) after ≡ total
 goes_on lines rest part after l total n many cut reported whole =
     let is : within (length lines) (line_in part) ≡ Ok l = subst (λ (k : ℕ). within k (line_in part) ≡ Ok l) many reported in
-    let c = cut_is rest (Some (part, after)) cut in
     let more : length (lines ++ l ∷ []) ≡ suc (length lines) = omega (arith, length-append lines (l ∷ [])) in
     let one : so_far lines rest ≡ with_front (lines ++ l ∷ []) (lines_from (suc (length lines)) (parts_of after)) =
-    ap (λ (ps : List (List ℕ)). with_front lines (lines_from (length lines) ps)) c.0
+    ap (λ (ps : List (List ℕ)). with_front lines (lines_from (length lines) ps)) cut
     ∙ ap (with_front lines) (stepped (length lines) part (parts_of after) (parts_start after))
     ∙ rw is (regroup lines l (lines_from (suc (length lines)) (parts_of after))) in
     rw more (sym one ∙ whole)
 
 pub ends : (e : ReadError) (lines : List ReportLine) (rest part after : List ℕ) (total : Outcome (List ReportLine)) (n : ℕ) → n ≡ length lines
-    → first_cut rest ≡ Some (part, after) → ReturnsFault e (within n (line_in part)) → so_far lines rest ≡ total → ReturnsFault e total
+    → parts_of rest ≡ part ∷ parts_of after → ReturnsFault e (within n (line_in part)) → so_far lines rest ≡ total → ReturnsFault e total
 ends error.OutOfMemory lines rest part after total n many cut reported whole = tt
 ends (error.Bad f) lines rest part after total n many cut reported whole =
     let is : within (length lines) (line_in part) ≡ Err f = subst (λ (k : ℕ). within k (line_in part) ≡ Err f) many reported in
-    let c = cut_is rest (Some (part, after)) cut in
     let one : so_far lines rest ≡ Err f =
-    ap (λ (ps : List (List ℕ)). with_front lines (lines_from (length lines) ps)) c.0
+    ap (λ (ps : List (List ℕ)). with_front lines (lines_from (length lines) ps)) cut
     ∙ ap (with_front lines) (stepped (length lines) part (parts_of after) (parts_start after))
     ∙ rw is refl in
     sym whole ∙ one
 
 -- no line feed is left
-last_part : (lines : List ReportLine) (rest : List ℕ) → first_cut rest ≡ None → so_far lines rest ≡ with_front lines (within (length lines) (rest_of rest))
-last_part lines rest none = ap (λ (ps : List (List ℕ)). with_front lines (lines_from (length lines) ps)) (cut_is rest None none)
+last_part : (lines : List ReportLine) (rest : List ℕ) → parts_of rest ≡ rest ∷ [] → so_far lines rest ≡ with_front lines (within (length lines) (rest_of rest))
+last_part lines rest none = ap (λ (ps : List (List ℕ)). with_front lines (lines_from (length lines) ps)) none
 
 pub is_done : (lines : List ReportLine) (rest : List ℕ) (total : Outcome (List ReportLine)) (n : ℕ) → n ≡ length lines
-    → first_cut rest ≡ None → within n (rest_of rest) ≡ Ok [] → so_far lines rest ≡ total → total ≡ Ok lines
+    → parts_of rest ≡ rest ∷ [] → within n (rest_of rest) ≡ Ok [] → so_far lines rest ≡ total → total ≡ Ok lines
 is_done lines rest total n many none reported whole =
     let is : within (length lines) (rest_of rest) ≡ Ok [] = subst (λ (k : ℕ). within k (rest_of rest) ≡ Ok []) many reported in
     sym whole ∙ last_part lines rest none ∙ rw is (ap (λ (ys : List ReportLine). Ok ys) (append-nil lines))
 
 pub is_bad : (e : ReadError) (lines : List ReportLine) (rest : List ℕ) (total : Outcome (List ReportLine)) (n : ℕ) → n ≡ length lines
-    → first_cut rest ≡ None → ReturnsFault e (within n (rest_of rest)) → so_far lines rest ≡ total → ReturnsFault e total
+    → parts_of rest ≡ rest ∷ [] → ReturnsFault e (within n (rest_of rest)) → so_far lines rest ≡ total → ReturnsFault e total
 is_bad error.OutOfMemory lines rest total n many none reported whole = tt
 is_bad (error.Bad f) lines rest total n many none reported whole =
     let is : within (length lines) (rest_of rest) ≡ Err f = subst (λ (k : ℕ). within k (rest_of rest) ≡ Err f) many reported in
     sym whole ∙ last_part lines rest none ∙ rw is refl
-
--- the rest grows shorter
-pub shorter : (rest part after : List ℕ) → first_cut rest ≡ Some (part, after) → length after < length rest
-shorter rest part after cut = (cut_is rest (Some (part, after)) cut).1

@@ -1,21 +1,20 @@
 -- Rows of parts, one after the other. That their faults are those that reading answers, that what was read is spelled, and that what is
 -- spelled is read, is proved once, whatever the parts are.
-use Rattle.std.proofs.Common.{◌≡◌, ℕ, suc, List, [], ◌∷◌, length, map, Bool, true, false, cond, eqb, Ok, Err, refl, sym, ap, subst}
+use Rattle.std.proofs.Common.{◌≡◌, ℕ, suc, ◌+◌, List, [], ◌∷◌, length, map, Bool, true, false, cond, eqb, Option, Ok, Err, refl, sym, ap, subst}
 use Rattle.std.proofs.Common.{◌∙◌, arith}
 use Rattle.std.proofs.lemmas.Bool.Decides.{nat_tests}
 use Rattle.serde_json.specs.Data.{Data, Items, no_items, item}
-use Rattle.serde_json.specs.Find.{as_array}
 use Rattle.serde_json.specs.View.{items_of}
 use Rattle.stm_json.specs.declared.cause.Cause.TheVariants.{Shape}
 use Rattle.stm_json.specs.Outcome.{Outcome, bad, ◌>>=◌, within}
 use Rattle.stm_json.proofs.OutcomeLemmas.{bind_ok, within_ok}
-use Rattle.stm_json.specs.Parts.{list_of}
 use Rattle.stm_json.specs.Faults.{Faults, Sort, By, first_of, wrong, at, faults_by, is_count, parts_faults}
 use Rattle.stm_json.proofs.FaultLemmas.{fault_of, wrong_is, part_then}
-use Rattle.stm_report_lines.specs.Elements.{count}
+use Rattle.stm_report_lines.specs.Elements.{count, element}
 use Rattle.stm_report_lines.specs.FirstFault.{list_of as list_faults}
 use Rattle.stm_report_lines.specs.Grammar.{Spells, SpellsItems}
 use Rattle.stm_report_lines.specs.LineData.{list}
+use Rattle.stm_report_lines.specs.Parts.{if_there, listed, part_at, exactly}
 use Rattle.stm_report_lines.proofs.ReadLaws.{Laws, AnyFits, list_laws}
 
 -- What may stand as an element of an array: what is read of it, what spells it, and its sort in a table of first faults.
@@ -51,22 +50,52 @@ part_by read spell Fits sort L =
 abbrev pub list_part : {A : Type 0} (read : Data → Outcome A) (spell : A → Data) (faults : List ℕ → Data → Faults) → Laws A read spell AnyFits faults
     → Part (List A)
 list_part read spell faults L =
-    part_by (λ d. list_of read (as_array d)) (λ xs. list (map spell xs)) AnyFits (By (list_faults faults))
+    part_by (listed read) (λ xs. list (map spell xs)) AnyFits (By (list_faults faults))
     (list_laws read spell AnyFits faults L AnyFits tt (λ x xs f. tt) (λ x xs f. (tt, tt)))
 
--- Parts one after the other, whose values are an X, and what is made of them. Reading begins at an index of the array.
+-- ---- elements before parts
+
+-- elements of an array: some, of which the last comes first, and those after them
+abbrev pub onto : List Data → Items → Items
+onto [] ds = ds
+onto (d ∷ before) ds = onto before (item d ds)
+
+pub no_more : (k : ℕ) → 0 + k ≡ k
+no_more k = omega arith
+
+element_onto : (before : List Data) (k : ℕ) (ds : Items) → element (length before + k) (onto before ds) ≡ element k ds
+element_onto [] k ds = ap (λ (i : ℕ). element i ds) (no_more k)
+element_onto (d ∷ before) k ds =
+    let next : suc (length before) + k ≡ length before + suc k = omega arith in
+    ap (λ (i : ℕ). element i (onto before (item d ds))) next ∙ element_onto before (suc k) (item d ds)
+
+pub part_here : {A : Type 0} (read : Data → Outcome A) (before : List Data) (d : Data) (ds : Items)
+    → part_at (length before) read (onto before (item d ds)) ≡ within (length before) (read d)
+unfolding part_at
+part_here read before d ds =
+    let first : length before ≡ length before + 0 = omega arith in
+    ap (λ (o : Option Data). if_there o >>= λ e. within (length before) (read e))
+    (ap (λ (i : ℕ). element i (onto before (item d ds))) first ∙ element_onto before 0 (item d ds))
+
+count_onto : (before : List Data) (ds : Items) → count (onto before ds) ≡ length before + count ds
+count_onto [] ds = sym (no_more (count ds))
+count_onto (d ∷ before) ds =
+    let next : length before + suc (count ds) ≡ suc (length before) + count ds = omega arith in
+    count_onto before (item d ds) ∙ next
+
+-- Parts one after the other, whose values are an X, and what is made of them. They are read of a whole array, from an index on.
 pub record Row (X : Type 0) : Type 1 where
   pub sorts : List Sort
   pub spell : X → List Data
   pub Fits : X → Type 0
   pub read : (Y : Type 0) → ℕ → (X → Y) → Items → Outcome Y
-  pub reported : (Y : Type 0) (p : List ℕ) (i : ℕ) (make : X → Y) (ds : Items) → is_count sorts ds ≡ true
-      → first_of (parts_faults p i sorts ds) ≡ fault_of p (read Y i make ds)
-  pub means : (Y : Type 0) (i : ℕ) (make : X → Y) (ds : Items) (y : Y) → is_count sorts ds ≡ true → read Y i make ds ≡ Ok y
-      → (x : X) × (make x ≡ y) × SpellsItems ds (items_of (spell x)) × Fits x
-  pub reads : (Y : Type 0) (i : ℕ) (make : X → Y) (ds : Items) (x : X) → SpellsItems ds (items_of (spell x)) → Fits x
-      → (is_count sorts ds ≡ true) × (read Y i make ds ≡ Ok (make x))
-  pub maps : (Y Z : Type 0) (i : ℕ) (make : X → Y) (g : Y → Z) (ds : Items) → (read Y i make ds >>= λ y. Ok (g y)) ≡ read Z i (λ x. g (make x)) ds
+  pub reported : (Y : Type 0) (p : List ℕ) (before : List Data) (make : X → Y) (ds : Items) → is_count sorts ds ≡ true
+      → first_of (parts_faults p (length before) sorts ds) ≡ fault_of p (read Y (length before) make (onto before ds))
+  pub means : (Y : Type 0) (before : List Data) (make : X → Y) (ds : Items) (y : Y) → is_count sorts ds ≡ true
+      → read Y (length before) make (onto before ds) ≡ Ok y → (x : X) × (make x ≡ y) × SpellsItems ds (items_of (spell x)) × Fits x
+  pub reads : (Y : Type 0) (before : List Data) (make : X → Y) (ds : Items) (x : X) → SpellsItems ds (items_of (spell x)) → Fits x
+      → (is_count sorts ds ≡ true) × (read Y (length before) make (onto before ds) ≡ Ok (make x))
+  pub maps : (Y Z : Type 0) (i : ℕ) (make : X → Y) (g : Y → Z) (es : Items) → (read Y i make es >>= λ y. Ok (g y)) ≡ read Z i (λ x. g (make x)) es
 
 -- ---- no part
 
@@ -84,11 +113,11 @@ nothing = record {
   sorts = [];
   spell = λ x. [];
   Fits = λ x. Unit {0};
-  read = λ Y i make ds. Ok (make tt);
-  reported = λ Y p i make ds h. refl;
-  means = λ Y i make ds y h e. nothing_means Y make ds y h e;
-  reads = λ Y i make ds x s fits. (ap (λ (es : Items). is_count [] es) s, refl);
-  maps = λ Y Z i make g ds. refl;
+  read = λ Y i make es. Ok (make tt);
+  reported = λ Y p before make ds h. refl;
+  means = λ Y before make ds y h e. nothing_means Y make ds y h e;
+  reads = λ Y before make ds x s fits. (ap (λ (es : Items). is_count [] es) s, refl);
+  maps = λ Y Z i make g es. refl;
 }
 
 -- ---- one part more in front
@@ -100,38 +129,46 @@ bind_same (Err e) f h g same = refl
 
 module _ {A X : Type 0} (P : Part A) (R : Row X) where
   abbrev pub read_then : (Y : Type 0) → ℕ → (A × X → Y) → Items → Outcome Y
-  read_then Y i make no_items = bad Shape
-  read_then Y i make (item d ds) = within i (P.read d) >>= λ a. R.read Y (suc i) (λ x. make (a, x)) ds
+  read_then Y i make es = part_at i P.read es >>= λ a. R.read Y (suc i) (λ x. make (a, x)) es
 
-  pub then_reported : (Y : Type 0) (p : List ℕ) (i : ℕ) (make : A × X → Y) (ds : Items) → is_count (P.sort ∷ R.sorts) ds ≡ true
-      → first_of (parts_faults p i (P.sort ∷ R.sorts) ds) ≡ fault_of p (read_then Y i make ds)
-  then_reported Y p i make no_items h = cc
-  then_reported Y p i make (item d ds) h =
-      part_then p i (P.read d) _ (faults_by P.sort (at p i) d) _ (P.reported (at p i) d) (λ (a : A). R.reported Y p (suc i) (λ x. make (a, x)) ds h)
+  here : (Y : Type 0) (before : List Data) (make : A × X → Y) (d : Data) (ds : Items) → read_then Y (length before) make (onto before (item d ds))
+      ≡ (within (length before) (P.read d) >>= λ a. R.read Y (length (d ∷ before)) (λ x. make (a, x)) (onto (d ∷ before) ds))
+  here Y before make d ds =
+      ap (λ (o : Outcome A). o >>= λ a. R.read Y (length (d ∷ before)) (λ x. make (a, x)) (onto (d ∷ before) ds)) (part_here P.read before d ds)
 
-  pub then_means : (Y : Type 0) (i : ℕ) (make : A × X → Y) (ds : Items) (y : Y) → is_count (P.sort ∷ R.sorts) ds ≡ true → read_then Y i make ds ≡ Ok y
+  pub then_reported : (Y : Type 0) (p : List ℕ) (before : List Data) (make : A × X → Y) (ds : Items) → is_count (P.sort ∷ R.sorts) ds ≡ true
+      → first_of (parts_faults p (length before) (P.sort ∷ R.sorts) ds) ≡ fault_of p (read_then Y (length before) make (onto before ds))
+  then_reported Y p before make no_items h = cc
+  then_reported Y p before make (item d ds) h =
+      let i : ℕ = length before in
+      part_then p i (P.read d) _ (faults_by P.sort (at p i) d) _ (P.reported (at p i) d) (λ (a : A). R.reported Y p (d ∷ before) (λ x. make (a, x)) ds h)
+      ∙ ap (λ (o : Outcome Y). fault_of p o) (sym (here Y before make d ds))
+
+  pub then_means : (Y : Type 0) (before : List Data) (make : A × X → Y) (ds : Items) (y : Y) → is_count (P.sort ∷ R.sorts) ds ≡ true
+      → read_then Y (length before) make (onto before ds) ≡ Ok y
       → (x : A × X) × (make x ≡ y) × SpellsItems ds (items_of (P.spell x.0 ∷ R.spell x.1)) × (P.Fits x.0 × R.Fits x.1)
-  then_means Y i make no_items y h e = cc
-  then_means Y i make (item d ds) y h e =
-      let q = bind_ok (within i (P.read d)) _ y e in
-      let s = P.means d q.0 (within_ok i _ _ q.1) in
-      let m = R.means Y (suc i) (λ (x : X). make (q.0, x)) ds y h q.2 in
+  then_means Y before make no_items y h e = cc
+  then_means Y before make (item d ds) y h e =
+      let q = bind_ok (within (length before) (P.read d)) _ y (sym (here Y before make d ds) ∙ e) in
+      let s = P.means d q.0 (within_ok (length before) _ _ q.1) in
+      let m = R.means Y (d ∷ before) (λ (x : X). make (q.0, x)) ds y h q.2 in
       ((q.0, m.0), m.1, (d, ds, refl, s.0, m.2), (s.1, m.3))
 
-  pub then_reads : (Y : Type 0) (i : ℕ) (make : A × X → Y) (ds : Items) (x : A × X) → SpellsItems ds (items_of (P.spell x.0 ∷ R.spell x.1))
-      → P.Fits x.0 × R.Fits x.1 → (is_count (P.sort ∷ R.sorts) ds ≡ true) × (read_then Y i make ds ≡ Ok (make x))
-  then_reads Y i make ds x (d, rest, is, s, more) fits =
-      let r = R.reads Y (suc i) (λ (z : X). make (x.0, z)) rest x.1 more fits.1 in
+  pub then_reads : (Y : Type 0) (before : List Data) (make : A × X → Y) (ds : Items) (x : A × X)
+      → SpellsItems ds (items_of (P.spell x.0 ∷ R.spell x.1)) → P.Fits x.0 × R.Fits x.1
+      → (is_count (P.sort ∷ R.sorts) ds ≡ true) × (read_then Y (length before) make (onto before ds) ≡ Ok (make x))
+  then_reads Y before make ds x (d, rest, is, s, more) fits =
+      let r = R.reads Y (d ∷ before) (λ (z : X). make (x.0, z)) rest x.1 more fits.1 in
       let one : P.read d ≡ Ok x.0 = P.reads d x.0 s fits.0 in
-      subst (λ (e : Items). (is_count (P.sort ∷ R.sorts) e ≡ true) × (read_then Y i make e ≡ Ok (make x))) (sym is)
-      (r.0, ap (λ (o : Outcome A). within i o >>= λ a. R.read Y (suc i) (λ z. make (a, z)) rest) one ∙ r.1)
+      let read = ap (λ (o : Outcome A). within (length before) o >>= λ a. R.read Y (length (d ∷ before)) (λ z. make (a, z)) (onto (d ∷ before) rest)) one in
+      subst (λ (e : Items). (is_count (P.sort ∷ R.sorts) e ≡ true) × (read_then Y (length before) make (onto before e) ≡ Ok (make x))) (sym is)
+      (r.0, here Y before make d rest ∙ read ∙ r.1)
 
-  pub then_maps : (Y Z : Type 0) (i : ℕ) (make : A × X → Y) (g : Y → Z) (ds : Items)
-      → (read_then Y i make ds >>= λ y. Ok (g y)) ≡ read_then Z i (λ x. g (make x)) ds
-  then_maps Y Z i make g no_items = refl
-  then_maps Y Z i make g (item d ds) =
-      bind_same (within i (P.read d)) (λ a. R.read Y (suc i) (λ x. make (a, x)) ds) (λ a. R.read Z (suc i) (λ x. g (make (a, x))) ds) g
-      (λ a. R.maps Y Z (suc i) (λ x. make (a, x)) g ds)
+  pub then_maps : (Y Z : Type 0) (i : ℕ) (make : A × X → Y) (g : Y → Z) (es : Items)
+      → (read_then Y i make es >>= λ y. Ok (g y)) ≡ read_then Z i (λ x. g (make x)) es
+  then_maps Y Z i make g es =
+      bind_same (part_at i P.read es) (λ a. R.read Y (suc i) (λ x. make (a, x)) es) (λ a. R.read Z (suc i) (λ x. g (make (a, x))) es) g
+      (λ a. R.maps Y Z (suc i) (λ x. make (a, x)) g es)
 
 infixr 25 ◌&◌
 abbrev pub ◌&◌ : {A X : Type 0} → Part A → Row X → Row (A × X)
@@ -139,11 +176,11 @@ P & R = record {
   sorts = P.sort ∷ R.sorts;
   spell = λ x. P.spell x.0 ∷ R.spell x.1;
   Fits = λ x. P.Fits x.0 × R.Fits x.1;
-  read = λ Y i make ds. read_then P R Y i make ds;
-  reported = λ Y p i make ds h. then_reported P R Y p i make ds h;
-  means = λ Y i make ds y h e. then_means P R Y i make ds y h e;
-  reads = λ Y i make ds x s fits. then_reads P R Y i make ds x s fits;
-  maps = λ Y Z i make g ds. then_maps P R Y Z i make g ds;
+  read = λ Y i make es. read_then P R Y i make es;
+  reported = λ Y p before make ds h. then_reported P R Y p before make ds h;
+  means = λ Y before make ds y h e. then_means P R Y before make ds y h e;
+  reads = λ Y before make ds x s fits. then_reads P R Y before make ds x s fits;
+  maps = λ Y Z i make g es. then_maps P R Y Z i make g es;
 }
 
 -- the values of parts, by their order
@@ -164,9 +201,6 @@ sixth x = (((((x.1).1).1).1).1).0
 
 -- ---- as many elements as parts
 
-abbrev pub counted : {Y : Type 0} → List Sort → (Items → Outcome Y) → Items → Outcome Y
-counted sorts body ds = cond (is_count sorts ds) (body ds) (bad Shape)
-
 pub counted_reported : {Y : Type 0} (p : List ℕ) (b : Bool) (faults : Faults) (o : Outcome Y) → (b ≡ true → first_of faults ≡ fault_of p o)
     → first_of (cond b faults (wrong p Shape)) ≡ fault_of p (cond b o (bad Shape))
 counted_reported p true faults o h = h refl
@@ -176,32 +210,25 @@ pub counted_ok : {Y : Type 0} (b : Bool) (o : Outcome Y) (y : Y) → cond b o (b
 counted_ok true o y h = (refl, h)
 counted_ok false o y h = cc
 
-pub count_is : (sorts : List Sort) (ds : Items) → is_count sorts ds ≡ eqb (count ds) (length sorts)
+count_is : (sorts : List Sort) (ds : Items) → is_count sorts ds ≡ eqb (count ds) (length sorts)
 count_is [] no_items = refl
 count_is [] (item d ds) = grind (arith, nat_tests)
 count_is (s ∷ sorts) no_items = grind (arith, nat_tests)
 count_is (s ∷ sorts) (item d ds) = let rest = count_is sorts ds in grind (arith, nat_tests)
 
--- ---- readings of as many elements as there are sorts
+all_count : (before : List Data) (sorts : List Sort) (ds : Items) → eqb (count (onto before ds)) (length before + length sorts) ≡ is_count sorts ds
+all_count before sorts ds =
+    let all = count_onto before ds in
+    let rest = count_is sorts ds in
+    grind (arith, nat_tests)
 
--- two readings answer the same of so many elements
-abbrev pub Agree : {Y : Type 0} → List Sort → (Items → Outcome Y) → (Items → Outcome Y) → Type 0
-Agree [] f g = f no_items ≡ g no_items
-Agree (s ∷ sorts) f g = (d : Data) → Agree sorts (λ ds. f (item d ds)) (λ ds. g (item d ds))
+where_true : {Y : Type 0} (b : Bool) (es : Items) (body : Items → Outcome Y) → (cond b (Ok es) (bad Shape) >>= body) ≡ cond b (body es) (bad Shape)
+where_true true es body = refl
+where_true false es body = refl
 
-pub agree : {Y : Type 0} (sorts : List Sort) (f g : Items → Outcome Y) → Agree sorts f g → (ds : Items) → is_count sorts ds ≡ true → f ds ≡ g ds
-agree [] f g same no_items h = same
-agree [] f g same (item d ds) h = cc
-agree (s ∷ sorts) f g same no_items h = cc
-agree (s ∷ sorts) f g same (item d ds) h = agree sorts (λ es. f (item d es)) (λ es. g (item d es)) (same d) ds h
-
--- the first answers as the second does of so many elements, and `Shape` of any other number
-abbrev pub Counts : {Y : Type 0} → List Sort → (Items → Outcome Y) → (Items → Outcome Y) → Type 0
-Counts [] f g = (f no_items ≡ g no_items) × ((d : Data) (ds : Items) → f (item d ds) ≡ bad Shape)
-Counts (s ∷ sorts) f g = (f no_items ≡ bad Shape) × ((d : Data) → Counts sorts (λ ds. f (item d ds)) (λ ds. g (item d ds)))
-
-pub counts : {Y : Type 0} (sorts : List Sort) (f g : Items → Outcome Y) → Counts sorts f g → (ds : Items) → f ds ≡ counted sorts g ds
-counts [] f g same no_items = same.0
-counts [] f g same (item d ds) = same.1 d ds
-counts (s ∷ sorts) f g same no_items = same.0
-counts (s ∷ sorts) f g same (item d ds) = counts sorts (λ es. f (item d es)) (λ es. g (item d es)) (same.1 d) ds
+-- as many elements come after those before as there are parts
+pub exactly_is : {Y : Type 0} (before : List Data) (sorts : List Sort) (ds : Items) (body : Items → Outcome Y)
+    → (exactly (length before + length sorts) (onto before ds) >>= body) ≡ cond (is_count sorts ds) (body (onto before ds)) (bad Shape)
+exactly_is before sorts ds body =
+    ap (λ (b : Bool). cond b (Ok (onto before ds)) (bad Shape) >>= body) (all_count before sorts ds)
+    ∙ where_true (is_count sorts ds) (onto before ds) body

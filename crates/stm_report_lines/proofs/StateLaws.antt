@@ -8,7 +8,6 @@ use Rattle.stm_json.specs.Faults.{AnyText, By, any_number}
 use Rattle.stm_json.specs.Parts.{text_of}
 use Rattle.stm_json.proofs.FaultLemmas.{text_faulted, number_reported}
 use Rattle.stm_json.proofs.PartLemmas.{text_of-is, text_reads}
-use Rattle.stm_report_lines.specs.Elements.{five_of, six_of}
 use Rattle.stm_report_lines.specs.FirstFault.{or_null, plain_faults, state_sorts}
 use Rattle.stm_report_lines.specs.LineData.{whole, state_data, state_or_null}
 use Rattle.stm_report_lines.specs.Parts.{number_of, state_with, state_parts, state_of, keyed_of, or_null_of}
@@ -32,7 +31,7 @@ State = List ℕ × (ℕ × (ℕ × (ℕ × (ℕ × Unit {0}))))
 abbrev pub state_form : Form State KeyState 0
 state_form =
     form 0 (text_part & whole_part & whole_part & whole_part & whole_part & nothing) (λ x. state_with x.0 (second x) (third x) (fourth x) (fifth x))
-    (λ ds. state_parts (five_of ds)) (refl, λ a. (refl, λ b. (refl, λ c. (refl, λ d. (refl, λ e. (refl, λ g ds. refl))))))
+    state_parts (λ es. refl)
 
 abbrev pub parts_of_state : KeyState → State
 parts_of_state s = (s.value, (s.create_rev, (s.mod_rev, (s.version, (s.lease, tt)))))
@@ -54,8 +53,8 @@ state_or_null_part =
 
 abbrev pub keyed_form : Form (List ℕ × State) (List ℕ × KeyState) 1
 keyed_form =
-    form 1 (text_part & state_form.row) (λ x. (x.0, state_form.make x.1)) (λ ds. keyed_of (six_of ds))
-    (refl, λ a. (refl, λ b. (refl, λ c. (refl, λ d. (refl, λ e. (refl, λ g. (refl, λ h ds. refl)))))))
+    form 1 (text_part & state_form.row) (λ x. (x.0, state_form.make x.1)) keyed_of
+    (λ es. refl)
 
 abbrev pub parts_of_keyed : List ℕ → KeyState → List ℕ × State
 parts_of_keyed key s = (key, parts_of_state s)

@@ -46,10 +46,14 @@ abbrev pub trace_data : TraceItem → Data
 trace_data (trace.Get key value) = list (word (codes "get") ∷ string key ∷ string value ∷ [])
 trace_data (trace.Rev key mod_rev) = list (word (codes "rev") ∷ string key ∷ whole mod_rev ∷ [])
 
+-- null for what is absent
+abbrev pub null_or : {A : Type 0} → (A → Data) → Option A → Data
+null_or spelled None = null
+null_or spelled (Some x) = spelled x
+
 -- null where the key was absent
 abbrev pub text_or_null : Option (List ℕ) → Data
-text_or_null None = null
-text_or_null (Some value) = string value
+text_or_null value = null_or string value
 
 abbrev pub answer_data : CommittedRead → Data
 answer_data a = list (string a.key ∷ text_or_null a.value ∷ whole a.mod_rev ∷ whole a.of_rev ∷ [])
@@ -58,8 +62,7 @@ abbrev pub state_data : KeyState → Data
 state_data s = list (string s.value ∷ whole s.create_rev ∷ whole s.mod_rev ∷ whole s.version ∷ whole s.lease ∷ [])
 
 abbrev pub state_or_null : Option KeyState → Data
-state_or_null None = null
-state_or_null (Some state) = state_data state
+state_or_null kv = null_or state_data kv
 
 abbrev pub op_data : OpReply → Data
 op_data (op.Get revision kv) = list (word (codes "get") ∷ whole revision ∷ state_or_null kv ∷ [])

@@ -1,61 +1,29 @@
 -- Reading a report: the lines that bytes spell, or the first fault. A value is looked at before its elements, and these from
 -- the first to the last.
-use Rattle.std.specs.Prelude.{ℕ, suc, List, [], ◌∷◌, length, Option, Some, None, Result, Ok, Err, if◌then◌else◌, ◌==◌, nat_lt}
+use Rattle.std.specs.Prelude.{ℕ, suc, List, [], ◌∷◌, length, Option, Some, None, Result, Ok, Err, if◌then◌else◌, nat_lt, codes}
 use Rattle.serde_json.specs.Data.{Data, Items, no_items, item}
-use Rattle.serde_json.specs.Find.{as_str, as_array}
+use Rattle.serde_json.specs.Find.{as_str}
 use Rattle.stm_json.specs.declared.cause.Cause.TheVariants.{NotJson, Shape, TooLong}
-use Rattle.stm_json.specs.Elements.{first_word, two_of, three_of}
+use Rattle.stm_json.specs.Elements.{first_word}
 use Rattle.stm_json.specs.Outcome.{Outcome, bad, ◌>>=◌, within}
-use Rattle.stm_steps.specs.declared.value.Value.{Value}
-use Rattle.stm_steps.specs.declared.trace_item.TraceItem.{TraceItem}
 use Rattle.stm_outcome.specs.declared.advance.Expired.{Expired}
-use Rattle.stm_json.specs.Parts.{text_of, list_of}
-use Rattle.stm_keys.specs.declared.event.Event.{Event}
+use Rattle.stm_json.specs.Parts.{text_of, same}
 use Rattle.stm_events.specs.declared.line.Report.{Report}
 use Rattle.stm_events.specs.declared.line.ReportLine.{ReportLine}
 use Rattle.stm_events.specs.declared.line.ReportLine.TheVariants as line
 use Rattle.stm_events.specs.declared.refusal.Denied.{Denied}
 use Rattle.stm_events.specs.declared.refusal.EventRefusal.{EventRefusal}
-use Rattle.stm_events.specs.declared.reply.CommittedRead.{CommittedRead}
-use Rattle.stm_events.specs.declared.reply.KeyRead.{KeyRead}
-use Rattle.stm_events.specs.declared.reply.OpReply.{OpReply}
 use Rattle.stm_events.specs.declared.reply.Reply.{Reply}
 use Rattle.stm_events.specs.declared.reply.Reply.TheVariants.{Started, Prefetched, Fetched, Committed, Conflict, GaveUp, Aborted, Faulted, Ended}
 use Rattle.stm_events.specs.declared.reply.Reply.TheVariants.{Txn, Granted, Kept, Revoked, Advanced, Compacted, Watching, Cancelled, Batch, Lost}
 use Rattle.stm_json.specs.declared.limits.TheConstants.{MOST_BYTES}
 use Rattle.stm_report_lines.specs.declared.words.EventWord.{EventWord}
 use Rattle.stm_report_lines.specs.declared.words.EventWord.TheVariants as event
-use Rattle.stm_report_lines.specs.declared.words.StandingWord.{StandingWord}
-use Rattle.stm_report_lines.specs.declared.words.StandingWord.TheVariants as standing
 use Rattle.stm_json.specs.Bytes.{data_of}
 use Rattle.stm_report_lines.specs.Bytes.{parts_of}
-use Rattle.stm_report_lines.specs.Elements.{count, six_of}
-use Rattle.stm_report_lines.specs.Parts.{part_at, number_of, flag_of, fault_of, cause_of, keyed_of, value_of, trace_of, answer_of, op_of, read_of}
+use Rattle.stm_report_lines.specs.Parts.{array_of, exactly, part_at, listed, number_of, flag_of, fault_of, cause_of, keyed_of, value_of, trace_of, answer_of, op_of, read_of}
 use Rattle.stm_report_lines.specs.Parts.{expired_of, event_of}
-use Rattle.stm_report_lines.specs.Words.{named, event_words, standing_words}
-
--- ---- lists
-
-abbrev pub values_of : Data → Outcome (List Value)
-values_of d = list_of value_of (as_array d)
-
-abbrev pub traces_of : Data → Outcome (List TraceItem)
-traces_of d = list_of trace_of (as_array d)
-
-abbrev pub answers_of : Data → Outcome (List CommittedRead)
-answers_of d = list_of answer_of (as_array d)
-
-abbrev pub ops_of : Data → Outcome (List OpReply)
-ops_of d = list_of op_of (as_array d)
-
-abbrev pub key_reads_of : Data → Outcome (List KeyRead)
-key_reads_of d = list_of read_of (as_array d)
-
-abbrev pub expireds_of : Data → Outcome (List Expired)
-expireds_of d = list_of expired_of (as_array d)
-
-abbrev pub events_of : Data → Outcome (List Event)
-events_of d = list_of event_of (as_array d)
+use Rattle.stm_report_lines.specs.Words.{named, event_words}
 
 -- ---- lines of events: the number, the word, and as many elements as come after this word
 
@@ -70,14 +38,14 @@ denied_with cause expired = record { cause = cause; expired = expired }
 abbrev pub event_reply_of : EventWord → Items → Outcome EventReply
 event_reply_of event.Started ds = part_at 2 number_of ds >>= λ runner. Ok (Ok (Started runner))
 event_reply_of event.Prefetched ds =
-    part_at 2 number_of ds >>= λ runner. part_at 3 number_of ds >>= λ revision. part_at 4 key_reads_of ds >>= λ reads.
+    part_at 2 number_of ds >>= λ runner. part_at 3 number_of ds >>= λ revision. part_at 4 (listed read_of) ds >>= λ reads.
     Ok (Ok (Prefetched runner revision reads))
 event_reply_of event.Fetched ds =
     part_at 2 number_of ds >>= λ runner. part_at 3 text_of ds >>= λ key. part_at 4 number_of ds >>= λ mod_rev.
     part_at 5 number_of ds >>= λ of_rev. part_at 6 number_of ds >>= λ revision. Ok (Ok (Fetched runner key mod_rev of_rev revision))
 event_reply_of event.Committed ds =
     part_at 2 number_of ds >>= λ runner. part_at 3 number_of ds >>= λ revision. part_at 4 number_of ds >>= λ attempts.
-    part_at 5 values_of ds >>= λ output. part_at 6 traces_of ds >>= λ trace. part_at 7 answers_of ds >>= λ answers.
+    part_at 5 (listed value_of) ds >>= λ output. part_at 6 (listed trace_of) ds >>= λ trace. part_at 7 (listed answer_of) ds >>= λ answers.
     Ok (Ok (Committed runner revision attempts output trace answers))
 event_reply_of event.Conflict ds =
     part_at 2 number_of ds >>= λ runner. part_at 3 text_of ds >>= λ key. part_at 4 number_of ds >>= λ seen.
@@ -89,70 +57,66 @@ event_reply_of event.Aborted ds = part_at 2 number_of ds >>= λ runner. part_at 
 event_reply_of event.Faulted ds = part_at 2 number_of ds >>= λ runner. part_at 3 fault_of ds >>= λ fault. Ok (Ok (Faulted runner fault))
 event_reply_of event.Ended ds = part_at 2 number_of ds >>= λ runner. part_at 3 cause_of ds >>= λ cause. Ok (Ok (Ended runner cause))
 event_reply_of event.Txn ds =
-    part_at 2 flag_of ds >>= λ succeeded. part_at 3 number_of ds >>= λ revision. part_at 4 ops_of ds >>= λ answers.
+    part_at 2 flag_of ds >>= λ succeeded. part_at 3 number_of ds >>= λ revision. part_at 4 (listed op_of) ds >>= λ answers.
     Ok (Ok (Txn succeeded revision answers))
 event_reply_of event.Granted ds = part_at 2 number_of ds >>= λ id. Ok (Ok (Granted id))
 event_reply_of event.Kept ds = part_at 2 number_of ds >>= λ id. Ok (Ok (Kept id))
 event_reply_of event.Revoked ds = part_at 2 number_of ds >>= λ id. part_at 3 number_of ds >>= λ revision. Ok (Ok (Revoked id revision))
-event_reply_of event.Advanced ds = part_at 2 number_of ds >>= λ now. part_at 3 expireds_of ds >>= λ expired. Ok (Ok (Advanced now expired))
+event_reply_of event.Advanced ds = part_at 2 number_of ds >>= λ now. part_at 3 (listed expired_of) ds >>= λ expired. Ok (Ok (Advanced now expired))
 event_reply_of event.Compacted ds = part_at 2 number_of ds >>= λ revision. Ok (Ok (Compacted revision))
 event_reply_of event.Watching ds = part_at 2 number_of ds >>= λ watcher. Ok (Ok (Watching watcher))
 event_reply_of event.Cancelled ds = part_at 2 number_of ds >>= λ watcher. Ok (Ok (Cancelled watcher))
 event_reply_of event.Batch ds =
-    part_at 2 number_of ds >>= λ watcher. part_at 3 number_of ds >>= λ upto. part_at 4 events_of ds >>= λ events.
+    part_at 2 number_of ds >>= λ watcher. part_at 3 number_of ds >>= λ upto. part_at 4 (listed event_of) ds >>= λ events.
     Ok (Ok (Batch watcher upto events))
 event_reply_of event.Lost ds = part_at 2 number_of ds >>= λ watcher. part_at 3 number_of ds >>= λ floor. Ok (Ok (Lost watcher floor))
-event_reply_of event.Refused ds = part_at 2 cause_of ds >>= λ cause. part_at 3 expireds_of ds >>= λ expired. Ok (Err (denied_with cause expired))
+event_reply_of event.Refused ds = part_at 2 cause_of ds >>= λ cause. part_at 3 (listed expired_of) ds >>= λ expired. Ok (Err (denied_with cause expired))
 
 abbrev pub event_line_of : EventWord → Items → Outcome ReportLine
 event_line_of w ds = part_at 0 number_of ds >>= λ number. event_reply_of w ds >>= λ reply. Ok (line.Event number reply)
 
--- ---- lines of what is left at the end: the elements after the word
+-- ---- lines of what is left at the end
 
-abbrev pub key_of : Option (Data × Data × Data × Data × Data × Data) → Outcome ReportLine
-key_of o = keyed_of o >>= λ p. Ok (line.Key p.0 p.1)
+abbrev pub key_of : Items → Outcome ReportLine
+key_of ds = keyed_of ds >>= λ p. Ok (line.Key p.0 p.1)
 
-abbrev pub lease_of : Option (Data × Data × Data) → Outcome ReportLine
-lease_of None = bad Shape
-lease_of (Some p) =
-    within 1 (number_of p.0) >>= λ id. within 2 (number_of p.1) >>= λ ttl. within 3 (number_of p.2) >>= λ renewed. Ok (line.Lease id ttl renewed)
+abbrev pub lease_of : Items → Outcome ReportLine
+lease_of ds =
+    exactly 4 ds >>= λ es. part_at 1 number_of es >>= λ id. part_at 2 number_of es >>= λ ttl. part_at 3 number_of es >>= λ renewed.
+    Ok (line.Lease id ttl renewed)
 
-abbrev pub end_of : Option (Data × Data) → Outcome ReportLine
-end_of None = bad Shape
-end_of (Some p) = within 1 (number_of p.0) >>= λ revision. within 2 (number_of p.1) >>= λ entries. Ok (line.End revision entries)
+abbrev pub end_of : Items → Outcome ReportLine
+end_of ds = exactly 3 ds >>= λ es. part_at 1 number_of es >>= λ revision. part_at 2 number_of es >>= λ entries. Ok (line.End revision entries)
 
-abbrev pub standing_line_of : StandingWord → Items → Outcome ReportLine
-standing_line_of standing.Key ds = key_of (six_of ds)
-standing_line_of standing.Lease ds = lease_of (three_of ds)
-standing_line_of standing.End ds = end_of (two_of ds)
+abbrev pub standing_worded : List ℕ → Items → Outcome ReportLine
+standing_worded w ds =
+    if same w (codes "key") then key_of ds
+    else (if same w (codes "lease") then lease_of ds
+    else (if same w (codes "end") then end_of ds
+    else bad Shape))
 
 -- ---- a line: its word is its first element, or else the second
-
-abbrev pub standing_named : Option StandingWord → Items → Outcome ReportLine
-standing_named None ds = bad Shape
-standing_named (Some w) ds = standing_line_of w ds
 
 -- the number of elements after the word comes first
 abbrev pub event_named : Option (EventWord × ℕ) → Items → Items → Outcome ReportLine
 event_named None ds after = bad Shape
-event_named (Some row) ds after = if count after == row.1 then event_line_of row.0 ds else bad Shape
+event_named (Some row) ds after = exactly row.1 after >>= λ es. event_line_of row.0 ds
 
 abbrev pub event_worded : Items → Option (List ℕ × Items) → Outcome ReportLine
 event_worded ds None = bad Shape
 event_worded ds (Some p) = event_named (named event_words p.0) ds p.1
 
 abbrev pub line_front : Data → Option (List ℕ) → Items → Outcome ReportLine
-line_front d (Some w) ds = standing_named (named standing_words w) ds
+line_front d (Some w) ds = standing_worded w (item d ds)
 line_front d None ds = event_worded (item d ds) (first_word ds)
 
-abbrev pub line_array : Option Items → Outcome ReportLine
-line_array None = bad Shape
-line_array (Some no_items) = bad Shape
-line_array (Some (item d ds)) = line_front d (as_str d) ds
+abbrev pub line_array : Items → Outcome ReportLine
+line_array no_items = bad Shape
+line_array (item d ds) = line_front d (as_str d) ds
 
 -- the line that data spell
 unfoldable pub line_of : Data → Outcome ReportLine
-line_of d = line_array (as_array d)
+line_of d = array_of d >>= line_array
 
 abbrev pub line_read : Option Data → Outcome ReportLine
 line_read None = bad NotJson

@@ -1,8 +1,10 @@
--- The words of lines and the names of faults and refusals, each with what it stands for.
-use Rattle.std.specs.Prelude.{ℕ, List, [], ◌∷◌, Option, Some, None, if◌then◌else◌, codes}
+-- The words of events' lines and the names of faults and refusals, each with what it stands for.
+use Rattle.std.specs.Prelude.{ℕ, List, [], ◌∷◌, map, Option, Some, None, if◌then◌else◌, codes}
 use Rattle.stm_steps.specs.declared.fault.Fault.{Fault}
 use Rattle.stm_steps.specs.declared.fault.Fault.TheVariants.{Kind, Overflow, ZeroDivisor, NotANumber, LoopTooLong, TurnLimit, TextTooLong, EmptyKey}
 use Rattle.stm_json.specs.Parts.{same}
+use Rattle.stm_meaning.specs.Faults.{fault_name}
+use Rattle.stm_events.specs.Names.{refusal_name}
 use Rattle.stm_events.specs.declared.refusal.EventRefusal.{EventRefusal}
 use Rattle.stm_events.specs.declared.refusal.EventRefusal.TheVariants as cause
 use Rattle.stm_report_lines.specs.declared.words.EventWord.{EventWord}
@@ -10,8 +12,6 @@ use Rattle.stm_report_lines.specs.declared.words.EventWord.TheVariants.{Started,
 use Rattle.stm_report_lines.specs.declared.words.EventWord.TheVariants.{Ended}
 use Rattle.stm_report_lines.specs.declared.words.EventWord.TheVariants.{Txn, Granted, Kept, Revoked, Advanced, Compacted, Watching, Cancelled}
 use Rattle.stm_report_lines.specs.declared.words.EventWord.TheVariants.{Batch, Lost, Refused}
-use Rattle.stm_report_lines.specs.declared.words.StandingWord.{StandingWord}
-use Rattle.stm_report_lines.specs.declared.words.StandingWord.TheVariants.{Key, Lease, End}
 
 -- what a word stands for in a list of words, if it stands there
 abbrev pub named : {W : Type 0} → List (List ℕ × W) → List ℕ → Option W
@@ -43,47 +43,15 @@ event_words =
     ∷ (codes "refused", (Refused, 2))
     ∷ []
 
-abbrev pub standing_words : List (List ℕ × StandingWord)
-standing_words = (codes "key", Key) ∷ (codes "lease", Lease) ∷ (codes "end", End) ∷ []
-
+-- each fault with its name
 abbrev pub fault_words : List (List ℕ × Fault)
 fault_words =
-    (codes "Kind", Kind)
-    ∷ (codes "Overflow", Overflow)
-    ∷ (codes "ZeroDivisor", ZeroDivisor)
-    ∷ (codes "NotANumber", NotANumber)
-    ∷ (codes "LoopTooLong", LoopTooLong)
-    ∷ (codes "TurnLimit", TurnLimit)
-    ∷ (codes "TextTooLong", TextTooLong)
-    ∷ (codes "EmptyKey", EmptyKey)
-    ∷ []
+    map (λ f. (fault_name f, f)) (Kind ∷ Overflow ∷ ZeroDivisor ∷ NotANumber ∷ LoopTooLong ∷ TurnLimit ∷ TextTooLong ∷ EmptyKey ∷ [])
 
--- a program's faults, and the other refusals
+-- each refusal with its name: a program's faults, and the other refusals
 abbrev pub refusal_words : List (List ℕ × EventRefusal)
 refusal_words =
-    (codes "Kind", cause.Kind)
-    ∷ (codes "Overflow", cause.Overflow)
-    ∷ (codes "ZeroDivisor", cause.ZeroDivisor)
-    ∷ (codes "NotANumber", cause.NotANumber)
-    ∷ (codes "LoopTooLong", cause.LoopTooLong)
-    ∷ (codes "TurnLimit", cause.TurnLimit)
-    ∷ (codes "TextTooLong", cause.TextTooLong)
-    ∷ (codes "EmptyKey", cause.EmptyKey)
-    ∷ (codes "OutOfMemory", cause.OutOfMemory)
-    ∷ (codes "BadProgram", cause.BadProgram)
-    ∷ (codes "FutureRevision", cause.FutureRevision)
-    ∷ (codes "Compacted", cause.Compacted)
-    ∷ (codes "RevisionsUsedUp", cause.RevisionsUsedUp)
-    ∷ (codes "LeaseExists", cause.LeaseExists)
-    ∷ (codes "TtlOutOfRange", cause.TtlOutOfRange)
-    ∷ (codes "LeaseIdOutOfRange", cause.LeaseIdOutOfRange)
-    ∷ (codes "LeaseNotFound", cause.LeaseNotFound)
-    ∷ (codes "NoWatcher", cause.NoWatcher)
-    ∷ (codes "TooManyOps", cause.TooManyOps)
-    ∷ (codes "DuplicateKey", cause.DuplicateKey)
-    ∷ (codes "TimeGoesBack", cause.TimeGoesBack)
-    ∷ (codes "BadLimit", cause.BadLimit)
-    ∷ (codes "NoRunner", cause.NoRunner)
-    ∷ (codes "Behind", cause.Behind)
-    ∷ (codes "Unvouched", cause.Unvouched)
-    ∷ []
+    map (λ c. (refusal_name c, c)) (cause.Kind ∷ cause.Overflow ∷ cause.ZeroDivisor ∷ cause.NotANumber ∷ cause.LoopTooLong ∷ cause.TurnLimit
+    ∷ cause.TextTooLong ∷ cause.EmptyKey ∷ cause.OutOfMemory ∷ cause.BadProgram ∷ cause.FutureRevision ∷ cause.Compacted ∷ cause.RevisionsUsedUp
+    ∷ cause.LeaseExists ∷ cause.TtlOutOfRange ∷ cause.LeaseIdOutOfRange ∷ cause.LeaseNotFound ∷ cause.NoWatcher ∷ cause.TooManyOps
+    ∷ cause.DuplicateKey ∷ cause.TimeGoesBack ∷ cause.BadLimit ∷ cause.NoRunner ∷ cause.Behind ∷ cause.Unvouched ∷ [])

@@ -1,62 +1,38 @@
 //! Reading a line from its JSON.
 ghost use Rattle.serde_json.specs.View.{view, items_view};
-ghost use Rattle.stm_json.specs.Elements.{first_word, two_of, three_of};
+ghost use Rattle.stm_json.specs.Elements.{first_word};
 ghost use Rattle.stm_json.specs.Returns.{Returns};
-ghost use Rattle.stm_report_lines.specs.Elements.{six_of};
-ghost use Rattle.stm_report_lines.specs.Reading.{key_of, lease_of, end_of, standing_line_of, standing_named, event_named, event_worded, line_front};
-ghost use Rattle.stm_report_lines.specs.Reading.{line_of};
-ghost use Rattle.stm_report_lines.specs.Words.{named, standing_words};
+ghost use Rattle.stm_report_lines.specs.Reading.{standing_worded, event_worded, line_of};
 
-use crate::elements::{front_word, is_count};
+use crate::elements::{array, exactly, front_word, part};
 use crate::event_lines::event_line;
 use crate::parts::keyed;
-use crate::words::{StandingWord, event_word, standing_word};
+use crate::words::event_word;
 use serde_json::Value as Json;
 use std::alloc::Global;
 use stm_events::ReportLine;
-use stm_json::{Cause, ReadError, fault, number_part, three, two};
+use stm_json::{Cause, ReadError, fault};
 
-fn key(alloc: Global, elements: &[Json]) -> Result<ReportLine, ReadError>
-    ensures { Returns (λ l. l) result (key_of (six_of (items_view elements.now))) }
+/// A line of what is left at the end, by its first word.
+fn standing_line(alloc: Global, word: &str, line: &[Json]) -> Result<ReportLine, ReadError>
+    ensures { Returns (λ l. l) result (standing_worded word.now (items_view line.now)) }
 {
-    let (key, state) = keyed(alloc, elements)?;
-    Ok(ReportLine::Key { key, state })
-}
-
-fn lease(alloc: Global, elements: &[Json]) -> Result<ReportLine, ReadError>
-    ensures { Returns (λ l. l) result (lease_of (three_of (items_view elements.now))) }
-{
-    let Some((id, ttl, renewed)) = three(elements) else {
-        return Err(fault(alloc, Cause::Shape));
-    };
-    let id = number_part(alloc, 1, id)?;
-    let ttl = number_part(alloc, 2, ttl)?;
-    let renewed = number_part(alloc, 3, renewed)?;
-    Ok(ReportLine::Lease { id, ttl, renewed })
-}
-
-fn end(alloc: Global, elements: &[Json]) -> Result<ReportLine, ReadError>
-    ensures { Returns (λ l. l) result (end_of (two_of (items_view elements.now))) }
-{
-    let Some((revision, entries)) = two(elements) else {
-        return Err(fault(alloc, Cause::Shape));
-    };
-    let revision = number_part(alloc, 1, revision)?;
-    let entries = number_part(alloc, 2, entries)?;
-    Ok(ReportLine::End { revision, entries })
-}
-
-/// A line of what is left at the end, by its first element and the elements after it.
-fn standing_line(alloc: Global, word: &str, elements: &[Json]) -> Result<ReportLine, ReadError>
-    ensures { Returns (λ l. l) result (standing_named (named standing_words word.now) (items_view elements.now)) }
-{
-    let Some(word) = standing_word(word) else {
-        return Err(fault(alloc, Cause::Shape));
-    };
-    match word {
-        StandingWord::Key => key(alloc, elements),
-        StandingWord::Lease => lease(alloc, elements),
-        StandingWord::End => end(alloc, elements),
+    if word == "key" {
+        let (key, state) = keyed(alloc, line)?;
+        Ok(ReportLine::Key { key, state })
+    } else if word == "lease" {
+        let line = exactly(alloc, line, 4)?;
+        let id = part(alloc, line, 1)?;
+        let ttl = part(alloc, line, 2)?;
+        let renewed = part(alloc, line, 3)?;
+        Ok(ReportLine::Lease { id, ttl, renewed })
+    } else if word == "end" {
+        let line = exactly(alloc, line, 3)?;
+        let revision = part(alloc, line, 1)?;
+        let entries = part(alloc, line, 2)?;
+        Ok(ReportLine::End { revision, entries })
+    } else {
+        Err(fault(alloc, Cause::Shape))
     }
 }
 
@@ -70,9 +46,7 @@ fn numbered_line(alloc: Global, line: &[Json], rest: &[Json]) -> Result<ReportLi
     let Some((word, count)) = event_word(word) else {
         return Err(fault(alloc, Cause::Shape));
     };
-    if !is_count(after, count) {
-        return Err(fault(alloc, Cause::Shape));
-    }
+    exactly(alloc, after, count)?;
     event_line(alloc, word, line)
 }
 
@@ -81,14 +55,12 @@ fn numbered_line(alloc: Global, line: &[Json], rest: &[Json]) -> Result<ReportLi
 pub(crate) fn line(alloc: Global, value: &Json) -> Result<ReportLine, ReadError>
     ensures { Returns (λ l. l) result (line_of (view value.now)) }
 {
-    let Some(elements) = value.as_array() else {
-        return Err(fault(alloc, Cause::Shape));
-    };
-    let Some((first, rest)) = elements.split_first() else {
+    let line = array(alloc, value)?;
+    let Some((first, rest)) = line.split_first() else {
         return Err(fault(alloc, Cause::Shape));
     };
     match first.as_str() {
-        Some(word) => standing_line(alloc, word, rest),
-        None => numbered_line(alloc, elements.as_slice(), rest),
+        Some(word) => standing_line(alloc, word, line),
+        None => numbered_line(alloc, line, rest),
     }
 }

@@ -1,19 +1,12 @@
-//! Reading the parts of lines.
-ghost use Rattle.std.specs.Prelude.{List, ℕ};
-ghost use Rattle.serde_json.specs.Data.{Data};
-ghost use Rattle.serde_json.specs.Find.{as_array};
+//! The parts of lines: what is read of each, and of the elements of lists.
 ghost use Rattle.serde_json.specs.View.{view, items_view};
-ghost use Rattle.stm_json.specs.Elements.{one_of, two_of, three_of, four_of};
-ghost use Rattle.stm_json.specs.Outcome.{Outcome, within as within_list};
+ghost use Rattle.stm_json.specs.Elements.{number_up_to};
 ghost use Rattle.stm_json.specs.Returns.{Returns};
-ghost use Rattle.stm_json.specs.Parts.{text_of, each_from, list_of};
-ghost use Rattle.stm_report_lines.specs.Elements.{five_of, six_of};
-ghost use Rattle.stm_report_lines.specs.Parts.{part_at, number_of, flag_of, fault_of, cause_of, value_of, state_parts, state_of, keyed_of};
-ghost use Rattle.stm_report_lines.specs.Parts.{or_null_of};
-ghost use Rattle.stm_report_lines.specs.Parts.{trace_get_of, trace_rev_of, trace_of, answer_parts, answer_of, op_get_of, op_del_of, op_put_of, op_of};
-ghost use Rattle.stm_report_lines.specs.Parts.{read_parts, read_of, expired_parts, expired_of, event_put_of, event_delete_of, event_of};
+ghost use Rattle.stm_json.specs.Parts.{text_of, each_from};
+ghost use Rattle.stm_report_lines.specs.Parts.{part_at, listed, number_of, flag_of, fault_of, cause_of, value_of, or_null_of, state_of, keyed_of};
+ghost use Rattle.stm_report_lines.specs.Parts.{trace_of, answer_of, op_of, read_of, expired_of, event_of};
 
-use crate::elements::{five, six};
+use crate::elements::{Element, array, at, element_at, exactly, part, worded};
 use crate::words::{fault_named, refusal_name};
 use serde_json::Value as Json;
 use std::alloc::Global;
@@ -22,85 +15,8 @@ use stm_events::{
     TraceItem, Value,
 };
 use stm_history::HIGHEST_NUMBER;
-use stm_json::{
-    Cause, ReadError, fault, four, number_part, number_within, one, text, text_part, two, whole,
-    within, worded_array,
-};
+use stm_json::{Cause, ReadError, fault, number_within, text, whole, within};
 use stm_keys::SharedText;
-
-/// What a key had, from the five elements that spell it.
-fn state_in(alloc: Global, elements: &[Json]) -> Result<KeyState, ReadError>
-    ensures { Returns (λ s. s) result (state_parts (five_of (items_view elements.now))) }
-{
-    let Some((value, create_rev, mod_rev, version, lease)) = five(elements) else {
-        return Err(fault(alloc, Cause::Shape));
-    };
-    let value = text_part(alloc, 0, value)?;
-    let create_rev = number_part(alloc, 1, create_rev)?;
-    let mod_rev = number_part(alloc, 2, mod_rev)?;
-    let version = number_part(alloc, 3, version)?;
-    let lease = number_part(alloc, 4, lease)?;
-    Ok(KeyState {
-        value,
-        create_rev,
-        mod_rev,
-        version,
-        lease,
-    })
-}
-
-/// A key and what it had, from the six elements after a word.
-pub(crate) fn keyed(alloc: Global, elements: &[Json]) -> Result<(Text, KeyState), ReadError>
-    ensures { Returns (λ p. p) result (keyed_of (six_of (items_view elements.now))) }
-{
-    let Some((key, value, create_rev, mod_rev, version, lease)) = six(elements) else {
-        return Err(fault(alloc, Cause::Shape));
-    };
-    let key = text_part(alloc, 1, key)?;
-    let value = text_part(alloc, 2, value)?;
-    let create_rev = number_part(alloc, 3, create_rev)?;
-    let mod_rev = number_part(alloc, 4, mod_rev)?;
-    let version = number_part(alloc, 5, version)?;
-    let lease = number_part(alloc, 6, lease)?;
-    let state = KeyState {
-        value,
-        create_rev,
-        mod_rev,
-        version,
-        lease,
-    };
-    Ok((key, state))
-}
-
-// ---- elements
-
-/// What stands in a line, or in a list of a line.
-pub(crate) trait Element {
-    /// What is read of data.
-    ghost reading: { Data → Outcome Self };
-
-    /// An element.
-    fn read(alloc: Global, value: &Json) -> Result<Self, ReadError>
-        ensures { Returns (λ x. x) result (reading (view value.now)) };
-}
-
-/// An element at an index. A fault's place is that in the array.
-fn element_at<T: Element>(alloc: Global, index: usize, value: &Json) -> Result<T, ReadError>
-    ensures { Returns (λ x. x) result (within_list index (T.reading (view value.now))) }
-{
-    within(alloc, index, T::read(alloc, value))
-}
-
-/// The part of a line at an index.
-pub(crate) fn part<T: Element>(alloc: Global, line: &[Json], index: usize) -> Result<T, ReadError>
-    ensures { Returns (λ x. x) result (part_at index T.reading (items_view line.now)) }
-{
-    if index < line.len() {
-        element_at(alloc, index, &line[index])
-    } else {
-        Err(fault(alloc, Cause::Shape))
-    }
-}
 
 impl Element for u64 {
     ghost reading = { number_of };
@@ -135,10 +51,7 @@ impl Element for Fault {
 
     #[tactic(auto, unfolding(crate::specs::Parts::fault_of))]
     fn read(alloc: Global, value: &Json) -> Result<Fault, ReadError> {
-        let Some(word) = value.as_str() else {
-            return Err(fault(alloc, Cause::Shape));
-        };
-        match fault_named(word) {
+        match value.as_str().and_then(fault_named) {
             Some(named) => Ok(named),
             None => Err(fault(alloc, Cause::Shape)),
         }
@@ -150,23 +63,8 @@ impl Element for EventRefusal {
 
     #[tactic(auto, unfolding(crate::specs::Parts::cause_of))]
     fn read(alloc: Global, value: &Json) -> Result<EventRefusal, ReadError> {
-        let Some(word) = value.as_str() else {
-            return Err(fault(alloc, Cause::Shape));
-        };
-        match refusal_name(word) {
+        match value.as_str().and_then(refusal_name) {
             Some(named) => Ok(named),
-            None => Err(fault(alloc, Cause::Shape)),
-        }
-    }
-}
-
-impl Element for KeyState {
-    ghost reading = { state_of };
-
-    #[tactic(auto, unfolding(crate::specs::Parts::state_of))]
-    fn read(alloc: Global, value: &Json) -> Result<KeyState, ReadError> {
-        match value.as_array() {
-            Some(elements) => state_in(alloc, elements.as_slice()),
             None => Err(fault(alloc, Cause::Shape)),
         }
     }
@@ -198,7 +96,7 @@ fn each_element<T: Element + Drop>(alloc: Global, values: &[Json]) -> Result<Vec
 }
 
 impl<T: Element + Drop> Element for Sequence<T> {
-    ghost reading = { λ d. list_of T.reading (as_array d) };
+    ghost reading = { listed T.reading };
 
     fn read(alloc: Global, value: &Json) -> Result<Sequence<T>, ReadError> {
         match value.as_array() {
@@ -229,28 +127,36 @@ impl Element for Value {
     }
 }
 
-/// What a `get` gave, from the elements after its word.
-fn trace_get(alloc: Global, elements: &[Json]) -> Result<TraceItem, ReadError>
-    ensures { Returns (λ t. t) result (trace_get_of (two_of (items_view elements.now))) }
-{
-    let Some((key, value)) = two(elements) else {
-        return Err(fault(alloc, Cause::Shape));
-    };
-    let key = text_part(alloc, 1, key)?;
-    let value = text_part(alloc, 2, value)?;
-    Ok(TraceItem::Get { key, value })
+impl Element for KeyState {
+    ghost reading = { state_of };
+
+    #[tactic(auto, unfolding(crate::specs::Parts::state_of))]
+    fn read(alloc: Global, value: &Json) -> Result<KeyState, ReadError> {
+        let elements = exactly(alloc, array(alloc, value)?, 5)?;
+        Ok(KeyState {
+            value: part(alloc, elements, 0)?,
+            create_rev: part(alloc, elements, 1)?,
+            mod_rev: part(alloc, elements, 2)?,
+            version: part(alloc, elements, 3)?,
+            lease: part(alloc, elements, 4)?,
+        })
+    }
 }
 
-/// What a `rev` gave, from the elements after its word.
-fn trace_rev(alloc: Global, elements: &[Json]) -> Result<TraceItem, ReadError>
-    ensures { Returns (λ t. t) result (trace_rev_of (two_of (items_view elements.now))) }
+/// A key and what it had, after a word.
+pub(crate) fn keyed(alloc: Global, elements: &[Json]) -> Result<(Text, KeyState), ReadError>
+    ensures { Returns (λ p. p) result (keyed_of (items_view elements.now)) }
 {
-    let Some((key, mod_rev)) = two(elements) else {
-        return Err(fault(alloc, Cause::Shape));
+    let elements = exactly(alloc, elements, 7)?;
+    let key = part(alloc, elements, 1)?;
+    let state = KeyState {
+        value: part(alloc, elements, 2)?,
+        create_rev: part(alloc, elements, 3)?,
+        mod_rev: part(alloc, elements, 4)?,
+        version: part(alloc, elements, 5)?,
+        lease: part(alloc, elements, 6)?,
     };
-    let key = text_part(alloc, 1, key)?;
-    let mod_rev = number_part(alloc, 2, mod_rev)?;
-    Ok(TraceItem::Rev { key, mod_rev })
+    Ok((key, state))
 }
 
 impl Element for TraceItem {
@@ -258,36 +164,21 @@ impl Element for TraceItem {
 
     #[tactic(auto, unfolding(crate::specs::Parts::trace_of))]
     fn read(alloc: Global, value: &Json) -> Result<TraceItem, ReadError> {
-        let Some((word, elements)) = worded_array(value) else {
-            return Err(fault(alloc, Cause::Shape));
-        };
+        let (word, elements) = worded(alloc, value)?;
         if word == "get" {
-            trace_get(alloc, elements)
+            let elements = exactly(alloc, elements, 3)?;
+            let key = part(alloc, elements, 1)?;
+            let value = part(alloc, elements, 2)?;
+            Ok(TraceItem::Get { key, value })
         } else if word == "rev" {
-            trace_rev(alloc, elements)
+            let elements = exactly(alloc, elements, 3)?;
+            let key = part(alloc, elements, 1)?;
+            let mod_rev = part(alloc, elements, 2)?;
+            Ok(TraceItem::Rev { key, mod_rev })
         } else {
             Err(fault(alloc, Cause::Shape))
         }
     }
-}
-
-/// An answer, from the four elements that spell it.
-fn answer(alloc: Global, elements: &[Json]) -> Result<CommittedRead, ReadError>
-    ensures { Returns (λ a. a) result (answer_parts (four_of (items_view elements.now))) }
-{
-    let Some((key, value, mod_rev, of_rev)) = four(elements) else {
-        return Err(fault(alloc, Cause::Shape));
-    };
-    let key = text_part(alloc, 0, key)?;
-    let value = element_at(alloc, 1, value)?;
-    let mod_rev = number_part(alloc, 2, mod_rev)?;
-    let of_rev = number_part(alloc, 3, of_rev)?;
-    Ok(CommittedRead {
-        key,
-        value,
-        mod_rev,
-        of_rev,
-    })
 }
 
 impl Element for CommittedRead {
@@ -295,44 +186,22 @@ impl Element for CommittedRead {
 
     #[tactic(auto, unfolding(crate::specs::Parts::answer_of))]
     fn read(alloc: Global, value: &Json) -> Result<CommittedRead, ReadError> {
-        match value.as_array() {
-            Some(elements) => answer(alloc, elements.as_slice()),
-            None => Err(fault(alloc, Cause::Shape)),
-        }
+        let elements = exactly(alloc, array(alloc, value)?, 4)?;
+        Ok(CommittedRead {
+            key: part(alloc, elements, 0)?,
+            value: part(alloc, elements, 1)?,
+            mod_rev: part(alloc, elements, 2)?,
+            of_rev: part(alloc, elements, 3)?,
+        })
     }
 }
 
-/// What a read answered, from the elements after its word.
-fn op_get(alloc: Global, elements: &[Json]) -> Result<OpReply, ReadError>
-    ensures { Returns (λ o. o) result (op_get_of (two_of (items_view elements.now))) }
+/// How many keys a delete deleted: one at most.
+#[tactic(auto, unfolding(crate::specs::Parts::part_at))]
+fn deleted(alloc: Global, elements: &[Json]) -> Result<u64, ReadError>
+    ensures { Returns (λ n. n) result (part_at 1 (number_up_to 1) (items_view elements.now)) }
 {
-    let Some((revision, kv)) = two(elements) else {
-        return Err(fault(alloc, Cause::Shape));
-    };
-    let revision = number_part(alloc, 1, revision)?;
-    let kv = element_at(alloc, 2, kv)?;
-    Ok(OpReply::Get { revision, kv })
-}
-
-/// What a put answered: there are no elements after its word.
-fn op_put(alloc: Global, elements: &[Json]) -> Result<OpReply, ReadError>
-    ensures { Returns (λ o. o) result (op_put_of (items_view elements.now)) }
-{
-    match elements.split_first() {
-        None => Ok(OpReply::Put),
-        Some(_) => Err(fault(alloc, Cause::Shape)),
-    }
-}
-
-/// What a delete answered, from the elements after its word.
-fn op_del(alloc: Global, elements: &[Json]) -> Result<OpReply, ReadError>
-    ensures { Returns (λ o. o) result (op_del_of (one_of (items_view elements.now))) }
-{
-    let Some(count) = one(elements) else {
-        return Err(fault(alloc, Cause::Shape));
-    };
-    let count = within(alloc, 1, number_within(alloc, 1, count))?;
-    Ok(OpReply::Del { count })
+    within(alloc, 1, number_within(alloc, 1, at(alloc, elements, 1)?))
 }
 
 impl Element for OpReply {
@@ -340,31 +209,23 @@ impl Element for OpReply {
 
     #[tactic(auto, unfolding(crate::specs::Parts::op_of))]
     fn read(alloc: Global, value: &Json) -> Result<OpReply, ReadError> {
-        let Some((word, elements)) = worded_array(value) else {
-            return Err(fault(alloc, Cause::Shape));
-        };
+        let (word, elements) = worded(alloc, value)?;
         if word == "get" {
-            op_get(alloc, elements)
+            let elements = exactly(alloc, elements, 3)?;
+            let revision = part(alloc, elements, 1)?;
+            let kv = part(alloc, elements, 2)?;
+            Ok(OpReply::Get { revision, kv })
         } else if word == "put" {
-            op_put(alloc, elements)
+            exactly(alloc, elements, 1)?;
+            Ok(OpReply::Put)
         } else if word == "del" {
-            op_del(alloc, elements)
+            let elements = exactly(alloc, elements, 2)?;
+            let count = deleted(alloc, elements)?;
+            Ok(OpReply::Del { count })
         } else {
             Err(fault(alloc, Cause::Shape))
         }
     }
-}
-
-/// A key of a list that was read, from the two elements that spell it.
-fn key_read(alloc: Global, elements: &[Json]) -> Result<KeyRead, ReadError>
-    ensures { Returns (λ r. r) result (read_parts (two_of (items_view elements.now))) }
-{
-    let Some((key, mod_rev)) = two(elements) else {
-        return Err(fault(alloc, Cause::Shape));
-    };
-    let key = text_part(alloc, 0, key)?;
-    let mod_rev = number_part(alloc, 1, mod_rev)?;
-    Ok(KeyRead { key, mod_rev })
 }
 
 impl Element for KeyRead {
@@ -372,23 +233,11 @@ impl Element for KeyRead {
 
     #[tactic(auto, unfolding(crate::specs::Parts::read_of))]
     fn read(alloc: Global, value: &Json) -> Result<KeyRead, ReadError> {
-        match value.as_array() {
-            Some(elements) => key_read(alloc, elements.as_slice()),
-            None => Err(fault(alloc, Cause::Shape)),
-        }
+        let elements = exactly(alloc, array(alloc, value)?, 2)?;
+        let key = part(alloc, elements, 0)?;
+        let mod_rev = part(alloc, elements, 1)?;
+        Ok(KeyRead { key, mod_rev })
     }
-}
-
-/// A lease that expired, from the two elements that spell it.
-fn expired(alloc: Global, elements: &[Json]) -> Result<Expired, ReadError>
-    ensures { Returns (λ e. e) result (expired_parts (two_of (items_view elements.now))) }
-{
-    let Some((id, revision)) = two(elements) else {
-        return Err(fault(alloc, Cause::Shape));
-    };
-    let id = number_part(alloc, 0, id)?;
-    let revision = number_part(alloc, 1, revision)?;
-    Ok(Expired { id, revision })
 }
 
 impl Element for Expired {
@@ -396,33 +245,21 @@ impl Element for Expired {
 
     #[tactic(auto, unfolding(crate::specs::Parts::expired_of))]
     fn read(alloc: Global, value: &Json) -> Result<Expired, ReadError> {
-        match value.as_array() {
-            Some(elements) => expired(alloc, elements.as_slice()),
-            None => Err(fault(alloc, Cause::Shape)),
-        }
+        let elements = exactly(alloc, array(alloc, value)?, 2)?;
+        let id = part(alloc, elements, 0)?;
+        let revision = part(alloc, elements, 1)?;
+        Ok(Expired { id, revision })
     }
 }
 
-/// A put, from the elements after its word.
-fn event_put(alloc: Global, elements: &[Json]) -> Result<Event, ReadError>
-    ensures { Returns (λ e. e) result (event_put_of (six_of (items_view elements.now))) }
-{
-    let (key, state) = keyed(alloc, elements)?;
-    let key = SharedText::new(alloc, key)?;
-    Ok(Event::Put { key, state })
-}
+impl Element for SharedText {
+    ghost reading = { text_of };
 
-/// A deletion, from the elements after its word.
-fn event_delete(alloc: Global, elements: &[Json]) -> Result<Event, ReadError>
-    ensures { Returns (λ e. e) result (event_delete_of (two_of (items_view elements.now))) }
-{
-    let Some((key, revision)) = two(elements) else {
-        return Err(fault(alloc, Cause::Shape));
-    };
-    let key = text_part(alloc, 1, key)?;
-    let revision = number_part(alloc, 2, revision)?;
-    let key = SharedText::new(alloc, key)?;
-    Ok(Event::Delete { key, revision })
+    fn read(alloc: Global, value: &Json) -> Result<SharedText, ReadError> {
+        let text = text(alloc, value)?;
+        let shared = SharedText::new(alloc, text)?;
+        Ok(shared)
+    }
 }
 
 impl Element for Event {
@@ -430,13 +267,16 @@ impl Element for Event {
 
     #[tactic(auto, unfolding(crate::specs::Parts::event_of))]
     fn read(alloc: Global, value: &Json) -> Result<Event, ReadError> {
-        let Some((word, elements)) = worded_array(value) else {
-            return Err(fault(alloc, Cause::Shape));
-        };
+        let (word, elements) = worded(alloc, value)?;
         if word == "PUT" {
-            event_put(alloc, elements)
+            let (key, state) = keyed(alloc, elements)?;
+            let key = SharedText::new(alloc, key)?;
+            Ok(Event::Put { key, state })
         } else if word == "DELETE" {
-            event_delete(alloc, elements)
+            let elements = exactly(alloc, elements, 3)?;
+            let key = part(alloc, elements, 1)?;
+            let revision = part(alloc, elements, 2)?;
+            Ok(Event::Delete { key, revision })
         } else {
             Err(fault(alloc, Cause::Shape))
         }

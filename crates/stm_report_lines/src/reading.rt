@@ -1,14 +1,15 @@
 //! Reading reports.
-ghost use Rattle.std.specs.Prelude.{◌≡◌, ◌≤◌, List, [], length, Ok as OkOf, None, option_map, IfOk, MatchResult};
+ghost use Rattle.std.specs.Prelude.{◌≡◌, List, [], Ok as OkOf, None, option_map, IfOk, MatchResult};
 ghost use Rattle.stm_json.specs.Outcome.{within as within_list};
 ghost use Rattle.stm_json.specs.Returns.{Returns};
-ghost use Rattle.stm_report_lines.specs.Bytes.{is_line_feed as is_line_feed_byte, line_length as line_length_of, first_cut, parts_of};
+ghost use Rattle.stm_report_lines.specs.Bytes.{parts_of, IsCut};
 ghost use Rattle.stm_report_lines.specs.FirstFault.{first_fault};
 ghost use Rattle.stm_json.specs.Faults.{IsFirstFault};
 ghost use Rattle.stm_report_lines.specs.Grammar.{SpellsReport};
 ghost use Rattle.stm_report_lines.specs.Reading.{line_in, rest_of, lines_from, report_in};
 
 use crate::lines::line;
+use memchr::memchr;
 use serde_json::Value as Json;
 use std::alloc::Global;
 use stm_events::{Report, ReportLine, Sequence};
@@ -38,32 +39,12 @@ fn line_at(alloc: Global, index: usize, bytes: &[u8]) -> Result<ReportLine, Read
     within(alloc, index, line_of_bytes(alloc, bytes))
 }
 
-fn is_line_feed(byte: u8) -> bool
-    ensures { result ≡ is_line_feed_byte byte }
-{
-    byte == b'\n'
-}
-
-/// How many bytes stand before the first line feed, or all of them.
-fn line_length(bytes: &[u8]) -> usize
-    ensures length { result ≡ line_length_of bytes.now }
-    ensures within { result ≤ length bytes.now }
-{
-    for (index, byte) in bytes.iter().enumerate() {
-        if is_line_feed(*byte) {
-            return index;
-        }
-    }
-    bytes.len()
-}
-
 /// What comes before the first line feed, and what comes after it.
 fn first_part(bytes: &[u8]) -> Option<(&[u8], &[u8])>
-    ensures { option_map (λ p. (p.0.now, p.1.now)) result ≡ first_cut bytes.now }
+    ensures { IsCut bytes.now (option_map (λ p. (p.0.now, p.1.now)) result) }
 {
-    let (front, rest) = bytes.split_at(line_length(bytes));
-    let (_, after) = rest.split_first()?;
-    Some((front, after))
+    let end = memchr(b'\n', bytes)?;
+    Some((&bytes[..end], &bytes[end + 1..]))
 }
 
 /// Nothing may come after the last line feed. A fault's place is that of a line there.

@@ -1,63 +1,32 @@
-//! The words that distinguish the lines, and the names of faults and refusals.
+//! The words of the lines of events, and the names of faults and refusals.
 ghost use Rattle.std.specs.Prelude.{◌≡◌, map};
-ghost use Rattle.stm_report_lines.specs.Words.{named, event_words, standing_words, fault_words, refusal_words};
+ghost use Rattle.stm_report_lines.specs.Words.{named, event_words, fault_words, refusal_words};
 
 use stm_events::{EventRefusal, Fault};
 
-/// The word of an event's line, which comes after the number.
+/// The kind of an event's line, by the word that comes after the number.
 #[derive(Clone, Copy, Debug, PartialEq, Eq)]
 pub enum EventWord {
-    /// `started`
     Started,
-    /// `prefetched`
     Prefetched,
-    /// `fetched`
     Fetched,
-    /// `committed`
     Committed,
-    /// `conflict`
     Conflict,
-    /// `gaveup`
     GaveUp,
-    /// `aborted`
     Aborted,
-    /// `faulted`
     Faulted,
-    /// `ended`
     Ended,
-    /// `txn`
     Txn,
-    /// `granted`
     Granted,
-    /// `kept`
     Kept,
-    /// `revoked`
     Revoked,
-    /// `advanced`
     Advanced,
-    /// `compacted`
     Compacted,
-    /// `watching`
     Watching,
-    /// `cancelled`
     Cancelled,
-    /// `batch`
     Batch,
-    /// `lost`
     Lost,
-    /// `refused`
     Refused,
-}
-
-/// The word of a line of what is left at the end.
-#[derive(Clone, Copy, Debug, PartialEq, Eq)]
-pub enum StandingWord {
-    /// `key`
-    Key,
-    /// `lease`
-    Lease,
-    /// `end`
-    End,
 }
 
 /// What a word stands for in a table, if it stands there.
@@ -105,20 +74,6 @@ pub(crate) fn event_word(word: &str) -> Option<(EventWord, usize)>
     ensures { result ≡ named event_words word.now }
 {
     found(&EVENT_WORDS, word)
-}
-
-/// The words of the lines of the end.
-static STANDING_WORDS: [(&str, StandingWord); 3] = [
-    ("key", StandingWord::Key),
-    ("lease", StandingWord::Lease),
-    ("end", StandingWord::End),
-];
-
-/// Which line of the end begins with a word, if any does.
-pub(crate) fn standing_word(word: &str) -> Option<StandingWord>
-    ensures { result ≡ named standing_words word.now }
-{
-    found(&STANDING_WORDS, word)
 }
 
 /// The names of faults.

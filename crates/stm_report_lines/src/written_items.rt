@@ -1,15 +1,18 @@
-//! What stands in the lists of a report's lines, as JSON.
-ghost use Rattle.std.specs.Prelude.{◌≡◌, ◌++◌, [], ◌∷◌, map, IfOk, OnOk};
-ghost use Rattle.serde_json.specs.Data.{Data};
+//! What stands in a report's lines, as JSON.
+ghost use Rattle.std.specs.Prelude.{◌≡◌, map, IfOk};
+ghost use Rattle.serde_json.specs.Data.{Data, boolean, string};
 ghost use Rattle.serde_json.specs.View.{view};
-ghost use Rattle.stm_events.specs.declared.reply.OpReply.TheVariants.{Get as GetReply};
-ghost use Rattle.stm_report_lines.specs.LineData.{list, value_data, trace_data, text_or_null, answer_data, state_data, state_or_null};
+ghost use Rattle.stm_events.specs.Names.{refusal_name};
+ghost use Rattle.stm_meaning.specs.Faults.{fault_name};
+ghost use Rattle.stm_report_lines.specs.LineData.{list, whole, null_or, value_data, trace_data, answer_data, state_data};
 ghost use Rattle.stm_report_lines.specs.LineData.{op_data, read_data, expired_data, keyed_data, event_data};
 
 use serde_json::{Value as Json, json};
 use std::alloc::{AllocError, Global};
-use stm_events::{CommittedRead, Event, Expired, KeyRead, OpReply, TraceItem, Value};
-use stm_history::{KeyState, Text};
+use stm_events::{
+    CommittedRead, Event, EventRefusal, Expired, Fault, KeyRead, OpReply, TraceItem, Value,
+};
+use stm_history::{KeyState, Sequence, Text};
 
 /// A value that a line spells.
 pub trait Spelled {
@@ -21,24 +24,83 @@ pub trait Spelled {
         ensures { IfOk result (λ v. view v ≡ spelled self.now) };
 }
 
-/// Appends the JSON of one more item.
-fn push_item<T: Spelled>(alloc: Global, values: &mut Vec<Json>, item: &T) -> Result<(), AllocError>
-    ensures { OnOk result (map view values.new.items ≡ map view values.old.items ++ T.spelled item.now ∷ []) }
-{
-    let value = item.to_json(alloc)?;
-    values.push(value)?;
-    Ok(())
-}
-
 /// A list as a JSON array. It fails where an allocation failed.
 pub fn array_json<T: Spelled>(alloc: Global, items: &[T]) -> Result<Json, AllocError>
     ensures { IfOk result (λ v. view v ≡ list (map T.spelled items.now)) }
 {
     let mut values = Vec::new(alloc);
     for item in items {
-        push_item(alloc, &mut values, item)?;
+        values.push(item.to_json(alloc)?)?;
     }
     Ok(Json::Array(values))
+}
+
+impl Spelled for u64 {
+    ghost spelled = { whole };
+
+    fn to_json(&self, _alloc: Global) -> Result<Json, AllocError> {
+        Ok(Json::from(*self))
+    }
+}
+
+impl Spelled for bool {
+    ghost spelled = { boolean };
+
+    fn to_json(&self, _alloc: Global) -> Result<Json, AllocError> {
+        Ok(Json::from(*self))
+    }
+}
+
+impl Spelled for Text {
+    ghost spelled = { string };
+
+    fn to_json(&self, alloc: Global) -> Result<Json, AllocError> {
+        Json::try_from_str(alloc, self.as_str())
+    }
+}
+
+impl Spelled for Fault {
+    ghost spelled = { λ fault. string (fault_name fault) };
+
+    fn to_json(&self, alloc: Global) -> Result<Json, AllocError> {
+        Json::try_from_str(alloc, self.name())
+    }
+}
+
+impl Spelled for EventRefusal {
+    ghost spelled = { λ cause. string (refusal_name cause) };
+
+    fn to_json(&self, alloc: Global) -> Result<Json, AllocError> {
+        Json::try_from_str(alloc, self.name())
+    }
+}
+
+impl Spelled for KeyState {
+    ghost spelled = { state_data };
+
+    fn to_json(&self, alloc: Global) -> Result<Json, AllocError> {
+        json!(in alloc; [self.value.as_str(), self.create_rev, self.mod_rev, self.version, self.lease])
+    }
+}
+
+/// Null stands for what is absent.
+impl<T: Spelled> Spelled for Option<T> {
+    ghost spelled = { null_or T.spelled };
+
+    fn to_json(&self, alloc: Global) -> Result<Json, AllocError> {
+        match self {
+            None => Ok(Json::Null),
+            Some(it) => it.to_json(alloc),
+        }
+    }
+}
+
+impl<T: Spelled> Spelled for Sequence<T> {
+    ghost spelled = { λ items. list (map T.spelled items) };
+
+    fn to_json(&self, alloc: Global) -> Result<Json, AllocError> {
+        array_json(alloc, self.as_slice())
+    }
 }
 
 impl Spelled for Value {
@@ -63,21 +125,11 @@ impl Spelled for TraceItem {
     }
 }
 
-/// A text, or null where there is none.
-fn text_or_null(alloc: Global, text: &Option<Text>) -> Result<Json, AllocError>
-    ensures { IfOk result (λ v. view v ≡ text_or_null text.now) }
-{
-    match text {
-        None => Ok(Json::Null),
-        Some(text) => Json::try_from_str(alloc, text.as_str()),
-    }
-}
-
 impl Spelled for CommittedRead {
     ghost spelled = { answer_data };
 
     fn to_json(&self, alloc: Global) -> Result<Json, AllocError> {
-        let value = text_or_null(alloc, &self.value)?;
+        let value = self.value.to_json(alloc)?;
         json!(in alloc; [self.key.as_str(), value, self.mod_rev, self.of_rev])
     }
 }
@@ -98,37 +150,15 @@ impl Spelled for Expired {
     }
 }
 
-/// What a key has.
-fn state_json(alloc: Global, state: &KeyState) -> Result<Json, AllocError>
-    ensures { IfOk result (λ v. view v ≡ state_data state.now) }
-{
-    json!(in alloc; [state.value.as_str(), state.create_rev, state.mod_rev, state.version, state.lease])
-}
-
-/// What a key has, null where it is absent.
-fn state_or_null(alloc: Global, kv: &Option<KeyState>) -> Result<Json, AllocError>
-    ensures { IfOk result (λ v. view v ≡ state_or_null kv.now) }
-{
-    match kv {
-        None => Ok(Json::Null),
-        Some(state) => state_json(alloc, state),
-    }
-}
-
-/// The reply to a read.
-fn read_json(alloc: Global, revision: u64, kv: &Option<KeyState>) -> Result<Json, AllocError>
-    ensures { IfOk result (λ v. view v ≡ op_data (GetReply revision kv.now)) }
-{
-    let kv = state_or_null(alloc, kv)?;
-    json!(in alloc; ["get", revision, kv])
-}
-
 impl Spelled for OpReply {
     ghost spelled = { op_data };
 
     fn to_json(&self, alloc: Global) -> Result<Json, AllocError> {
         match self {
-            OpReply::Get { revision, kv } => read_json(alloc, *revision, kv),
+            OpReply::Get { revision, kv } => {
+                let kv = kv.to_json(alloc)?;
+                json!(in alloc; ["get", *revision, kv])
+            }
             OpReply::Put => json!(in alloc; ["put"]),
             OpReply::Del { count } => json!(in alloc; ["del", *count]),
         }

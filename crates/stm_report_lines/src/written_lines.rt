@@ -1,176 +1,27 @@
 //! The lines of a report, as JSON.
-ghost use Rattle.std.specs.Prelude.{◌≡◌, [], ◌∷◌, false, Err, IfOk};
-ghost use Rattle.serde_json.specs.Data.{string};
+ghost use Rattle.std.specs.Prelude.{◌≡◌, false, map, Err, IfOk};
 ghost use Rattle.serde_json.specs.View.{view};
 ghost use Rattle.serde_json.specs.Written.{has_float};
 ghost use Rattle.stm_events.specs.declared.line.ReportLine.TheVariants.{Key, Lease, End};
-ghost use Rattle.stm_events.specs.declared.reply.Reply.TheVariants.{Prefetched, Fetched, Committed, Conflict, GaveUp, Txn, Advanced, Batch};
-ghost use Rattle.stm_report_lines.specs.LineData.{whole, numbered, line_data, reply_data, event_data_of};
+ghost use Rattle.stm_report_lines.specs.LineData.{numbered, line_data, reply_data, event_data_of};
 
-use crate::written_items::{array_json, keyed_json};
+use crate::written_items::{Spelled, keyed_json};
 use serde_json::{Value as Json, json};
 use std::alloc::{AllocError, Global};
-use stm_events::{
-    CommittedRead, Denied, Event, Expired, KeyRead, OpReply, Reply, TraceItem, Value,
-};
+use stm_events::{Denied, Reply};
 use stm_history::KeyState;
 
-/// The line of a runner, a lease, a revision or a watcher that is named and no more.
-fn named_json(alloc: Global, number: u64, word: &str, id: u64) -> Result<Json, AllocError>
-    ensures { IfOk result (λ v. view v ≡ numbered number word.now (whole id ∷ [])) }
+/// The line of an event: its number, a word, and these parts.
+fn line(alloc: Global, number: u64, word: &str, parts: &[&dyn Spelled]) -> Result<Json, AllocError>
+    ensures { IfOk result (λ v. view v ≡ numbered number word.now (map (λ part. spelled part.now) parts.now)) }
 {
-    json!(in alloc; [number, word, id])
-}
-
-/// The line of a lease that was revoked, or of a watcher that was lost, with a revision.
-fn revised_json(
-    alloc: Global,
-    number: u64,
-    word: &str,
-    id: u64,
-    revision: u64,
-) -> Result<Json, AllocError>
-    ensures { IfOk result (λ v. view v ≡ numbered number word.now (whole id ∷ whole revision ∷ [])) }
-{
-    json!(in alloc; [number, word, id, revision])
-}
-
-/// The line of a runner's end, with the text that says why.
-fn ended_json(
-    alloc: Global,
-    number: u64,
-    word: &str,
-    runner: u64,
-    text: &str,
-) -> Result<Json, AllocError>
-    ensures { IfOk result (λ v. view v ≡ numbered number word.now (whole runner ∷ string text.now ∷ [])) }
-{
-    json!(in alloc; [number, word, runner, text])
-}
-
-/// The line of a fetch.
-fn fetched_json(
-    alloc: Global,
-    number: u64,
-    runner: u64,
-    key: &str,
-    mod_rev: u64,
-    of_rev: u64,
-    revision: u64,
-) -> Result<Json, AllocError>
-    ensures { IfOk result (λ v. view v ≡ reply_data number (Fetched runner key.now mod_rev of_rev revision)) }
-{
-    json!(in alloc; [number, "fetched", runner, key, mod_rev, of_rev, revision])
-}
-
-/// The line of a failed commit after which the run goes on.
-fn conflict_json(
-    alloc: Global,
-    number: u64,
-    runner: u64,
-    key: &str,
-    seen: u64,
-    now: u64,
-) -> Result<Json, AllocError>
-    ensures { IfOk result (λ v. view v ≡ reply_data number (Conflict runner key.now seen now)) }
-{
-    json!(in alloc; [number, "conflict", runner, key, seen, now])
-}
-
-/// The line of the last commit that a run may send, which failed.
-fn gave_up_json(
-    alloc: Global,
-    number: u64,
-    runner: u64,
-    attempts: u64,
-    key: &str,
-    seen: u64,
-    now: u64,
-) -> Result<Json, AllocError>
-    ensures { IfOk result (λ v. view v ≡ reply_data number (GaveUp runner attempts key.now seen now)) }
-{
-    json!(in alloc; [number, "gaveup", runner, attempts, key, seen, now])
-}
-
-/// The line of a program's list that was fetched.
-fn prefetched_json(
-    alloc: Global,
-    number: u64,
-    runner: u64,
-    revision: u64,
-    reads: &[KeyRead],
-) -> Result<Json, AllocError>
-    ensures { IfOk result (λ v. view v ≡ reply_data number (Prefetched runner revision reads.now)) }
-{
-    let reads = array_json(alloc, reads)?;
-    json!(in alloc; [number, "prefetched", runner, revision, reads])
-}
-
-/// What the line of a commit lists.
-#[derive(Clone, Copy)]
-struct Listed<'a> {
-    output: &'a [Value],
-    trace: &'a [TraceItem],
-    answers: &'a [CommittedRead],
-}
-
-/// The line of a commit.
-fn committed_json(
-    alloc: Global,
-    number: u64,
-    runner: u64,
-    revision: u64,
-    attempts: u64,
-    listed: Listed<'_>,
-) -> Result<Json, AllocError>
-    ensures { IfOk result (λ v. view v ≡ reply_data number (Committed runner revision attempts
-        listed.entry.output.now listed.entry.trace.now listed.entry.answers.now)) }
-{
-    let output = array_json(alloc, listed.output)?;
-    let trace = array_json(alloc, listed.trace)?;
-    let answers = array_json(alloc, listed.answers)?;
-    json!(in alloc; [number, "committed", runner, revision, attempts, output, trace, answers])
-}
-
-/// The line of another client's transaction.
-fn txn_json(
-    alloc: Global,
-    number: u64,
-    succeeded: bool,
-    revision: u64,
-    answers: &[OpReply],
-) -> Result<Json, AllocError>
-    ensures { IfOk result (λ v. view v ≡ reply_data number (Txn succeeded revision answers.now)) }
-{
-    let answers = array_json(alloc, answers)?;
-    json!(in alloc; [number, "txn", succeeded, revision, answers])
-}
-
-/// The line of an advance.
-fn advanced_json(
-    alloc: Global,
-    number: u64,
-    now: u64,
-    expired: &[Expired],
-) -> Result<Json, AllocError>
-    ensures { IfOk result (λ v. view v ≡ reply_data number (Advanced now expired.now)) }
-{
-    let expired = array_json(alloc, expired)?;
-    json!(in alloc; [number, "advanced", now, expired])
-}
-
-/// The line of what a watcher was given.
-fn batch_json(
-    alloc: Global,
-    number: u64,
-    watcher: u64,
-    upto: u64,
-    events: &[Event],
-) -> Result<Json, AllocError>
-    ensures { IfOk result (λ v. view v ≡ reply_data number (Batch watcher upto events.now)) }
-{
-    let events = array_json(alloc, events)?;
-    json!(in alloc; [number, "batch", watcher, upto, events])
+    let mut values = Vec::new(alloc);
+    values.push(Json::from(number))?;
+    values.push(Json::try_from_str(alloc, word)?)?;
+    for part in parts {
+        values.push(part.to_json(alloc)?)?;
+    }
+    Ok(Json::Array(values))
 }
 
 /// The line of a reply.
@@ -178,26 +29,23 @@ fn reply_json(alloc: Global, number: u64, reply: &Reply) -> Result<Json, AllocEr
     ensures { IfOk result (λ v. view v ≡ reply_data number reply.now) }
 {
     match reply {
-        Reply::Started { runner } => named_json(alloc, number, "started", *runner),
+        Reply::Started { runner } => line(alloc, number, "started", &[runner]),
         Reply::Prefetched {
             runner,
             revision,
             reads,
-        } => prefetched_json(alloc, number, *runner, *revision, reads.as_slice()),
+        } => line(alloc, number, "prefetched", &[runner, revision, reads]),
         Reply::Fetched {
             runner,
             key,
             mod_rev,
             of_rev,
             revision,
-        } => fetched_json(
+        } => line(
             alloc,
             number,
-            *runner,
-            key.as_str(),
-            *mod_rev,
-            *of_rev,
-            *revision,
+            "fetched",
+            &[runner, key, mod_rev, of_rev, revision],
         ),
         Reply::Committed {
             runner,
@@ -206,54 +54,46 @@ fn reply_json(alloc: Global, number: u64, reply: &Reply) -> Result<Json, AllocEr
             output,
             trace,
             answers,
-        } => {
-            let listed = Listed {
-                output: output.as_slice(),
-                trace: trace.as_slice(),
-                answers: answers.as_slice(),
-            };
-            committed_json(alloc, number, *runner, *revision, *attempts, listed)
-        }
+        } => line(
+            alloc,
+            number,
+            "committed",
+            &[runner, revision, attempts, output, trace, answers],
+        ),
         Reply::Conflict {
             runner,
             key,
             seen,
             now,
-        } => conflict_json(alloc, number, *runner, key.as_str(), *seen, *now),
+        } => line(alloc, number, "conflict", &[runner, key, seen, now]),
         Reply::GaveUp {
             runner,
             attempts,
             key,
             seen,
             now,
-        } => gave_up_json(alloc, number, *runner, *attempts, key.as_str(), *seen, *now),
-        Reply::Aborted { runner, text } => {
-            ended_json(alloc, number, "aborted", *runner, text.as_str())
-        }
-        Reply::Faulted { runner, fault } => {
-            ended_json(alloc, number, "faulted", *runner, fault.name())
-        }
-        Reply::Ended { runner, cause } => {
-            ended_json(alloc, number, "ended", *runner, cause.name())
-        }
+        } => line(alloc, number, "gaveup", &[runner, attempts, key, seen, now]),
+        Reply::Aborted { runner, text } => line(alloc, number, "aborted", &[runner, text]),
+        Reply::Faulted { runner, fault } => line(alloc, number, "faulted", &[runner, fault]),
+        Reply::Ended { runner, cause } => line(alloc, number, "ended", &[runner, cause]),
         Reply::Txn {
             succeeded,
             revision,
             answers,
-        } => txn_json(alloc, number, *succeeded, *revision, answers.as_slice()),
-        Reply::Granted { id } => named_json(alloc, number, "granted", *id),
-        Reply::Kept { id } => named_json(alloc, number, "kept", *id),
-        Reply::Revoked { id, revision } => revised_json(alloc, number, "revoked", *id, *revision),
-        Reply::Advanced { now, expired } => advanced_json(alloc, number, *now, expired.as_slice()),
-        Reply::Compacted { revision } => named_json(alloc, number, "compacted", *revision),
-        Reply::Watching { watcher } => named_json(alloc, number, "watching", *watcher),
+        } => line(alloc, number, "txn", &[succeeded, revision, answers]),
+        Reply::Granted { id } => line(alloc, number, "granted", &[id]),
+        Reply::Kept { id } => line(alloc, number, "kept", &[id]),
+        Reply::Revoked { id, revision } => line(alloc, number, "revoked", &[id, revision]),
+        Reply::Advanced { now, expired } => line(alloc, number, "advanced", &[now, expired]),
+        Reply::Compacted { revision } => line(alloc, number, "compacted", &[revision]),
+        Reply::Watching { watcher } => line(alloc, number, "watching", &[watcher]),
         Reply::Batch {
             watcher,
             upto,
             events,
-        } => batch_json(alloc, number, *watcher, *upto, events.as_slice()),
-        Reply::Cancelled { watcher } => named_json(alloc, number, "cancelled", *watcher),
-        Reply::Lost { watcher, floor } => revised_json(alloc, number, "lost", *watcher, *floor),
+        } => line(alloc, number, "batch", &[watcher, upto, events]),
+        Reply::Cancelled { watcher } => line(alloc, number, "cancelled", &[watcher]),
+        Reply::Lost { watcher, floor } => line(alloc, number, "lost", &[watcher, floor]),
     }
 }
 
@@ -261,8 +101,7 @@ fn reply_json(alloc: Global, number: u64, reply: &Reply) -> Result<Json, AllocEr
 fn refused_json(alloc: Global, number: u64, denied: &Denied) -> Result<Json, AllocError>
     ensures { IfOk result (λ v. view v ≡ event_data_of number (Err denied.now)) }
 {
-    let expired = array_json(alloc, denied.expired.as_slice())?;
-    json!(in alloc; [number, "refused", denied.cause.name(), expired])
+    line(alloc, number, "refused", &[&denied.cause, &denied.expired])
 }
 
 /// The line of the event with this number, by the reply to it. It fails where an allocation failed.

@@ -1,10 +1,10 @@
 -- Arrays of a word and parts, and of a number, a word and parts: what they spell, and what their spelling says of them. Their elements.
-use Rattle.std.proofs.Common.{◌≡◌, ℕ, zero, suc, ◌<◌, ◌≤◌, List, [], ◌∷◌, length, get_or, Some, None, Ok, refl, sym, ap, arith}
+use Rattle.std.proofs.Common.{◌≡◌, ℕ, suc, List, [], ◌∷◌, length, None, Ok, refl, ap}
 use Rattle.serde_json.specs.Data.{Data, string, array, Items, item}
+use Rattle.serde_json.specs.Events.{items_len}
 use Rattle.serde_json.specs.Find.{as_str}
-use Rattle.serde_json.specs.View.{view, items_of, items_view}
+use Rattle.serde_json.specs.View.{items_of, items_view}
 use Rattle.serde_json.specs.declared.value.Value.{Value}
-use Rattle.stm_report_lines.specs.Elements.{count, element}
 use Rattle.stm_report_lines.specs.Grammar.{Spells, SpellsItems}
 use Rattle.stm_report_lines.specs.LineData.{list, whole, word, numbered}
 use Rattle.stm_report_lines.specs.Parts.{number_of}
@@ -38,19 +38,8 @@ pub numbered_shape : (d : Data) (x : ℕ) (w : List ℕ) (parts : List Data) →
 numbered_shape d x w parts (all, i, (n, r0, i0, s0, (v, r1, i1, s1, more))) =
     (n, r1, rw (i, i0, i1, s1) refl, number_reads n x s0, number_no_text n x s0, more)
 
--- ---- the elements
+-- ---- the number of elements
 
-pub count_view : (values : List Value) → count (items_view values) ≡ length values
-count_view [] = refl
-count_view (v ∷ values) = ap suc (count_view values)
-
-pub element_is : (values : List Value) (i : ℕ) (v : Value) → i < length values → v ≡ get_or values i v
-    → element i (items_view values) ≡ Some (view v)
-element_is [] i v h e = absurd (omega (arith, h))
-element_is (x ∷ values) zero v h e = ap (λ (y : Value). Some (view y)) (sym e)
-element_is (x ∷ values) (suc i) v h e = element_is values i v (omega (arith, h)) e
-
-pub no_element : (values : List Value) (i : ℕ) → length values ≤ i → element i (items_view values) ≡ None
-no_element [] i h = refl
-no_element (x ∷ values) zero h = absurd (omega (arith, h))
-no_element (x ∷ values) (suc i) h = no_element values i (omega (arith, h))
+pub length_view : (values : List Value) → items_len (items_view values) ≡ length values
+length_view [] = refl
+length_view (v ∷ values) = ap suc (length_view values)

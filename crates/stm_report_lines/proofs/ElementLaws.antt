@@ -18,8 +18,8 @@ use Rattle.stm_report_lines.specs.FirstFault.{or_null, plain_faults, trace_table
 use Rattle.stm_report_lines.specs.Grammar.{Spells, CountFits}
 use Rattle.stm_report_lines.specs.LineData.{whole, trace_data, text_or_null, answer_data, op_data, read_data, expired_data, event_data}
 use Rattle.stm_report_lines.specs.Parts.{or_null_of, trace_get_of, trace_rev_of, trace_of, answer_with, answer_parts, answer_of, op_get_of, op_put_of}
-use Rattle.stm_report_lines.specs.Parts.{op_del_of, op_of, expired_with, expired_parts, expired_of, read_with, read_parts, read_of, event_delete_of}
-use Rattle.stm_report_lines.specs.Parts.{event_of}
+use Rattle.stm_report_lines.specs.Parts.{op_del_of, op_of, expired_with, expired_parts, expired_of, key_read_with, key_read_parts, key_read_of, watched_delete_of}
+use Rattle.stm_report_lines.specs.Parts.{watched_of}
 use Rattle.stm_report_lines.proofs.ReadLaws.{Laws, AnyFits}
 use Rattle.stm_report_lines.proofs.PartLaws.{count_reported, count_means, count_reads, text_or_null_laws}
 use Rattle.stm_report_lines.proofs.Rows.{Part, part_by, nothing, ◌&◌, second, third, fourth}
@@ -31,12 +31,12 @@ use Rattle.stm_report_lines.proofs.StateLaws.{State, whole_part, text_part, stat
 abbrev get_form : Form (List ℕ × (List ℕ × Unit {0})) TraceItem 1
 get_form =
     form 1 (text_part & text_part & nothing) (λ x. trace.Get x.0 (second x)) trace_get_of
-    (λ es. refl)
+    (λ d. refl)
 
 abbrev rev_form : Form (List ℕ × (ℕ × Unit {0})) TraceItem 1
 rev_form =
     form 1 (text_part & whole_part & nothing) (λ x. trace.Rev x.0 (second x)) trace_rev_of
-    (λ es. refl)
+    (λ d. refl)
 
 abbrev trace_words : Words TraceItem trace_data AnyFits
 trace_words =
@@ -60,7 +60,7 @@ text_or_null_part = part_by (λ d. or_null_of text_of d) text_or_null AnyFits (B
 abbrev answer_form : Form (List ℕ × (Option (List ℕ) × (ℕ × (ℕ × Unit {0})))) CommittedRead 0
 answer_form =
     form 0 (text_part & text_or_null_part & whole_part & whole_part & nothing) (λ x. answer_with x.0 (second x) (third x) (fourth x))
-    answer_parts (λ es. refl)
+    answer_parts (λ d. refl)
 
 pub answer_laws : Laws CommittedRead answer_of answer_data AnyFits (plain_faults answer_sorts)
 unfolding answer_of
@@ -73,10 +73,10 @@ answer_laws =
 abbrev op_get_form : Form (ℕ × (Option KeyState × Unit {0})) OpReply 1
 op_get_form =
     form 1 (whole_part & state_or_null_part & nothing) (λ x. op.Get x.0 (second x)) op_get_of
-    (λ es. refl)
+    (λ d. refl)
 
 abbrev op_put_form : Form (Unit {0}) OpReply 1
-op_put_form = form 1 nothing (λ x. op.Put) op_put_of (λ es. refl)
+op_put_form = form 1 nothing (λ x. op.Put) op_put_of (λ d. refl)
 
 abbrev count_part : Part ℕ
 count_part = record {
@@ -90,7 +90,7 @@ count_part = record {
 }
 
 abbrev op_del_form : Form (ℕ × Unit {0}) OpReply 1
-op_del_form = form 1 (count_part & nothing) (λ x. op.Del x.0) op_del_of (λ es. refl)
+op_del_form = form 1 (count_part & nothing) (λ x. op.Del x.0) op_del_of (λ d. refl)
 
 abbrev op_words : Words OpReply op_data CountFits
 op_words =
@@ -112,11 +112,11 @@ op_laws = words_laws op_data CountFits op_words op_table (λ w. refl) op_reads
 
 abbrev read_form : Form (List ℕ × (ℕ × Unit {0})) KeyRead 0
 read_form =
-    form 0 (text_part & whole_part & nothing) (λ x. read_with x.0 (second x)) read_parts
-    (λ es. refl)
+    form 0 (text_part & whole_part & nothing) (λ x. key_read_with x.0 (second x)) key_read_parts
+    (λ d. refl)
 
-pub read_laws : Laws KeyRead read_of read_data AnyFits (plain_faults read_sorts)
-unfolding read_of
+pub read_laws : Laws KeyRead key_read_of read_data AnyFits (plain_faults read_sorts)
+unfolding key_read_of
 read_laws = array_laws read_form read_data (λ r. (r.key, (r.mod_rev, tt))) (λ x. refl) (λ r. refl) (λ r. (tt, (tt, tt)))
 
 -- ---- expired leases
@@ -124,7 +124,7 @@ read_laws = array_laws read_form read_data (λ r. (r.key, (r.mod_rev, tt))) (λ 
 abbrev expired_form : Form (ℕ × (ℕ × Unit {0})) Expired 0
 expired_form =
     form 0 (whole_part & whole_part & nothing) (λ x. expired_with x.0 (second x)) expired_parts
-    (λ es. refl)
+    (λ d. refl)
 
 pub expired_laws : Laws Expired expired_of expired_data AnyFits (plain_faults expired_sorts)
 unfolding expired_of
@@ -137,21 +137,21 @@ put_form = also_made 1 keyed_form (λ q. event.Put q.0 q.1)
 
 abbrev delete_form : Form (List ℕ × (ℕ × Unit {0})) Event 1
 delete_form =
-    form 1 (text_part & whole_part & nothing) (λ x. event.Delete x.0 (second x)) event_delete_of
-    (λ es. refl)
+    form 1 (text_part & whole_part & nothing) (λ x. event.Delete x.0 (second x)) watched_delete_of
+    (λ d. refl)
 
 abbrev event_words : Words Event event_data AnyFits
 event_words =
     or_word event_data AnyFits (codes "PUT") put_form (λ x. refl) (λ x f. tt)
     (or_word event_data AnyFits (codes "DELETE") delete_form (λ x. refl) (λ x f. tt) (no_word event_data AnyFits))
 
-event_reads : (d : Data) (e : Event) → Spells d (event_data e) → AnyFits e → event_of d ≡ Ok e
-unfolding event_of
+event_reads : (d : Data) (e : Event) → Spells d (event_data e) → AnyFits e → watched_of d ≡ Ok e
+unfolding watched_of
 event_reads d (event.Put key state) s fits =
-    after_reads put_form (codes "PUT") event_of (λ ds. refl) d (parts_of_keyed key state) s (tt, (tt, (tt, (tt, (tt, (tt, tt))))))
+    after_reads put_form (codes "PUT") watched_of (λ ds. refl) d (parts_of_keyed key state) s (tt, (tt, (tt, (tt, (tt, (tt, tt))))))
 event_reads d (event.Delete key revision) s fits =
-    after_reads delete_form (codes "DELETE") event_of (λ ds. refl) d (key, (revision, tt)) s (tt, (tt, tt))
+    after_reads delete_form (codes "DELETE") watched_of (λ ds. refl) d (key, (revision, tt)) s (tt, (tt, tt))
 
-pub event_laws : Laws Event event_of event_data AnyFits (worded_faults watched_table)
-unfolding event_of
+pub event_laws : Laws Event watched_of event_data AnyFits (worded_faults watched_table)
+unfolding watched_of
 event_laws = words_laws event_data AnyFits event_words watched_table (λ w. refl) event_reads

@@ -1,7 +1,7 @@
 -- The lines of events: the parts after each word, and what is made of them. Their faults are those that reading answers, what was read is
 -- spelled, and what is spelled is read.
-use Rattle.std.proofs.Common.{◌≡◌, ℕ, List, [], ◌∷◌, map, Bool, cond, length, Option, Some, None, Ok, Err, refl, sym, subst, ap, ◌∙◌, codes}
-use Rattle.serde_json.specs.Data.{Data, boolean, Items, item}
+use Rattle.std.proofs.Common.{◌≡◌, ℕ, ◌+◌, List, [], ◌∷◌, map, Bool, cond, length, Option, Some, None, Ok, Err, refl, sym, subst, ap, ◌∙◌, codes}
+use Rattle.serde_json.specs.Data.{Data, boolean, string, Items, item}
 use Rattle.serde_json.specs.View.{items_of}
 use Rattle.stm_json.specs.declared.cause.Cause.TheVariants.{Shape}
 use Rattle.stm_json.specs.Outcome.{Outcome, bad, ◌>>=◌, within}
@@ -28,11 +28,11 @@ use Rattle.stm_report_lines.specs.FirstFault.{flag_faults, value_faults, plain_f
 use Rattle.stm_report_lines.specs.FirstFault.{trace_table}
 use Rattle.stm_report_lines.specs.FirstFault.{answer_sorts, op_table, read_sorts, expired_sorts, watched_table, numbered_faults}
 use Rattle.stm_report_lines.specs.Grammar.{Spells, SpellsItems, SpellsLine, CountFits, CountsFit, AllCountsFit}
-use Rattle.stm_report_lines.specs.LineData.{list, word, numbered, value_data, trace_data, answer_data, op_data, read_data, expired_data, event_data}
+use Rattle.stm_report_lines.specs.LineData.{list, whole, word, numbered, value_data, trace_data, answer_data, op_data, read_data, expired_data, event_data}
 use Rattle.stm_report_lines.specs.LineData.{line_data}
 use Rattle.stm_events.specs.Names.{refusal_name}
 use Rattle.stm_report_lines.specs.Parts.{exactly, listed, number_of, flag_of, fault_of as fault_part_of, cause_of, value_of, trace_of, answer_of, op_of}
-use Rattle.stm_report_lines.specs.Parts.{read_of, expired_of, event_of}
+use Rattle.stm_report_lines.specs.Parts.{key_read_of, expired_of, watched_of}
 use Rattle.stm_report_lines.specs.Reading.{EventReply, denied_with, event_reply_of, event_line_of, event_named}
 use Rattle.stm_report_lines.specs.Words.{named, event_words}
 use Rattle.stm_report_lines.proofs.ArrayLemmas.{numbered_array, numbered_spells}
@@ -43,7 +43,7 @@ use Rattle.stm_report_lines.proofs.PartLaws.{number_means, flag_reported, flag_m
 use Rattle.stm_report_lines.proofs.PartLaws.{cause_reported}
 use Rattle.stm_report_lines.proofs.PartLaws.{cause_means, cause_reads, value_laws}
 use Rattle.stm_report_lines.proofs.Rows.{Part, part, part_by, list_part, Row, nothing, ◌&◌, second, third, fourth, fifth, sixth}
-use Rattle.stm_report_lines.proofs.Rows.{no_more, part_here, counted_reported, counted_ok, exactly_is}
+use Rattle.stm_report_lines.proofs.Rows.{part_here, counted_reported, counted_ok, exactly_is}
 use Rattle.stm_report_lines.proofs.StateLaws.{whole_part, text_part}
 
 -- ---- parts
@@ -67,13 +67,13 @@ abbrev answers_part : Part (List CommittedRead)
 answers_part = list_part answer_of answer_data (plain_faults answer_sorts) answer_laws
 
 abbrev reads_part : Part (List KeyRead)
-reads_part = list_part read_of read_data (plain_faults read_sorts) read_laws
+reads_part = list_part key_read_of read_data (plain_faults read_sorts) read_laws
 
 abbrev expireds_part : Part (List Expired)
 expireds_part = list_part expired_of expired_data (plain_faults expired_sorts) expired_laws
 
 abbrev events_part : Part (List Event)
-events_part = list_part event_of event_data (worded_faults watched_table) event_laws
+events_part = list_part watched_of event_data (worded_faults watched_table) event_laws
 
 abbrev ops_part : Part (List OpReply)
 ops_part =
@@ -149,19 +149,19 @@ event_text event.Batch = codes "batch"
 event_text event.Lost = codes "lost"
 event_text event.Refused = codes "refused"
 
-pub event_named-text : (w : EventWord) → named event_words (event_text w) ≡ Some (w, length (event_sorts w))
+pub event_named-text : (w : EventWord) → named event_words (event_text w) ≡ Some (w, 2 + length (event_sorts w))
 event_named-text event.Started = refl
 event_named-text _ = refl
 
-abbrev elements_after : Option (EventWord × ℕ) → ℕ
-elements_after None = 0
-elements_after (Some r) = r.1
+abbrev length_of : Option (EventWord × ℕ) → ℕ
+length_of None = 0
+length_of (Some r) = r.1
 
--- what is found has its word, and as many elements come after as there are parts
-pub event_found : (t : List ℕ) (r : EventWord × ℕ) → named event_words t ≡ Some r → (t ≡ event_text r.0) × (r.1 ≡ length (event_sorts r.0))
+-- what is found has its word, and has two elements more than there are parts
+pub event_found : (t : List ℕ) (r : EventWord × ℕ) → named event_words t ≡ Some r → (t ≡ event_text r.0) × (r.1 ≡ 2 + length (event_sorts r.0))
 event_found t r h =
     let is : t ≡ event_text r.0 = named-is (λ (q : EventWord × ℕ). event_text q.0) event_words t r refl h in
-    (is, ap elements_after (sym h ∙ ap (named event_words) is ∙ event_named-text r.0))
+    (is, ap length_of (sym h ∙ ap (named event_words) is ∙ event_named-text r.0))
 
 -- the line's data are the number, the word and what spells the parts
 pub event_spelled : (w : EventWord) (n : ℕ) (x : event_parts w) → line_data (event_made w n x) ≡ numbered n (event_text w) ((event_row w).row.spell x)
@@ -174,64 +174,71 @@ event_fits _ n x fits = tt
 
 -- ---- what is read is read so
 
--- the parts, where there are as many, of a whole line
-abbrev row_read : EventWord → Items → Outcome EventReply
-row_read w es = (event_row w).row.read EventReply 2 (event_row w).make es
+-- the parts of a whole line
+abbrev row_read : EventWord → Data → Outcome EventReply
+row_read w d = (event_row w).row.read EventReply 2 (event_row w).make d
 
-reply_is : (w : EventWord) (es : Items) → event_reply_of w es ≡ row_read w es
-reply_is event.Started es = refl
-reply_is _ es = refl
+reply_is : (w : EventWord) (d : Data) → event_reply_of w d ≡ row_read w d
+reply_is event.Started d = refl
+reply_is _ d = refl
 
 -- the number, and then what comes after the word
-abbrev reply_then : EventWord → Items → ℕ → Outcome ReportLine
-reply_then w es x = row_read w es >>= λ r. Ok (line.Event x r)
+abbrev reply_then : EventWord → Data → ℕ → Outcome ReportLine
+reply_then w d x = row_read w d >>= λ r. Ok (line.Event x r)
 
-abbrev numbered_read : EventWord → Data → Data → Items → Outcome ReportLine
-numbered_read w n v ds = within 0 (number_of n) >>= reply_then w (item n (item v ds))
+abbrev numbered_read : EventWord → Data → List ℕ → Items → Outcome ReportLine
+numbered_read w n t ds = within 0 (number_of n) >>= reply_then w (numbered_array n t ds)
 
-numbered_is : (w : EventWord) (n v : Data) (ds : Items) → event_line_of w (item n (item v ds)) ≡ numbered_read w n v ds
-numbered_is w n v ds =
-    let es : Items = item n (item v ds) in
-    ap (λ (o : Outcome ℕ). o >>= λ x. event_reply_of w es >>= λ r. Ok (line.Event x r)) (part_here number_of [] n (item v ds))
-    ∙ ap (λ (o : Outcome EventReply). within 0 (number_of n) >>= λ x. o >>= λ r. Ok (line.Event x r)) (reply_is w es)
+numbered_is : (w : EventWord) (n : Data) (t : List ℕ) (ds : Items) → event_line_of w (numbered_array n t ds) ≡ numbered_read w n t ds
+numbered_is w n t ds =
+    let d : Data = numbered_array n t ds in
+    ap (λ (o : Outcome ℕ). o >>= λ x. event_reply_of w d >>= λ r. Ok (line.Event x r)) (part_here number_of [] n (item (string t) ds))
+    ∙ ap (λ (o : Outcome EventReply). within 0 (number_of n) >>= λ x. o >>= λ r. Ok (line.Event x r)) (reply_is w d)
 
-named_is : (n v : Data) (r : EventWord × ℕ) (ds : Items) → r.1 ≡ length (event_sorts r.0)
-    → event_named (Some r) (item n (item v ds)) ds ≡ cond (is_count (event_sorts r.0) ds) (numbered_read r.0 n v ds) (bad Shape)
-named_is n v r ds many =
-    ap (λ (k : ℕ). exactly k ds >>= λ es. event_line_of r.0 (item n (item v ds))) (many ∙ sym (no_more (length (event_sorts r.0))))
-    ∙ exactly_is [] (event_sorts r.0) ds (λ es. event_line_of r.0 (item n (item v ds)))
-    ∙ ap (λ (o : Outcome ReportLine). cond (is_count (event_sorts r.0) ds) o (bad Shape)) (numbered_is r.0 n v ds)
+named_is : (n : Data) (t : List ℕ) (r : EventWord × ℕ) (ds : Items) → r.1 ≡ 2 + length (event_sorts r.0)
+    → event_named (Some r) (numbered_array n t ds) ≡ cond (is_count (event_sorts r.0) ds) (numbered_read r.0 n t ds) (bad Shape)
+named_is n t r ds many =
+    ap (λ (k : ℕ). exactly k (numbered_array n t ds) >>= λ u. event_line_of r.0 (numbered_array n t ds)) many
+    ∙ exactly_is (string t ∷ n ∷ []) (event_sorts r.0) ds (event_line_of r.0 (numbered_array n t ds))
+    ∙ ap (λ (o : Outcome ReportLine). cond (is_count (event_sorts r.0) ds) o (bad Shape)) (numbered_is r.0 n t ds)
 
 -- ---- the three laws, of a row of the words
 
-module _ (n v : Data) (r : EventWord × ℕ) (ds : Items) (many : r.1 ≡ length (event_sorts r.0)) where
+-- a line's data, by its number and its parts
+line_spelled : (w : EventWord) (n : Data) (ds : Items) (number : ℕ) (x : event_parts w) (l : ReportLine) → event_made w number x ≡ l
+    → Spells n (whole number) → SpellsItems ds (items_of ((event_row w).row.spell x)) → (event_row w).row.Fits x
+    → SpellsLine (numbered_array n (event_text w) ds) l
+line_spelled w n ds number x l made of_number s fits =
+    let spelled = numbered_spells n ds number (event_text w) ((event_row w).row.spell x) of_number s in
+    subst (λ (z : ReportLine). SpellsLine (numbered_array n (event_text w) ds) z) made
+    (subst (λ (e : Data). Spells (numbered_array n (event_text w) ds) e) (sym (event_spelled w number x)) spelled, event_fits w number x fits)
+
+module _ (n : Data) (t : List ℕ) (r : EventWord × ℕ) (ds : Items) (many : r.1 ≡ 2 + length (event_sorts r.0)) where
   pub event_line_reported : (p : List ℕ) → first_of (numbered_faults p n (Some (event_sorts r.0)) ds)
-      ≡ fault_of p (event_named (Some r) (item n (item v ds)) ds)
+      ≡ fault_of p (event_named (Some r) (numbered_array n t ds))
   event_line_reported p =
       let sorts : List Sort = event_sorts r.0 in
-      counted_reported p (is_count sorts ds) _ (numbered_read r.0 n v ds)
-      (λ h. part_then p 0 (number_of n) (reply_then r.0 (item n (item v ds))) (faults_by any_number (at p 0) n) (parts_faults p 2 sorts ds) (number_reported (at p 0) n)
-      (λ (x : ℕ). made p (row_read r.0 (item n (item v ds))) (λ (y : EventReply). line.Event x y) (parts_faults p 2 sorts ds)
-      ((event_row r.0).row.reported EventReply p (v ∷ n ∷ []) (event_row r.0).make ds h)))
-      ∙ ap (λ (o : Outcome ReportLine). fault_of p o) (sym (named_is n v r ds many))
+      counted_reported p (is_count sorts ds) _ (numbered_read r.0 n t ds)
+      (λ h. part_then p 0 (number_of n) (reply_then r.0 (numbered_array n t ds)) (faults_by any_number (at p 0) n) (parts_faults p 2 sorts ds) (number_reported (at p 0) n)
+      (λ (x : ℕ). made p (row_read r.0 (numbered_array n t ds)) (λ (y : EventReply). line.Event x y) (parts_faults p 2 sorts ds)
+      ((event_row r.0).row.reported EventReply p (string t ∷ n ∷ []) (event_row r.0).make ds h)))
+      ∙ ap (λ (o : Outcome ReportLine). fault_of p o) (sym (named_is n t r ds many))
 
-  pub event_line_means : (l : ReportLine) → event_named (Some r) (item n (item v ds)) ds ≡ Ok l → SpellsLine (numbered_array n (event_text r.0) ds) l
+  pub event_line_means : (l : ReportLine) → event_named (Some r) (numbered_array n t ds) ≡ Ok l → SpellsLine (numbered_array n (event_text r.0) ds) l
   event_line_means l h =
       let w : EventWord = r.0 in
-      let k = counted_ok (is_count (event_sorts w) ds) (numbered_read w n v ds) l (sym (named_is n v r ds many) ∙ h) in
-      let q = bind_ok (within 0 (number_of n)) (reply_then w (item n (item v ds))) l k.1 in
-      let y = bind_ok (row_read w (item n (item v ds))) (λ (z : EventReply). Ok (line.Event q.0 z)) l q.2 in
-      let m = (event_row w).row.means EventReply (v ∷ n ∷ []) (event_row w).make ds y.0 k.0 y.1 in
-      let is : line.Event q.0 y.0 ≡ l = cc y.2 in
-      let s = numbered_spells n ds q.0 (event_text w) ((event_row w).row.spell m.0) (number_means n q.0 (within_ok 0 _ _ q.1)) m.2 in
-      subst (λ (z : ReportLine). SpellsLine (numbered_array n (event_text w) ds) z) (ap (λ (z : EventReply). line.Event q.0 z) m.1 ∙ is)
-      (subst (λ (e : Data). Spells (numbered_array n (event_text w) ds) e) (sym (event_spelled w q.0 m.0)) s, event_fits w q.0 m.0 m.3)
+      let k = counted_ok (is_count (event_sorts w) ds) (numbered_read w n t ds) l (sym (named_is n t r ds many) ∙ h) in
+      let q = bind_ok (within 0 (number_of n)) (reply_then w (numbered_array n t ds)) l k.1 in
+      let y = bind_ok (row_read w (numbered_array n t ds)) (λ (z : EventReply). Ok (line.Event q.0 z)) l q.2 in
+      let m = (event_row w).row.means EventReply (string t ∷ n ∷ []) (event_row w).make ds y.0 k.0 y.1 in
+      let made : event_made w q.0 m.0 ≡ l = ap (λ (z : EventReply). line.Event q.0 z) m.1 ∙ cc y.2 in
+      line_spelled w n ds q.0 m.0 l made (number_means n q.0 (within_ok 0 _ _ q.1)) m.2 m.3
 
   pub event_line_reads : (number : ℕ) (x : event_parts r.0) → number_of n ≡ Ok number → SpellsItems ds (items_of ((event_row r.0).row.spell x))
-      → (event_row r.0).row.Fits x → event_named (Some r) (item n (item v ds)) ds ≡ Ok (event_made r.0 number x)
+      → (event_row r.0).row.Fits x → event_named (Some r) (numbered_array n t ds) ≡ Ok (event_made r.0 number x)
   event_line_reads number x known s fits =
-      let e = (event_row r.0).row.reads EventReply (v ∷ n ∷ []) (event_row r.0).make ds x s fits in
-      named_is n v r ds many
-      ∙ ap (λ (b : Bool). cond b (numbered_read r.0 n v ds) (bad Shape)) e.0
-      ∙ ap (λ (o : Outcome ℕ). within 0 o >>= reply_then r.0 (item n (item v ds))) known
+      let e = (event_row r.0).row.reads EventReply (string t ∷ n ∷ []) (event_row r.0).make ds x s fits in
+      named_is n t r ds many
+      ∙ ap (λ (b : Bool). cond b (numbered_read r.0 n t ds) (bad Shape)) e.0
+      ∙ ap (λ (o : Outcome ℕ). within 0 o >>= reply_then r.0 (numbered_array n t ds)) known
       ∙ ap (λ (o : Outcome EventReply). o >>= λ y. Ok (line.Event number y)) e.1

@@ -2,7 +2,7 @@
 -- that what was read is spelled, and that what is spelled is read, is proved once, whatever the parts are.
 use Rattle.std.proofs.Common.{◌≡◌, ℕ, ◌+◌, List, [], ◌∷◌, length, Bool, true, false, cond, Option, Some, None, Ok, Err, refl, sym, ap, subst, ◌∙◌}
 use Rattle.std.proofs.lemmas.Slice.Eq.{bytes_eq-Decides}
-use Rattle.serde_json.specs.Data.{Data, null, string, array, Items, item}
+use Rattle.serde_json.specs.Data.{Data, null, boolean, number, string, array, object, Items, item}
 use Rattle.serde_json.specs.View.{items_of}
 use Rattle.stm_json.specs.declared.cause.Cause.TheVariants.{Shape}
 use Rattle.stm_json.specs.Outcome.{Outcome, bad, ◌>>=◌}
@@ -12,7 +12,7 @@ use Rattle.stm_json.proofs.FaultLemmas.{fault_of, wrong_is}
 use Rattle.stm_report_lines.specs.FirstFault.{plain_faults}
 use Rattle.stm_report_lines.specs.Grammar.{Spells, SpellsItems}
 use Rattle.stm_report_lines.specs.LineData.{list, word}
-use Rattle.stm_report_lines.specs.Parts.{array_of, worded_of, exactly}
+use Rattle.stm_report_lines.specs.Parts.{or_shape, word_at, exactly}
 use Rattle.stm_report_lines.proofs.ArrayLemmas.{worded_array, worded_spells, worded_shape}
 use Rattle.stm_report_lines.proofs.ReadLaws.{Laws, AnyFits}
 use Rattle.stm_report_lines.proofs.Rows.{Row, Answers, onto, counted_reported, counted_ok, exactly_is}
@@ -23,69 +23,78 @@ use Rattle.stm_report_lines.proofs.Rows.{Row, Answers, onto, counted_reported, c
 pub record Form (X Y : Type 0) (i : ℕ) : Type 1 where
   pub row : Row X
   pub make : X → Y
-  pub read : Items → Outcome Y
-  pub same : (es : Items) → read es ≡ (exactly (i + length row.sorts) es >>= row.read Y i make)
+  pub read : Data → Outcome Y
+  pub same : (d : Data) → read d ≡ (exactly (i + length row.sorts) d >>= λ u. row.read Y i make d)
 
-abbrev pub form : {X Y : Type 0} (i : ℕ) (row : Row X) (make : X → Y) (read : Items → Outcome Y)
-    → ((es : Items) → read es ≡ (exactly (i + length row.sorts) es >>= row.read Y i make)) → Form X Y i
+abbrev pub form : {X Y : Type 0} (i : ℕ) (row : Row X) (make : X → Y) (read : Data → Outcome Y)
+    → ((d : Data) → read d ≡ (exactly (i + length row.sorts) d >>= λ u. row.read Y i make d)) → Form X Y i
 form i row make read same = record { row = row; make = make; read = read; same = same }
 
-pub exactly_maps : {Y Z : Type 0} (o : Outcome Items) (f : Items → Outcome Y) (h : Items → Outcome Z) (g : Y → Z)
-    → ((es : Items) → (f es >>= λ y. Ok (g y)) ≡ h es) → ((o >>= f) >>= λ y. Ok (g y)) ≡ (o >>= h)
-exactly_maps (Ok es) f h g same = same es
-exactly_maps (Err e) f h g same = refl
+pub exactly_maps : {Y Z : Type 0} (o : Outcome (Unit {0})) (y : Outcome Y) (z : Outcome Z) (g : Y → Z) → (y >>= λ x. Ok (g x)) ≡ z
+    → ((o >>= λ u. y) >>= λ x. Ok (g x)) ≡ (o >>= λ u. z)
+exactly_maps (Ok u) y z g same = same
+exactly_maps (Err e) y z g same = refl
 
 -- the same, and something made of it
 abbrev pub also_made : {X Y Z : Type 0} (i : ℕ) → Form X Y i → (Y → Z) → Form X Z i
 also_made {X} {Y} {Z} i F g = record {
   row = F.row;
   make = λ x. g (F.make x);
-  read = λ es. F.read es >>= λ y. Ok (g y);
-  same = λ es.
-      ap (λ (o : Outcome Y). o >>= λ y. Ok (g y)) (F.same es)
-      ∙ exactly_maps (exactly (i + length F.row.sorts) es) (F.row.read Y i F.make) (F.row.read Z i (λ x. g (F.make x))) g (F.row.maps Y Z i F.make g);
+  read = λ d. F.read d >>= λ y. Ok (g y);
+  same = λ d.
+      ap (λ (o : Outcome Y). o >>= λ y. Ok (g y)) (F.same d)
+      ∙ exactly_maps (exactly (i + length F.row.sorts) d) (F.row.read Y i F.make d) (F.row.read Z i (λ x. g (F.make x)) d) g (F.row.maps Y Z i F.make g d);
 }
 
 module _ {X Y : Type 0} (before : List Data) (F : Form X Y (length before)) (ds : Items) where
-  form_is : F.read (onto before ds) ≡ cond (is_count F.row.sorts ds) (F.row.read Y (length before) F.make (onto before ds)) (bad Shape)
-  form_is = F.same (onto before ds) ∙ exactly_is before F.row.sorts ds (F.row.read Y (length before) F.make)
+  form_is : F.read (array (onto before ds)) ≡ cond (is_count F.row.sorts ds) (F.row.read Y (length before) F.make (array (onto before ds))) (bad Shape)
+  form_is = F.same (array (onto before ds)) ∙ exactly_is before F.row.sorts ds (F.row.read Y (length before) F.make (array (onto before ds)))
 
   pub form_reported : (p : List ℕ) → first_of (cond (is_count F.row.sorts ds) (parts_faults p (length before) F.row.sorts ds) (wrong p Shape))
-      ≡ fault_of p (F.read (onto before ds))
+      ≡ fault_of p (F.read (array (onto before ds)))
   form_reported p =
       counted_reported p (is_count F.row.sorts ds) (parts_faults p (length before) F.row.sorts ds)
-      (F.row.read Y (length before) F.make (onto before ds)) (λ h. F.row.reported Y p before F.make ds h)
+      (F.row.read Y (length before) F.make (array (onto before ds))) (λ h. F.row.reported Y p before F.make ds h)
       ∙ ap (λ (o : Outcome Y). fault_of p o) (sym form_is)
 
-  pub form_means : (y : Y) → F.read (onto before ds) ≡ Ok y → (x : X) × (F.make x ≡ y) × SpellsItems ds (items_of (F.row.spell x)) × F.row.Fits x
+  pub form_means : (y : Y) → F.read (array (onto before ds)) ≡ Ok y → (x : X) × (F.make x ≡ y) × SpellsItems ds (items_of (F.row.spell x)) × F.row.Fits x
   form_means y h =
-      let k = counted_ok (is_count F.row.sorts ds) (F.row.read Y (length before) F.make (onto before ds)) y (sym form_is ∙ h) in
+      let k = counted_ok (is_count F.row.sorts ds) (F.row.read Y (length before) F.make (array (onto before ds))) y (sym form_is ∙ h) in
       F.row.means Y before F.make ds y k.0 k.1
 
-  pub form_reads : (x : X) → SpellsItems ds (items_of (F.row.spell x)) → F.row.Fits x → F.read (onto before ds) ≡ Ok (F.make x)
+  pub form_reads : (x : X) → SpellsItems ds (items_of (F.row.spell x)) → F.row.Fits x → F.read (array (onto before ds)) ≡ Ok (F.make x)
   form_reads x s fits =
       let r = F.row.reads Y before F.make ds x s fits in
-      form_is ∙ ap (λ (b : Bool). cond b (F.row.read Y (length before) F.make (onto before ds)) (bad Shape)) r.0 ∙ r.1
+      form_is ∙ ap (λ (b : Bool). cond b (F.row.read Y (length before) F.make (array (onto before ds))) (bad Shape)) r.0 ∙ r.1
 
 -- ---- an array of such parts alone
 
 module _ {X Y : Type 0} (F : Form X Y 0) (spell : Y → Data) (parts : Y → X) (spelled : (x : X) → spell (F.make x) ≡ list (F.row.spell x))
     (whole : (y : Y) → F.make (parts y) ≡ y) (fits : (y : Y) → F.row.Fits (parts y)) where
-  array_reported : (p : List ℕ) (d : Data) → first_of (plain_faults F.row.sorts p d) ≡ fault_of p (array_of d >>= F.read)
+  array_reported : (p : List ℕ) (d : Data) → first_of (plain_faults F.row.sorts p d) ≡ fault_of p (F.read d)
   array_reported p (array ds) = form_reported [] F ds p
-  array_reported p _ = wrong_is {A = Y} p Shape (bad Shape) refl
+  array_reported p null = wrong_is p Shape (F.read null) (F.same null)
+  array_reported p (boolean b) = wrong_is p Shape (F.read (boolean b)) (F.same (boolean b))
+  array_reported p (number n) = wrong_is p Shape (F.read (number n)) (F.same (number n))
+  array_reported p (string s) = wrong_is p Shape (F.read (string s)) (F.same (string s))
+  array_reported p (object ms) = wrong_is p Shape (F.read (object ms)) (F.same (object ms))
 
-  array_means : (d : Data) (y : Y) → (array_of d >>= F.read) ≡ Ok y → Spells d (spell y)
-  array_means (array ds) y h =
-      let m = form_means [] F ds y h in
-      subst (λ (z : Y). Spells (array ds) (spell z)) m.1 (subst (λ (s : Data). Spells (array ds) s) (sym (spelled m.0)) (ds, refl, m.2))
-  array_means null y h = cc
-  array_means _ y h = cc
+  -- what is read is an array
+  array_there : (d : Data) (y : Y) → (exactly (0 + length F.row.sorts) d >>= λ u. F.row.read Y 0 F.make d) ≡ Ok y → (ds : Items) × (d ≡ array ds)
+  array_there (array ds) y h = (ds, refl)
+  array_there null y h = cc
+  array_there _ y h = cc
 
-  array_reads : (d : Data) (y : Y) → Spells d (list (F.row.spell (parts y))) → (array_of d >>= F.read) ≡ Ok y
+  array_means : (d : Data) (y : Y) → F.read d ≡ Ok y → Spells d (spell y)
+  array_means d y h =
+      let a = array_there d y (sym (F.same d) ∙ h) in
+      let m = form_means [] F a.0 y (subst (λ (e : Data). F.read e ≡ Ok y) a.1 h) in
+      subst (λ (z : Y). Spells d (spell z)) m.1 (subst (λ (s : Data). Spells d s) (sym (spelled m.0)) (a.0, a.1, m.2))
+
+  array_reads : (d : Data) (y : Y) → Spells d (list (F.row.spell (parts y))) → F.read d ≡ Ok y
   array_reads d y (ds, is, m) = rw is (form_reads [] F ds (parts y) m (fits y) ∙ ap (λ (z : Y). Ok z) (whole y))
 
-  pub array_laws : Laws Y (λ d. array_of d >>= F.read) spell AnyFits (plain_faults F.row.sorts)
+  pub array_laws : Laws Y F.read spell AnyFits (plain_faults F.row.sorts)
   array_laws = record {
     reported = array_reported;
     means = λ d y h. (array_means d y h, tt);
@@ -96,7 +105,7 @@ module _ {X Y : Type 0} (F : Form X Y 0) (spell : Y → Data) (parts : Y → X) 
 -- ---- an array of a word and such parts
 
 module _ {X Y : Type 0} (F : Form X Y 1) (w : List ℕ) where
-  pub after_reads : (read : Data → Outcome Y) → ((ds : Items) → read (worded_array w ds) ≡ F.read (item (string w) ds)) → (d : Data) (x : X)
+  pub after_reads : (read : Data → Outcome Y) → ((ds : Items) → read (worded_array w ds) ≡ F.read (worded_array w ds)) → (d : Data) (x : X)
       → Spells d (list (word w ∷ F.row.spell x)) → F.row.Fits x → read d ≡ Ok (F.make x)
   after_reads read is d x s fits =
       let q = worded_shape d w (F.row.spell x) s in
@@ -104,7 +113,7 @@ module _ {X Y : Type 0} (F : Form X Y 1) (w : List ℕ) where
 
   -- what was made of it fits
   pub after_means : (spell : Y → Data) (Fits : Y → Type 0) → ((x : X) → spell (F.make x) ≡ list (word w ∷ F.row.spell x))
-      → ((x : X) → F.row.Fits x → Fits (F.make x)) → (ds : Items) (y : Y) → F.read (item (string w) ds) ≡ Ok y
+      → ((x : X) → F.row.Fits x → Fits (F.make x)) → (ds : Items) (y : Y) → F.read (worded_array w ds) ≡ Ok y
       → Spells (worded_array w ds) (spell y) × Fits y
   after_means spell Fits spelled fits ds y h =
       let m = form_means (string w ∷ []) F ds y h in
@@ -112,12 +121,12 @@ module _ {X Y : Type 0} (F : Form X Y 1) (w : List ℕ) where
       subst (λ (z : Y). Spells (worded_array w ds) (spell z) × Fits z) m.1
       (subst (λ (e : Data). Spells (worded_array w ds) e) (sym (spelled m.0)) s, fits m.0 m.3)
 
--- Some words, each with the parts after it, and what is made of them. All elements of the array are read, and the word is the first.
+-- Some words, each with the parts after it, and what is made of them. Each is read of the whole array, of which the word is the first element.
 pub record Words (Y : Type 0) (spell : Y → Data) (Fits : Y → Type 0) : Type 0 where
   pub sorts : List ℕ → Option (List Sort)
-  pub read : List ℕ → Items → Outcome Y
-  pub reported : (p w : List ℕ) (ds : Items) → first_of (sorted_faults p (sorts w) ds) ≡ fault_of p (read w (item (string w) ds))
-  pub means : (w : List ℕ) (ds : Items) (y : Y) → read w (item (string w) ds) ≡ Ok y → Spells (worded_array w ds) (spell y) × Fits y
+  pub read : List ℕ → Data → Outcome Y
+  pub reported : (p w : List ℕ) (ds : Items) → first_of (sorted_faults p (sorts w) ds) ≡ fault_of p (read w (worded_array w ds))
+  pub means : (w : List ℕ) (ds : Items) (y : Y) → read w (worded_array w ds) ≡ Ok y → Spells (worded_array w ds) (spell y) × Fits y
 
 pub no_read : {Y : Type 0} (spell : Y → Data) (Fits : Y → Type 0) (w : List ℕ) (ds : Items) (y : Y) → Answers {Y = Y} (bad Shape) y
     → Spells (worded_array w ds) (spell y) × Fits y
@@ -126,7 +135,7 @@ no_read spell Fits w ds y h = cc
 abbrev pub no_word : {Y : Type 0} (spell : Y → Data) (Fits : Y → Type 0) → Words Y spell Fits
 no_word {Y} spell Fits = record {
   sorts = λ w. None;
-  read = λ w ds. bad Shape;
+  read = λ w d. bad Shape;
   reported = λ p w ds. wrong_is {A = Y} p Shape (bad Shape) refl;
   means = λ w ds y h. no_read spell Fits w ds y h;
 }
@@ -134,13 +143,13 @@ no_word {Y} spell Fits = record {
 module _ {X Y : Type 0} (spell : Y → Data) (Fits : Y → Type 0) (word_here : List ℕ) (F : Form X Y 1) where
   pub here_reported : (p w : List ℕ) (ds : Items) (b : Bool) (sorts : Option (List Sort)) (o : Outcome Y)
       → first_of (sorted_faults p sorts ds) ≡ fault_of p o
-      → first_of (sorted_faults p (cond b (Some F.row.sorts) sorts) ds) ≡ fault_of p (cond b (F.read (item (string w) ds)) o)
+      → first_of (sorted_faults p (cond b (Some F.row.sorts) sorts) ds) ≡ fault_of p (cond b (F.read (worded_array w ds)) o)
   here_reported p w ds true sorts o others = form_reported (string w ∷ []) F ds p
   here_reported p w ds false sorts o others = others
 
   pub here_means : (w : List ℕ) (ds : Items) (y : Y) (b : Bool) (o : Outcome Y) → (b ≡ true → w ≡ word_here)
       → ((x : X) → spell (F.make x) ≡ list (word word_here ∷ F.row.spell x)) → ((x : X) → F.row.Fits x → Fits (F.make x))
-      → (o ≡ Ok y → Spells (worded_array w ds) (spell y) × Fits y) → cond b (F.read (item (string w) ds)) o ≡ Ok y
+      → (o ≡ Ok y → Spells (worded_array w ds) (spell y) × Fits y) → cond b (F.read (worded_array w ds)) o ≡ Ok y
       → Spells (worded_array w ds) (spell y) × Fits y
   here_means w ds y true o is spelled fits others h =
       after_means F w spell Fits (λ (x : X). spelled x ∙ ap (λ (v : List ℕ). list (word v ∷ F.row.spell x)) (sym (is refl))) fits ds y h
@@ -150,23 +159,23 @@ module _ {X Y : Type 0} (spell : Y → Data) (Fits : Y → Type 0) (word_here : 
       → Words Y spell Fits → Words Y spell Fits
   or_word spelled fits W = record {
     sorts = λ w. cond (same w word_here) (Some F.row.sorts) (W.sorts w);
-    read = λ w ds. cond (same w word_here) (F.read ds) (W.read w ds);
-    reported = λ p w ds. here_reported p w ds (same w word_here) (W.sorts w) (W.read w (item (string w) ds)) (W.reported p w ds);
+    read = λ w d. cond (same w word_here) (F.read d) (W.read w d);
+    reported = λ p w ds. here_reported p w ds (same w word_here) (W.sorts w) (W.read w (worded_array w ds)) (W.reported p w ds);
     means = λ w ds y h.
-        here_means w ds y (same w word_here) (W.read w (item (string w) ds)) (bytes_eq-Decides w word_here).0 spelled fits (W.means w ds y) h;
+        here_means w ds y (same w word_here) (W.read w (worded_array w ds)) (bytes_eq-Decides w word_here).0 spelled fits (W.means w ds y) h;
   }
 
 module _ {Y : Type 0} (spell : Y → Data) (Fits : Y → Type 0) (W : Words Y spell Fits) (table : Table)
     (is : (w : List ℕ) → sorts_of table w ≡ W.sorts w) where
-  words_reported : (p : List ℕ) (d : Data) → first_of (worded_faults table p d) ≡ fault_of p (worded_of d >>= λ q. W.read q.0 q.1)
+  words_reported : (p : List ℕ) (d : Data) → first_of (worded_faults table p d) ≡ fault_of p (or_shape (word_at 0 d) >>= λ w. W.read w d)
   words_reported p (array (item (string w) ds)) = ap (λ (o : Option (List Sort)). first_of (sorted_faults p o ds)) (is w) ∙ W.reported p w ds
   words_reported p _ = wrong_is {A = Y} p Shape (bad Shape) refl
 
-  words_means : (d : Data) (y : Y) → (worded_of d >>= λ q. W.read q.0 q.1) ≡ Ok y → Spells d (spell y) × Fits y
+  words_means : (d : Data) (y : Y) → (or_shape (word_at 0 d) >>= λ w. W.read w d) ≡ Ok y → Spells d (spell y) × Fits y
   words_means (array (item (string w) ds)) y h = W.means w ds y h
   words_means null y h = cc
   words_means _ y h = cc
 
-  pub words_laws : ((d : Data) (y : Y) → Spells d (spell y) → Fits y → (worded_of d >>= λ q. W.read q.0 q.1) ≡ Ok y)
-      → Laws Y (λ d. worded_of d >>= λ q. W.read q.0 q.1) spell Fits (worded_faults table)
+  pub words_laws : ((d : Data) (y : Y) → Spells d (spell y) → Fits y → (or_shape (word_at 0 d) >>= λ w. W.read w d) ≡ Ok y)
+      → Laws Y (λ d. or_shape (word_at 0 d) >>= λ w. W.read w d) spell Fits (worded_faults table)
   words_laws reads = record { reported = words_reported; means = words_means; reads = reads }

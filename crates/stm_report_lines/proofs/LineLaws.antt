@@ -1,14 +1,11 @@
 -- Lines: the first fault is that which reading answers, what was read is spelled, and what is spelled is read.
-use Rattle.std.proofs.Common.{◌≡◌, ℕ, List, length, Option, Some, None, Ok, Err, option_map, refl, sym, ap, subst, ◌∙◌, codes}
+use Rattle.std.proofs.Common.{◌≡◌, ℕ, ◌+◌, List, length, Option, Some, None, Ok, Err, option_map, refl, sym, ap, subst, ◌∙◌, codes}
 use Rattle.serde_json.specs.Data.{Data, null, boolean, number, string, array, object, Items, item}
 use Rattle.serde_json.specs.Find.{as_str}
 use Rattle.stm_json.specs.declared.cause.Cause.TheVariants.{Shape}
-use Rattle.stm_json.specs.Elements.{first_word}
 use Rattle.stm_json.specs.Outcome.{bad}
-use Rattle.stm_json.proofs.ElementLemmas.{first_word-is}
 use Rattle.stm_json.specs.Faults.{Sort, first_of, sorts_of}
 use Rattle.stm_json.proofs.FaultLemmas.{fault_of, wrong_is}
-use Rattle.stm_json.proofs.PartLemmas.{text_is}
 use Rattle.stm_events.specs.declared.line.ReportLine.{ReportLine}
 use Rattle.stm_events.specs.declared.line.ReportLine.TheVariants.{Event, Key, Lease, End}
 use Rattle.stm_events.specs.declared.reply.Reply.{Reply}
@@ -20,7 +17,7 @@ use Rattle.stm_report_lines.specs.declared.words.EventWord.TheVariants as event
 use Rattle.stm_report_lines.specs.FirstFault.{event_table, numbered_faults, line_faults}
 use Rattle.stm_report_lines.specs.Grammar.{Spells, SpellsLine, CountsFit}
 use Rattle.stm_report_lines.specs.LineData.{line_data}
-use Rattle.stm_report_lines.specs.Reading.{lease_of, end_of, standing_worded, event_named, event_worded, line_front}
+use Rattle.stm_report_lines.specs.Reading.{lease_of, end_of, event_named}
 use Rattle.stm_report_lines.specs.Reading.{line_of}
 use Rattle.stm_report_lines.specs.Words.{named, event_words}
 use Rattle.stm_report_lines.proofs.ArrayLemmas.{numbered_array, numbered_shape}
@@ -40,11 +37,11 @@ key_form = also_made 1 keyed_form (λ q. Key q.0 q.1)
 abbrev lease_form : Form (ℕ × (ℕ × (ℕ × Unit {0}))) ReportLine 1
 lease_form =
     form 1 (whole_part & whole_part & whole_part & nothing) (λ x. Lease x.0 (second x) (third x)) lease_of
-    (λ es. refl)
+    (λ d. refl)
 
 abbrev end_form : Form (ℕ × (ℕ × Unit {0})) ReportLine 1
 end_form =
-    form 1 (whole_part & whole_part & nothing) (λ x. End x.0 (second x)) end_of (λ es. refl)
+    form 1 (whole_part & whole_part & nothing) (λ x. End x.0 (second x)) end_of (λ d. refl)
 
 abbrev standing : Words ReportLine line_data CountsFit
 standing =
@@ -54,17 +51,17 @@ standing =
 
 -- ---- the first fault
 
-event_reported : (p : List ℕ) (n v : Data) (o : Option (EventWord × ℕ)) (ds : Items)
-    → ((r : EventWord × ℕ) → o ≡ Some r → r.1 ≡ length (event_sorts r.0))
-    → first_of (numbered_faults p n (option_map (λ r. event_sorts r.0) o) ds) ≡ fault_of p (event_named o (item n (item v ds)) ds)
-event_reported p n v None ds many = wrong_is {A = ReportLine} p Shape (bad Shape) refl
-event_reported p n v (Some r) ds many = event_line_reported n v r ds (many r refl) p
+event_reported : (p : List ℕ) (n : Data) (t : List ℕ) (o : Option (EventWord × ℕ)) (ds : Items)
+    → ((r : EventWord × ℕ) → o ≡ Some r → r.1 ≡ 2 + length (event_sorts r.0))
+    → first_of (numbered_faults p n (option_map (λ r. event_sorts r.0) o) ds) ≡ fault_of p (event_named o (numbered_array n t ds))
+event_reported p n t None ds many = wrong_is {A = ReportLine} p Shape (bad Shape) refl
+event_reported p n t (Some r) ds many = event_line_reported n t r ds (many r refl) p
 
 event_word-reported : (p : List ℕ) (n : Data) (w : List ℕ) (ds : Items)
-    → first_of (numbered_faults p n (sorts_of event_table w) ds) ≡ fault_of p (event_named (named event_words w) (item n (item (string w) ds)) ds)
+    → first_of (numbered_faults p n (sorts_of event_table w) ds) ≡ fault_of p (event_named (named event_words w) (numbered_array n w ds))
 event_word-reported p n w ds =
     ap (λ (o : Option (List Sort)). first_of (numbered_faults p n o ds)) (sorts_named (λ (r : EventWord × ℕ). event_sorts r.0) event_words w)
-    ∙ event_reported p n (string w) (named event_words w) ds (λ r is. (event_found w r is).1)
+    ∙ event_reported p n w (named event_words w) ds (λ r is. (event_found w r is).1)
 
 pub line_reported : (p : List ℕ) (d : Data) → first_of (line_faults p d) ≡ fault_of p (line_of d)
 unfolding line_of
@@ -79,38 +76,27 @@ line_reported p _ = wrong_is {A = ReportLine} p Shape (bad Shape) refl
 -- ---- what was read is spelled
 
 event_named-means : (n : Data) (w : List ℕ) (o : Option (EventWord × ℕ)) (ds : Items) (l : ReportLine) → named event_words w ≡ o
-    → event_named o (item n (item (string w) ds)) ds ≡ Ok l → SpellsLine (numbered_array n w ds) l
+    → event_named o (numbered_array n w ds) ≡ Ok l → SpellsLine (numbered_array n w ds) l
 event_named-means n w None ds l is h = cc
 event_named-means n w (Some r) ds l is h =
     let found = event_found w r is in
-    subst (λ (t : List ℕ). SpellsLine (numbered_array n t ds) l) (sym found.0) (event_line_means n (string w) r ds found.1 l h)
-
-event_worded-means : (n : Data) (ds : Items) (o : Option (List ℕ × Items)) (l : ReportLine) → first_word ds ≡ o → event_worded (item n ds) o ≡ Ok l
-    → SpellsLine (array (item n ds)) l
-event_worded-means n ds None l is h = cc
-event_worded-means n ds (Some p) l is h =
-    let e : ds ≡ item (string p.0) p.1 = first_word-is ds p is in
-    let read = subst (λ (es : Items). event_named (named event_words p.0) (item n es) p.1 ≡ Ok l) e h in
-    subst (λ (es : Items). SpellsLine (array (item n es)) l) (sym e) (event_named-means n p.0 (named event_words p.0) p.1 l refl read)
-
-front_means : (a : Data) (o : Option (List ℕ)) (ds : Items) (l : ReportLine) → as_str a ≡ o → line_front a o ds ≡ Ok l → SpellsLine (array
-    (item a ds)) l
-front_means a None ds l is h = event_worded-means a ds (first_word ds) l refl h
-front_means a (Some w) ds l is h =
-    let e : a ≡ string w = text_is a w is in
-    let read = subst (λ (b : Data). standing_worded w (item b ds) ≡ Ok l) e h in
-    subst (λ (b : Data). SpellsLine (array (item b ds)) l) (sym e) (standing.means w ds l read)
+    subst (λ (t : List ℕ). SpellsLine (numbered_array n t ds) l) (sym found.0) (event_line_means n w r ds found.1 l h)
 
 pub line_means : (d : Data) (l : ReportLine) → line_of d ≡ Ok l → SpellsLine d l
 unfolding line_of
-line_means (array (item a ds)) l h = front_means a (as_str a) ds l refl h
+line_means (array (item (string w) ds)) l h = standing.means w ds l h
+line_means (array (item null (item (string w) ds))) l h = event_named-means null w (named event_words w) ds l refl h
+line_means (array (item (boolean b) (item (string w) ds))) l h = event_named-means (boolean b) w (named event_words w) ds l refl h
+line_means (array (item (number n) (item (string w) ds))) l h = event_named-means (number n) w (named event_words w) ds l refl h
+line_means (array (item (array es) (item (string w) ds))) l h = event_named-means (array es) w (named event_words w) ds l refl h
+line_means (array (item (object ms) (item (string w) ds))) l h = event_named-means (object ms) w (named event_words w) ds l refl h
 line_means null l h = cc
 line_means _ l h = cc
 
 -- ---- what is spelled is read
 
 numbered_at : (n : Data) (w : List ℕ) (ds : Items) → as_str n ≡ None → line_of (numbered_array n w ds)
-    ≡ event_named (named event_words w) (item n (item (string w) ds)) ds
+    ≡ event_named (named event_words w) (numbered_array n w ds)
 unfolding line_of
 numbered_at n w ds none = rw none refl
 
@@ -122,8 +108,8 @@ of_event w x parts d s fits =
     let q = numbered_shape d x (event_text w) ((event_row w).row.spell parts) spelled in
     ap line_of q.2
     ∙ numbered_at q.0 (event_text w) q.1 q.4
-    ∙ ap (λ (o : Option (EventWord × ℕ)). event_named o (item q.0 (item (string (event_text w)) q.1)) q.1) (event_named-text w)
-    ∙ event_line_reads q.0 (string (event_text w)) (w, length (event_sorts w)) q.1 refl x parts q.3 q.5 fits
+    ∙ ap (λ (o : Option (EventWord × ℕ)). event_named o (numbered_array q.0 (event_text w) q.1)) (event_named-text w)
+    ∙ event_line_reads q.0 (event_text w) (w, 2 + length (event_sorts w)) q.1 refl x parts q.3 q.5 fits
 
 reply_reads : (d : Data) (n : ℕ) (reply : Reply) → SpellsLine d (Event n (Ok reply)) → line_of d ≡ Ok (Event n (Ok reply))
 reply_reads d n (Started runner) (s, fits) = of_event event.Started n (runner, tt) d s (tt, tt)

@@ -22,7 +22,7 @@ use Rattle.stm_report_lines.specs.FirstFault.{flag_faults, value_faults, or_null
 use Rattle.stm_report_lines.specs.Grammar.{Spells}
 use Rattle.stm_report_lines.specs.LineData.{whole, word, value_data, text_or_null}
 use Rattle.stm_events.specs.Names.{refusal_name}
-use Rattle.stm_report_lines.specs.Parts.{if_there, number_of, flag_of, fault_of as fault_part_of, cause_of, value_from, value_of, or_null_of}
+use Rattle.stm_report_lines.specs.Parts.{or_shape, number_of, flag_of, fault_of as fault_part_of, cause_of, value_from, value_of, or_null_of}
 use Rattle.stm_report_lines.specs.Words.{named, fault_words, refusal_words}
 use Rattle.stm_report_lines.proofs.ReadLaws.{Laws, AnyFits, or_null_laws}
 use Rattle.stm_report_lines.proofs.WordLaws.{name_reported, fault_named-is, fault_named-text, refusal_named-is, refusal_named-text}
@@ -82,7 +82,7 @@ pub flag_reads : (d : Data) (b : Bool) → Spells d (boolean b) → flag_of d �
 unfolding flag_of
 flag_reads d b is = rw is refl
 
-there_is : {A : Type 0} (o : Option A) (x : A) → if_there o ≡ Ok x → o ≡ Some x
+there_is : {A : Type 0} (o : Option A) (x : A) → or_shape o ≡ Ok x → o ≡ Some x
 there_is (Some y) x h = ap Some cc
 there_is None x h = cc
 
@@ -93,12 +93,12 @@ fault_reported p d = name_reported p fault_words (as_str d)
 pub fault_means : (d : Data) (f : Fault) → fault_part_of d ≡ Ok f → Spells d (word (fault_name f))
 unfolding fault_part_of
 fault_means d f h =
-    let t = on_text-is (λ (w : List ℕ). if_there (named fault_words w)) d f h in
+    let t = on_text-is (λ (w : List ℕ). or_shape (named fault_words w)) d f h in
     t.1 ∙ ap string (fault_named-is t.0 f (there_is (named fault_words t.0) f t.2))
 
 pub fault_reads : (d : Data) (f : Fault) → Spells d (word (fault_name f)) → fault_part_of d ≡ Ok f
 unfolding fault_part_of
-fault_reads d f is = ap fault_part_of is ∙ ap (λ (o : Option Fault). if_there o) (fault_named-text f)
+fault_reads d f is = ap fault_part_of is ∙ ap (λ (o : Option Fault). or_shape o) (fault_named-text f)
 
 pub cause_reported : (p : List ℕ) (d : Data) → first_of (faults_by (WordOf refusal_names) p d) ≡ fault_of p (cause_of d)
 unfolding cause_of
@@ -107,12 +107,12 @@ cause_reported p d = name_reported p refusal_words (as_str d)
 pub cause_means : (d : Data) (c : EventRefusal) → cause_of d ≡ Ok c → Spells d (word (refusal_name c))
 unfolding cause_of
 cause_means d c h =
-    let t = on_text-is (λ (w : List ℕ). if_there (named refusal_words w)) d c h in
+    let t = on_text-is (λ (w : List ℕ). or_shape (named refusal_words w)) d c h in
     t.1 ∙ ap string (refusal_named-is t.0 c (there_is (named refusal_words t.0) c t.2))
 
 pub cause_reads : (d : Data) (c : EventRefusal) → Spells d (word (refusal_name c)) → cause_of d ≡ Ok c
 unfolding cause_of
-cause_reads d c is = ap cause_of is ∙ ap (λ (o : Option EventRefusal). if_there o) (refusal_named-text c)
+cause_reads d c is = ap cause_of is ∙ ap (λ (o : Option EventRefusal). or_shape o) (refusal_named-text c)
 
 -- ---- values
 

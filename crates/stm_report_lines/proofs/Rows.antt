@@ -3,21 +3,22 @@
 use Rattle.std.proofs.Common.{◌≡◌, ℕ, suc, ◌+◌, List, [], ◌∷◌, length, map, Bool, true, false, cond, eqb, Option, Ok, Err, refl, sym, ap, subst}
 use Rattle.std.proofs.Common.{◌∙◌, arith}
 use Rattle.std.proofs.lemmas.Bool.Decides.{nat_tests}
-use Rattle.serde_json.specs.Data.{Data, Items, no_items, item}
+use Rattle.serde_json.specs.Data.{Data, array, Items, no_items, item}
+use Rattle.serde_json.specs.Events.{items_len}
+use Rattle.serde_json.specs.Find.{get_item}
 use Rattle.serde_json.specs.View.{items_of}
 use Rattle.stm_json.specs.declared.cause.Cause.TheVariants.{Shape}
 use Rattle.stm_json.specs.Outcome.{Outcome, bad, ◌>>=◌, within}
 use Rattle.stm_json.proofs.OutcomeLemmas.{bind_ok, within_ok}
 use Rattle.stm_json.specs.Faults.{Faults, Sort, By, first_of, wrong, at, faults_by, is_count, parts_faults}
 use Rattle.stm_json.proofs.FaultLemmas.{fault_of, wrong_is, part_then}
-use Rattle.stm_report_lines.specs.Elements.{count, element}
 use Rattle.stm_report_lines.specs.FirstFault.{list_of as list_faults}
 use Rattle.stm_report_lines.specs.Grammar.{Spells, SpellsItems}
 use Rattle.stm_report_lines.specs.LineData.{list}
-use Rattle.stm_report_lines.specs.Parts.{if_there, listed, part_at, exactly}
+use Rattle.stm_report_lines.specs.Parts.{or_shape, listed, part_at, exactly}
 use Rattle.stm_report_lines.proofs.ReadLaws.{Laws, AnyFits, list_laws}
 
--- What may stand as an element of an array: what is read of it, what spells it, and its sort in a table of first faults.
+-- What may stand as an get_item of an array: what is read of it, what spells it, and its sort in a table of first faults.
 pub record Part (A : Type 0) : Type 1 where
   pub read : Data → Outcome A
   pub spell : A → Data
@@ -60,27 +61,27 @@ abbrev pub onto : List Data → Items → Items
 onto [] ds = ds
 onto (d ∷ before) ds = onto before (item d ds)
 
-pub no_more : (k : ℕ) → 0 + k ≡ k
+no_more : (k : ℕ) → 0 + k ≡ k
 no_more k = omega arith
 
-element_onto : (before : List Data) (k : ℕ) (ds : Items) → element (length before + k) (onto before ds) ≡ element k ds
-element_onto [] k ds = ap (λ (i : ℕ). element i ds) (no_more k)
+element_onto : (before : List Data) (k : ℕ) (ds : Items) → get_item (length before + k) (onto before ds) ≡ get_item k ds
+element_onto [] k ds = ap (λ (i : ℕ). get_item i ds) (no_more k)
 element_onto (d ∷ before) k ds =
     let next : suc (length before) + k ≡ length before + suc k = omega arith in
-    ap (λ (i : ℕ). element i (onto before (item d ds))) next ∙ element_onto before (suc k) (item d ds)
+    ap (λ (i : ℕ). get_item i (onto before (item d ds))) next ∙ element_onto before (suc k) (item d ds)
 
 pub part_here : {A : Type 0} (read : Data → Outcome A) (before : List Data) (d : Data) (ds : Items)
-    → part_at (length before) read (onto before (item d ds)) ≡ within (length before) (read d)
+    → part_at (length before) read (array (onto before (item d ds))) ≡ within (length before) (read d)
 unfolding part_at
 part_here read before d ds =
     let first : length before ≡ length before + 0 = omega arith in
-    ap (λ (o : Option Data). if_there o >>= λ e. within (length before) (read e))
-    (ap (λ (i : ℕ). element i (onto before (item d ds))) first ∙ element_onto before 0 (item d ds))
+    ap (λ (o : Option Data). or_shape o >>= λ e. within (length before) (read e))
+    (ap (λ (i : ℕ). get_item i (onto before (item d ds))) first ∙ element_onto before 0 (item d ds))
 
-count_onto : (before : List Data) (ds : Items) → count (onto before ds) ≡ length before + count ds
-count_onto [] ds = sym (no_more (count ds))
+count_onto : (before : List Data) (ds : Items) → items_len (onto before ds) ≡ length before + items_len ds
+count_onto [] ds = sym (no_more (items_len ds))
 count_onto (d ∷ before) ds =
-    let next : length before + suc (count ds) ≡ suc (length before) + count ds = omega arith in
+    let next : length before + suc (items_len ds) ≡ suc (length before) + items_len ds = omega arith in
     count_onto before (item d ds) ∙ next
 
 -- Parts one after the other, whose values are an X, and what is made of them. They are read of a whole array, from an index on.
@@ -88,14 +89,14 @@ pub record Row (X : Type 0) : Type 1 where
   pub sorts : List Sort
   pub spell : X → List Data
   pub Fits : X → Type 0
-  pub read : (Y : Type 0) → ℕ → (X → Y) → Items → Outcome Y
+  pub read : (Y : Type 0) → ℕ → (X → Y) → Data → Outcome Y
   pub reported : (Y : Type 0) (p : List ℕ) (before : List Data) (make : X → Y) (ds : Items) → is_count sorts ds ≡ true
-      → first_of (parts_faults p (length before) sorts ds) ≡ fault_of p (read Y (length before) make (onto before ds))
+      → first_of (parts_faults p (length before) sorts ds) ≡ fault_of p (read Y (length before) make (array (onto before ds)))
   pub means : (Y : Type 0) (before : List Data) (make : X → Y) (ds : Items) (y : Y) → is_count sorts ds ≡ true
-      → read Y (length before) make (onto before ds) ≡ Ok y → (x : X) × (make x ≡ y) × SpellsItems ds (items_of (spell x)) × Fits x
+      → read Y (length before) make (array (onto before ds)) ≡ Ok y → (x : X) × (make x ≡ y) × SpellsItems ds (items_of (spell x)) × Fits x
   pub reads : (Y : Type 0) (before : List Data) (make : X → Y) (ds : Items) (x : X) → SpellsItems ds (items_of (spell x)) → Fits x
-      → (is_count sorts ds ≡ true) × (read Y (length before) make (onto before ds) ≡ Ok (make x))
-  pub maps : (Y Z : Type 0) (i : ℕ) (make : X → Y) (g : Y → Z) (es : Items) → (read Y i make es >>= λ y. Ok (g y)) ≡ read Z i (λ x. g (make x)) es
+      → (is_count sorts ds ≡ true) × (read Y (length before) make (array (onto before ds)) ≡ Ok (make x))
+  pub maps : (Y Z : Type 0) (i : ℕ) (make : X → Y) (g : Y → Z) (e : Data) → (read Y i make e >>= λ y. Ok (g y)) ≡ read Z i (λ x. g (make x)) e
 
 -- ---- no part
 
@@ -128,16 +129,16 @@ bind_same (Ok x) f h g same = same x
 bind_same (Err e) f h g same = refl
 
 module _ {A X : Type 0} (P : Part A) (R : Row X) where
-  abbrev pub read_then : (Y : Type 0) → ℕ → (A × X → Y) → Items → Outcome Y
-  read_then Y i make es = part_at i P.read es >>= λ a. R.read Y (suc i) (λ x. make (a, x)) es
+  abbrev pub read_then : (Y : Type 0) → ℕ → (A × X → Y) → Data → Outcome Y
+  read_then Y i make e = part_at i P.read e >>= λ a. R.read Y (suc i) (λ x. make (a, x)) e
 
-  here : (Y : Type 0) (before : List Data) (make : A × X → Y) (d : Data) (ds : Items) → read_then Y (length before) make (onto before (item d ds))
-      ≡ (within (length before) (P.read d) >>= λ a. R.read Y (length (d ∷ before)) (λ x. make (a, x)) (onto (d ∷ before) ds))
+  here : (Y : Type 0) (before : List Data) (make : A × X → Y) (d : Data) (ds : Items) → read_then Y (length before) make (array (onto before (item d ds)))
+      ≡ (within (length before) (P.read d) >>= λ a. R.read Y (length (d ∷ before)) (λ x. make (a, x)) (array (onto (d ∷ before) ds)))
   here Y before make d ds =
-      ap (λ (o : Outcome A). o >>= λ a. R.read Y (length (d ∷ before)) (λ x. make (a, x)) (onto (d ∷ before) ds)) (part_here P.read before d ds)
+      ap (λ (o : Outcome A). o >>= λ a. R.read Y (length (d ∷ before)) (λ x. make (a, x)) (array (onto (d ∷ before) ds))) (part_here P.read before d ds)
 
   pub then_reported : (Y : Type 0) (p : List ℕ) (before : List Data) (make : A × X → Y) (ds : Items) → is_count (P.sort ∷ R.sorts) ds ≡ true
-      → first_of (parts_faults p (length before) (P.sort ∷ R.sorts) ds) ≡ fault_of p (read_then Y (length before) make (onto before ds))
+      → first_of (parts_faults p (length before) (P.sort ∷ R.sorts) ds) ≡ fault_of p (read_then Y (length before) make (array (onto before ds)))
   then_reported Y p before make no_items h = cc
   then_reported Y p before make (item d ds) h =
       let i : ℕ = length before in
@@ -145,7 +146,7 @@ module _ {A X : Type 0} (P : Part A) (R : Row X) where
       ∙ ap (λ (o : Outcome Y). fault_of p o) (sym (here Y before make d ds))
 
   pub then_means : (Y : Type 0) (before : List Data) (make : A × X → Y) (ds : Items) (y : Y) → is_count (P.sort ∷ R.sorts) ds ≡ true
-      → read_then Y (length before) make (onto before ds) ≡ Ok y
+      → read_then Y (length before) make (array (onto before ds)) ≡ Ok y
       → (x : A × X) × (make x ≡ y) × SpellsItems ds (items_of (P.spell x.0 ∷ R.spell x.1)) × (P.Fits x.0 × R.Fits x.1)
   then_means Y before make no_items y h e = cc
   then_means Y before make (item d ds) y h e =
@@ -156,19 +157,19 @@ module _ {A X : Type 0} (P : Part A) (R : Row X) where
 
   pub then_reads : (Y : Type 0) (before : List Data) (make : A × X → Y) (ds : Items) (x : A × X)
       → SpellsItems ds (items_of (P.spell x.0 ∷ R.spell x.1)) → P.Fits x.0 × R.Fits x.1
-      → (is_count (P.sort ∷ R.sorts) ds ≡ true) × (read_then Y (length before) make (onto before ds) ≡ Ok (make x))
+      → (is_count (P.sort ∷ R.sorts) ds ≡ true) × (read_then Y (length before) make (array (onto before ds)) ≡ Ok (make x))
   then_reads Y before make ds x (d, rest, is, s, more) fits =
       let r = R.reads Y (d ∷ before) (λ (z : X). make (x.0, z)) rest x.1 more fits.1 in
       let one : P.read d ≡ Ok x.0 = P.reads d x.0 s fits.0 in
-      let read = ap (λ (o : Outcome A). within (length before) o >>= λ a. R.read Y (length (d ∷ before)) (λ z. make (a, z)) (onto (d ∷ before) rest)) one in
-      subst (λ (e : Items). (is_count (P.sort ∷ R.sorts) e ≡ true) × (read_then Y (length before) make (onto before e) ≡ Ok (make x))) (sym is)
+      let read = ap (λ (o : Outcome A). within (length before) o >>= λ a. R.read Y (length (d ∷ before)) (λ z. make (a, z)) (array (onto (d ∷ before) rest))) one in
+      subst (λ (e : Items). (is_count (P.sort ∷ R.sorts) e ≡ true) × (read_then Y (length before) make (array (onto before e)) ≡ Ok (make x))) (sym is)
       (r.0, here Y before make d rest ∙ read ∙ r.1)
 
-  pub then_maps : (Y Z : Type 0) (i : ℕ) (make : A × X → Y) (g : Y → Z) (es : Items)
-      → (read_then Y i make es >>= λ y. Ok (g y)) ≡ read_then Z i (λ x. g (make x)) es
-  then_maps Y Z i make g es =
-      bind_same (part_at i P.read es) (λ a. R.read Y (suc i) (λ x. make (a, x)) es) (λ a. R.read Z (suc i) (λ x. g (make (a, x))) es) g
-      (λ a. R.maps Y Z (suc i) (λ x. make (a, x)) g es)
+  pub then_maps : (Y Z : Type 0) (i : ℕ) (make : A × X → Y) (g : Y → Z) (e : Data)
+      → (read_then Y i make e >>= λ y. Ok (g y)) ≡ read_then Z i (λ x. g (make x)) e
+  then_maps Y Z i make g e =
+      bind_same (part_at i P.read e) (λ a. R.read Y (suc i) (λ x. make (a, x)) e) (λ a. R.read Z (suc i) (λ x. g (make (a, x))) e) g
+      (λ a. R.maps Y Z (suc i) (λ x. make (a, x)) g e)
 
 infixr 25 ◌&◌
 abbrev pub ◌&◌ : {A X : Type 0} → Part A → Row X → Row (A × X)
@@ -210,25 +211,24 @@ pub counted_ok : {Y : Type 0} (b : Bool) (o : Outcome Y) (y : Y) → cond b o (b
 counted_ok true o y h = (refl, h)
 counted_ok false o y h = cc
 
-count_is : (sorts : List Sort) (ds : Items) → is_count sorts ds ≡ eqb (count ds) (length sorts)
+count_is : (sorts : List Sort) (ds : Items) → is_count sorts ds ≡ eqb (items_len ds) (length sorts)
 count_is [] no_items = refl
 count_is [] (item d ds) = grind (arith, nat_tests)
 count_is (s ∷ sorts) no_items = grind (arith, nat_tests)
 count_is (s ∷ sorts) (item d ds) = let rest = count_is sorts ds in grind (arith, nat_tests)
 
-all_count : (before : List Data) (sorts : List Sort) (ds : Items) → eqb (count (onto before ds)) (length before + length sorts) ≡ is_count sorts ds
+all_count : (before : List Data) (sorts : List Sort) (ds : Items) → eqb (items_len (onto before ds)) (length before + length sorts) ≡ is_count sorts ds
 all_count before sorts ds =
     let all = count_onto before ds in
     let rest = count_is sorts ds in
     grind (arith, nat_tests)
 
-where_true : {Y : Type 0} (b : Bool) (es : Items) (body : Items → Outcome Y) → (cond b (Ok es) (bad Shape) >>= body) ≡ cond b (body es) (bad Shape)
-where_true true es body = refl
-where_true false es body = refl
+where_true : {Y : Type 0} (b : Bool) (o : Outcome Y) → (cond b (Ok tt) (bad {A = Unit {0}} Shape) >>= λ u. o) ≡ cond b o (bad Shape)
+where_true true o = refl
+where_true false o = refl
 
 -- as many elements come after those before as there are parts
-pub exactly_is : {Y : Type 0} (before : List Data) (sorts : List Sort) (ds : Items) (body : Items → Outcome Y)
-    → (exactly (length before + length sorts) (onto before ds) >>= body) ≡ cond (is_count sorts ds) (body (onto before ds)) (bad Shape)
-exactly_is before sorts ds body =
-    ap (λ (b : Bool). cond b (Ok (onto before ds)) (bad Shape) >>= body) (all_count before sorts ds)
-    ∙ where_true (is_count sorts ds) (onto before ds) body
+pub exactly_is : {Y : Type 0} (before : List Data) (sorts : List Sort) (ds : Items) (o : Outcome Y)
+    → (exactly (length before + length sorts) (array (onto before ds)) >>= λ u. o) ≡ cond (is_count sorts ds) o (bad Shape)
+exactly_is before sorts ds o =
+    ap (λ (b : Bool). cond b (Ok tt) (bad {A = Unit {0}} Shape) >>= λ u. o) (all_count before sorts ds) ∙ where_true (is_count sorts ds) o

@@ -31,7 +31,7 @@ State = List ℕ × (ℕ × (ℕ × (ℕ × (ℕ × Unit {0}))))
 abbrev pub state_form : Form State KeyState 0
 state_form =
     form 0 (text_part & whole_part & whole_part & whole_part & whole_part & nothing) (λ x. state_with x.0 (second x) (third x) (fourth x) (fifth x))
-    state_parts (λ es. refl)
+    state_parts (λ d. refl)
 
 abbrev pub parts_of_state : KeyState → State
 parts_of_state s = (s.value, (s.create_rev, (s.mod_rev, (s.version, (s.lease, tt)))))
@@ -54,7 +54,7 @@ state_or_null_part =
 abbrev pub keyed_form : Form (List ℕ × State) (List ℕ × KeyState) 1
 keyed_form =
     form 1 (text_part & state_form.row) (λ x. (x.0, state_form.make x.1)) keyed_of
-    (λ es. refl)
+    (λ d. refl)
 
 abbrev pub parts_of_keyed : List ℕ → KeyState → List ℕ × State
 parts_of_keyed key s = (key, parts_of_state s)

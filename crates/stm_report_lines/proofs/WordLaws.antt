@@ -12,7 +12,7 @@ use Rattle.stm_json.proofs.FaultLemmas.{fault_of, wrong_is}
 use Rattle.stm_events.specs.declared.refusal.EventRefusal.{EventRefusal}
 use Rattle.stm_events.specs.declared.refusal.EventRefusal.TheVariants as cause
 use Rattle.stm_events.specs.Names.{refusal_name}
-use Rattle.stm_report_lines.specs.Parts.{if_there}
+use Rattle.stm_report_lines.specs.Parts.{or_shape}
 use Rattle.stm_report_lines.specs.Words.{named, fault_words, refusal_words}
 
 -- ---- any list of words
@@ -45,18 +45,18 @@ named-is text (r ∷ rows) w x are h =
     (named-is text rows w x b.1) h
 
 word_tested : {W : Type 0} (p : List ℕ) (b rest : Bool) (y : W) (o : Option W)
-    → first_of (cond rest [] (wrong p Shape)) ≡ fault_of p (if_there o)
-    → first_of (cond (cond b true rest) [] (wrong p Shape)) ≡ fault_of p (if_there (cond b (Some y) o))
+    → first_of (cond rest [] (wrong p Shape)) ≡ fault_of p (or_shape o)
+    → first_of (cond (cond b true rest) [] (wrong p Shape)) ≡ fault_of p (or_shape (cond b (Some y) o))
 word_tested p true rest y o h = refl
 word_tested p false rest y o h = h
 
 pub word_reported : {W : Type 0} (p : List ℕ) (rows : List (List ℕ × W)) (w : List ℕ)
-    → first_of (cond (is_word_of (texts rows) w) [] (wrong p Shape)) ≡ fault_of p (if_there (named rows w))
+    → first_of (cond (is_word_of (texts rows) w) [] (wrong p Shape)) ≡ fault_of p (or_shape (named rows w))
 word_reported {W} p [] w = wrong_is {A = W} p Shape (bad Shape) refl
 word_reported p (r ∷ rows) w = word_tested p (same w r.0) (is_word_of (texts rows) w) r.1 (named rows w) (word_reported p rows w)
 
 pub name_reported : {W : Type 0} (p : List ℕ) (rows : List (List ℕ × W)) (o : Option (List ℕ))
-    → first_of (word_faults (texts rows) p o) ≡ fault_of p (on_text (λ w. if_there (named rows w)) o)
+    → first_of (word_faults (texts rows) p o) ≡ fault_of p (on_text (λ w. or_shape (named rows w)) o)
 name_reported p rows (Some w) = word_reported p rows w
 name_reported {W} p rows None = wrong_is {A = W} p Shape (bad Shape) refl
 

@@ -9,7 +9,7 @@ is_line_feed b = b == 10
 abbrev pub parts_of : List ℕ → List (List ℕ)
 parts_of bytes = slice_split is_line_feed bytes
 
--- the bytes before the first line feed, and those after it; none, where there is no line feed
+-- bytes cut at their first line feed: the first part, and the bytes whose parts are the others; none, where there is one part
 abbrev pub IsCut : List ℕ → Option (List ℕ × List ℕ) → Type 0
 IsCut bytes None = parts_of bytes ≡ bytes ∷ []
 IsCut bytes (Some p) = (parts_of bytes ≡ p.0 ∷ parts_of p.1) × (length p.1 < length bytes)

@@ -1,5 +1,6 @@
--- The first fault of bytes in a report's place, apart from reading: a table says what comes after each word, the faults of all
--- lines are listed in the order of reading, none left out because another comes first, and then the first is taken.
+-- The first fault of bytes in a report's place, apart from reading but for the names, the cut into lines and JSON: a table says what
+-- comes after each word, the faults of all lines are listed in the order of reading, none left out because another comes first, and
+-- then the first is taken.
 use Rattle.std.specs.Prelude.{ℕ, suc, ℤ, List, [], ◌∷◌, ◌++◌, length, map, Option, Some, None, if◌then◌else◌, nat_lt, codes, option_and_then}
 use Rattle.serde_json.specs.Data.{Data, null, boolean, string, array, Items, no_items, item}
 use Rattle.serde_json.specs.Find.{as_number, as_integer}

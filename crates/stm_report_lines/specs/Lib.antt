@@ -1,7 +1,6 @@
 pub mod Words
 pub mod LineData
 pub mod Text
-pub mod Elements
 pub mod Parts
 pub mod Bytes
 pub mod Reading

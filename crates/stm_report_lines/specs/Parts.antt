@@ -1,11 +1,12 @@
 -- Reading the parts of a report's lines: what data spell, or the first fault.
-use Rattle.std.specs.Prelude.{ℕ, List, Bool, Option, Some, None, Ok, is_some, if◌then◌else◌, ◌==◌, codes}
+use Rattle.std.specs.Prelude.{ℕ, List, Bool, false, Option, Some, None, Ok, is_some, option_and_then, if◌then◌else◌, ◌==◌, codes}
 use Rattle.serde_json.specs.Data.{Data, Items}
-use Rattle.serde_json.specs.Find.{as_null, as_bool, as_str, as_array}
+use Rattle.serde_json.specs.Events.{items_len}
+use Rattle.serde_json.specs.Find.{at, as_null, as_bool, as_str, as_array}
 use Rattle.stm_history.specs.declared.key_state.KeyState.{KeyState}
 use Rattle.stm_history.specs.declared.revisions.TheConstants.{HIGHEST_NUMBER}
 use Rattle.stm_json.specs.declared.cause.Cause.TheVariants.{Shape}
-use Rattle.stm_json.specs.Elements.{first_word, number_up_to, whole_number}
+use Rattle.stm_json.specs.Elements.{number_up_to, whole_number}
 use Rattle.stm_json.specs.Outcome.{Outcome, bad, ◌>>=◌, within}
 use Rattle.stm_steps.specs.declared.fault.Fault.{Fault}
 use Rattle.stm_steps.specs.declared.value.Value.{Value}
@@ -21,51 +22,45 @@ use Rattle.stm_events.specs.declared.reply.CommittedRead.{CommittedRead}
 use Rattle.stm_events.specs.declared.reply.KeyRead.{KeyRead}
 use Rattle.stm_events.specs.declared.reply.OpReply.{OpReply}
 use Rattle.stm_events.specs.declared.reply.OpReply.TheVariants as op
-use Rattle.stm_report_lines.specs.Elements.{count, element}
 use Rattle.stm_report_lines.specs.Words.{named, fault_words, refusal_words}
 
--- what stands there, or Shape
-abbrev pub if_there : {A : Type 0} → Option A → Outcome A
-if_there (Some x) = Ok x
-if_there None = bad Shape
+-- what there is, or Shape
+abbrev pub or_shape : {A : Type 0} → Option A → Outcome A
+or_shape (Some x) = Ok x
+or_shape None = bad Shape
 
--- what is read of the element at an index
-unfoldable pub part_at : {A : Type 0} → ℕ → (Data → Outcome A) → Items → Outcome A
-part_at index read ds = if_there (element index ds) >>= λ d. within index (read d)
+-- what is read of the element of an array at an index
+unfoldable pub part_at : {A : Type 0} → ℕ → (Data → Outcome A) → Data → Outcome A
+part_at index read d = or_shape (at index d) >>= λ e. within index (read e)
 
--- the elements of an array
-abbrev pub array_of : Data → Outcome Items
-array_of d = if_there (as_array d)
+-- the text at an index of an array, if there is one
+abbrev pub word_at : ℕ → Data → Option (List ℕ)
+word_at index d = option_and_then as_str (at index d)
 
--- elements, of which there have to be so many
-abbrev pub exactly : ℕ → Items → Outcome Items
-exactly n ds = if count ds == n then Ok ds else bad Shape
+abbrev pub are_so_many : ℕ → Option Items → Bool
+are_so_many n None = false
+are_so_many n (Some ds) = items_len ds == n
+
+-- data are an array of so many elements, or Shape
+abbrev pub exactly : ℕ → Data → Outcome (Unit {0})
+exactly n d = if are_so_many n (as_array d) then Ok tt else bad Shape
 
 -- a list whose elements are read so
 abbrev pub listed : {A : Type 0} → (Data → Outcome A) → Data → Outcome (List A)
 listed read d = list_of read (as_array d)
 
--- the word that elements begin with, and all of them
-abbrev pub with_word : Items → Option (List ℕ × Items) → Outcome (List ℕ × Items)
-with_word ds None = bad Shape
-with_word ds (Some p) = Ok (p.0, ds)
-
--- the same of an array
-abbrev pub worded_of : Data → Outcome (List ℕ × Items)
-worded_of d = array_of d >>= λ ds. with_word ds (first_word ds)
-
--- a number from 0 on
+-- a whole number from 0 to 9223372036854775807
 abbrev pub number_of : Data → Outcome ℕ
 number_of d = number_up_to HIGHEST_NUMBER d
 
 unfoldable pub flag_of : Data → Outcome Bool
-flag_of d = if_there (as_bool d)
+flag_of d = or_shape (as_bool d)
 
 unfoldable pub fault_of : Data → Outcome Fault
-fault_of d = on_text (λ w. if_there (named fault_words w)) (as_str d)
+fault_of d = on_text (λ w. or_shape (named fault_words w)) (as_str d)
 
 unfoldable pub cause_of : Data → Outcome EventRefusal
-cause_of d = on_text (λ w. if_there (named refusal_words w)) (as_str d)
+cause_of d = on_text (λ w. or_shape (named refusal_words w)) (as_str d)
 
 -- a text, or else a whole number of 64 bits with a sign
 abbrev pub value_from : Data → Option (List ℕ) → Outcome Value
@@ -82,19 +77,19 @@ state_with value create_rev mod_rev version lease =
     record { value = value; create_rev = create_rev; mod_rev = mod_rev; version = version; lease = lease }
 
 -- an array of its own
-abbrev pub state_parts : Items → Outcome KeyState
-state_parts ds =
-    exactly 5 ds >>= λ es. part_at 0 text_of es >>= λ value. part_at 1 number_of es >>= λ create_rev. part_at 2 number_of es >>= λ mod_rev.
-    part_at 3 number_of es >>= λ version. part_at 4 number_of es >>= λ lease. Ok (state_with value create_rev mod_rev version lease)
+abbrev pub state_parts : Data → Outcome KeyState
+state_parts d =
+    exactly 5 d >>= λ u. part_at 0 text_of d >>= λ value. part_at 1 number_of d >>= λ create_rev. part_at 2 number_of d >>= λ mod_rev.
+    part_at 3 number_of d >>= λ version. part_at 4 number_of d >>= λ lease. Ok (state_with value create_rev mod_rev version lease)
 
 unfoldable pub state_of : Data → Outcome KeyState
-state_of d = array_of d >>= state_parts
+state_of d = state_parts d
 
 -- a key and what it had, after a word
-abbrev pub keyed_of : Items → Outcome (List ℕ × KeyState)
-keyed_of ds =
-    exactly 7 ds >>= λ es. part_at 1 text_of es >>= λ key. part_at 2 text_of es >>= λ value. part_at 3 number_of es >>= λ create_rev.
-    part_at 4 number_of es >>= λ mod_rev. part_at 5 number_of es >>= λ version. part_at 6 number_of es >>= λ lease.
+abbrev pub keyed_of : Data → Outcome (List ℕ × KeyState)
+keyed_of d =
+    exactly 7 d >>= λ u. part_at 1 text_of d >>= λ key. part_at 2 text_of d >>= λ value. part_at 3 number_of d >>= λ create_rev.
+    part_at 4 number_of d >>= λ mod_rev. part_at 5 number_of d >>= λ version. part_at 6 number_of d >>= λ lease.
     Ok (key, state_with value create_rev mod_rev version lease)
 
 -- null stands for an absent key
@@ -103,81 +98,81 @@ or_null_of read d = if is_some (as_null d) then Ok None else read d >>= λ x. Ok
 
 -- ---- what stands in lists: arrays, or arrays that begin with a word
 
-abbrev pub trace_get_of : Items → Outcome TraceItem
-trace_get_of ds = exactly 3 ds >>= λ es. part_at 1 text_of es >>= λ key. part_at 2 text_of es >>= λ value. Ok (trace.Get key value)
+abbrev pub trace_get_of : Data → Outcome TraceItem
+trace_get_of d = exactly 3 d >>= λ u. part_at 1 text_of d >>= λ key. part_at 2 text_of d >>= λ value. Ok (trace.Get key value)
 
-abbrev pub trace_rev_of : Items → Outcome TraceItem
-trace_rev_of ds = exactly 3 ds >>= λ es. part_at 1 text_of es >>= λ key. part_at 2 number_of es >>= λ mod_rev. Ok (trace.Rev key mod_rev)
+abbrev pub trace_rev_of : Data → Outcome TraceItem
+trace_rev_of d = exactly 3 d >>= λ u. part_at 1 text_of d >>= λ key. part_at 2 number_of d >>= λ mod_rev. Ok (trace.Rev key mod_rev)
 
-abbrev pub trace_worded : List ℕ → Items → Outcome TraceItem
-trace_worded w ds =
-    if same w (codes "get") then trace_get_of ds
-    else (if same w (codes "rev") then trace_rev_of ds
+abbrev pub trace_worded : List ℕ → Data → Outcome TraceItem
+trace_worded w d =
+    if same w (codes "get") then trace_get_of d
+    else (if same w (codes "rev") then trace_rev_of d
     else bad Shape)
 
 unfoldable pub trace_of : Data → Outcome TraceItem
-trace_of d = worded_of d >>= λ p. trace_worded p.0 p.1
+trace_of d = or_shape (word_at 0 d) >>= λ w. trace_worded w d
 
 abbrev pub answer_with : List ℕ → Option (List ℕ) → ℕ → ℕ → CommittedRead
 answer_with key value mod_rev of_rev = record { key = key; value = value; mod_rev = mod_rev; of_rev = of_rev }
 
-abbrev pub answer_parts : Items → Outcome CommittedRead
-answer_parts ds =
-    exactly 4 ds >>= λ es. part_at 0 text_of es >>= λ key. part_at 1 (or_null_of text_of) es >>= λ value. part_at 2 number_of es >>= λ mod_rev.
-    part_at 3 number_of es >>= λ of_rev. Ok (answer_with key value mod_rev of_rev)
+abbrev pub answer_parts : Data → Outcome CommittedRead
+answer_parts d =
+    exactly 4 d >>= λ u. part_at 0 text_of d >>= λ key. part_at 1 (or_null_of text_of) d >>= λ value. part_at 2 number_of d >>= λ mod_rev.
+    part_at 3 number_of d >>= λ of_rev. Ok (answer_with key value mod_rev of_rev)
 
 unfoldable pub answer_of : Data → Outcome CommittedRead
-answer_of d = array_of d >>= answer_parts
+answer_of d = answer_parts d
 
-abbrev pub op_get_of : Items → Outcome OpReply
-op_get_of ds = exactly 3 ds >>= λ es. part_at 1 number_of es >>= λ revision. part_at 2 (or_null_of state_of) es >>= λ kv. Ok (op.Get revision kv)
+abbrev pub op_get_of : Data → Outcome OpReply
+op_get_of d = exactly 3 d >>= λ u. part_at 1 number_of d >>= λ revision. part_at 2 (or_null_of state_of) d >>= λ kv. Ok (op.Get revision kv)
 
-abbrev pub op_put_of : Items → Outcome OpReply
-op_put_of ds = exactly 1 ds >>= λ es. Ok op.Put
+abbrev pub op_put_of : Data → Outcome OpReply
+op_put_of d = exactly 1 d >>= λ u. Ok op.Put
 
 -- a delete deletes one key at most
-abbrev pub op_del_of : Items → Outcome OpReply
-op_del_of ds = exactly 2 ds >>= λ es. part_at 1 (number_up_to 1) es >>= λ count. Ok (op.Del count)
+abbrev pub op_del_of : Data → Outcome OpReply
+op_del_of d = exactly 2 d >>= λ u. part_at 1 (number_up_to 1) d >>= λ deleted. Ok (op.Del deleted)
 
-abbrev pub op_worded : List ℕ → Items → Outcome OpReply
-op_worded w ds =
-    if same w (codes "get") then op_get_of ds
-    else (if same w (codes "put") then op_put_of ds
-    else (if same w (codes "del") then op_del_of ds
+abbrev pub op_worded : List ℕ → Data → Outcome OpReply
+op_worded w d =
+    if same w (codes "get") then op_get_of d
+    else (if same w (codes "put") then op_put_of d
+    else (if same w (codes "del") then op_del_of d
     else bad Shape))
 
 unfoldable pub op_of : Data → Outcome OpReply
-op_of d = worded_of d >>= λ p. op_worded p.0 p.1
+op_of d = or_shape (word_at 0 d) >>= λ w. op_worded w d
 
-abbrev pub read_with : List ℕ → ℕ → KeyRead
-read_with key mod_rev = record { key = key; mod_rev = mod_rev }
+abbrev pub key_read_with : List ℕ → ℕ → KeyRead
+key_read_with key mod_rev = record { key = key; mod_rev = mod_rev }
 
-abbrev pub read_parts : Items → Outcome KeyRead
-read_parts ds = exactly 2 ds >>= λ es. part_at 0 text_of es >>= λ key. part_at 1 number_of es >>= λ mod_rev. Ok (read_with key mod_rev)
+abbrev pub key_read_parts : Data → Outcome KeyRead
+key_read_parts d = exactly 2 d >>= λ u. part_at 0 text_of d >>= λ key. part_at 1 number_of d >>= λ mod_rev. Ok (key_read_with key mod_rev)
 
-unfoldable pub read_of : Data → Outcome KeyRead
-read_of d = array_of d >>= read_parts
+unfoldable pub key_read_of : Data → Outcome KeyRead
+key_read_of d = key_read_parts d
 
 abbrev pub expired_with : ℕ → ℕ → Expired
 expired_with id revision = record { id = id; revision = revision }
 
-abbrev pub expired_parts : Items → Outcome Expired
-expired_parts ds = exactly 2 ds >>= λ es. part_at 0 number_of es >>= λ id. part_at 1 number_of es >>= λ revision. Ok (expired_with id revision)
+abbrev pub expired_parts : Data → Outcome Expired
+expired_parts d = exactly 2 d >>= λ u. part_at 0 number_of d >>= λ id. part_at 1 number_of d >>= λ revision. Ok (expired_with id revision)
 
 unfoldable pub expired_of : Data → Outcome Expired
-expired_of d = array_of d >>= expired_parts
+expired_of d = expired_parts d
 
-abbrev pub event_put_of : Items → Outcome Event
-event_put_of ds = keyed_of ds >>= λ p. Ok (event.Put p.0 p.1)
+abbrev pub watched_put_of : Data → Outcome Event
+watched_put_of d = keyed_of d >>= λ p. Ok (event.Put p.0 p.1)
 
-abbrev pub event_delete_of : Items → Outcome Event
-event_delete_of ds = exactly 3 ds >>= λ es. part_at 1 text_of es >>= λ key. part_at 2 number_of es >>= λ revision. Ok (event.Delete key revision)
+abbrev pub watched_delete_of : Data → Outcome Event
+watched_delete_of d = exactly 3 d >>= λ u. part_at 1 text_of d >>= λ key. part_at 2 number_of d >>= λ revision. Ok (event.Delete key revision)
 
-abbrev pub event_worded : List ℕ → Items → Outcome Event
-event_worded w ds =
-    if same w (codes "PUT") then event_put_of ds
-    else (if same w (codes "DELETE") then event_delete_of ds
+abbrev pub watched_worded : List ℕ → Data → Outcome Event
+watched_worded w d =
+    if same w (codes "PUT") then watched_put_of d
+    else (if same w (codes "DELETE") then watched_delete_of d
     else bad Shape)
 
-unfoldable pub event_of : Data → Outcome Event
-event_of d = worded_of d >>= λ p. event_worded p.0 p.1
+unfoldable pub watched_of : Data → Outcome Event
+watched_of d = or_shape (word_at 0 d) >>= λ w. watched_worded w d

@@ -18,37 +18,37 @@ abbrev pub named : {W : Type 0} → List (List ℕ × W) → List ℕ → Option
 named [] w = None
 named (row ∷ rows) w = if same w row.0 then Some row.1 else named rows w
 
--- the words of events' lines: the kind of the line, and how many elements come after the word
+-- the words of events' lines: the kind of the line, and how many elements it has
 abbrev pub event_words : List (List ℕ × (EventWord × ℕ))
 event_words =
-    (codes "started", (Started, 1))
-    ∷ (codes "prefetched", (Prefetched, 3))
-    ∷ (codes "fetched", (Fetched, 5))
-    ∷ (codes "committed", (Committed, 6))
-    ∷ (codes "conflict", (Conflict, 4))
-    ∷ (codes "gaveup", (GaveUp, 5))
-    ∷ (codes "aborted", (Aborted, 2))
-    ∷ (codes "faulted", (Faulted, 2))
-    ∷ (codes "ended", (Ended, 2))
-    ∷ (codes "txn", (Txn, 3))
-    ∷ (codes "granted", (Granted, 1))
-    ∷ (codes "kept", (Kept, 1))
-    ∷ (codes "revoked", (Revoked, 2))
-    ∷ (codes "advanced", (Advanced, 2))
-    ∷ (codes "compacted", (Compacted, 1))
-    ∷ (codes "watching", (Watching, 1))
-    ∷ (codes "cancelled", (Cancelled, 1))
-    ∷ (codes "batch", (Batch, 3))
-    ∷ (codes "lost", (Lost, 2))
-    ∷ (codes "refused", (Refused, 2))
+    (codes "started", (Started, 3))
+    ∷ (codes "prefetched", (Prefetched, 5))
+    ∷ (codes "fetched", (Fetched, 7))
+    ∷ (codes "committed", (Committed, 8))
+    ∷ (codes "conflict", (Conflict, 6))
+    ∷ (codes "gaveup", (GaveUp, 7))
+    ∷ (codes "aborted", (Aborted, 4))
+    ∷ (codes "faulted", (Faulted, 4))
+    ∷ (codes "ended", (Ended, 4))
+    ∷ (codes "txn", (Txn, 5))
+    ∷ (codes "granted", (Granted, 3))
+    ∷ (codes "kept", (Kept, 3))
+    ∷ (codes "revoked", (Revoked, 4))
+    ∷ (codes "advanced", (Advanced, 4))
+    ∷ (codes "compacted", (Compacted, 3))
+    ∷ (codes "watching", (Watching, 3))
+    ∷ (codes "cancelled", (Cancelled, 3))
+    ∷ (codes "batch", (Batch, 5))
+    ∷ (codes "lost", (Lost, 4))
+    ∷ (codes "refused", (Refused, 4))
     ∷ []
 
--- each fault with its name
+-- each name of a fault, with the fault
 abbrev pub fault_words : List (List ℕ × Fault)
 fault_words =
     map (λ f. (fault_name f, f)) (Kind ∷ Overflow ∷ ZeroDivisor ∷ NotANumber ∷ LoopTooLong ∷ TurnLimit ∷ TextTooLong ∷ EmptyKey ∷ [])
 
--- each refusal with its name: a program's faults, and the other refusals
+-- each name of a refusal, with the refusal: a program's faults, and the other refusals
 abbrev pub refusal_words : List (List ℕ × EventRefusal)
 refusal_words =
     map (λ c. (refusal_name c, c)) (cause.Kind ∷ cause.Overflow ∷ cause.ZeroDivisor ∷ cause.NotANumber ∷ cause.LoopTooLong ∷ cause.TurnLimit

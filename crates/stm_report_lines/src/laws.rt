@@ -8,8 +8,8 @@ pub fn lines_read_back()
     ensures { LinesReadBack }
 {}
 
-/// A refusal has one name, in the lines of a report and wherever else it is printed, and so has a fault. A word of a report is read as a refusal,
-/// or as a fault, exactly where it is its name.
+/// A store's refusal has one name, in the lines of a report and wherever else it is printed, and so has a program's fault. A word of a report is
+/// read as a refusal, or as a fault, exactly where it is its name.
 pub fn names_agree()
     ensures { NamesAgree }
 {}

@@ -4,11 +4,11 @@
 //! `written_*` write. No line has a number that is not whole.
 #![tactic(auto)]
 
-mod elements;
 mod event_lines;
 pub mod laws;
 mod lines;
 mod parts;
+mod readable;
 mod reading;
 mod text;
 mod words;

@@ -39,7 +39,7 @@ fn line_at(alloc: Global, index: usize, bytes: &[u8]) -> Result<ReportLine, Read
     within(alloc, index, line_of_bytes(alloc, bytes))
 }
 
-/// What comes before the first line feed, and what comes after it.
+/// What comes before the first line feed, and what comes after it; `None` where there is none.
 fn first_part(bytes: &[u8]) -> Option<(&[u8], &[u8])>
     ensures { IsCut bytes.now (option_map (λ p. (p.0.now, p.1.now)) result) }
 {
@@ -51,12 +51,14 @@ fn first_part(bytes: &[u8]) -> Option<(&[u8], &[u8])>
 fn rest_at(alloc: Global, index: usize, rest: &[u8]) -> Result<(), ReadError>
     ensures { Returns (λ _. []) result (within_list index (rest_of rest.now)) }
 {
-    match rest.split_first() {
-        None => Ok(()),
-        Some(_) => within(alloc, index, Err(fault(alloc, Cause::Shape))),
+    if rest.is_empty() {
+        Ok(())
+    } else {
+        within(alloc, index, Err(fault(alloc, Cause::Shape)))
     }
 }
 
+/// The lines of bytes, and nothing after the last line feed.
 fn each_line(alloc: Global, bytes: &[u8]) -> Result<Vec<ReportLine>, ReadError>
     ensures { Returns (λ v. v.items) result (lines_from 0 (parts_of bytes.now)) }
 {

@@ -45,31 +45,31 @@ fn found<W: Copy>(rows: &[(&str, W)], word: &str) -> Option<W>
     }
 }
 
-/// The words of the lines of events: the kind of the line, and how many elements come after the word.
+/// The words of the lines of events: the kind of the line, and how many elements it has.
 static EVENT_WORDS: [(&str, (EventWord, usize)); 20] = [
-    ("started", (EventWord::Started, 1)),
-    ("prefetched", (EventWord::Prefetched, 3)),
-    ("fetched", (EventWord::Fetched, 5)),
-    ("committed", (EventWord::Committed, 6)),
-    ("conflict", (EventWord::Conflict, 4)),
-    ("gaveup", (EventWord::GaveUp, 5)),
-    ("aborted", (EventWord::Aborted, 2)),
-    ("faulted", (EventWord::Faulted, 2)),
-    ("ended", (EventWord::Ended, 2)),
-    ("txn", (EventWord::Txn, 3)),
-    ("granted", (EventWord::Granted, 1)),
-    ("kept", (EventWord::Kept, 1)),
-    ("revoked", (EventWord::Revoked, 2)),
-    ("advanced", (EventWord::Advanced, 2)),
-    ("compacted", (EventWord::Compacted, 1)),
-    ("watching", (EventWord::Watching, 1)),
-    ("cancelled", (EventWord::Cancelled, 1)),
-    ("batch", (EventWord::Batch, 3)),
-    ("lost", (EventWord::Lost, 2)),
-    ("refused", (EventWord::Refused, 2)),
+    ("started", (EventWord::Started, 3)),
+    ("prefetched", (EventWord::Prefetched, 5)),
+    ("fetched", (EventWord::Fetched, 7)),
+    ("committed", (EventWord::Committed, 8)),
+    ("conflict", (EventWord::Conflict, 6)),
+    ("gaveup", (EventWord::GaveUp, 7)),
+    ("aborted", (EventWord::Aborted, 4)),
+    ("faulted", (EventWord::Faulted, 4)),
+    ("ended", (EventWord::Ended, 4)),
+    ("txn", (EventWord::Txn, 5)),
+    ("granted", (EventWord::Granted, 3)),
+    ("kept", (EventWord::Kept, 3)),
+    ("revoked", (EventWord::Revoked, 4)),
+    ("advanced", (EventWord::Advanced, 4)),
+    ("compacted", (EventWord::Compacted, 3)),
+    ("watching", (EventWord::Watching, 3)),
+    ("cancelled", (EventWord::Cancelled, 3)),
+    ("batch", (EventWord::Batch, 5)),
+    ("lost", (EventWord::Lost, 4)),
+    ("refused", (EventWord::Refused, 4)),
 ];
 
-/// Which event's line has a word, if any has, and how many elements come after the word.
+/// Which event's line has a word, if any has, and how many elements the line has.
 pub(crate) fn event_word(word: &str) -> Option<(EventWord, usize)>
     ensures { result ≡ named event_words word.now }
 {
@@ -77,7 +77,7 @@ pub(crate) fn event_word(word: &str) -> Option<(EventWord, usize)>
 }
 
 /// The names of faults.
-static FAULT_NAMES: [(&str, Fault); 8] = [
+static FAULT_WORDS: [(&str, Fault); 8] = [
     ("Kind", Fault::Kind),
     ("Overflow", Fault::Overflow),
     ("ZeroDivisor", Fault::ZeroDivisor),
@@ -92,11 +92,11 @@ static FAULT_NAMES: [(&str, Fault); 8] = [
 pub(crate) fn fault_named(word: &str) -> Option<Fault>
     ensures { result ≡ named fault_words word.now }
 {
-    found(&FAULT_NAMES, word)
+    found(&FAULT_WORDS, word)
 }
 
 /// The names of refusals.
-static REFUSAL_NAMES: [(&str, EventRefusal); 25] = [
+static REFUSAL_WORDS: [(&str, EventRefusal); 25] = [
     ("Kind", EventRefusal::Kind),
     ("Overflow", EventRefusal::Overflow),
     ("ZeroDivisor", EventRefusal::ZeroDivisor),
@@ -125,8 +125,8 @@ static REFUSAL_NAMES: [(&str, EventRefusal); 25] = [
 ];
 
 /// The refusal of a name, if there is one.
-pub(crate) fn refusal_name(word: &str) -> Option<EventRefusal>
+pub(crate) fn refusal_named(word: &str) -> Option<EventRefusal>
     ensures { result ≡ named refusal_words word.now }
 {
-    found(&REFUSAL_NAMES, word)
+    found(&REFUSAL_WORDS, word)
 }

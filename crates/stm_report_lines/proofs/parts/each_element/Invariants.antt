@@ -7,5 +7,5 @@ use Rattle.stm_report_lines.proofs.parts.each_element.Given as goal
 -- those so far, and then what is read of the rest
 abbrev pub invariant-loop-index : goal.invariant-loop-index
 invariant-loop-index g l =
-    with_front l.elements.items (each_from g.T.Element.reading l.index (items_view (drop l.index l.values)))
-    ≡ each_from g.T.Element.reading 0 (items_view l.values)
+    with_front l.elements.items (each_from g.T.Readable.reading l.index (items_view (drop l.index l.values)))
+    ≡ each_from g.T.Readable.reading 0 (items_view l.values)

@@ -46,6 +46,7 @@ pub use report_text::report;
 pub use run_script::{ScriptFault, script};
 pub use stm_check::{CheckFault, Checked, WrongCause, check};
 pub use stm_devices::{DeviceFault, Sink, Source, Std, write_all};
+pub use stm_entries::{Entry, LiveLease};
 pub use stm_events::{
     CommittedRead, Event, EventRefusal, Expired, Fault, KeyRead, OpReply, TraceItem, Value,
 };

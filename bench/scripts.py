@@ -46,10 +46,12 @@ def asked_costs(description):
 
 @contextlib.contextmanager
 def asked_refusals(description):
-    """Scripts with refusals of the program that the command line names."""
-    given = parser_of(description).parse_args()
+    """Scripts with refusals of the program that the command line names, and whether their allocations are only to be counted."""
+    parser = parser_of(description)
+    parser.add_argument("--count", action="store_true", help="only count allocations, and make none fail")
+    given = parser.parse_args()
     with tempfile.TemporaryDirectory() as folder:
-        yield Refusals(given.program or proved(), folder)
+        yield Refusals(given.program or proved(), folder), given.count
 
 
 def timed(words, out, memory=None, seconds=None):

@@ -117,8 +117,7 @@ class Refusals:
         env = {**os.environ, "LD_PRELOAD": self.library, "REFUSE": str(growth)}
         ran = subprocess.run([self.program, *words], cwd=folder, input=given.encode(), env=env, capture_output=True, timeout=60, check=False)
         said = ran.stderr.decode().splitlines()
-        met = said[:1] == ["growth refused"]
-        return ran.returncode, ran.stdout.decode(), said[1:] if met else said, met
+        return ran.returncode, ran.stdout.decode(), [it for it in said if it != "growth refused"], "growth refused" in said
 
     def run(self, scenario, growth):
         """The same of a script of a scenario."""

@@ -6,7 +6,7 @@ use crate::allowed::{described, noun, parts_after, words_allowed};
 use crate::forms::{Input, Part, Parts};
 use crate::offsets::{line_length, line_start, offset_of};
 use crate::position::position_of;
-use crate::syntax::{json_of, reported_of_bytes};
+use crate::syntax::json_of;
 use crate::values::shown;
 use crate::walking::{Found, steps_of, walk};
 use serde_json::Value;
@@ -189,14 +189,14 @@ fn reported_of_value(
     alloc: Global,
     input: Input,
     text: &str,
-    json: &Value,
+    value: &Value,
     steps: &[usize],
     cause: Cause,
 ) -> Result<Explained, AllocError>
     ensures { IfOk result (λ reported. reported.offset ≤ length text.now) }
 {
     let offset = offset_of(alloc, text, steps)?;
-    match walk(whole_of(input), json, steps) {
+    match walk(whole_of(input), value, steps) {
         Some(Found { part, value }) => {
             let part = wanted(input, part);
             let words = words_of(alloc, input, Found { part, value }, cause)?;
@@ -206,23 +206,7 @@ fn reported_of_value(
     }
 }
 
-/// What is said of a fault of a text; where it is no JSON, that it is none.
-fn reported_in_text(
-    alloc: Global,
-    input: Input,
-    text: &str,
-    steps: &[usize],
-    cause: Cause,
-) -> Result<Explained, AllocError>
-    ensures { IfOk result (λ reported. reported.offset ≤ length text.now) }
-{
-    match json_of(alloc, text)? {
-        Ok(json) => reported_of_value(alloc, input, text, &json, steps, cause),
-        Err(reported) => Ok(reported),
-    }
-}
-
-/// What is said of a fault of bytes; where they are no text, that they are none.
+/// What is said of a fault of a text; where the text is no JSON, that it is none.
 fn reported_in(
     alloc: Global,
     input: Input,
@@ -232,9 +216,13 @@ fn reported_in(
 ) -> Result<Explained, AllocError>
     ensures { IfOk result (λ reported. reported.offset ≤ length text.now) }
 {
+    let value = match json_of(alloc, text)? {
+        Ok(value) => value,
+        Err(reported) => return Ok(reported),
+    };
     match std::str::from_utf8(text) {
-        Ok(text) => reported_in_text(alloc, input, text, steps, cause),
-        Err(error) => reported_of_bytes(alloc, text, error.valid_up_to()),
+        Ok(text) => reported_of_value(alloc, input, text, &value, steps, cause),
+        Err(_) => unreachable!(),
     }
 }
 

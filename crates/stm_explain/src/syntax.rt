@@ -1,6 +1,5 @@
 //! What is wrong with a text that is no JSON.
-ghost use Rattle.std.specs.Prelude.{◌≡◌, ◌≤◌, length, IfOk, IfErr, Some, None};
-ghost use Rattle.serde_json.specs.View.{view};
+ghost use Rattle.std.specs.Prelude.{◌≡◌, ◌≤◌, length, IfErr, IfOk, IsUtf8, None};
 ghost use Rattle.serde_json.specs.Read.{read_text};
 
 use crate::explaining::Explained;
@@ -10,8 +9,6 @@ use std::alloc::{AllocError, Global};
 
 /// How deep arrays and objects may nest.
 const MOST_DEPTH: usize = 127;
-
-const NO_MARK: &str = "no JSON: a byte order mark cannot stand here";
 
 /// How many arrays and objects are still open after these bytes.
 fn depth_after(bytes: &[u8]) -> usize {
@@ -76,11 +73,14 @@ fn found_text(alloc: Global, byte: u8) -> Result<String, AllocError> {
 }
 
 /// What is wrong at an offset of a text whose value does not end too early.
-fn reason_at(alloc: Global, text: &str, offset: usize) -> Result<String, AllocError>
+fn reason_at(alloc: Global, text: &[u8], offset: usize) -> Result<String, AllocError>
     requires { offset ≤ length text.now }
 {
-    let (before, rest) = text.as_bytes().split_at(offset);
+    let (before, rest) = text.split_at(offset);
     let depth = depth_after(before);
+    if std::str::from_utf8(text).is_err() {
+        return String::from_str(alloc, "no JSON: what stands here is not UTF-8");
+    }
     if depth > MOST_DEPTH {
         return String::from_str(alloc, "no JSON: nested deeper than 127");
     }
@@ -94,11 +94,11 @@ fn reason_at(alloc: Global, text: &str, offset: usize) -> Result<String, AllocEr
 }
 
 /// What is wrong, by what JSON's reader says of it.
-fn reason(alloc: Global, text: &str, offset: usize, error: &Error) -> Result<String, AllocError>
+fn reason(alloc: Global, text: &[u8], offset: usize, error: &Error) -> Result<String, AllocError>
     requires { offset ≤ length text.now }
 {
-    if has_mark(text.as_bytes()) {
-        return String::from_str(alloc, NO_MARK);
+    if has_mark(text) {
+        return String::from_str(alloc, "no JSON: a byte order mark cannot stand here");
     }
     if error.is_eof() {
         return String::from_str(alloc, "no JSON: the text ends before its value does");
@@ -111,35 +111,24 @@ fn reason(alloc: Global, text: &str, offset: usize, error: &Error) -> Result<Str
 }
 
 /// Where JSON's reader stopped.
-fn stop_of(text: &str, error: &Error) -> usize
+fn stop_of(text: &[u8], error: &Error) -> usize
     ensures { result ≤ length text.now }
 {
     if error.is_eof() {
         return text.len();
     }
-    let start = line_start(text.as_bytes(), error.line().saturating_sub(1));
+    let start = line_start(text, error.line().saturating_sub(1));
     let column = error.column().saturating_sub(1);
     start.saturating_add(column).min(text.len())
 }
 
-/// What is said of bytes that are no text, of which the first so many are one.
-pub(crate) fn reported_of_bytes(alloc: Global, bytes: &[u8], valid: usize) -> Result<Explained, AllocError>
-    ensures { IfOk result (λ reported. reported.offset ≡ valid) }
-{
-    if has_mark(bytes) {
-        Explained::new(alloc, valid, NO_MARK)
-    } else {
-        Explained::new(alloc, valid, "no JSON: what stands here is not UTF-8")
-    }
-}
-
 /// What a text of JSON holds; of one that is none, what is wrong with it, and where. It fails where an allocation failed.
-pub(crate) fn json_of(alloc: Global, text: &str) -> Result<Result<Value, Explained>, AllocError>
-    ensures holds { IfOk result (λ read. IfOk read (λ json. read_text text.now ≡ Some (view json))) }
-    ensures wrong { IfOk result (λ read. IfErr read (λ reported. read_text text.now ≡ None)) }
+pub(crate) fn json_of(alloc: Global, text: &[u8]) -> Result<Result<Value, Explained>, AllocError>
+    ensures holds { IfOk result (λ read. IfOk read (λ json. IsUtf8 text.now)) }
+    ensures none { IfOk result (λ read. IfErr read (λ reported. IsUtf8 text.now → read_text text.now ≡ None)) }
     ensures offset { IfOk result (λ read. IfErr read (λ reported. reported.offset ≤ length text.now)) }
 {
-    match Value::from_str(alloc, text) {
+    match Value::from_slice(alloc, text) {
         Ok(json) => Ok(Ok(json)),
         Err(error) => {
             if error.is_memory() {

@@ -4,6 +4,7 @@ import (
 	"context"
 	"errors"
 	"fmt"
+	"time"
 
 	"go.etcd.io/etcd/clientv3"
 	"go.etcd.io/etcd/clientv3/concurrency"
@@ -80,17 +81,31 @@ type running struct {
 
 var errGivenUp = errors.New("given up")
 
+// patience is how long a run waits for a member that lags.
+const patience = 5 * time.Millisecond
+
 // Run runs a program at a level by concurrency.NewSTM, and says how it ended. Where it has an error, nothing was committed, unless the error is an Unknown.
+//
+// In a cluster a fetch at an attempt's first revision may come to a member that has not reached it yet. NewSTM ends then; Run waits and begins the attempt again.
 func Run(ctx context.Context, client *clientv3.Client, program *Program, level Level, options ...Option) (Result, error) {
 	r := &running{program: program}
 	for _, option := range options {
 		option(r)
 	}
-	response, err := concurrency.NewSTM(client, r.apply, concurrency.WithIsolation(level), concurrency.WithAbortContext(ctx))
-	if err != nil {
-		return r.ended(err)
+	for {
+		response, err := concurrency.NewSTM(client, r.apply, concurrency.WithIsolation(level), concurrency.WithAbortContext(ctx))
+		switch {
+		case err == nil:
+			return r.result(IsCommitted, "", response.Header.Revision), nil
+		case r.isCommitting || rpctypes.Error(err) != rpctypes.ErrFutureRev:
+			return r.ended(err)
+		}
+		select {
+		case <-ctx.Done():
+			return Result{}, ctx.Err()
+		case <-time.After(patience):
+		}
 	}
-	return r.result(IsCommitted, "", response.Header.Revision), nil
 }
 
 // apply is one attempt. The program's list is read as WithPrefetch does it, but here, so that an error tells a fetch from a commit.

@@ -130,6 +130,21 @@ func TestRefusals(t *testing.T) {
 	}
 }
 
+// A member that lags behind the attempt's first revision refuses a fetch: the attempt is begun again, and no commit is counted for it.
+func TestLaggingMembers(t *testing.T) {
+	s, lags := newStore(), 3
+	s.before = func(_ *store, isCommit bool) error {
+		if !isCommit && lags > 0 {
+			lags--
+			return rpctypes.ErrFutureRev
+		}
+		return nil
+	}
+	if got := lineOf(t, s, increment, "Serializable", WithAttempts(1)); got != `["committed",2,1,["0"],[["get","n",""]]]` {
+		t.Error(got)
+	}
+}
+
 // A commit without an answer may have been made; a fetch without one, a refusal for want of space, and a commit that writes nothing, have changed nothing.
 func TestLostAnswers(t *testing.T) {
 	run := func(s *store, text string) error {

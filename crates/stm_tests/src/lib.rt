@@ -15,6 +15,8 @@ mod leases;
 #[cfg(test)]
 mod lists;
 #[cfg(test)]
+mod logged;
+#[cfg(test)]
 mod meaning;
 #[cfg(test)]
 mod player;

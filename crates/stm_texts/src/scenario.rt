@@ -64,9 +64,10 @@ impl Opening {
         self.revision
     }
 
-    /// The limit of operations.
+    /// The limit of operations. It and the revision are all that there is.
     pub fn operations(self) -> usize
         ensures same { result ≡ self.limit }
+        ensures whole { setup_at self.revision result ≡ self }
         ensures some { 1 ≤ result }
         ensures few { result ≤ most_operations }
     {

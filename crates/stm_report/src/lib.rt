@@ -38,8 +38,9 @@ pub use format_row::{Lane, Mark, Row};
 pub use format_rows::rows_of;
 pub use format_script::{render, script_as};
 pub use laws::{
-    checks_say_yes, never_no_to_a_script, one_report, reports_are_of_right_runs,
-    reports_are_read_back, scripts_are_read_as_right, scripts_pass_checks, yes_to_a_script,
+    checks_say_yes, entries_are_reported, never_no_to_a_script, one_report,
+    reports_are_of_right_runs, reports_are_read_back, scripts_are_read_as_right,
+    scripts_pass_checks, yes_to_a_script,
 };
 pub use leases::live_leases;
 pub use report_text::report;

@@ -54,7 +54,7 @@ pub use stm_events::{
 pub use stm_history::{KeyState, Sequence, Text};
 pub use stm_report_lines::{Report, ReportLine, read_report};
 pub use stm_retry::{Denied, Reply, World};
-pub use stm_texts::{BadInput, Cause, ReadError, Scenario, WorldEvent, read_scenario};
+pub use stm_texts::{BadInput, Cause, Opening, ReadError, Scenario, WorldEvent, read_scenario};
 pub use whole_comparing::WholeChecked;
 pub use whole_judging::check_whole;
 pub use whole_laws::{alike_is_equal, yes_is_the_report};

@@ -46,10 +46,16 @@ impl Opening {
     pub fn of(revision: u64, operations: usize) -> Option<Opening>
         ensures { SomeIff result (IsSetup (setup_at revision operations)) (setup_at revision operations) }
     {
-        if revision < 1 || revision > HIGHEST_REVISION {
+        if revision < 1 {
             return None;
         }
-        if operations < 1 || operations > MOST_OPERATIONS {
+        if revision > HIGHEST_REVISION {
+            return None;
+        }
+        if operations < 1 {
+            return None;
+        }
+        if operations > MOST_OPERATIONS {
             return None;
         }
         Some(Opening::new(revision, operations))

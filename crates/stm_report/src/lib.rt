@@ -47,13 +47,14 @@ pub use report_text::report;
 pub use run_script::{ScriptFault, script};
 pub use stm_check::{CheckFault, Checked, WrongCause, check};
 pub use stm_devices::{DeviceFault, Sink, Source, Std, write_all};
+pub use stm_entries::{Entry, LiveLease};
 pub use stm_events::{
     CommittedRead, Event, EventRefusal, Expired, Fault, KeyRead, OpReply, TraceItem, Value,
 };
 pub use stm_history::{KeyState, Sequence, Text};
 pub use stm_report_lines::{Report, ReportLine, read_report};
 pub use stm_retry::{Denied, Reply, World};
-pub use stm_texts::{BadInput, Cause, ReadError, Scenario, WorldEvent, read_scenario};
+pub use stm_texts::{BadInput, Cause, Opening, ReadError, Scenario, WorldEvent, read_scenario};
 pub use whole_comparing::WholeChecked;
 pub use whole_judging::check_whole;
 pub use whole_laws::{alike_is_equal, yes_is_the_report};

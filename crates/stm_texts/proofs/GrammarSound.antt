@@ -22,7 +22,7 @@ use Rattle.stm_txn_json.proofs.WordLemmas.{chosen, no_word}
 use Rattle.stm_events.specs.declared.event.WorldEvent.{WorldEvent}
 use Rattle.stm_events.specs.declared.event.WorldEvent.TheVariants.{Start, Step, Txn, Grant, Keep, Revoke, Advance, Compact}
 use Rattle.stm_outcome.specs.Terms.{most_operations}
-use Rattle.stm_texts.specs.declared.scenario.Opening.{Opening}
+use Rattle.stm_txn.specs.Standing.{Setup}
 use Rattle.stm_texts.specs.declared.scenario.Scenario.{Scenario}
 use Rattle.stm_history.specs.declared.revisions.TheConstants.{HIGHEST_NUMBER, HIGHEST_REVISION}
 use Rattle.stm_texts.specs.declared.events.TheConstants.{HIGHEST_LIMIT, MOST_EVENTS}
@@ -176,7 +176,7 @@ events_sound first before (item d ds) es few h =
 abbrev ElementsRead : Items → Scenario → Type 0
 ElementsRead ds s = SpellsElements ds s.opening s.events × (length s.events ≤ MOST_EVENTS)
 
-abbrev scenario_with : Option Opening → List WorldEvent → Scenario
+abbrev scenario_with : Option Setup → List WorldEvent → Scenario
 scenario_with opening es = record { opening = opening; events = es }
 
 alone_sound : (ds : Items) (s : Scenario) → (events_from 0 0 ds >>= λ es. Ok (scenario_with None es)) ≡ Ok s → ElementsRead ds s
@@ -197,7 +197,7 @@ begins-is d (Some p) parts w h =
     let is = begins_is p parts (same p.0 (codes "begin")) refl h in
     worded-is d p w ∙ rw (is.0, is.1) refl
 
-opening_sound : (d : Data) (parts : Items) (one : Option Data) (two : Option (Data × Data)) (opening : Opening) → one_of parts ≡ one → two_of parts ≡ two
+opening_sound : (d : Data) (parts : Items) (one : Option Data) (two : Option (Data × Data)) (opening : Setup) → one_of parts ≡ one → two_of parts ≡ two
     → d ≡ array (item (string (codes "begin")) parts) → opening_by one two ≡ Ok opening → SpellsOpening d opening
 opening_sound d parts None None opening e f is h = cc
 opening_sound d parts (Some a) two opening e f is h =

@@ -9,3 +9,4 @@ pub mod GrammarComplete
 pub mod WrittenSpells
 pub mod NoFloats
 pub mod WrittenScenarios
+pub mod Openings

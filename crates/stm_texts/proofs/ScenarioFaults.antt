@@ -21,7 +21,7 @@ use Rattle.stm_txn_json.proofs.TxnFaults.{txn_faulted}
 use Rattle.stm_events.specs.declared.event.WorldEvent.{WorldEvent}
 use Rattle.stm_events.specs.declared.event.WorldEvent.TheVariants.{Start, Step, Txn, Grant, Keep, Revoke, Advance, Compact}
 use Rattle.stm_outcome.specs.Terms.{most_operations}
-use Rattle.stm_texts.specs.declared.scenario.Opening.{Opening}
+use Rattle.stm_txn.specs.Standing.{Setup}
 use Rattle.stm_texts.specs.declared.scenario.Scenario.{Scenario}
 use Rattle.stm_history.specs.declared.revisions.TheConstants.{HIGHEST_NUMBER, HIGHEST_REVISION}
 use Rattle.stm_texts.specs.declared.events.TheConstants.{HIGHEST_LIMIT, MOST_EVENTS}
@@ -179,7 +179,7 @@ opening_faulted p (item a (item b (item c ds))) = wrong_is p Shape (opening_by N
 abbrev alone : List WorldEvent → Scenario
 alone es = record { opening = None; events = es }
 
-abbrev opened : Opening → List WorldEvent → Scenario
+abbrev opened : Setup → List WorldEvent → Scenario
 opened o es = record { opening = Some o; events = es }
 
 alone_faulted : (all : Items) → first_of (events_faults 0 0 all) ≡ fault_of [] (events_from 0 0 all >>= λ es. Ok (alone es))
@@ -190,7 +190,7 @@ opening_tested : (parts ds all : Items) (b : Bool)
     ≡ fault_of [] (scenario_after (cond b (Some parts) None) all ds)
 opening_tested parts ds all true =
     part_then [] 0 (opening_of parts) _ (sorted_faults (step 0) (Some (opening_sorts parts)) parts) (events_faults 1 0 ds) (opening_faulted (step 0) parts)
-    (λ (r : Opening). made [] (events_from 1 0 ds) (opened r) (events_faults 1 0 ds) (events_faulted 1 0 ds))
+    (λ (r : Setup). made [] (events_from 1 0 ds) (opened r) (events_faults 1 0 ds) (events_faulted 1 0 ds))
 opening_tested parts ds all false = alone_faulted all
 
 elements_faulted : (d : Data) (ds : Items) → first_of (elements_faults (item d ds)) ≡ fault_of [] (scenario_after (begins (worded d)) (item d ds) ds)

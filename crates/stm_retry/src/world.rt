@@ -292,19 +292,6 @@ impl World {
         self.kept.journal.store()
     }
 
-    /// Ends the world, and returns its store. The watchers and leases stay in it.
-    pub fn into_store(self) -> Store
-        ensures { result.standing ≡ kept self.standing }
-    {
-        let World {
-            alloc: _,
-            opened: _,
-            kept,
-        } = self;
-        let KeptWorld { journal, .. } = kept;
-        journal.into_store()
-    }
-
     /// The state of the store now: the present keys with their values and modification revisions.
     ///
     /// Out of memory is its only refusal.

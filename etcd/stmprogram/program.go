@@ -1,8 +1,15 @@
-package main
+// Package stmprogram runs the programs of this project, which stmrun explores and plays, on a real etcd: through the transactional memory of etcd's own
+// Go client (clientv3/concurrency), which is not changed.
+//
+// A program is read by Load from its JSON (docs/FORMATS.md has the grammar) and run by Run. What its statements mean, its limits and its faults are those of
+// stmrun; what is fetched, compared and committed is the Go client's and etcd's.
+package stmprogram
 
 import (
 	"encoding/json"
 	"math"
+
+	"stmprogram/reading"
 )
 
 const (
@@ -12,6 +19,46 @@ const (
 	mostTurns   = 10000
 	mostListed  = 128
 )
+
+// Program is a program that keeps to its grammar.
+type Program struct {
+	list       []string
+	statements []*node
+}
+
+// List returns the keys that each attempt reads before the program's first statement, by WithPrefetch of etcd's Go client.
+func (p *Program) List() []string { return append([]string(nil), p.list...) }
+
+// Load reads a program from its JSON. What is no program is refused as a *reading.Fault, with the place of the first part that is wrong and its cause:
+// NotJson, TooLong, Shape, Range, TooDeep, TooManyNodes or TooMany.
+func Load(text []byte) (*Program, error) {
+	value, err := reading.Value(text)
+	if err != nil {
+		return nil, err
+	}
+	return Read(value, "")
+}
+
+// Read reads a program from a value of reading.Value that stands at a place of its text; faults have their places in that text.
+func Read(value interface{}, place string) (*Program, error) {
+	elements, err := reading.Array(value, place)
+	if err != nil {
+		return nil, err
+	}
+	read := &Program{}
+	first := 0
+	if len(elements) > 0 && reading.BeginsWith(elements[0], "prefetch") {
+		if read.list, err = readList(elements[0], reading.Within(place, 0)); err != nil {
+			return nil, err
+		}
+		first = 1
+	}
+	read.statements, err = new(programReader).statements(elements, first, place, 1)
+	if err != nil {
+		return nil, err
+	}
+	return read, nil
+}
 
 // node is a statement, an expression or a condition of a program.
 type node struct {
@@ -57,47 +104,29 @@ type programReader struct {
 	nodes int
 }
 
-// readProgram reads a program that stands at a place: the keys of its list, and its statements.
-func readProgram(value interface{}, place string) ([]string, []*node, error) {
-	elements, err := arrayIn(value, place)
-	if err != nil {
-		return nil, nil, err
-	}
-	var keys []string
-	first := 0
-	if len(elements) > 0 && beginsWith(elements[0], "prefetch") {
-		if keys, err = readList(elements[0], within(place, 0)); err != nil {
-			return nil, nil, err
-		}
-		first = 1
-	}
-	statements, err := new(programReader).statements(elements, first, place, 1)
-	return keys, statements, err
-}
-
 // readList reads the list of a program: the keys that each attempt reads first.
 func readList(value interface{}, place string) ([]string, error) {
-	_, elements, err := wordIn(value, place, map[string]int{"prefetch": 2})
+	_, elements, err := reading.Word(value, place, map[string]int{"prefetch": 2})
 	if err != nil {
 		return nil, err
 	}
-	listed, err := arrayIn(elements[1], within(place, 1))
+	listed, err := reading.Array(elements[1], reading.Within(place, 1))
 	if err != nil {
 		return nil, err
 	}
 	keys := make([]string, 0, len(listed))
 	isListed := map[string]bool{}
 	for i, element := range listed {
-		at := within(within(place, 1), i)
+		at := reading.Within(reading.Within(place, 1), i)
 		if i == mostListed {
-			return nil, &fault{at, "TooMany"}
+			return nil, &reading.Fault{Place: at, Cause: "TooMany"}
 		}
 		key, isText := element.(string)
 		if !isText || key == "" || isListed[key] {
-			return nil, &fault{at, "Shape"}
+			return nil, &reading.Fault{Place: at, Cause: "Shape"}
 		}
 		if len(key) > longestText {
-			return nil, &fault{at, "TooLong"}
+			return nil, &reading.Fault{Place: at, Cause: "TooLong"}
 		}
 		isListed[key] = true
 		keys = append(keys, key)
@@ -106,7 +135,7 @@ func readList(value interface{}, place string) ([]string, error) {
 }
 
 func (r *programReader) block(value interface{}, place string, depth int) ([]*node, error) {
-	elements, err := arrayIn(value, place)
+	elements, err := reading.Array(value, place)
 	if err != nil {
 		return nil, err
 	}
@@ -117,10 +146,10 @@ func (r *programReader) block(value interface{}, place string, depth int) ([]*no
 func (r *programReader) statements(elements []interface{}, first int, place string, depth int) ([]*node, error) {
 	statements := make([]*node, 0, len(elements))
 	for i := first; i < len(elements); i++ {
-		if err := r.enter(within(place, i), depth); err != nil {
+		if err := r.enter(reading.Within(place, i), depth); err != nil {
 			return nil, err
 		}
-		statement, err := r.worded(elements[i], within(place, i), depth, statementForms, statementLengths)
+		statement, err := r.worded(elements[i], reading.Within(place, i), depth, statementForms, statementLengths)
 		if err != nil {
 			return nil, err
 		}
@@ -132,11 +161,11 @@ func (r *programReader) statements(elements []interface{}, first int, place stri
 // enter counts a node.
 func (r *programReader) enter(place string, depth int) error {
 	if depth > deepestNode {
-		return &fault{place, "TooDeep"}
+		return &reading.Fault{Place: place, Cause: "TooDeep"}
 	}
 	r.nodes++
 	if r.nodes > mostNodes {
-		return &fault{place, "TooManyNodes"}
+		return &reading.Fault{Place: place, Cause: "TooManyNodes"}
 	}
 	return nil
 }
@@ -148,11 +177,11 @@ func (r *programReader) expression(value interface{}, place string, depth int) (
 	switch v := value.(type) {
 	case string:
 		if len(v) > longestText {
-			return nil, &fault{place, "TooLong"}
+			return nil, &reading.Fault{Place: place, Cause: "TooLong"}
 		}
 		return &node{word: "text", text: v}, nil
 	case json.Number:
-		number, err := numberIn(v, place, math.MinInt64, math.MaxInt64)
+		number, err := reading.Number(v, place, math.MinInt64, math.MaxInt64)
 		return &node{word: "number", number: number}, err
 	}
 	return r.worded(value, place, depth, expressionForms, expressionLengths)
@@ -167,13 +196,13 @@ func (r *programReader) condition(value interface{}, place string, depth int) (*
 
 // worded reads a node that is an array with a word of one of these forms.
 func (r *programReader) worded(value interface{}, place string, depth int, forms map[string]string, lengths map[string]int) (*node, error) {
-	word, elements, err := wordIn(value, place, lengths)
+	word, elements, err := reading.Word(value, place, lengths)
 	if err != nil {
 		return nil, err
 	}
 	read := &node{word: word}
 	for i, kind := range forms[word] {
-		if err := r.element(read, kind, elements[i+1], within(place, i+1), depth+1); err != nil {
+		if err := r.element(read, kind, elements[i+1], reading.Within(place, i+1), depth+1); err != nil {
 			return nil, err
 		}
 	}
@@ -185,11 +214,11 @@ func (r *programReader) element(read *node, kind rune, value interface{}, place 
 	var err error
 	switch kind {
 	case 'v':
-		read.variable, err = numberIn(value, place, 0, 15)
+		read.variable, err = reading.Number(value, place, 0, 15)
 	case 'l':
-		read.lease, err = countIn(value, place)
+		read.lease, err = reading.Count(value, place)
 	case 'n':
-		read.limit, err = numberIn(value, place, 0, 1000)
+		read.limit, err = reading.Number(value, place, 0, 1000)
 	case 'b':
 		var statements []*node
 		statements, err = r.block(value, place, depth)

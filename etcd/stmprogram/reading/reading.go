@@ -1,4 +1,5 @@
-package main
+// Package reading reads JSON texts part by part, each with its place: a Fault names the first part that is wrong, and why.
+package reading
 
 import (
 	"bytes"
@@ -10,32 +11,32 @@ import (
 	"unicode/utf8"
 )
 
-// longestInput is how many bytes a scenario has at most.
-const longestInput = 16777216
+// LongestInput is how many bytes a text has at most.
+const LongestInput = 16777216
 
 // deepestNesting is how deep arrays and objects may nest.
 const deepestNesting = 127
 
-// fault says where a text is no scenario, and why: a JSON Pointer and a cause.
-type fault struct {
-	place, cause string
+// Fault says where a text is not in its grammar, and why: a JSON Pointer and a cause.
+type Fault struct {
+	Place, Cause string
 }
 
-func (f *fault) Error() string {
-	return "bad scenario at " + f.place + ": " + f.cause
+func (f *Fault) Error() string {
+	return "at " + f.Place + ": " + f.Cause
 }
 
-// within is the place of an element of an array.
-func within(place string, index int) string {
+// Within is the place of an element of an array.
+func Within(place string, index int) string {
 	return place + "/" + strconv.Itoa(index)
 }
 
-// readValue reads a text as one JSON value whose numbers keep their spelling.
-func readValue(text []byte) (interface{}, error) {
-	if len(text) > longestInput {
-		return nil, &fault{"", "TooLong"}
+// Value reads a text as one JSON value whose numbers keep their spelling.
+func Value(text []byte) (interface{}, error) {
+	if len(text) > LongestInput {
+		return nil, &Fault{"", "TooLong"}
 	}
-	notJSON := &fault{"", "NotJson"}
+	notJSON := &Fault{"", "NotJson"}
 	if !utf8.Valid(text) || nestsTooDeep(text) {
 		return nil, notJSON
 	}
@@ -132,18 +133,18 @@ func hasHugeNumber(value interface{}) bool {
 	return false
 }
 
-// arrayIn reads an array.
-func arrayIn(value interface{}, place string) ([]interface{}, error) {
+// Array reads an array.
+func Array(value interface{}, place string) ([]interface{}, error) {
 	elements, isArray := value.([]interface{})
 	if !isArray {
-		return nil, &fault{place, "Shape"}
+		return nil, &Fault{place, "Shape"}
 	}
 	return elements, nil
 }
 
-// wordIn reads an array that begins with a word; lengths has the length of each known word's array.
-func wordIn(value interface{}, place string, lengths map[string]int) (string, []interface{}, error) {
-	elements, err := arrayIn(value, place)
+// Word reads an array that begins with a word; lengths has the length of each known word's array.
+func Word(value interface{}, place string, lengths map[string]int) (string, []interface{}, error) {
+	elements, err := Array(value, place)
 	if err != nil {
 		return "", nil, err
 	}
@@ -153,39 +154,45 @@ func wordIn(value interface{}, place string, lengths map[string]int) (string, []
 			return word, elements, nil
 		}
 	}
-	return "", nil, &fault{place, "Shape"}
+	return "", nil, &Fault{place, "Shape"}
 }
 
-// textIn reads a text.
-func textIn(value interface{}, place string) (string, error) {
+// Text reads a text.
+func Text(value interface{}, place string) (string, error) {
 	text, isText := value.(string)
 	if !isText {
-		return "", &fault{place, "Shape"}
+		return "", &Fault{place, "Shape"}
 	}
 	return text, nil
 }
 
-// numberIn reads a whole number of a range.
-func numberIn(value interface{}, place string, least, most int64) (int64, error) {
+// Number reads a whole number of a range.
+func Number(value interface{}, place string, least, most int64) (int64, error) {
 	spelling, isNumber := value.(json.Number)
 	text := spelling.String()
 	if !isNumber || text == "-0" || strings.ContainsAny(text, ".eE") {
-		return 0, &fault{place, "Shape"}
+		return 0, &Fault{place, "Shape"}
 	}
 	number, err := strconv.ParseInt(text, 10, 64)
 	if err != nil {
 		if _, err := strconv.ParseUint(text, 10, 64); err != nil {
-			return 0, &fault{place, "Shape"}
+			return 0, &Fault{place, "Shape"}
 		}
-		return 0, &fault{place, "Range"}
+		return 0, &Fault{place, "Range"}
 	}
 	if number < least || number > most {
-		return 0, &fault{place, "Range"}
+		return 0, &Fault{place, "Range"}
 	}
 	return number, nil
 }
 
-// countIn reads a whole number from 0 on.
-func countIn(value interface{}, place string) (int64, error) {
-	return numberIn(value, place, 0, math.MaxInt64)
+// Count reads a whole number from 0 on.
+func Count(value interface{}, place string) (int64, error) {
+	return Number(value, place, 0, math.MaxInt64)
+}
+
+// BeginsWith says whether a value is an array that begins with this word.
+func BeginsWith(value interface{}, word string) bool {
+	elements, isArray := value.([]interface{})
+	return isArray && len(elements) > 0 && elements[0] == word
 }

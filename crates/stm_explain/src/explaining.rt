@@ -6,7 +6,7 @@ use crate::allowed::{described, noun, parts_after, words_allowed};
 use crate::forms::{Input, Part, Parts};
 use crate::offsets::{line_length, line_start, offset_of};
 use crate::position::position_of;
-use crate::syntax::reported_of_text;
+use crate::syntax::json_of;
 use crate::values::shown;
 use crate::walking::{Found, steps_of, walk};
 use serde_json::Value;
@@ -216,12 +216,13 @@ fn reported_in(
 ) -> Result<Explained, AllocError>
     ensures { IfOk result (λ reported. reported.offset ≤ length text.now) }
 {
-    let Ok(readable) = std::str::from_utf8(text) else {
-        return reported_of_text(alloc, text);
+    let value = match json_of(alloc, text)? {
+        Ok(value) => value,
+        Err(reported) => return Ok(reported),
     };
-    match Value::from_str(alloc, readable) {
-        Ok(value) => reported_of_value(alloc, input, readable, &value, steps, cause),
-        Err(_) => reported_of_text(alloc, text),
+    match std::str::from_utf8(text) {
+        Ok(text) => reported_of_value(alloc, input, text, &value, steps, cause),
+        Err(_) => unreachable!(),
     }
 }
 

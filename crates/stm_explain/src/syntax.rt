@@ -1,5 +1,6 @@
 //! What is wrong with a text that is no JSON.
-ghost use Rattle.std.specs.Prelude.{◌≤◌, length, IfOk};
+ghost use Rattle.std.specs.Prelude.{◌≡◌, ◌≤◌, length, IfErr, IfOk, IsUtf8, None};
+ghost use Rattle.serde_json.specs.Read.{read_text};
 
 use crate::explaining::Explained;
 use crate::offsets::line_start;
@@ -121,19 +122,21 @@ fn stop_of(text: &[u8], error: &Error) -> usize
     start.saturating_add(column).min(text.len())
 }
 
-/// What is wrong with a text that is no JSON, and where.
-pub(crate) fn reported_of_text(alloc: Global, text: &[u8]) -> Result<Explained, AllocError>
-    ensures { IfOk result (λ reported. reported.offset ≤ length text.now) }
+/// What a text of JSON holds; of one that is none, what is wrong with it, and where. It fails where an allocation failed.
+pub(crate) fn json_of(alloc: Global, text: &[u8]) -> Result<Result<Value, Explained>, AllocError>
+    ensures holds { IfOk result (λ read. IfOk read (λ json. IsUtf8 text.now)) }
+    ensures none { IfOk result (λ read. IfErr read (λ reported. IsUtf8 text.now → read_text text.now ≡ None)) }
+    ensures offset { IfOk result (λ read. IfErr read (λ reported. reported.offset ≤ length text.now)) }
 {
     match Value::from_slice(alloc, text) {
-        Ok(_) => Explained::new(alloc, 0, "no JSON"),
+        Ok(json) => Ok(Ok(json)),
         Err(error) => {
             if error.is_memory() {
                 return Err(AllocError);
             }
             let offset = stop_of(text, &error);
             let words = reason(alloc, text, offset, &error)?;
-            Ok(Explained { offset, words })
+            Ok(Err(Explained { offset, words }))
         }
     }
 }

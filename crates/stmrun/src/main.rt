@@ -2,6 +2,10 @@
 //! reports, looks through the interleavings of a scenario, and prints the programs of recipes.
 #![tactic(auto)]
 
+ghost use Rattle.std.specs.Prelude.{◌≡◌, List, ℕ, Some, None, option_map};
+ghost use Rattle.stm_report.specs.declared.format.Format.TheVariants.{Lines};
+ghost use Rattle.stm_report.specs.Format.{format_named};
+
 mod explaining;
 mod files;
 mod noting;
@@ -38,7 +42,10 @@ fn run_script(rt: &HostRuntime, scenario: Option<&str>, format: Format) -> u8 {
 }
 
 /// The format of this name, or that of lines.
-fn format_of(word: Option<&str>) -> Option<Format> {
+fn format_of(word: Option<&str>) -> Option<Format>
+    ensures named { (name : List ℕ) → option_map (λ w. w.now) word.entry ≡ Some name → result ≡ format_named name }
+    ensures lines { word.entry ≡ None → result ≡ Some Lines }
+{
     match word {
         Some(word) => Format::named(word),
         None => Some(Format::Lines),

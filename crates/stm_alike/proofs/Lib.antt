@@ -1,0 +1,5 @@
+mod Comparing
+mod Levelling
+mod Stepping
+mod LevelledSteps
+mod SeenSteps

@@ -29,9 +29,10 @@ use Rattle.stm_texts.specs.declared.events.TheConstants.{HIGHEST_LIMIT, MOST_EVE
 use Rattle.stm_json.specs.declared.limits.TheConstants.{MOST_BYTES}
 use Rattle.stm_json.specs.Bytes.{data_of}
 use Rattle.stm_texts.specs.Grammar.{level_text, SpellsNumbered, SpellsEvent, SpellsOpening, SpellsElements, SpellsData, SpellsScenario}
+use Rattle.stm_texts.specs.Opens.{setup_at}
 use Rattle.stm_texts.specs.Reading.{level_named, level_of, start_of, grant_of, number_alone, step_of, keep_of, revoke_of, advance_of, compact_of}
 use Rattle.stm_texts.specs.Reading.{txn_event}
-use Rattle.stm_texts.specs.Reading.{watcher_event, event_worded, event_of, event_after, events_from, begins, opening_at, opening_by, opening_of}
+use Rattle.stm_texts.specs.Reading.{watcher_event, event_worded, event_of, event_after, events_from, begins, opening_by, opening_of}
 use Rattle.stm_texts.proofs.WatcherSound.{watcher_sound}
 use Rattle.stm_texts.specs.Reading.{scenario_after, scenario_list, scenario_of, scenario_read, scenario_in}
 
@@ -202,7 +203,7 @@ opening_sound : (d : Data) (parts : Items) (one : Option Data) (two : Option (Da
 opening_sound d parts None None opening e f is h = cc
 opening_sound d parts (Some a) two opening e f is h =
     let revision = bind_ok (within 1 (number_in 1 HIGHEST_REVISION a)) _ opening h in
-    let same : opening_at revision.0 most_operations ≡ opening = cc revision.2 in
+    let same : setup_at revision.0 most_operations ≡ opening = cc revision.2 in
     subst (SpellsOpening d) same (inl (
       a,
       is ∙ ap (λ (x : Items). array (item (string (codes "begin")) x)) (one_of-is parts a e),
@@ -212,7 +213,7 @@ opening_sound d parts (Some a) two opening e f is h =
 opening_sound d parts None (Some p) opening e f is h =
     let revision = bind_ok (within 1 (number_in 1 HIGHEST_REVISION p.0)) _ opening h in
     let operations = bind_ok (within 2 (number_in 1 most_operations p.1)) _ opening revision.2 in
-    let same : opening_at revision.0 operations.0 ≡ opening = cc operations.2 in
+    let same : setup_at revision.0 operations.0 ≡ opening = cc operations.2 in
     subst (SpellsOpening d) same (inr (
       p.0,
       p.1,

@@ -9,4 +9,3 @@ pub mod GrammarComplete
 pub mod WrittenSpells
 pub mod NoFloats
 pub mod WrittenScenarios
-pub mod Openings

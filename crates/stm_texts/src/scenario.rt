@@ -46,10 +46,16 @@ impl Opening {
     pub fn of(revision: u64, operations: usize) -> Option<Opening>
         ensures { SomeIff result (IsSetup (setup_at revision operations)) (setup_at revision operations) }
     {
-        if revision < 1 || revision > HIGHEST_REVISION {
+        if revision < 1 {
             return None;
         }
-        if operations < 1 || operations > MOST_OPERATIONS {
+        if revision > HIGHEST_REVISION {
+            return None;
+        }
+        if operations < 1 {
+            return None;
+        }
+        if operations > MOST_OPERATIONS {
             return None;
         }
         Some(Opening::new(revision, operations))
@@ -64,9 +70,10 @@ impl Opening {
         self.revision
     }
 
-    /// The limit of operations.
+    /// The limit of operations. It and the revision are all that there is.
     pub fn operations(self) -> usize
         ensures same { result ≡ self.limit }
+        ensures whole { setup_at self.revision result ≡ self }
         ensures some { 1 ≤ result }
         ensures few { result ≤ most_operations }
     {

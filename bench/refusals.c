@@ -1,13 +1,24 @@
 /* Loaded before the C library: fails the allocation number REFUSE of a program, or the start of the thread number THREAD, and says
    so with a line on standard error. Growths are counted from the first on, and by an atomic step, since threads grow at once. It
-   looks at the program from outside; no crate holds C.
-   cc -shared -fPIC -O2 refusals.c -o refusals.so -ldl; LD_PRELOAD=./refusals.so REFUSE=3 PROGRAM */
-#define _GNU_SOURCE
-#include <dlfcn.h>
-#include <errno.h>
-#include <pthread.h>
-#include <stdlib.h>
-#include <unistd.h>
+   looks at the program from outside; no crate holds C. It says itself what it takes of the C library, since the kit's clang,
+   which compiles it, has no headers of that.
+   clang -shared -fPIC -O2 -nostdlib -fuse-ld=lld refusals.c -o refusals.so; LD_PRELOAD=./refusals.so REFUSE=3 PROGRAM */
+#define NULL ((void *)0)
+#define RTLD_NEXT ((void *)-1L)
+#define EAGAIN 11
+#define ENOMEM 12
+#define errno (*__errno_location())
+
+typedef unsigned long size_t;
+typedef long ssize_t;
+typedef unsigned long pthread_t;
+typedef struct pthread_attr pthread_attr_t;
+
+void *dlsym(void *, const char *);
+int *__errno_location(void);
+char *getenv(const char *);
+long atol(const char *);
+ssize_t write(int, const void *, size_t);
 
 static void *(*next_malloc)(size_t), *(*next_realloc)(void *, size_t), *(*next_calloc)(size_t, size_t);
 static int (*next_memalign)(void **, size_t, size_t);

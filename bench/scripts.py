@@ -6,6 +6,7 @@ import contextlib
 import os
 import pathlib
 import resource
+import shutil
 import subprocess
 import sys
 import tempfile
@@ -45,10 +46,12 @@ def asked_costs(description):
 
 @contextlib.contextmanager
 def asked_refusals(description):
-    """Scripts with refusals of the program that the command line names."""
-    given = parser_of(description).parse_args()
+    """Scripts with refusals of the program that the command line names, and whether their allocations are only to be counted."""
+    parser = parser_of(description)
+    parser.add_argument("--count", action="store_true", help="only count allocations, and make none fail")
+    given = parser.parse_args()
     with tempfile.TemporaryDirectory() as folder:
-        yield Refusals(given.program or proved(), folder)
+        yield Refusals(given.program or proved(), folder), given.count
 
 
 def timed(words, out, memory=None, seconds=None):
@@ -100,20 +103,25 @@ class Costs:
 
 
 class Refusals:
-    """Scripts of a program in which one allocation fails, by a library that is loaded before it. It needs a C compiler."""
+    """Scripts of a program in which one allocation fails, by a library that is loaded before it, which the kit's clang compiles."""
 
     def __init__(self, program, folder):
-        self.program = program
+        self.program = os.path.abspath(program)
         self.library = f"{folder}/refusals.so"
-        subprocess.run(["cc", "-shared", "-fPIC", "-O2", HERE / "refusals.c", "-o", self.library, "-ldl"], check=True)
+        clang = pathlib.Path(os.path.realpath(shutil.which("rt") or "rt")).parent.parent / "toolchain" / "bin" / "clang"
+        words = ["--target=x86_64-unknown-linux-gnu", "-shared", "-fPIC", "-O2", "-nostdlib", "-fuse-ld=lld"]
+        subprocess.run([clang, *words, HERE / "refusals.c", "-o", self.library], check=True)
+
+    def ended(self, words, growth, folder=None, given=""):
+        """How a command ends in which this allocation fails, 0 for none: its status, what it wrote and said, and whether it came to the refusal."""
+        env = {**os.environ, "LD_PRELOAD": self.library, "REFUSE": str(growth)}
+        ran = subprocess.run([self.program, *words], cwd=folder, input=given.encode(), env=env, capture_output=True, timeout=60, check=False)
+        said = ran.stderr.decode().splitlines()
+        return ran.returncode, ran.stdout.decode(), [it for it in said if it != "growth refused"], "growth refused" in said
 
     def run(self, scenario, growth):
-        """The status of a script in which this allocation fails, 0 for none, what it wrote and said, and whether it came to the refusal."""
-        env = {**os.environ, "LD_PRELOAD": self.library, "REFUSE": str(growth)}
-        ran = subprocess.run([self.program, "script"], input=scenario.encode(), env=env, capture_output=True, timeout=60, check=False)
-        said = ran.stderr.decode().splitlines()
-        met = said[:1] == ["growth refused"]
-        return ran.returncode, ran.stdout.decode(), said[1:] if met else said, met
+        """The same of a script of a scenario."""
+        return self.ended(["script"], growth, given=scenario)
 
     def count(self, scenario):
         """How many allocations a script makes: one that it does not make does not fail."""

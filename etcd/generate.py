@@ -10,6 +10,8 @@ THEMES = [
     {"start": 3, "step": 12, "txn": 2, "grant": 2, "keep": 1, "revoke": 1, "advance": 2},
     {"start": 1, "step": 4, "txn": 5, "watch": 2, "poll": 4, "cancel": 0.3},
     {"txn": 8, "grant": 2, "revoke": 1, "advance": 1, "watch": 1, "poll": 2},
+    {"start": 3, "step": 12, "txn": 4, "watch": 1, "poll": 2, "compact": 1.5},
+    {"txn": 6, "watch": 2, "poll": 3, "compact": 1.5, "grant": 0.5},
     {"start": 2, "step": 9, "txn": 2, "grant": 1, "keep": 0.5, "revoke": 0.5, "advance": 1, "watch": 0.7, "poll": 2, "cancel": 0.2},
 ]
 
@@ -113,14 +115,17 @@ class Scenarios:
         self.draw = draw
         self.programs = Programs(draw, strict)
         self.weights = draw.choice(THEMES)
-        self.watchers = self.moment = 0
+        self.watchers = self.moment = self.base = 0
         self.left = []  # how many steps are left to each runner
         self.events = []
 
     def scenario(self):
         draw = self.draw
         if draw.random() < 0.15:
-            self.events.append(["begin", draw.choice([1, 3, 4, draw.randint(5, 60)])])
+            self.base = draw.choice([1, 3, 4, draw.randint(5, 60)])
+            self.events.append(["begin", self.base])
+            if draw.random() < 0.5:
+                self.events[0].append(draw.choice([3, 4, 5, 8, 128]))
         self.events.append(["txn", [], [["put", key, str(draw.randint(0, 9)), 0] for key in draw.sample(KEYS, 3)], []])
         kinds, weights = list(self.weights), list(self.weights.values())
         for kind in draw.choices(kinds, weights, k=draw.randint(15, 60)):
@@ -138,7 +143,18 @@ class Scenarios:
             self.left.append(draw.randint(2, 3 + limit))
         if not hasattr(self, "last") or draw.random() < 0.6:
             self.last = self.programs.program()
-        return ["start", draw.choice(LEVELS), limit, self.last]
+        return ["start", draw.choice(LEVELS), limit, self.list() + self.last]
+
+    def list(self):
+        """A list of keys that a program may begin with."""
+        if self.draw.random() < 0.65:
+            return []
+        keys = KEYS + [COUNTED + "0"]
+        return [["prefetch", self.draw.sample(keys, self.draw.randint(0, 4))]]
+
+    def compact(self):
+        """A compaction, mostly near the revision that the store may be at."""
+        return ["compact", max(1, self.base + self.draw.randint(len(self.events) // 4, len(self.events) // 2 + 2))]
 
     def step(self):
         """A step of a runner that has some left, now and then of any number; a start where none has."""

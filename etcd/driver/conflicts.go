@@ -7,9 +7,6 @@ import (
 	pb "go.etcd.io/etcd/etcdserver/etcdserverpb"
 )
 
-// mostReads is how many keys are read in one transaction.
-const mostReads = 100
-
 // failedCompare is the key of a compare that failed, what was seen of it, and its modification revision.
 type failedCompare struct {
 	key       string
@@ -18,8 +15,8 @@ type failedCompare struct {
 
 // firstFailed finds the first compare that fails, the keys read standing before those written and each in the order of the program; etcd itself says
 // only that one fails, so the keys are read once more at the revision of that answer.
-func (w *world) firstFailed(attempt *session, compares []clientv3.Cmp, revision int64) (*failedCompare, error) {
-	ordered := inOrder(attempt, compares)
+func (w *world) firstFailed(made *attempt, compares []clientv3.Cmp, revision int64) (*failedCompare, error) {
+	ordered := inOrder(made, compares)
 	mods, err := w.modsAt(ordered, revision)
 	if err != nil {
 		return nil, err
@@ -37,7 +34,7 @@ func (w *world) firstFailed(attempt *session, compares []clientv3.Cmp, revision 
 }
 
 // inOrder puts the compares of a commit, which come in the order of a map, into that of the program.
-func inOrder(attempt *session, compares []clientv3.Cmp) []clientv3.Cmp {
+func inOrder(made *attempt, compares []clientv3.Cmp) []clientv3.Cmp {
 	var ordered []clientv3.Cmp
 	add := func(keys []string, result pb.Compare_CompareResult) {
 		for _, key := range keys {
@@ -48,8 +45,8 @@ func inOrder(attempt *session, compares []clientv3.Cmp) []clientv3.Cmp {
 			}
 		}
 	}
-	add(attempt.reads, pb.Compare_EQUAL)
-	add(attempt.writes, pb.Compare_LESS)
+	add(made.reads, pb.Compare_EQUAL)
+	add(made.writes, pb.Compare_LESS)
 	return ordered
 }
 
@@ -63,8 +60,8 @@ func (w *world) modsAt(compares []clientv3.Cmp, revision int64) ([]int64, error)
 	var mods []int64
 	for len(compares) > 0 {
 		count := len(compares)
-		if count > mostReads {
-			count = mostReads
+		if int64(count) > w.operations {
+			count = int(w.operations)
 		}
 		var reads []clientv3.Op
 		for _, compare := range compares[:count] {

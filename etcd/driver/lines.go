@@ -4,6 +4,8 @@ import (
 	"bytes"
 	"fmt"
 	"strconv"
+
+	"stmprogram"
 )
 
 // line is a line of a report, or a list in one: texts, whole numbers, truths, nil and lists.
@@ -37,27 +39,10 @@ func writeElement(out *bytes.Buffer, element interface{}) {
 	case uint64:
 		out.WriteString(strconv.FormatUint(e, 10))
 	case string:
-		writeText(out, e)
+		out.Write(stmprogram.Spelled(e))
 	case line:
 		e.write(out)
 	default:
 		panic(fmt.Sprintf("no element of a line: %T", element))
 	}
-}
-
-var shortEscapes = map[byte]string{'"': `\"`, '\\': `\\`, '\b': `\b`, '\f': `\f`, '\n': `\n`, '\r': `\r`, '\t': `\t`}
-
-func writeText(out *bytes.Buffer, text string) {
-	out.WriteByte('"')
-	for i := 0; i < len(text); i++ {
-		c := text[i]
-		if escape, isShort := shortEscapes[c]; isShort {
-			out.WriteString(escape)
-		} else if c < 0x20 {
-			fmt.Fprintf(out, `\u%04x`, c)
-		} else {
-			out.WriteByte(c)
-		}
-	}
-	out.WriteByte('"')
 }

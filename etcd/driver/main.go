@@ -12,6 +12,8 @@ import (
 	"syscall"
 
 	"google.golang.org/grpc/grpclog"
+
+	"stmprogram/reading"
 )
 
 // The statuses are those of stmrun.
@@ -63,10 +65,11 @@ func answer(arguments []string) int {
 		return statusDevice
 	}
 	read, err := readScenario(text)
-	if err == nil {
-		err = checkReach(read)
-	}
 	if err != nil {
+		say(fmt.Errorf("bad scenario %v", err))
+		return statusBad
+	}
+	if err := checkReach(read); err != nil {
 		say(err)
 		return statusBad
 	}
@@ -84,14 +87,14 @@ func readInput(arguments []string) ([]byte, error) {
 		defer file.Close()
 		input = file
 	}
-	return io.ReadAll(io.LimitReader(input, longestInput+1))
+	return io.ReadAll(io.LimitReader(input, reading.LongestInput+1))
 }
 
 // report plays the scenario and writes the report once it is whole.
 func report(read *scenario, notes io.Writer) int {
 	ctx, stop := signal.NotifyContext(context.Background(), os.Interrupt, syscall.SIGTERM, syscall.SIGHUP)
 	defer stop()
-	etcd, client, err := startServer(ctx)
+	etcd, client, err := startServer(ctx, read.operations)
 	if err != nil {
 		say(err)
 		return statusDevice

@@ -1,6 +1,10 @@
 package main
 
-import "fmt"
+import (
+	"fmt"
+
+	"stmprogram/reading"
+)
 
 // noKeys stands for the end of a range that has no keys; no text of a scenario is this, as it is no UTF-8.
 const noKeys = "\xff"
@@ -25,9 +29,6 @@ func checkReach(s *scenario) error {
 	if s.begin == 2 || s.begin > highestReach {
 		return &outOfReach{"/0/1", "Begin", "an empty etcd can be brought to revision 1 and to those from 3 to 1000"}
 	}
-	if s.operations != mostOperations {
-		return &outOfReach{"/0/2", "Limit", "the driver starts etcd with its own limit of 128 operations"}
-	}
 	for i, one := range s.events {
 		if err := checkEvent(one, s.places[i]); err != nil {
 			return err
@@ -38,27 +39,23 @@ func checkReach(s *scenario) error {
 
 func checkEvent(one event, place string) error {
 	switch e := one.(type) {
-	case *startEvent:
-		if len(e.list) > 0 {
-			return &outOfReach{within(within(place, 3), 0), "List", "the driver hands the Go client no keys to prefetch"}
-		}
 	case *grantEvent:
 		if e.id == 0 {
-			return &outOfReach{within(place, 1), "LeaseIdOutOfRange", "etcd picks an id of its own for 0"}
+			return &outOfReach{reading.Within(place, 1), "LeaseIdOutOfRange", "etcd picks an id of its own for 0"}
 		}
 		if e.ttl == 0 || e.ttl > mostLeaseTime {
-			return &outOfReach{within(place, 2), "TtlOutOfRange", "the lease's time is told to etcd as another one, from 1 to 9000000000"}
+			return &outOfReach{reading.Within(place, 2), "TtlOutOfRange", "the lease's time is told to etcd as another one, from 1 to 9000000000"}
 		}
 	case *compactEvent:
 		if e.revision == 0 {
-			return &outOfReach{within(place, 1), "Compact", "etcd takes a compaction at 0 where it was never compacted"}
+			return &outOfReach{reading.Within(place, 1), "Compact", "etcd takes a compaction at 0 where it was never compacted"}
 		}
 	case *watchEvent:
 		if e.first == "" {
-			return &outOfReach{within(place, 1), "EmptyKey", "etcd takes the empty key for the key of one zero byte"}
+			return &outOfReach{reading.Within(place, 1), "EmptyKey", "etcd takes the empty key for the key of one zero byte"}
 		}
 		if e.end == noKeys {
-			return &outOfReach{within(place, 2), "EmptyRange", "etcd watches no range whose end is not above its first key"}
+			return &outOfReach{reading.Within(place, 2), "EmptyRange", "etcd watches no range whose end is not above its first key"}
 		}
 	}
 	return nil

@@ -7,6 +7,8 @@ import (
 	"go.etcd.io/etcd/clientv3"
 	"go.etcd.io/etcd/clientv3/concurrency"
 	pb "go.etcd.io/etcd/etcdserver/etcdserverpb"
+
+	"stmprogram"
 )
 
 // runner is a goroutine in which a program runs over the client's unmodified transactional memory. Its transactions pass a gate, at which each waits
@@ -15,11 +17,12 @@ type runner struct {
 	number   int64
 	level    concurrency.Isolation
 	limit    int64
-	program  []*node
+	program  *stmprogram.Program
 	commits  int64
 	hasEnded bool
-	noted    *session // the last attempt of which a note was made
-	session  *session // the attempt; the driver looks at it only while the runner stands at the gate or has ended
+	hasList  bool     // whether the attempt has its list, or has none to read
+	noted    *attempt // the last attempt of which a note was made
+	attempt  *attempt // what runs; the driver looks at it only while the runner stands at the gate or has ended
 	answers  line     // what was fetched, as ReadCommitted reports it
 	arrivals chan arrival
 	replies  chan reply
@@ -80,14 +83,18 @@ func (r *runner) start(ctx context.Context) {
 	client.KV = gate{runner: r}
 	apply := func(stm concurrency.STM) error {
 		var readBefore map[string]bool
-		if r.session != nil {
-			readBefore = r.session.isRead
+		if r.attempt != nil {
+			readBefore = r.attempt.isRead
 		}
-		r.session, r.answers = newSession(stm, readBefore), line{}
-		return r.session.run(r.program)
+		if len(r.program.List()) == 0 {
+			r.answers = line{}
+		}
+		r.hasList = true
+		r.attempt = newAttempt(stm, r.program.List(), readBefore)
+		return r.attempt.run.Run(r.program)
 	}
 	go func() {
-		response, err := concurrency.NewSTM(client, apply, concurrency.WithIsolation(r.level))
+		response, err := concurrency.NewSTM(client, apply, concurrency.WithIsolation(r.level), concurrency.WithPrefetch(r.program.List()...))
 		r.arrivals <- arrival{response: response, err: err}
 	}()
 }
@@ -109,6 +116,7 @@ func (e *startEvent) take(w *world) (line, error) {
 	}
 	r := &runner{number: int64(len(w.runners)) + 1, level: e.level, limit: e.limit, program: e.program}
 	w.runners = append(w.runners, r)
+	r.hasList = len(r.program.List()) == 0
 	r.start(w.context)
 	return line{"started", r.number}, nil
 }
@@ -124,6 +132,9 @@ func (e *stepEvent) take(w *world) (line, error) {
 		r.hasEnded = true
 		return r.endLine(came.err)
 	}
+	if isFetch(came.sent) && !r.hasList {
+		return r.fetchList(w, came.sent)
+	}
 	if isFetch(came.sent) {
 		return r.fetch(w, came.sent)
 	}
@@ -133,8 +144,8 @@ func (e *stepEvent) take(w *world) (line, error) {
 // note prints once of an attempt, where notes are wanted, that etcd's client does otherwise than stmrun in it.
 func (r *runner) note(w *world) {
 	isSerializable := r.level == concurrency.SerializableSnapshot || r.level == concurrency.Serializable
-	if w.notes != nil && isSerializable && r.session.isApart && r.noted != r.session {
-		r.noted = r.session
+	if w.notes != nil && isSerializable && r.attempt != nil && r.attempt.isApart && r.noted != r.attempt {
+		r.noted = r.attempt
 		fmt.Fprintf(w.notes, "[\"asked\",%d,%d]\n", w.event, r.number)
 	}
 }
@@ -142,9 +153,9 @@ func (r *runner) note(w *world) {
 // endLine is the line of an end by the program.
 func (r *runner) endLine(err error) (line, error) {
 	switch end := err.(type) {
-	case aborted:
-		return line{"aborted", r.number, end.text}, nil
-	case faulted:
+	case stmprogram.Aborted:
+		return line{"aborted", r.number, end.Text}, nil
+	case stmprogram.Faulted:
 		return line{"faulted", r.number, string(end)}, nil
 	}
 	return nil, fmt.Errorf("runner %d ended with %v", r.number, err)
@@ -152,13 +163,13 @@ func (r *runner) endLine(err error) (line, error) {
 
 // isFetch says whether a transaction is the one read of a fetch, and not a commit, whose operations are writes.
 func isFetch(sent *request) bool {
-	return len(sent.then) == 1 && sent.then[0].IsGet()
+	return len(sent.then) > 0 && sent.then[0].IsGet()
 }
 
 func (r *runner) fetch(w *world, sent *request) (line, error) {
 	response, err := w.send(sent)
 	if err != nil {
-		return nil, err
+		return r.refusedEnd(err)
 	}
 	answer := response.Responses[0].GetResponseRange()
 	key, shown := string(sent.then[0].KeyBytes()), sent.then[0].Rev()
@@ -169,6 +180,33 @@ func (r *runner) fetch(w *world, sent *request) (line, error) {
 	r.answers = append(r.answers, line{key, content, mod, shown})
 	r.replies <- reply{response: response}
 	return line{"fetched", r.number, key, mod, shown, answer.Header.Revision}, nil
+}
+
+// fetchList is the fetch of a program's list.
+func (r *runner) fetchList(w *world, sent *request) (line, error) {
+	response, err := w.send(sent)
+	if err != nil {
+		return r.refusedEnd(err)
+	}
+	read := line{}
+	r.answers = line{}
+	for i, one := range response.Responses {
+		content, mod := contentOf(one.GetResponseRange())
+		key := string(sent.then[i].KeyBytes())
+		read = append(read, line{key, mod})
+		r.answers = append(r.answers, line{key, content, mod, response.Header.Revision})
+	}
+	r.replies <- reply{response: response}
+	return line{"prefetched", r.number, response.Header.Revision, read}, nil
+}
+
+// refusedEnd is the line of an end by a refusal of etcd's.
+func (r *runner) refusedEnd(err error) (line, error) {
+	name, isRefusal := stmprogram.RefusalName(err)
+	if !isRefusal {
+		return nil, err
+	}
+	return line{"ended", r.number, name}, r.finish(reply{err: err})
 }
 
 // contentOf is the value, nil where the key is absent, and the modification revision, 0 there.
@@ -183,11 +221,7 @@ func (r *runner) commit(w *world, sent *request) (line, error) {
 	r.commits++
 	response, err := w.send(sent)
 	if err != nil {
-		name, isRefusal := refusalIn(err)
-		if !isRefusal {
-			return nil, err
-		}
-		return line{"ended", r.number, name}, r.finish(reply{err: err})
+		return r.refusedEnd(err)
 	}
 	if !response.Succeeded {
 		return r.conflict(w, sent, response)
@@ -197,15 +231,16 @@ func (r *runner) commit(w *world, sent *request) (line, error) {
 	if r.level == concurrency.ReadCommitted {
 		answers = r.answers
 	}
-	told := line{"committed", r.number, response.Header.Revision, r.commits, r.session.outputs, r.session.trace, answers}
+	told := line{"committed", r.number, response.Header.Revision, r.commits, r.attempt.outputs(), r.attempt.trace(), answers}
 	return told, r.finish(reply{response: response})
 }
 
 func (r *runner) conflict(w *world, sent *request, response *clientv3.TxnResponse) (line, error) {
-	failed, err := w.firstFailed(r.session, sent.compares, response.Header.Revision)
+	failed, err := w.firstFailed(r.attempt, sent.compares, response.Header.Revision)
 	if err != nil {
 		return nil, err
 	}
+	r.hasList = len(r.program.List()) == 0
 	if r.commits < r.limit {
 		r.replies <- reply{response: response}
 		return line{"conflict", r.number, failed.key, failed.seen, failed.now}, nil

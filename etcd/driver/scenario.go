@@ -5,6 +5,9 @@ import (
 
 	"go.etcd.io/etcd/clientv3"
 	"go.etcd.io/etcd/clientv3/concurrency"
+
+	"stmprogram"
+	"stmprogram/reading"
 )
 
 const (
@@ -23,8 +26,7 @@ type event interface {
 type startEvent struct {
 	level   concurrency.Isolation
 	limit   int64
-	list    []string
-	program []*node
+	program *stmprogram.Program
 }
 type stepEvent struct{ runner int64 }
 type txnEvent struct {
@@ -52,13 +54,6 @@ type scenario struct {
 	places     []string
 }
 
-var levels = map[string]concurrency.Isolation{
-	"SerializableSnapshot": concurrency.SerializableSnapshot,
-	"Serializable":         concurrency.Serializable,
-	"RepeatableReads":      concurrency.RepeatableReads,
-	"ReadCommitted":        concurrency.ReadCommitted,
-}
-
 var eventLengths = map[string]int{
 	"start": 4, "step": 2, "txn": 4, "grant": 3, "keep": 2, "revoke": 2, "advance": 2, "compact": 2,
 	"watch_key": 3, "watch_range": 4, "poll": 3, "cancel": 2,
@@ -66,25 +61,25 @@ var eventLengths = map[string]int{
 
 // readScenario reads a scenario, or returns its first fault.
 func readScenario(text []byte) (*scenario, error) {
-	value, err := readValue(text)
+	value, err := reading.Value(text)
 	if err != nil {
 		return nil, err
 	}
-	elements, err := arrayIn(value, "")
+	elements, err := reading.Array(value, "")
 	if err != nil {
 		return nil, err
 	}
 	read := &scenario{begin: 1, operations: mostOperations}
 	for i, element := range elements {
-		place := within("", i)
-		if i == 0 && beginsWith(element, "begin") {
+		place := reading.Within("", i)
+		if i == 0 && reading.BeginsWith(element, "begin") {
 			if err = read.open(element, place); err != nil {
 				return nil, err
 			}
 			continue
 		}
 		if len(read.events) == mostEvents {
-			return nil, &fault{place, "TooMany"}
+			return nil, &reading.Fault{Place: place, Cause: "TooMany"}
 		}
 		one, err := readEvent(element, place)
 		if err != nil {
@@ -96,30 +91,25 @@ func readScenario(text []byte) (*scenario, error) {
 	return read, nil
 }
 
-func beginsWith(value interface{}, word string) bool {
-	elements, isArray := value.([]interface{})
-	return isArray && len(elements) > 0 && elements[0] == word
-}
-
 // open reads where the store opens, and how many operations it takes, where that is said.
 func (s *scenario) open(value interface{}, place string) error {
 	length := 2
 	if elements, isArray := value.([]interface{}); isArray && len(elements) == 3 {
 		length = 3
 	}
-	_, elements, err := wordIn(value, place, map[string]int{"begin": length})
+	_, elements, err := reading.Word(value, place, map[string]int{"begin": length})
 	if err != nil {
 		return err
 	}
-	if s.begin, err = numberIn(elements[1], within(place, 1), 1, highestBegin); err != nil || length == 2 {
+	if s.begin, err = reading.Number(elements[1], reading.Within(place, 1), 1, highestBegin); err != nil || length == 2 {
 		return err
 	}
-	s.operations, err = numberIn(elements[2], within(place, 2), 1, mostOperations)
+	s.operations, err = reading.Number(elements[2], reading.Within(place, 2), 1, mostOperations)
 	return err
 }
 
 func readEvent(value interface{}, place string) (event, error) {
-	word, elements, err := wordIn(value, place, eventLengths)
+	word, elements, err := reading.Word(value, place, eventLengths)
 	if err != nil {
 		return nil, err
 	}
@@ -136,26 +126,26 @@ func readEvent(value interface{}, place string) (event, error) {
 
 func readStart(elements []interface{}, place string) (event, error) {
 	name, isText := elements[1].(string)
-	level, isLevel := levels[name]
+	level, isLevel := stmprogram.Levels[name]
 	if !isText || !isLevel {
-		return nil, &fault{within(place, 1), "Shape"}
+		return nil, &reading.Fault{Place: reading.Within(place, 1), Cause: "Shape"}
 	}
-	limit, err := numberIn(elements[2], within(place, 2), 0, mostCommits)
+	limit, err := reading.Number(elements[2], reading.Within(place, 2), 0, mostCommits)
 	if err != nil {
 		return nil, err
 	}
-	list, program, err := readProgram(elements[3], within(place, 3))
-	return &startEvent{level, limit, list, program}, err
+	program, err := stmprogram.Read(elements[3], reading.Within(place, 3))
+	return &startEvent{level, limit, program}, err
 }
 
 func readWatch(elements []interface{}, place string) (event, error) {
 	read := &watchEvent{}
 	var err error
-	if read.first, err = textIn(elements[1], within(place, 1)); err != nil {
+	if read.first, err = reading.Text(elements[1], reading.Within(place, 1)); err != nil {
 		return nil, err
 	}
 	if len(elements) == 4 {
-		if read.end, err = textIn(elements[2], within(place, 2)); err != nil {
+		if read.end, err = reading.Text(elements[2], reading.Within(place, 2)); err != nil {
 			return nil, err
 		}
 		if read.end <= read.first {
@@ -163,7 +153,7 @@ func readWatch(elements []interface{}, place string) (event, error) {
 		}
 	}
 	last := len(elements) - 1
-	read.from, err = countIn(elements[last], within(place, last))
+	read.from, err = reading.Count(elements[last], reading.Within(place, last))
 	return read, err
 }
 
@@ -171,7 +161,7 @@ func readWatch(elements []interface{}, place string) (event, error) {
 func readNumbers(word string, elements []interface{}, place string) (event, error) {
 	numbers := [2]int64{}
 	for i, element := range elements[1:] {
-		number, err := countIn(element, within(place, i+1))
+		number, err := reading.Count(element, reading.Within(place, i+1))
 		if err != nil {
 			return nil, err
 		}

@@ -8,6 +8,7 @@ import (
 	"os"
 	"os/exec"
 	"path/filepath"
+	"strconv"
 	"strings"
 	"syscall"
 	"time"
@@ -33,11 +34,11 @@ type server struct {
 }
 
 // startServer starts an etcd with an empty store.
-func startServer(ctx context.Context) (*server, *clientv3.Client, error) {
+func startServer(ctx context.Context, operations int64) (*server, *clientv3.Client, error) {
 	var err error
 	for i := 0; i < attempts; i++ {
 		var started *server
-		if started, err = launch(); err != nil {
+		if started, err = launch(operations); err != nil {
 			return nil, nil, err
 		}
 		var client *clientv3.Client
@@ -53,7 +54,7 @@ func startServer(ctx context.Context) (*server, *clientv3.Client, error) {
 	return nil, nil, err
 }
 
-func launch() (*server, error) {
+func launch(operations int64) (*server, error) {
 	path, err := exec.LookPath("etcd")
 	if err != nil {
 		return nil, errors.New("there is no program etcd on the path")
@@ -72,7 +73,7 @@ func launch() (*server, error) {
 	made.process = exec.Command(path, "--name="+name, "--data-dir="+filepath.Join(folder, "data"),
 		"--listen-client-urls="+clients, "--advertise-client-urls="+clients, "--listen-peer-urls="+peers,
 		"--initial-advertise-peer-urls="+peers, "--initial-cluster="+name+"="+peers,
-		"--heartbeat-interval=50", "--election-timeout=500", "--logger=zap", "--log-level=error", "--log-outputs=stderr")
+		"--max-txn-ops="+strconv.FormatInt(operations, 10), "--heartbeat-interval=50", "--election-timeout=500", "--logger=zap", "--log-level=error", "--log-outputs=stderr")
 	made.process.Env = plainEnvironment()
 	// etcd ends with the driver, however that ends.
 	made.process.SysProcAttr = &syscall.SysProcAttr{Pdeathsig: syscall.SIGKILL}

@@ -4,8 +4,10 @@ import (
 	"math"
 
 	"go.etcd.io/etcd/clientv3"
-	"go.etcd.io/etcd/etcdserver/api/v3rpc/rpctypes"
 	pb "go.etcd.io/etcd/etcdserver/etcdserverpb"
+
+	"stmprogram"
+	"stmprogram/reading"
 )
 
 var compareLengths = map[string]int{"version": 4, "create": 4, "mod": 4, "lease": 4, "value": 4}
@@ -16,46 +18,46 @@ var orders = map[string]bool{"=": true, "!=": true, ">": true, "<": true}
 
 func readTxn(elements []interface{}, place string) (event, error) {
 	read := &txnEvent{}
-	compares, err := arrayIn(elements[1], within(place, 1))
+	compares, err := reading.Array(elements[1], reading.Within(place, 1))
 	if err != nil {
 		return nil, err
 	}
 	for i, element := range compares {
-		compare, err := readCompare(element, within(within(place, 1), i))
+		compare, err := readCompare(element, reading.Within(reading.Within(place, 1), i))
 		if err != nil {
 			return nil, err
 		}
 		read.compares = append(read.compares, compare)
 	}
-	if read.then, err = readOperations(elements[2], within(place, 2)); err != nil {
+	if read.then, err = readOperations(elements[2], reading.Within(place, 2)); err != nil {
 		return nil, err
 	}
-	read.otherwise, err = readOperations(elements[3], within(place, 3))
+	read.otherwise, err = readOperations(elements[3], reading.Within(place, 3))
 	return read, err
 }
 
 func readCompare(value interface{}, place string) (clientv3.Cmp, error) {
 	none := clientv3.Cmp{}
-	word, elements, err := wordIn(value, place, compareLengths)
+	word, elements, err := reading.Word(value, place, compareLengths)
 	if err != nil {
 		return none, err
 	}
-	key, err := textIn(elements[1], within(place, 1))
+	key, err := reading.Text(elements[1], reading.Within(place, 1))
 	if err != nil {
 		return none, err
 	}
 	order, isText := elements[2].(string)
 	if !isText || !orders[order] {
-		return none, &fault{within(place, 2), "Shape"}
+		return none, &reading.Fault{Place: reading.Within(place, 2), Cause: "Shape"}
 	}
 	if word == "value" {
-		text, err := textIn(elements[3], within(place, 3))
+		text, err := reading.Text(elements[3], reading.Within(place, 3))
 		if err != nil {
 			return none, err
 		}
 		return clientv3.Compare(clientv3.Value(key), order, text), nil
 	}
-	number, err := countIn(elements[3], within(place, 3))
+	number, err := reading.Count(elements[3], reading.Within(place, 3))
 	if err != nil {
 		return none, err
 	}
@@ -75,13 +77,13 @@ func compareOfNumber(word, key, order string, number int64) clientv3.Cmp {
 }
 
 func readOperations(value interface{}, place string) ([]clientv3.Op, error) {
-	elements, err := arrayIn(value, place)
+	elements, err := reading.Array(value, place)
 	if err != nil {
 		return nil, err
 	}
 	var operations []clientv3.Op
 	for i, element := range elements {
-		operation, err := readOperation(element, within(place, i))
+		operation, err := readOperation(element, reading.Within(place, i))
 		if err != nil {
 			return nil, err
 		}
@@ -92,24 +94,24 @@ func readOperations(value interface{}, place string) ([]clientv3.Op, error) {
 
 func readOperation(value interface{}, place string) (clientv3.Op, error) {
 	none := clientv3.Op{}
-	word, elements, err := wordIn(value, place, operationLengths)
+	word, elements, err := reading.Word(value, place, operationLengths)
 	if err != nil {
 		return none, err
 	}
-	key, err := textIn(elements[1], within(place, 1))
+	key, err := reading.Text(elements[1], reading.Within(place, 1))
 	if err != nil {
 		return none, err
 	}
 	switch word {
 	case "get":
-		revision, err := numberIn(elements[2], within(place, 2), 0, math.MaxInt64)
+		revision, err := reading.Number(elements[2], reading.Within(place, 2), 0, math.MaxInt64)
 		return clientv3.OpGet(key, clientv3.WithRev(revision)), err
 	case "put":
-		text, err := textIn(elements[2], within(place, 2))
+		text, err := reading.Text(elements[2], reading.Within(place, 2))
 		if err != nil {
 			return none, err
 		}
-		lease, err := countIn(elements[3], within(place, 3))
+		lease, err := reading.Count(elements[3], reading.Within(place, 3))
 		return clientv3.OpPut(key, text, clientv3.WithLease(clientv3.LeaseID(lease))), err
 	}
 	return clientv3.OpDelete(key), nil
@@ -119,31 +121,6 @@ func readOperation(value interface{}, place string) (clientv3.Op, error) {
 type request struct {
 	compares        []clientv3.Cmp
 	then, otherwise []clientv3.Op
-}
-
-// refusals are the names of etcd's refusals of a transaction, a lease call or a compaction.
-var refusals = []struct {
-	cause error
-	name  string
-}{
-	{rpctypes.ErrTooManyOps, "TooManyOps"},
-	{rpctypes.ErrEmptyKey, "EmptyKey"},
-	{rpctypes.ErrDuplicateKey, "DuplicateKey"},
-	{rpctypes.ErrFutureRev, "FutureRevision"},
-	{rpctypes.ErrCompacted, "Compacted"},
-	{rpctypes.ErrLeaseNotFound, "LeaseNotFound"},
-	{rpctypes.ErrLeaseExist, "LeaseExists"},
-	{rpctypes.ErrLeaseTTLTooLarge, "TtlOutOfRange"},
-}
-
-// refusalIn is the name of a refusal; an error of another kind is none.
-func refusalIn(err error) (string, bool) {
-	for _, one := range refusals {
-		if rpctypes.Error(err) == one.cause {
-			return one.name, true
-		}
-	}
-	return "", false
 }
 
 // send sends a transaction, and keeps what it changed.
@@ -194,7 +171,7 @@ func (e *txnEvent) take(w *world) (line, error) {
 
 // refusedBy is the line of a refusal of etcd's; another error ends the run.
 func refusedBy(err error) (line, error) {
-	name, isRefusal := refusalIn(err)
+	name, isRefusal := stmprogram.RefusalName(err)
 	if !isRefusal {
 		return nil, err
 	}

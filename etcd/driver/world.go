@@ -12,18 +12,19 @@ import (
 
 // world is a real etcd, and what the driver keeps beside it.
 type world struct {
-	context  context.Context
-	client   *clientv3.Client
-	runners  []*runner
-	leases   map[int64]*term
-	moment   uint64
-	watchers []*watcher
-	revision int64 // the last one that an answer of etcd's carried
-	floor    int64 // the revision of the last compaction
-	changes  []change
-	entries  int64
-	event    int       // the number of the event that is taken
-	notes    io.Writer // nil where none are wanted
+	context    context.Context
+	client     *clientv3.Client
+	runners    []*runner
+	leases     map[int64]*term
+	moment     uint64
+	watchers   []*watcher
+	revision   int64 // the last one that an answer of etcd's carried
+	floor      int64 // the revision of the last compaction
+	changes    []change
+	entries    int64
+	operations int64     // how many a transaction may have
+	event      int       // the number of the event that is taken
+	notes      io.Writer // nil where none are wanted
 }
 
 // advanceTo keeps the revision that an answer carries, and the keys that it changed where it is a new one.
@@ -36,7 +37,7 @@ func (w *world) advanceTo(revision int64, keys []string) {
 
 // play takes all events of a scenario in a new etcd, and writes the report.
 func play(ctx context.Context, client *clientv3.Client, s *scenario, notes io.Writer) ([]byte, error) {
-	w := &world{context: ctx, client: client, leases: map[int64]*term{}, notes: notes}
+	w := &world{context: ctx, client: client, leases: map[int64]*term{}, notes: notes, operations: s.operations}
 	if err := w.open(s.begin); err != nil {
 		return nil, err
 	}

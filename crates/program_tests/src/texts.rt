@@ -35,21 +35,24 @@ fn fronts_of_a_scenario(rt: HostRuntime) {
     assert_eq!(rt; left.status, 0);
 }
 
-/// As many steps as a scenario may have events, followed by this.
-fn steps_and(alloc: Global, last: &str) -> Result<String, AllocError> {
+/// This many steps, followed by this.
+fn steps_and(alloc: Global, steps: u32, last: &str) -> Result<String, AllocError> {
     let mut text = String::from_str(alloc, "[")?;
-    for _ in 0..100000 {
+    for _ in 0..steps {
         text.push_str("[\"step\",1],")?;
     }
     text.push_str(last)?;
     Ok(text)
 }
 
-/// Event 100001 is one too many, whether it is an event or not.
+/// Event 100001 is one too many, whether it is an event or not. 100000 events are as many as there may be: what is wrong with the last is said.
 #[test]
-fn one_event_too_many(rt: HostRuntime) -> Result<(), Fail> {
+fn as_many_events_as_there_may_be(rt: HostRuntime) -> Result<(), Fail> {
+    let text = steps_and(rt.alloc(), 99999, "[\"step\",-1]]")?;
+    let said = "stmrun: bad scenario at /99999/1: Range\n";
+    refuses(&rt, rt.alloc(), text.as_str().as_bytes(), said);
     for last in ["[\"step\",1]]", "[]]"] {
-        let text = steps_and(rt.alloc(), last)?;
+        let text = steps_and(rt.alloc(), 100000, last)?;
         let said = "stmrun: bad scenario at /100000: TooMany\n";
         refuses(&rt, rt.alloc(), text.as_str().as_bytes(), said);
     }

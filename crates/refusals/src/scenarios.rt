@@ -1,6 +1,4 @@
 //! The scenarios of the runs.
-ghost use Rattle.std.specs.Prelude.{IfOk};
-ghost use Rattle.stm_texts.specs.Opens.{IsOpening};
 
 use anyhow::Result;
 use std::alloc::Global;
@@ -100,9 +98,7 @@ pub(crate) const TRANSFERS: &str = r#"[
 ]"#;
 
 /// The scenario of a text, by a second reading where the first was refused.
-pub(crate) fn scenario_of(alloc: Global, text: &str) -> Result<Scenario>
-    ensures { IfOk result (λ scenario. IsOpening scenario.opening) }
-{
+pub(crate) fn scenario_of(alloc: Global, text: &str) -> Result<Scenario> {
     match read_scenario(alloc, text.as_bytes()) {
         Ok(scenario) => Ok(scenario),
         Err(_) => {

@@ -3,7 +3,6 @@
 //! The replies to the events before the stop were lost with it. They are taken from a new world, so that all replies can be printed;
 //! those after the stop, the keys, the leases and the entries are of the world that was stopped.
 ghost use Rattle.std.specs.Prelude.{Some};
-ghost use Rattle.stm_texts.specs.Opens.{IsOpening};
 
 use crate::scenarios::scenario_of;
 use anyhow::{Result, bail};
@@ -17,12 +16,10 @@ use stm_texts::{Opening, opens_with};
 type Replies = Vec<Result<Reply, Denied>>;
 
 /// A new world, by a second call where the first was refused.
-fn world_again(alloc: Global, opening: Opening) -> Result<World, AllocError>
-    requires { IsOpening (Some opening) }
-{
-    match World::with_limits(alloc, opening.revision, opening.operations) {
+fn world_again(alloc: Global, opening: Opening) -> Result<World, AllocError> {
+    match World::with_limits(alloc, opening.revision(), opening.operations()) {
         Ok(world) => Ok(world),
-        Err(_) => World::with_limits(alloc, opening.revision, opening.operations),
+        Err(_) => World::with_limits(alloc, opening.revision(), opening.operations()),
     }
 }
 
@@ -35,10 +32,8 @@ fn run_whole(world: &mut World, events: &[WorldEvent]) -> Result<Replies> {
 }
 
 /// The replies of a new world to these events.
-fn replies_anew(alloc: Global, opening: Opening, events: &[WorldEvent]) -> Result<Replies>
-    requires { IsOpening (Some opening) }
-{
-    let mut world = World::with_limits(alloc, opening.revision, opening.operations)?;
+fn replies_anew(alloc: Global, opening: Opening, events: &[WorldEvent]) -> Result<Replies> {
+    let mut world = World::with_limits(alloc, opening.revision(), opening.operations())?;
     let replies = run_whole(&mut world, events);
     drop(world);
     replies
@@ -106,9 +101,7 @@ fn go_on(
     world: &mut World,
     events: &[WorldEvent],
     stop: RunStop,
-) -> Result<Replies>
-    requires { IsOpening (Some opening) }
-{
+) -> Result<Replies> {
     if stop.done > events.len() {
         bail!("more events were taken than there are");
     }
@@ -127,9 +120,7 @@ fn replies_to(
     opening: Opening,
     world: &mut World,
     events: &[WorldEvent],
-) -> Result<Replies>
-    requires { IsOpening (Some opening) }
-{
+) -> Result<Replies> {
     match world.run(events) {
         Ok(replies) => Ok(replies),
         Err(stop) => go_on(rt, alloc, opening, world, events, stop),
@@ -155,9 +146,7 @@ fn report_from(
     opening: Opening,
     world: &mut World,
     events: &[WorldEvent],
-) -> Result<String>
-    requires { IsOpening (Some opening) }
-{
+) -> Result<String> {
     let replies = replies_to(rt, alloc, opening, world, events)?;
     let text = report_again(alloc, world, replies.as_slice());
     drop(replies);
@@ -165,9 +154,7 @@ fn report_from(
 }
 
 /// The report of a scenario's run.
-fn report_of(rt: &impl Eprint, alloc: Global, scenario: &Scenario) -> Result<String>
-    requires { IsOpening scenario.now.opening }
-{
+fn report_of(rt: &impl Eprint, alloc: Global, scenario: &Scenario) -> Result<String> {
     let opening = opens_with(scenario.opening);
     let mut world = world_again(alloc, opening)?;
     let text = report_from(rt, alloc, opening, &mut world, scenario.events.as_slice());

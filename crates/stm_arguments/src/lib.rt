@@ -5,6 +5,7 @@ mod arguments;
 mod exploring;
 mod plain;
 mod repeating;
+mod showing;
 mod topics;
 
 pub use arguments::{Asked, asked_of, read_words};

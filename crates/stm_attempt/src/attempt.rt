@@ -64,6 +64,16 @@ impl Model for Attempt {
     ghost invariant = { λ a. HaveDistinctKeys a.prefetched × IsAttempt a.program a.reads a.prefetched a.reported a.progress };
 }
 
+/// The first of these answers, as they are.
+fn first_in(answers: &[ReadAnswer], count: usize) -> &[ReadAnswer]
+    ensures { result.now ≡ take count answers.now }
+{
+    if count < answers.len() {
+        return &answers[..count];
+    }
+    answers
+}
+
 /// The first answers of these. It takes no memory.
 fn first_of(answers: ReadSet, count: usize) -> Sequence<ReadAnswer>
     ensures { result ≡ take count answers }
@@ -356,6 +366,22 @@ impl Attempt {
         self.reported = 0;
         put(&mut self.progress, Progress::Fresh);
         first_of(reads, reported)
+    }
+}
+
+impl Attempt {
+    /// What the attempt has read, in the order of first reads.
+    pub fn reads(&self) -> &[ReadAnswer]
+        ensures { result.now ≡ self.now.known.reads }
+    {
+        first_in(self.reads.as_slice(), self.reported)
+    }
+
+    /// What was prefetched for the attempt.
+    pub fn prefetched(&self) -> &[ReadAnswer]
+        ensures { result.now ≡ self.now.known.prefetched }
+    {
+        self.prefetched.as_slice()
     }
 }
 

@@ -16,7 +16,7 @@ mod wanted;
 pub use attempt::Attempt;
 pub use next::Next;
 pub use ready::Ready;
-pub use stm_compile::{ReadSet, WriteBuffer, compile};
+pub use stm_compile::{ReadSet, Txn, WriteBuffer, compile};
 pub use stm_history::{ReadAnswer, Sequence, Text};
 pub use stm_meaning::{Run, TraceItem, Value};
 pub use stm_program::{Level, Program, Write};

@@ -1,6 +1,5 @@
 //! Checking a report beside its scenario.
 ghost use Rattle.std.specs.Prelude.{◌≡◌, ◌+◌, ◌≤◌, length, drop, IfOk, IfSome, None};
-ghost use Rattle.stm_texts.specs.Opens.{IsOpening};
 ghost use Rattle.stm_check.specs.Judged.{IsJudged, IsJudgedFrom, IsJudgedEnd, IsWrongEvent, AreRightEvents};
 ghost use Rattle.stm_entries.specs.LiveLeases.{HasLeases};
 ghost use Rattle.stm_check.specs.StoreLines.{final_lines as lines_of_end};
@@ -111,7 +110,6 @@ fn judge(
 ///
 /// It fails only where an allocation does.
 pub fn check(alloc: Global, scenario: &Scenario, report: &Report) -> Result<Checked, AllocError>
-    requires { IsOpening scenario.now.opening }
     ensures { IfOk result (IsJudged scenario.now report.now) }
 {
     let mut point = Point::begin(alloc, opens_with(scenario.opening))?;

@@ -22,5 +22,6 @@ pub use cause::WrongCause;
 pub use checking::{Checked, check};
 pub use runner::Runner;
 pub use sources::{CheckFault, check_sources};
+pub use stm_devices::Source;
 pub use stm_events::{Report, ReportLine};
 pub use stm_texts::Scenario;

@@ -5,7 +5,6 @@ ghost use Rattle.stm_check.specs.Replays.{StartReplays, StepReplays, Replays};
 ghost use Rattle.stm_check.specs.Wrong.{IsRight, IsWrong};
 ghost use Rattle.stm_entries.specs.LiveLeases.{HasLeases};
 ghost use Rattle.stm_check.specs.Points.{point_of};
-ghost use Rattle.stm_texts.specs.Opens.{IsOpening, as_setup};
 
 use crate::cause::WrongCause;
 use crate::commits::{ReportedCommit, replay_commit};
@@ -125,11 +124,10 @@ fn replays(
 impl Point {
     /// Before the first line, of a store that opens with this.
     pub(crate) fn begin(alloc: Global, opening: Opening) -> Result<Point, AllocError>
-        requires { IsOpening (Some opening) }
-        ensures point { IfOk result (λ point. point_of point ≡ beginning (as_setup opening)) }
+        ensures point { IfOk result (λ point. point_of point ≡ beginning opening) }
         ensures leases { IfOk result (λ point. HasLeases point.leases point.store.standing.live) }
     {
-        let store = Store::with_limits(alloc, opening.revision, opening.operations)?;
+        let store = Store::with_limits(alloc, opening.revision(), opening.operations())?;
         Ok(Point {
             alloc,
             store,

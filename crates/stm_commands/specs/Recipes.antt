@@ -1,5 +1,5 @@
 -- What the command `recipe` does to its devices, its statuses, and what it says.
-use Rattle.std.specs.Prelude.{◌≡◌, ℕ, List, Bool, false, Option, Result, Ok, Err}
+use Rattle.std.specs.Prelude.{◌≡◌, ℕ, List, Bool, false, Option, Result, Ok, Err, codes}
 use Rattle.std.specs.Io.KnownBytes.{Keeps}
 use Rattle.stm_recipe_lines.specs.declared.printing.RecipeFault.{RecipeFault}
 use Rattle.stm_recipe_lines.specs.declared.printing.RecipeFault.TheVariants.{OutOfMemory, Words, Write}
@@ -7,7 +7,6 @@ use Rattle.stm_recipe_lines.specs.declared.recipe.Recipe.{Recipe}
 use Rattle.stm_recipe_lines.specs.declared.words.WordsFault.{WordsFault}
 use Rattle.stm_recipe_lines.specs.FaultTexts.{fault_text}
 use Rattle.stm_recipe_lines.specs.Printing.{Prints}
-use Rattle.stm_commands.specs.declared.recipes.TheConstants.{USAGE}
 use Rattle.stm_explain.specs.Saying.{memory_fault, device_fault, usage_fault, Reports}
 
 -- 2 for words that spell no recipe, 3 where memory ran out or a device failed
@@ -16,10 +15,13 @@ fault_status OutOfMemory = 3
 fault_status (Words fault) = 2
 fault_status Write = 3
 
+abbrev pub recipe_usage : List ℕ
+recipe_usage = codes "\n\nUsage: stmrun recipe <NAME> [FIRST] [SECOND] [THIRD]\n\nFor more information, try '--help'.\n"
+
 -- of words that spell no recipe what is wrong with them, and the command's usage
 abbrev pub fault_message : RecipeFault → List ℕ
 fault_message OutOfMemory = memory_fault
-fault_message (Words fault) = usage_fault (fault_text fault) USAGE.now
+fault_message (Words fault) = usage_fault (fault_text fault) recipe_usage
 fault_message Write = device_fault
 
 -- what is said and answered of a fault: its own message and status

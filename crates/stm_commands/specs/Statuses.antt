@@ -6,7 +6,6 @@ use Rattle.stm_report.specs.declared.run_script.ScriptFault.{ScriptFault}
 use Rattle.stm_report.specs.declared.run_script.ScriptFault.TheVariants.{OutOfMemory, Bad, Read, Write}
 use Rattle.stm_devices.specs.Ends.{Devices}
 use Rattle.stm_report.specs.Script.{Does}
-use Rattle.stm_commands.specs.declared.formats.TheConstants.{NO_FORMAT}
 use Rattle.stm_report.specs.declared.format.Format.{Format}
 use Rattle.stm_report.specs.FormatScript.{DoesAs}
 
@@ -42,6 +41,10 @@ abbrev pub EndsAs : Format → Devices → Option (List ℕ) → Option (List �
 EndsAs format devices before after failed status =
     (ended : Result (Unit {0}) ScriptFault) × DoesAs format devices ended × EndsBy before after failed ended status
 
+abbrev pub no_format : List ℕ
+no_format =
+    codes "error: no format has this name: lines, json, text and svg are allowed\n\nUsage: stmrun script [OPTIONS] [FILE]\n\nFor more information, try '--help'.\n"
+
 -- what is said of a word that names no format, in the manner of the other usage faults
 abbrev pub SaysNoFormat : Option (List ℕ) → Option (List ℕ) → Bool → ℕ → Type 0
-SaysNoFormat before after failed status = (status ≡ 2) × Says before after failed NO_FORMAT.now
+SaysNoFormat before after failed status = (status ≡ 2) × Says before after failed no_format

@@ -13,7 +13,7 @@ mod write_buffer;
 pub use changes::changes_of;
 pub use commit::compile;
 pub use read_set::ReadSet;
-pub use stm_history::{ReadAnswer, Sequence, Text};
+pub use stm_history::{Change, ReadAnswer, Sequence, Text};
 pub use stm_outcome::Txn;
 pub use stm_program::{Level, Write};
 pub use write_buffer::WriteBuffer;

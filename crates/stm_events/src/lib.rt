@@ -21,4 +21,4 @@ pub use stm_history::{KeyState, Sequence, Text};
 pub use stm_keys::Event;
 pub use stm_program::{Level, Program};
 pub use stm_steps::{Fault, TraceItem, Value, are_same_traces, are_same_values};
-pub use stm_txn::{Expired, Refusal as StoreRefusal, Txn};
+pub use stm_txn::{Expired, OpAnswer, Refusal as StoreRefusal, Txn, TxnAnswer};

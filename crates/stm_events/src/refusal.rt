@@ -4,6 +4,7 @@ ghost use Rattle.stm_events.specs.declared.refusal.EventRefusal.TheVariants.{Out
 ghost use Rattle.stm_events.specs.Names.{refusal_name};
 ghost use Rattle.stm_events.specs.Replies.{event_refusal};
 
+use std::error::Error;
 use std::fmt;
 use stm_history::Sequence;
 use stm_txn::{Expired, Refusal as StoreRefusal};
@@ -133,6 +134,8 @@ impl fmt::Display for EventRefusal {
         fmt::Display::fmt(&self.name(), f)
     }
 }
+
+impl Error for EventRefusal {}
 
 /// A refused event.
 #[derive(Debug, PartialEq, Eq, Drop)]

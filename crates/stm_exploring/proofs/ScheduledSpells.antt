@@ -17,7 +17,7 @@ use Rattle.stm_texts.specs.Reading.{scenario_in}
 use Rattle.stm_texts.specs.Opens.{IsOpening}
 use Rattle.stm_texts.specs.declared.scenario.Scenario.{Scenario}
 use Rattle.stm_texts.proofs.GrammarSound.{scenario_sound}
-use Rattle.stm_texts.specs.declared.scenario.Opening.{Opening}
+use Rattle.stm_txn.specs.Standing.{Setup}
 use Rattle.stm_json.specs.Parts.{SpellsEach}
 use Rattle.stm_events.specs.declared.event.WorldEvent.{WorldEvent}
 use Rattle.stm_events.specs.declared.event.WorldEvent.TheVariants as event
@@ -30,14 +30,14 @@ each_spelled : (ds : Items) (es : List WorldEvent) → SpellsEach SpellsEvent ds
 each_spelled ds [] is = tt
 each_spelled ds (e ∷ es) (a, rest, is, s, others) = ((a, s), each_spelled rest es others)
 
-opening_spelled : (d : Data) (o : Opening) → SpellsOpening d o → IsOpening (Some o)
+opening_spelled : (d : Data) (o : Setup) → SpellsOpening d o → IsOpening (Some o)
 opening_spelled d o (inl (a, is, (number, low, high), most)) =
     let some : 1 ≤ most_operations = omega arith in
     let few : most_operations ≤ most_operations = omega arith in
     ((low, high), (subst (λ n. 1 ≤ n) (sym most) some, subst (λ n. n ≤ most_operations) (sym most) few))
 opening_spelled d o (inr (a, b, is, (number, low, high), (count, some, few))) = ((low, high), (some, few))
 
-elements_spelled : (ds : Items) (o : Option Opening) (es : List WorldEvent) → SpellsElements ds o es → IsOpening o × AreSpelled es
+elements_spelled : (ds : Items) (o : Option Setup) (es : List WorldEvent) → SpellsElements ds o es → IsOpening o × AreSpelled es
 elements_spelled ds None es spelled = (tt, each_spelled ds es spelled)
 elements_spelled ds (Some o) es (a, rest, is, opens, spelled) = (opening_spelled a o opens, each_spelled rest es spelled)
 

@@ -8,7 +8,6 @@ use Rattle.stm_schedules.specs.Outcomes.{Ends, ends_begun}
 use Rattle.stm_schedules.specs.Places.{Place}
 use Rattle.stm_schedules.specs.Scenarios.{at_level, begun, with_schedule}
 use Rattle.stm_texts.specs.declared.scenario.Scenario.{Scenario}
-use Rattle.stm_texts.specs.declared.scenario.Opening.{Opening}
 use Rattle.stm_texts.specs.Opens.{setup_of}
 use Rattle.stm_events.specs.declared.event.WorldEvent.{WorldEvent}
 use Rattle.stm_events.specs.declared.event.WorldEvent.TheVariants.{Step}
@@ -34,7 +33,7 @@ abbrev pub scenario_at : Option Level → Scenario → Scenario
 scenario_at level s = record { opening = s.opening; events = events_at level s.events }
 
 -- the index of the first event in a scenario's array: the opening stands before it
-abbrev pub first_index : Option Opening → ℕ
+abbrev pub first_index : Option Setup → ℕ
 first_index None = 0
 first_index (Some opening) = 1
 

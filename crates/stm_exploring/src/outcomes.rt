@@ -78,7 +78,7 @@ fn gather_scenario<O: Observer>(
 {
     let (setup, others) = setup_and_others(scenario.events.as_slice());
     let opening = opens_with(scenario.opening);
-    let mut world = World::with_limits(alloc, opening.revision, opening.operations)?;
+    let mut world = World::with_limits(alloc, opening.revision(), opening.operations())?;
     let gathered = gather_from(alloc, &mut world, setup, others, budget);
     drop(world);
     gathered

@@ -102,7 +102,7 @@ fn explore_scenario<O: Observer>(
 {
     let (setup, others) = setup_and_others(scenario.events.as_slice());
     let opening = opens_with(scenario.opening);
-    let mut world = World::with_limits(alloc, opening.revision, opening.operations)?;
+    let mut world = World::with_limits(alloc, opening.revision(), opening.operations())?;
     let explored = explore_from(alloc, &mut world, setup, others, keeps, budget);
     drop(world);
     explored

@@ -6,7 +6,6 @@ ghost use Rattle.stm_program.specs.declared.limits.TheConstants.{MAX_NODES};
 ghost use Rattle.stm_program_json.specs.Reading.{first_statement, program_of};
 ghost use Rattle.stm_steps.specs.States.{state_answers};
 ghost use Rattle.stm_texts.specs.Reading.{scenario_in};
-ghost use Rattle.stm_texts.specs.Opens.{IsOpening};
 ghost use Rattle.stm_world.specs.World.{world_after};
 ghost use Rattle.stm_faulted_runs.specs.Places.{BeginsBelow};
 ghost use Rattle.stm_faulted_runs.specs.Rules.{IsRuleLine, ExplainsProgram, ExplainsOver, ExplainsRule, rule_head, left_by};
@@ -121,11 +120,10 @@ fn run_all(world: &mut World, events: &[WorldEvent]) -> Result<(), AllocError>
 
 /// The state after a scenario's run.
 fn state_after(alloc: Global, scenario: &Scenario) -> Result<State, AllocError>
-    requires { IsOpening scenario.now.opening }
     ensures { IfOk result (IsStateOf (left_by scenario.now)) }
 {
     let opening = opens_with(scenario.opening);
-    let mut world = World::with_limits(alloc, opening.revision, opening.operations)?;
+    let mut world = World::with_limits(alloc, opening.revision(), opening.operations())?;
     let outcome = run_all(&mut world, scenario.events.as_slice());
     let left = world.state();
     drop(world);
@@ -137,7 +135,6 @@ fn state_after(alloc: Global, scenario: &Scenario) -> Result<State, AllocError>
 
 /// The same, of a scenario that is dropped then.
 fn state_left(alloc: Global, scenario: Scenario) -> Result<State, AllocError>
-    requires { IsOpening scenario.opening }
     ensures { IfOk result (IsStateOf (left_by scenario)) }
 {
     let state = state_after(alloc, &scenario);
@@ -151,7 +148,6 @@ fn explained_after(
     rule: &Named<'_>,
     scenario: Scenario,
 ) -> Result<String, AllocError>
-    requires { IsOpening scenario.opening }
     ensures { IfOk result (λ line. ExplainsRule rule.now.name.now rule.now.text.now (OkOf scenario) (string_bytes line)) }
 {
     let state = state_left(alloc, scenario)?;

@@ -1,7 +1,6 @@
 //! The explanations of the runs of a scenario.
 ghost use Rattle.std.specs.Prelude.{◌≡◌, Ok as OkOf, Some, IfOk, string_bytes};
 ghost use Rattle.stm_texts.specs.Reading.{scenario_in};
-ghost use Rattle.stm_texts.specs.Opens.{IsOpening, as_setup};
 ghost use Rattle.stm_faulted_runs.specs.Lines.{ExplainsEach, ExplainsRun, faults_from};
 ghost use Rattle.stm_world.specs.World.{opened};
 ghost use Rattle.stm_faulted_runs.specs.Origins.{origin_in};
@@ -50,16 +49,14 @@ fn lines_from(
     opening: Opening,
     events: &[WorldEvent],
 ) -> Result<String, AllocError>
-    requires { IsOpening (Some opening) }
-    ensures { IfOk result (λ said. ExplainsEach (origin_in explained.now) (faults_from (opened (as_setup opening)) events.now) (string_bytes said)) }
+    ensures { IfOk result (λ said. ExplainsEach (origin_in explained.now) (faults_from (opened opening) events.now) (string_bytes said)) }
 {
-    let world = World::with_limits(alloc, opening.revision, opening.operations)?;
+    let world = World::with_limits(alloc, opening.revision(), opening.operations())?;
     lines_in(alloc, explained, world, events)
 }
 
 /// The lines of the runs of a scenario that was read from this text.
 fn lines_of(alloc: Global, source: &Named<'_>, scenario: &Scenario) -> Result<String, AllocError>
-    requires { IsOpening scenario.now.opening }
     ensures { IfOk result (λ said. ExplainsRun source.now.name.now source.now.text.now (OkOf scenario.now) (string_bytes said)) }
 {
     let opening = opens_with(scenario.opening);
@@ -73,7 +70,6 @@ fn lines_of_scenario(
     source: &Named<'_>,
     scenario: Scenario,
 ) -> Result<String, AllocError>
-    requires { IsOpening scenario.opening }
     ensures { IfOk result (λ said. ExplainsRun source.now.name.now source.now.text.now (OkOf scenario) (string_bytes said)) }
 {
     let said = lines_of(alloc, source, &scenario);

@@ -2,12 +2,12 @@
 ghost use Rattle.std.specs.Prelude.{◌≡◌, List, [], ◌∷◌, ◌++◌, length, OnOk, OnErr, vec_len};
 
 use std::alloc::{AllocError, Global};
+use std::fmt;
 use std::marker::Model;
 
 /// A list of values. Contracts see its elements in order, and never its capacity.
 ///
 /// It is made from a `Vec` and gives it back without an allocation.
-#[derive(Debug)]
 pub struct Sequence<T> {
     items: Vec<T>,
 }
@@ -74,6 +74,13 @@ impl<T> Sequence<T> {
     {
         let Sequence { items } = self;
         items
+    }
+}
+
+/// It shows the elements, as that of a `Vec` does.
+impl<T: fmt::Debug> fmt::Debug for Sequence<T> {
+    fn fmt<W: fmt::Write>(&self, f: &mut fmt::Formatter<W>) -> fmt::Result {
+        f.debug_list().entries(self.as_slice()).finish()
     }
 }
 

@@ -18,7 +18,7 @@ use std::marker::Model;
 const SHORT: usize = 24;
 
 /// Where the bytes of a text are stored. Most keys and values are short: no copy of them allocates.
-#[derive(Debug, Drop)]
+#[derive(Drop)]
 pub(crate) enum Bytes {
     /// Inline, in the text itself.
     Short(ArrayString<SHORT>),
@@ -29,7 +29,6 @@ pub(crate) enum Bytes {
 /// A text: a key, a value or a message.
 ///
 /// Contracts see its bytes, and never where they are stored.
-#[derive(Debug)]
 pub struct Text {
     bytes: Bytes,
 }
@@ -114,6 +113,13 @@ impl fmt::Display for Text {
 
     fn fmt<W: fmt::Write>(&self, f: &mut fmt::Formatter<W>) -> fmt::Result {
         fmt::Display::fmt(&self.as_str(), f)
+    }
+}
+
+/// It shows the text, as that of a `str` does.
+impl fmt::Debug for Text {
+    fn fmt<W: fmt::Write>(&self, f: &mut fmt::Formatter<W>) -> fmt::Result {
+        fmt::Debug::fmt(&self.as_str(), f)
     }
 }
 

@@ -15,3 +15,4 @@ pub use gathered::{FaultCause, Gathered, RunFault};
 pub use job::Job;
 pub use job_end::{JobEnd, JobRefusal};
 pub use lasting_refusal::LastingRefusal;
+pub use stm_txn::Refusal;

@@ -8,7 +8,6 @@ use Rattle.stm_events.specs.declared.event.WorldEvent.{WorldEvent}
 use Rattle.stm_events.specs.declared.event.WorldEvent.TheVariants.{Start, Step, Txn, Grant, Keep, Revoke, Advance}
 use Rattle.stm_events.specs.declared.event.WorldEvent.TheVariants.{WatchKey, WatchRange, Poll, Cancel, Compact}
 use Rattle.stm_texts.specs.declared.scenario.Scenario.{Scenario}
-use Rattle.stm_texts.specs.declared.scenario.Opening.{Opening}
 use Rattle.stm_texts.specs.Opens.{setup_of}
 use Rattle.stm_program.specs.Syntax.{ProgramTree}
 use Rattle.stm_program.specs.declared.level.Level.{Level}
@@ -67,7 +66,7 @@ add_events first before [] s = Ok s
 add_events first before (e ∷ es) s = within (first + before) (add_event s e) >>= λ next. add_events first (suc before) es next
 
 -- the place of the first event: an opening stands before it
-abbrev pub shift_of : Option Opening → ℕ
+abbrev pub shift_of : Option Setup → ℕ
 shift_of None = 0
 shift_of (Some start) = 1
 

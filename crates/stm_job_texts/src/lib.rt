@@ -19,7 +19,7 @@ pub use stm_hall::Hall;
 pub use stm_history::Sequence;
 pub use stm_job::{Gathered, Job};
 pub use stm_json::{BadInput, Cause, ReadError};
-pub use stm_texts::Scenario;
+pub use stm_texts::{Opening, Scenario};
 pub use stm_txn::Store;
 pub use store_call::StoreCall;
 pub use tally::{count_one, tally_text};

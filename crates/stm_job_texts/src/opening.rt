@@ -2,7 +2,6 @@
 ghost use Rattle.std.specs.Prelude.{◌≡◌, ◌≢◌, Some, IfOk, OnOk};
 ghost use Rattle.stm_outcome.specs.declared.refusal.Refusal.TheVariants.{OutOfMemory};
 ghost use Rattle.stm_txn.specs.Standing.{transacted, granted, kept_alive, revoked, advanced};
-ghost use Rattle.stm_texts.specs.Opens.{IsOpening, as_setup};
 ghost use Rattle.stm_events.specs.Replies.{store_after_call};
 ghost use Rattle.stm_job_texts.specs.StoreAfter.{after_call, after_calls, store_after};
 
@@ -107,10 +106,9 @@ fn make_calls(store: &mut Store, calls: &[StoreCall]) -> Result<(), AllocError>
 /// A store that opens empty with this, after these calls were made in their order. A call that is refused changes nothing, but for an
 /// advance that stopped on its way. It fails only where an allocation failed.
 pub fn open_store(alloc: Global, opening: Opening, calls: &[StoreCall]) -> Result<Store, AllocError>
-    requires { IsOpening (Some opening) }
-    ensures { IfOk result (λ store. store.standing ≡ store_after (as_setup opening) calls.now) }
+    ensures { IfOk result (λ store. store.standing ≡ store_after opening calls.now) }
 {
-    let mut store = Store::with_limits(alloc, opening.revision, opening.operations)?;
+    let mut store = Store::with_limits(alloc, opening.revision(), opening.operations())?;
     match make_calls(&mut store, calls) {
         Ok(()) => Ok(store),
         Err(error) => {

@@ -86,18 +86,6 @@ impl Journal {
         &self.store
     }
 
-    /// Ends the journal, and returns its store. The entries are dropped.
-    pub fn into_store(self) -> Store
-        ensures { result.standing ≡ self.standing }
-    {
-        let Journal {
-            store,
-            entries: _,
-            start: _,
-        } = self;
-        store
-    }
-
     /// What changed the store since the journal was made, oldest first.
     pub fn entries(&self) -> &[Entry]
         ensures { result.now ≡ self.now.entries }

@@ -38,5 +38,7 @@ pub use stm_history::{ReadAnswer, Sequence, Text};
 pub use stm_keys::Keys;
 pub use stm_meaning::{State, TraceItem, Value};
 pub use stm_program::{Level, Program};
-pub use stm_txn::{AdvanceRefused, Batch, Expired, Refusal, Store, Txn, TxnAnswer};
+pub use stm_txn::{
+    AdvanceRefused, Batch, Expired, OpAnswer, Refusal, ShortList, Store, Txn, TxnAnswer,
+};
 pub use verdict::Verdict;

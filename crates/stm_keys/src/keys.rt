@@ -131,6 +131,17 @@ fn copy_events(alloc: Global, events: &[Event]) -> Result<Vec<Event>, AllocError
     Ok(copy)
 }
 
+/// A copy of the changes of a revision.
+fn copy_changes(alloc: Global, changes: &[Change]) -> Result<Vec<Change>, AllocError>
+    ensures { IfOk result (λ copy. copy.items ≡ changes.now) }
+{
+    let mut copy = Vec::with_capacity(alloc, changes.len())?;
+    for change in changes {
+        copy.push(change.clone()?)?;
+    }
+    Ok(copy)
+}
+
 /// Makes room for one more revision. A full list grows by a quarter, so that little of it stands empty.
 #[inline(always)]
 fn make_room_in(revisions: &mut Revisions) -> Result<(), AllocError>
@@ -446,12 +457,10 @@ impl Keys {
         Ok(before + 1)
     }
 
-    /// Adds one revision with these changes, in this order, and answers its number. There is a change, no key
-    /// is changed twice, and each deleted key is present. The values of the changes become the store's.
+    /// Adds one revision with these changes, as `apply` does. The values of the changes become the store's, and are not copied.
     ///
-    /// `RevisionsUsedUp` is answered where the counter is at `HIGHEST_REVISION`, `OutOfMemory` where a
-    /// growth was refused. A refused call changes nothing.
-    pub fn apply(&mut self, changes: Vec<Change>) -> Result<u64, ApplyRefusal>
+    /// It is refused for the causes of `apply`, and then changes nothing.
+    pub fn apply_all(&mut self, changes: Vec<Change>) -> Result<u64, ApplyRefusal>
         requires revision { IsRevision changes.items }
         requires present { DeletePresent self.old.history changes.items }
         ensures number { IfOk result (λ number. number ≡ now self.new.history) }
@@ -465,6 +474,27 @@ impl Keys {
         } else {
             self.apply_each(changes)
         }
+    }
+
+    /// Adds one revision with these changes, in this order, and answers its number. There is a change, no key
+    /// is changed twice, and each deleted key is present.
+    ///
+    /// `RevisionsUsedUp` is answered where the counter is at `HIGHEST_REVISION`, `OutOfMemory` where a
+    /// growth was refused. A refused call changes nothing.
+    pub fn apply(&mut self, changes: &[Change]) -> Result<u64, ApplyRefusal>
+        requires revision { IsRevision changes.now }
+        requires present { DeletePresent self.old.history changes.now }
+        ensures number { IfOk result (λ number. number ≡ now self.new.history) }
+        ensures ok { OnOk result (self.new.history ≡ add_revision self.old.history changes.now) }
+        ensures kept { (self.new.opened ≡ self.old.opened) × (self.new.floor ≡ self.old.floor) }
+        ensures used_up { (result ≡ Err ApplyRefusal.RevisionsUsedUp) ↔ (now self.old.history ≡ HIGHEST_REVISION) }
+        ensures err { OnErr result (self.new ≡ self.old) }
+    {
+        if self.revision() == HIGHEST_REVISION {
+            return Err(ApplyRefusal::RevisionsUsedUp);
+        }
+        let changes = copy_changes(*self.revisions.allocator(), changes)?;
+        self.apply_all(changes)
     }
 
     /// The events of a revision, in the order of operations: none where it is below those that are kept. They are not

@@ -10,7 +10,6 @@ use stm_history::Text;
 /// The text of a key, which all events of the key share: it stands once for all of them.
 ///
 /// Contracts see its bytes.
-#[derive(Debug)]
 pub struct SharedText {
     text: Arc<Text>,
 }
@@ -50,6 +49,13 @@ impl SharedText {
         ensures { result.now ≡ self.now }
     {
         self.text().as_str()
+    }
+}
+
+/// It shows the text, as that of a `str` does.
+impl fmt::Debug for SharedText {
+    fn fmt<W: fmt::Write>(&self, f: &mut fmt::Formatter<W>) -> fmt::Result {
+        fmt::Debug::fmt(&self.as_str(), f)
     }
 }
 

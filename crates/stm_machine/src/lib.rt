@@ -22,3 +22,6 @@ pub use focus::{Focus, Item};
 pub use frame::{ArgumentFrame, ComparisonFrame, Frame, NextFrame, OperandFrame, TruthFrame};
 pub use machine::Machine;
 pub use parts::{CondPart, ExprPart, Remaining, Turns};
+pub use stm_history::Text;
+pub use stm_program::Program;
+pub use stm_steps::{Lookup, Run};

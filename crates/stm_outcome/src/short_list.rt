@@ -5,13 +5,13 @@ ghost use Rattle.std.specs.Option.{option_to_list};
 use smallvec::SmallVec;
 use std::alloc::{AllocError, Global};
 use std::default::MadeWith;
+use std::fmt;
 use std::marker::Model;
 
 /// A list that mostly has few elements: the first one is stored in it, without an allocation.
 ///
 /// Contracts see its elements in order, and never where they are stored. It is made from a `Vec` without an
 /// allocation, and gives one back without an allocation where it has spilled.
-#[derive(Debug)]
 pub struct ShortList<T> {
     items: SmallVec<T, 1>,
 }
@@ -117,6 +117,13 @@ impl<T: MadeWith<Global>> From<SmallVec<T, 1>> for ShortList<T> {
 
     fn from(items: SmallVec<T, 1>) -> ShortList<T> {
         ShortList { items }
+    }
+}
+
+/// It shows the elements, as that of a `Vec` does.
+impl<T: fmt::Debug> fmt::Debug for ShortList<T> {
+    fn fmt<W: fmt::Write>(&self, f: &mut fmt::Formatter<W>) -> fmt::Result {
+        f.debug_list().entries(self.as_slice()).finish()
     }
 }
 

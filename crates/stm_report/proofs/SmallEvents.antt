@@ -8,7 +8,7 @@ use Rattle.stm_program.specs.declared.limits.TheConstants.{MAX_DEPTH, MAX_NODES}
 use Rattle.stm_json.specs.Parts.{SpellsEach}
 use Rattle.stm_events.specs.declared.event.WorldEvent.{WorldEvent}
 use Rattle.stm_events.specs.declared.event.WorldEvent.TheVariants.{Start, Step, Txn, Grant, Keep, Revoke, Advance, Compact, WatchKey, WatchRange, Poll, Cancel}
-use Rattle.stm_texts.specs.declared.scenario.Opening.{Opening}
+use Rattle.stm_txn.specs.Standing.{Setup}
 use Rattle.stm_texts.specs.declared.scenario.Scenario.{Scenario}
 use Rattle.stm_texts.specs.declared.events.TheConstants.{MOST_EVENTS}
 use Rattle.stm_texts.specs.Grammar.{SpellsEvent, SpellsOpening, SpellsElements, SpellsScenario}
@@ -47,11 +47,11 @@ pub record AsksFew (s : Scenario) : Type 0 where
   pub events : EventsAskFew s.events
   pub count : length s.events ≤ MOST_EVENTS
 
-opening_few : (d : Data) (opening : Opening) → SpellsOpening d opening → opening.revision ≤ HIGHEST_REVISION
+opening_few : (d : Data) (opening : Setup) → SpellsOpening d opening → opening.revision ≤ HIGHEST_REVISION
 opening_few d opening (inl (a, is, number, most)) = number.2
 opening_few d opening (inr (a, b, is, number, most)) = number.2
 
-elements_few : (ds : Items) (o : Option Opening) (events : List WorldEvent) → SpellsElements ds o events →
+elements_few : (ds : Items) (o : Option Setup) (events : List WorldEvent) → SpellsElements ds o events →
     ((setup_of o).revision ≤ HIGHEST_REVISION) × EventsAskFew events
 elements_few ds None events spelled = (omega arith, each_asks_few ds events spelled)
 elements_few ds (Some opening) events (a, rest, is, begin, others) = (opening_few a opening begin, each_asks_few rest events others)

@@ -1,7 +1,6 @@
 //! From the bytes of a source to the report in a sink, in a format.
 ghost use Rattle.std.specs.Prelude.{◌≡◌, ◌≤◌, ◌+◌, false, length, IfOk};
 ghost use Rattle.stm_devices.specs.declared.transfer.TheConstants.{MOST_READ};
-ghost use Rattle.stm_texts.specs.Opens.{IsOpening};
 ghost use Rattle.stm_report.specs.FormatScript.{IsTextOf, IsTextFrom, IsRunText, Answers, Writes, DoesAs};
 ghost use Rattle.stm_report.specs.FormatRows.{rows_of};
 ghost use Rattle.stm_report.specs.FormatNotes.{notes_of};
@@ -88,11 +87,10 @@ fn report_from(
 
 /// The report of a scenario's run.
 fn run_report(alloc: Global, format: Format, scenario: &Scenario) -> Result<Vec<u8>, AllocError>
-    requires { IsOpening scenario.now.opening }
     ensures { IfOk result (λ text. IsRunText format scenario.now text.items) }
 {
     let opening = opens_with(scenario.opening);
-    let mut world = World::with_limits(alloc, opening.revision, opening.operations)?;
+    let mut world = World::with_limits(alloc, opening.revision(), opening.operations())?;
     let text = report_from(alloc, format, &mut world, scenario.events.as_slice());
     drop(world);
     text

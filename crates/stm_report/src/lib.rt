@@ -38,21 +38,23 @@ pub use format_row::{Lane, Mark, Row};
 pub use format_rows::rows_of;
 pub use format_script::{render, script_as};
 pub use laws::{
-    checks_say_yes, never_no_to_a_script, one_report, reports_are_of_right_runs,
-    reports_are_read_back, scripts_are_read_as_right, scripts_pass_checks, yes_to_a_script,
+    checks_say_yes, entries_are_reported, never_no_to_a_script, one_report,
+    reports_are_of_right_runs, reports_are_read_back, scripts_are_read_as_right,
+    scripts_pass_checks, yes_to_a_script,
 };
 pub use leases::live_leases;
 pub use report_text::report;
 pub use run_script::{ScriptFault, script};
 pub use stm_check::{CheckFault, Checked, WrongCause, check};
 pub use stm_devices::{DeviceFault, Sink, Source, Std, write_all};
+pub use stm_entries::{Entry, LiveLease};
 pub use stm_events::{
     CommittedRead, Event, EventRefusal, Expired, Fault, KeyRead, OpReply, TraceItem, Value,
 };
 pub use stm_history::{KeyState, Sequence, Text};
 pub use stm_report_lines::{Report, ReportLine, read_report};
 pub use stm_retry::{Denied, Reply, World};
-pub use stm_texts::{BadInput, Cause, ReadError, Scenario, WorldEvent, read_scenario};
+pub use stm_texts::{BadInput, Cause, Opening, ReadError, Scenario, WorldEvent, read_scenario};
 pub use whole_comparing::WholeChecked;
 pub use whole_judging::check_whole;
 pub use whole_laws::{alike_is_equal, yes_is_the_report};

@@ -4,6 +4,7 @@ pub mod RunnerLemmas
 pub mod SlotLemmas
 pub mod StepLemmas
 pub mod WorldLemmas
+pub mod AlikeLemmas
 pub mod KeptWorlds
 pub mod Stops
 pub mod WorkedExamples

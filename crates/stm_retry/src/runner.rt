@@ -1,5 +1,6 @@
 //! Runs of programs that have not ended.
-ghost use Rattle.std.specs.Prelude.{◌≡◌, ◌≢◌, ◌+◌, ◌<◌, nat_lt, false, None, Some, [], map, All, IfOk, OnOk, OnErr};
+ghost use Rattle.stm_alike.specs.Seen.{seen_runner};
+ghost use Rattle.std.specs.Prelude.{true, ◌≡◌, ◌≢◌, ◌+◌, ◌<◌, nat_lt, false, None, Some, [], map, All, IfOk, OnOk, OnErr};
 ghost use Rattle.stm_history.specs.declared.key_state.ReadAnswer.{ReadAnswer as Answer};
 ghost use Rattle.stm_outcome.specs.Commits.{AreNamed as KeysAreNamed};
 ghost use Rattle.stm_outcome.specs.Numbers.{ReadFits};
@@ -11,11 +12,13 @@ ghost use Rattle.stm_attempt.specs.Next.{key_asked, list_asked};
 ghost use Rattle.stm_world.specs.World.{begin};
 ghost use Rattle.stm_retry.specs.RunnerView.{task_of, AreNamed, next_for, with_answer, with_answers, begun_again};
 
+use crate::alike::{is_same_level, is_same_program, mix};
 use std::alloc::{AllocError, Global};
 use std::marker::Model;
 use std::mem;
+use stm_alike::{are_level, are_same_answers};
 use stm_attempt::{Attempt, Next};
-use stm_history::{ReadAnswer, Sequence};
+use stm_history::{ReadAnswer, Sequence, mod_rev_of};
 use stm_program::{Level, Program};
 
 /// A run of a program that has not ended.
@@ -71,6 +74,37 @@ fn replace_attempt(place: &mut Attempt, next: Attempt)
 }
 
 impl Runner {
+    /// A number that alike runners have in common.
+    pub(crate) fn hint(&self) -> u64 {
+        let mut hint = mix(self.failures as u64, 7);
+        for answer in self.attempt.reads() {
+            hint = mix(mix(hint, answer.of_rev), mod_rev_of(&answer.kv));
+        }
+        for answer in self.attempt.prefetched() {
+            hint = mix(mix(hint, answer.of_rev), mod_rev_of(&answer.kv));
+        }
+        hint
+    }
+
+    /// Whether another runner is alike: it may differ in the revisions that later answers carry.
+    pub(crate) fn is_alike(&self, other: &Runner) -> bool
+        ensures { result ≡ true → seen_runner self.now.runner ≡ seen_runner other.now.runner }
+    {
+        if self.failures != other.failures || self.limit != other.limit {
+            return false;
+        }
+        if !is_same_level(self.level, other.level) {
+            return false;
+        }
+        if !are_level(self.attempt.reads(), other.attempt.reads()) {
+            return false;
+        }
+        if !are_same_answers(self.attempt.prefetched(), other.attempt.prefetched()) {
+            return false;
+        }
+        is_same_program(&self.program, &other.program)
+    }
+
     /// A runner whose run has sent no commit, and may send at most `limit`. It takes no memory.
     pub(crate) fn new(alloc: Global, program: Program, level: Level, limit: u32) -> Runner
         requires { limit ≢ 0 }

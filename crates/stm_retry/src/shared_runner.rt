@@ -1,5 +1,6 @@
 //! Runners that several worlds share.
-ghost use Rattle.std.specs.Prelude.{◌≡◌, ◌≤◌, IfOk};
+ghost use Rattle.stm_alike.specs.Seen.{seen_runner};
+ghost use Rattle.std.specs.Prelude.{true, ◌≡◌, ◌≤◌, IfOk};
 ghost use Rattle.stm_history.specs.History.{now};
 ghost use Rattle.stm_attempt.specs.Fetches.{at_of};
 ghost use Rattle.stm_world.specs.World.{step_live};
@@ -34,6 +35,17 @@ impl Model for SharedRunner {
 }
 
 impl SharedRunner {
+    pub(crate) fn hint(&self) -> u64 {
+        self.runner.hint()
+    }
+
+    /// Whether another runner is alike.
+    pub(crate) fn is_alike(&self, other: &SharedRunner) -> bool
+        ensures { result ≡ true → seen_runner self.now.runner ≡ seen_runner other.now.runner }
+    {
+        self.runner.is_alike(&other.runner)
+    }
+
     /// A runner that can be shared.
     pub(crate) fn new(alloc: Global, runner: Runner) -> Result<SharedRunner, AllocError>
         ensures { IfOk result (λ s. s ≡ runner) }

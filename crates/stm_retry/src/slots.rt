@@ -1,5 +1,6 @@
 //! The places of runners: runner 1 stands first.
-ghost use Rattle.std.specs.Prelude.{◌≡◌, ◌-◌, ◌<◌, ◌≤◌, ◌^◌, None, Some, is_some, option_map, slice_get, IfNone, OnSome, vec_len};
+ghost use Rattle.stm_alike.specs.Seen.{seen_slot};
+ghost use Rattle.std.specs.Prelude.{true, ◌≡◌, ◌-◌, ◌<◌, ◌≤◌, ◌^◌, None, Some, is_some, option_map, slice_get, IfNone, OnSome, vec_len};
 ghost use Rattle.stm_world.specs.World.{live_in, runner_at, with_slot, Over as Left, Live as Stands};
 ghost use Rattle.stm_retry.specs.RunnerView.{RunnerView, slot_of};
 
@@ -28,6 +29,26 @@ impl Model for Slot {
 }
 
 impl Slot {
+    pub(crate) fn hint(&self) -> u64 {
+        match &self.runner {
+            None => 1,
+            Some(runner) => runner.hint(),
+        }
+    }
+
+    /// Whether what stands at another place is alike.
+    pub(crate) fn is_alike(&self, other: &Slot) -> bool
+        ensures { result ≡ true → seen_slot self.now ≡ seen_slot other.now }
+    {
+        match &self.runner {
+            None => other.runner.is_none(),
+            Some(runner) => match &other.runner {
+                None => false,
+                Some(another) => runner.is_alike(another),
+            },
+        }
+    }
+
     /// The place of a run that is over.
     pub(crate) fn over() -> Slot
         ensures { result ≡ Left }

@@ -1,5 +1,6 @@
 //! The world.
-ghost use Rattle.std.specs.Prelude.{◌≡◌, ◌≢◌, ◌≤◌, false, List, [], ◌∷◌, ◌++◌, length, is_some, Result, Ok, Err, IfOk, IfErr, OnOk, OnErr};
+ghost use Rattle.stm_alike.specs.Seen.{seen_slot};
+ghost use Rattle.std.specs.Prelude.{true, map, ◌≡◌, ◌≢◌, ◌≤◌, false, List, [], ◌∷◌, ◌++◌, length, is_some, Result, Ok, Err, IfOk, IfErr, OnOk, OnErr};
 ghost use Rattle.stm_history.specs.declared.revisions.TheConstants.{HIGHEST_REVISION};
 ghost use Rattle.stm_history.specs.History.{now, AreRevisions};
 ghost use Rattle.stm_outcome.specs.Terms.{most_operations};
@@ -23,6 +24,7 @@ ghost use Rattle.stm_retry.specs.Returns.{Returns, ran_out, expired_of, IsRunSto
 ghost use Rattle.stm_retry.specs.Stops.{GoesOnAlike};
 ghost use Rattle.stm_retry.specs.Kept.{whole_store};
 
+use crate::alike::{are_slots_alike, mix};
 use crate::kept_world::KeptWorld;
 use crate::slots::is_running;
 use std::alloc::{AllocError, Global};
@@ -290,19 +292,6 @@ impl World {
         self.kept.journal.store()
     }
 
-    /// Ends the world, and returns its store. The watchers and leases stay in it.
-    pub fn into_store(self) -> Store
-        ensures { result.standing ≡ kept self.standing }
-    {
-        let World {
-            alloc: _,
-            opened: _,
-            kept,
-        } = self;
-        let KeptWorld { journal, .. } = kept;
-        journal.into_store()
-    }
-
     /// The state of the store now: the present keys with their values and modification revisions.
     ///
     /// Out of memory is its only refusal.
@@ -328,6 +317,23 @@ impl World {
             opened: self.opened,
             kept,
         })
+    }
+
+    /// Whether the runners of another world are alike: the steps from both can see the same of them. The revisions that later answers of an
+    /// attempt carry may differ.
+    pub fn has_alike_runners(&self, other: &World) -> bool
+        ensures { result ≡ true → map seen_slot self.now.runners ≡ map seen_slot other.now.runners }
+    {
+        are_slots_alike(self.kept.runners.as_slice(), other.kept.runners.as_slice())
+    }
+
+    /// A number that worlds with alike runners have in common, and others mostly do not. No contract says so: `has_alike_runners` tells.
+    pub fn runners_hint(&self) -> u64 {
+        let mut hint = 0;
+        for slot in self.kept.runners.as_slice() {
+            hint = mix(hint, slot.hint());
+        }
+        hint
     }
 
     /// The number of runners that were started. They have the numbers from 1 up to this one.

@@ -12,7 +12,7 @@ use Rattle.stm_schedules.specs.contracts.outcome.KeyValuePartialEq.TheImpl.{eq-v
 use Rattle.stm_schedules.specs.declared.outcome.Outcome.{Outcome}
 use Rattle.stm_schedules.specs.contracts.outcome.OutcomePartialEq.TheImpl.{eq-value as eq-outcome}
 
-end_decides : (a b : RunnerEnd) → Decides (eq-end.it a b) (a ≡ b)
+pub end_decides : (a b : RunnerEnd) → Decides (eq-end.it a b) (a ≡ b)
 end_decides (Committed xs) (Committed ys) = search (rules, values_decide)
 end_decides (GaveUp k) (GaveUp q) = search (rules, bytes_eq-Decides)
 end_decides (Aborted s) (Aborted t) = search (rules, bytes_eq-Decides)

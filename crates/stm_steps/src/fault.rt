@@ -1,6 +1,7 @@
 //! The faults that end a program.
 ghost use Rattle.std.specs.Prelude.{◌≡◌};
 
+use std::error::Error;
 use std::fmt;
 
 /// Why a program was ended by one of its own nodes.
@@ -56,3 +57,5 @@ impl fmt::Display for Fault {
         fmt::Display::fmt(&self.name(), f)
     }
 }
+
+impl Error for Fault {}

@@ -72,7 +72,7 @@ fn apply(alloc: Global, keys: &mut Keys, change: Change) -> Result<(), Fail>
     requires { DeletePresent keys.old.history (change ∷ []) }
 {
     let changes = vec![in alloc; change]?;
-    match keys.apply(changes) {
+    match keys.apply(changes.as_slice()) {
         Ok(_number) => Ok(()),
         Err(refusal) => Err(Fail::from(refusal.name())),
     }

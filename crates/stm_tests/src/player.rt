@@ -4,10 +4,12 @@
 
 mod made;
 mod readers;
+mod recipes;
 mod runs;
 mod texts;
 mod writes;
 
+pub use recipes::Recipe;
 use std::alloc::Global;
 use std::process::Abort;
 use std::test::Fail;
@@ -30,6 +32,8 @@ pub enum Example {
     Want(&'static str),
     /// The number of keys of a state, each key, and the modification revisions of "a0" and "a2".
     State(&'static [(&'static str, &'static str, u8)]),
+    /// How a recipe's run on a state of these entries ends, what it emits, and each write of its effect.
+    Recipe(Recipe, &'static [(&'static str, &'static str, u8)]),
     /// What the readers of recipes return for a state.
     Readers(&'static [(&'static str, &'static str, u8)]),
 }
@@ -44,6 +48,9 @@ fn report(alloc: Global, reported: &mut String, example: Example) -> Result<(), 
         Example::Effect(text, entries) => runs::report_effect_of(alloc, reported, text, entries),
         Example::Want(text) => runs::report_want(alloc, reported, text),
         Example::State(entries) => runs::report_state_of(alloc, reported, entries),
+        Example::Recipe(recipe, entries) => {
+            recipes::report_recipe_on(alloc, reported, recipe, entries)
+        }
         Example::Readers(entries) => readers::report_readers_of(alloc, reported, entries),
     }
 }

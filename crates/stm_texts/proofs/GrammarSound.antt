@@ -22,16 +22,17 @@ use Rattle.stm_txn_json.proofs.WordLemmas.{chosen, no_word}
 use Rattle.stm_events.specs.declared.event.WorldEvent.{WorldEvent}
 use Rattle.stm_events.specs.declared.event.WorldEvent.TheVariants.{Start, Step, Txn, Grant, Keep, Revoke, Advance, Compact}
 use Rattle.stm_outcome.specs.Terms.{most_operations}
-use Rattle.stm_texts.specs.declared.scenario.Opening.{Opening}
+use Rattle.stm_txn.specs.Standing.{Setup}
 use Rattle.stm_texts.specs.declared.scenario.Scenario.{Scenario}
 use Rattle.stm_history.specs.declared.revisions.TheConstants.{HIGHEST_NUMBER, HIGHEST_REVISION}
 use Rattle.stm_texts.specs.declared.events.TheConstants.{HIGHEST_LIMIT, MOST_EVENTS}
 use Rattle.stm_json.specs.declared.limits.TheConstants.{MOST_BYTES}
 use Rattle.stm_json.specs.Bytes.{data_of}
 use Rattle.stm_texts.specs.Grammar.{level_text, SpellsNumbered, SpellsEvent, SpellsOpening, SpellsElements, SpellsData, SpellsScenario}
+use Rattle.stm_texts.specs.Opens.{setup_at}
 use Rattle.stm_texts.specs.Reading.{level_named, level_of, start_of, grant_of, number_alone, step_of, keep_of, revoke_of, advance_of, compact_of}
 use Rattle.stm_texts.specs.Reading.{txn_event}
-use Rattle.stm_texts.specs.Reading.{watcher_event, event_worded, event_of, event_after, events_from, begins, opening_at, opening_by, opening_of}
+use Rattle.stm_texts.specs.Reading.{watcher_event, event_worded, event_of, event_after, events_from, begins, opening_by, opening_of}
 use Rattle.stm_texts.proofs.WatcherSound.{watcher_sound}
 use Rattle.stm_texts.specs.Reading.{scenario_after, scenario_list, scenario_of, scenario_read, scenario_in}
 
@@ -176,7 +177,7 @@ events_sound first before (item d ds) es few h =
 abbrev ElementsRead : Items → Scenario → Type 0
 ElementsRead ds s = SpellsElements ds s.opening s.events × (length s.events ≤ MOST_EVENTS)
 
-abbrev scenario_with : Option Opening → List WorldEvent → Scenario
+abbrev scenario_with : Option Setup → List WorldEvent → Scenario
 scenario_with opening es = record { opening = opening; events = es }
 
 alone_sound : (ds : Items) (s : Scenario) → (events_from 0 0 ds >>= λ es. Ok (scenario_with None es)) ≡ Ok s → ElementsRead ds s
@@ -197,12 +198,12 @@ begins-is d (Some p) parts w h =
     let is = begins_is p parts (same p.0 (codes "begin")) refl h in
     worded-is d p w ∙ rw (is.0, is.1) refl
 
-opening_sound : (d : Data) (parts : Items) (one : Option Data) (two : Option (Data × Data)) (opening : Opening) → one_of parts ≡ one → two_of parts ≡ two
+opening_sound : (d : Data) (parts : Items) (one : Option Data) (two : Option (Data × Data)) (opening : Setup) → one_of parts ≡ one → two_of parts ≡ two
     → d ≡ array (item (string (codes "begin")) parts) → opening_by one two ≡ Ok opening → SpellsOpening d opening
 opening_sound d parts None None opening e f is h = cc
 opening_sound d parts (Some a) two opening e f is h =
     let revision = bind_ok (within 1 (number_in 1 HIGHEST_REVISION a)) _ opening h in
-    let same : opening_at revision.0 most_operations ≡ opening = cc revision.2 in
+    let same : setup_at revision.0 most_operations ≡ opening = cc revision.2 in
     subst (SpellsOpening d) same (inl (
       a,
       is ∙ ap (λ (x : Items). array (item (string (codes "begin")) x)) (one_of-is parts a e),
@@ -212,7 +213,7 @@ opening_sound d parts (Some a) two opening e f is h =
 opening_sound d parts None (Some p) opening e f is h =
     let revision = bind_ok (within 1 (number_in 1 HIGHEST_REVISION p.0)) _ opening h in
     let operations = bind_ok (within 2 (number_in 1 most_operations p.1)) _ opening revision.2 in
-    let same : opening_at revision.0 operations.0 ≡ opening = cc operations.2 in
+    let same : setup_at revision.0 operations.0 ≡ opening = cc operations.2 in
     subst (SpellsOpening d) same (inr (
       p.0,
       p.1,

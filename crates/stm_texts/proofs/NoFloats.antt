@@ -8,7 +8,7 @@ use Rattle.stm_program_json.proofs.NoFloats.{program-no_float}
 use Rattle.std.specs.Prelude.{nat_eq}
 use Rattle.stm_json.specs.Parts.{spelled}
 use Rattle.stm_outcome.specs.Terms.{most_operations}
-use Rattle.stm_texts.specs.declared.scenario.Opening.{Opening}
+use Rattle.stm_txn.specs.Standing.{Setup}
 use Rattle.stm_texts.specs.declared.scenario.Scenario.{Scenario}
 use Rattle.stm_outcome.specs.declared.txn.Compare.{Compare}
 use Rattle.stm_outcome.specs.declared.txn.Op.{Op}
@@ -62,9 +62,9 @@ begin-no_float : (is_most : Bool) (revision operations : ℕ) (es : List WorldEv
 begin-no_float true revision operations es = each-no_float written_event event-no_float es
 begin-no_float false revision operations es = each-no_float written_event event-no_float es
 
-elements-no_float : (o : Option Opening) (es : List WorldEvent) → items_have_float (items_of (opening_elements o ++ map written_event es)) ≡ false
+elements-no_float : (o : Option Setup) (es : List WorldEvent) → items_have_float (items_of (opening_elements o ++ map written_event es)) ≡ false
 elements-no_float None es = each-no_float written_event event-no_float es
-elements-no_float (Some o) es = begin-no_float (nat_eq o.operations most_operations) o.revision o.operations es
+elements-no_float (Some o) es = begin-no_float (nat_eq o.limit most_operations) o.revision o.limit es
 
 pub scenario-no_float : (s : Scenario) → has_float (written_scenario s) ≡ false
 scenario-no_float s = elements-no_float s.opening s.events

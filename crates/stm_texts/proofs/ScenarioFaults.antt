@@ -21,16 +21,17 @@ use Rattle.stm_txn_json.proofs.TxnFaults.{txn_faulted}
 use Rattle.stm_events.specs.declared.event.WorldEvent.{WorldEvent}
 use Rattle.stm_events.specs.declared.event.WorldEvent.TheVariants.{Start, Step, Txn, Grant, Keep, Revoke, Advance, Compact}
 use Rattle.stm_outcome.specs.Terms.{most_operations}
-use Rattle.stm_texts.specs.declared.scenario.Opening.{Opening}
+use Rattle.stm_txn.specs.Standing.{Setup}
 use Rattle.stm_texts.specs.declared.scenario.Scenario.{Scenario}
 use Rattle.stm_history.specs.declared.revisions.TheConstants.{HIGHEST_NUMBER, HIGHEST_REVISION}
 use Rattle.stm_texts.specs.declared.events.TheConstants.{HIGHEST_LIMIT, MOST_EVENTS}
 use Rattle.stm_json.specs.declared.limits.TheConstants.{MOST_BYTES}
 use Rattle.stm_json.specs.Bytes.{data_of}
+use Rattle.stm_texts.specs.Opens.{setup_at}
 use Rattle.stm_texts.specs.Reading.{level_named, level_of, start_of, grant_of, number_alone, step_of, keep_of, revoke_of, advance_of, compact_of}
 use Rattle.stm_texts.specs.Reading.{txn_event}
 use Rattle.stm_texts.specs.Reading.{watcher_event, event_of, event_after, events_from, begins}
-use Rattle.stm_texts.specs.Reading.{opening_at, opening_by, opening_of, scenario_after, scenario_of, scenario_read, scenario_in}
+use Rattle.stm_texts.specs.Reading.{opening_by, opening_of, scenario_after, scenario_of, scenario_read, scenario_in}
 use Rattle.stm_texts.specs.FirstFault.{level_words, placed, program_faults, event_table, event_faults, events_faults, opening_sorts, elements_faults, data_faults}
 use Rattle.stm_texts.specs.FirstFault.{first_fault}
 use Rattle.stm_texts.proofs.WatcherFaults.{watcher_rows, watcher_faulted}
@@ -167,19 +168,19 @@ events_faulted first before (item d ds) =
 opening_faulted : (p : List ℕ) (ds : Items) → first_of (sorted_faults p (Some (opening_sorts ds)) ds) ≡ fault_of p (opening_of ds)
 opening_faulted p no_items = wrong_is p Shape (opening_by None None) refl
 opening_faulted p (item a no_items) =
-    part_then p 1 (number_in 1 HIGHEST_REVISION a) (λ revision. Ok (opening_at revision most_operations)) (faults_by (NumberIn 1 HIGHEST_REVISION) (at p 1) a)
+    part_then p 1 (number_in 1 HIGHEST_REVISION a) (λ revision. Ok (setup_at revision most_operations)) (faults_by (NumberIn 1 HIGHEST_REVISION) (at p 1) a)
     [] (number_faulted (at p 1) 1 HIGHEST_REVISION a (omega arith)) (λ revision. refl)
 opening_faulted p (item a (item b no_items)) =
     part_then p 1 (number_in 1 HIGHEST_REVISION a) _ (faults_by (NumberIn 1 HIGHEST_REVISION) (at p 1) a) _
     (number_faulted (at p 1) 1 HIGHEST_REVISION a (omega arith)) (λ (revision : ℕ).
-    part_then p 2 (number_in 1 most_operations b) (λ operations. Ok (opening_at revision operations)) (faults_by (NumberIn 1 most_operations) (at p 2) b) []
+    part_then p 2 (number_in 1 most_operations b) (λ operations. Ok (setup_at revision operations)) (faults_by (NumberIn 1 most_operations) (at p 2) b) []
     (number_faulted (at p 2) 1 most_operations b (omega arith)) (λ operations. refl))
 opening_faulted p (item a (item b (item c ds))) = wrong_is p Shape (opening_by None None) refl
 
 abbrev alone : List WorldEvent → Scenario
 alone es = record { opening = None; events = es }
 
-abbrev opened : Opening → List WorldEvent → Scenario
+abbrev opened : Setup → List WorldEvent → Scenario
 opened o es = record { opening = Some o; events = es }
 
 alone_faulted : (all : Items) → first_of (events_faults 0 0 all) ≡ fault_of [] (events_from 0 0 all >>= λ es. Ok (alone es))
@@ -190,7 +191,7 @@ opening_tested : (parts ds all : Items) (b : Bool)
     ≡ fault_of [] (scenario_after (cond b (Some parts) None) all ds)
 opening_tested parts ds all true =
     part_then [] 0 (opening_of parts) _ (sorted_faults (step 0) (Some (opening_sorts parts)) parts) (events_faults 1 0 ds) (opening_faulted (step 0) parts)
-    (λ (r : Opening). made [] (events_from 1 0 ds) (opened r) (events_faults 1 0 ds) (events_faulted 1 0 ds))
+    (λ (r : Setup). made [] (events_from 1 0 ds) (opened r) (events_faults 1 0 ds) (events_faulted 1 0 ds))
 opening_tested parts ds all false = alone_faulted all
 
 elements_faulted : (d : Data) (ds : Items) → first_of (elements_faults (item d ds)) ≡ fault_of [] (scenario_after (begins (worded d)) (item d ds) ds)

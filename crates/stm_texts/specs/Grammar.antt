@@ -10,7 +10,7 @@ use Rattle.stm_txn_json.specs.Grammar.{SpellsTxn}
 use Rattle.stm_events.specs.declared.event.WorldEvent.{WorldEvent}
 use Rattle.stm_events.specs.declared.event.WorldEvent.TheVariants.{Start, Step, Txn, Grant, Keep, Revoke, Advance, Compact, WatchKey, WatchRange, Poll, Cancel}
 use Rattle.stm_outcome.specs.Terms.{most_operations}
-use Rattle.stm_texts.specs.declared.scenario.Opening.{Opening}
+use Rattle.stm_txn.specs.Standing.{Setup}
 use Rattle.stm_texts.specs.declared.scenario.Scenario.{Scenario}
 use Rattle.stm_history.specs.declared.revisions.TheConstants.{HIGHEST_NUMBER, HIGHEST_REVISION}
 use Rattle.stm_texts.specs.declared.events.TheConstants.{HIGHEST_LIMIT, MOST_EVENTS}
@@ -49,14 +49,14 @@ SpellsEvent d (Poll watcher most) = (a : Data) × (b : Data) × (d ≡ spelled (
 SpellsEvent d (Cancel watcher) = SpellsNumbered (codes "cancel") d watcher
 
 -- the revision that a store opens at, alone where it takes as many operations as any, or with the most that it takes
-abbrev pub SpellsOpening : Data → Opening → Type 0
+abbrev pub SpellsOpening : Data → Setup → Type 0
 SpellsOpening d opening =
-    ((a : Data) × (d ≡ spelled (codes "begin") (a ∷ [])) × SpellsNumberIn 1 HIGHEST_REVISION a opening.revision × (opening.operations ≡ most_operations))
+    ((a : Data) × (d ≡ spelled (codes "begin") (a ∷ [])) × SpellsNumberIn 1 HIGHEST_REVISION a opening.revision × (opening.limit ≡ most_operations))
     ⊎ ((a : Data) × (b : Data) × (d ≡ spelled (codes "begin") (a ∷ b ∷ [])) × SpellsNumberIn 1 HIGHEST_REVISION a opening.revision
-    × SpellsNumberIn 1 most_operations b opening.operations)
+    × SpellsNumberIn 1 most_operations b opening.limit)
 
 -- events one after the other, alone or after an array of the word begin and what the store opens with
-abbrev pub SpellsElements : Items → Option Opening → List WorldEvent → Type 0
+abbrev pub SpellsElements : Items → Option Setup → List WorldEvent → Type 0
 SpellsElements ds None es = SpellsEach SpellsEvent ds es
 SpellsElements ds (Some opening) es = (a : Data) × (rest : Items) × (ds ≡ item a rest) × SpellsOpening a opening × SpellsEach SpellsEvent rest es
 

@@ -16,7 +16,8 @@ use Rattle.stm_json.specs.declared.cause.Cause.TheVariants.{NotJson, Shape, TooL
 use Rattle.stm_texts.specs.declared.events.TheConstants.{HIGHEST_LIMIT, MOST_EVENTS}
 use Rattle.stm_json.specs.declared.limits.TheConstants.{MOST_BYTES}
 use Rattle.stm_outcome.specs.Terms.{most_operations}
-use Rattle.stm_texts.specs.declared.scenario.Opening.{Opening}
+use Rattle.stm_txn.specs.Standing.{Setup}
+use Rattle.stm_texts.specs.Opens.{setup_at}
 use Rattle.stm_texts.specs.declared.scenario.Scenario.{Scenario}
 use Rattle.stm_json.specs.Bytes.{data_of}
 use Rattle.stm_json.specs.Outcome.{Outcome, bad, ◌>>=◌, within}
@@ -137,18 +138,15 @@ abbrev pub begins : Option (List ℕ × Items) → Option Items
 begins None = None
 begins (Some p) = if same p.0 (codes "begin") then Some p.1 else None
 
-abbrev pub opening_at : ℕ → ℕ → Opening
-opening_at revision operations = record { revision = revision; operations = operations }
-
 -- a revision alone, and then the limit is the highest, or a revision and a limit
-abbrev pub opening_by : Option Data → Option (Data × Data) → Outcome Opening
-opening_by (Some r) two = within 1 (number_in 1 HIGHEST_REVISION r) >>= λ revision. Ok (opening_at revision most_operations)
+abbrev pub opening_by : Option Data → Option (Data × Data) → Outcome Setup
+opening_by (Some r) two = within 1 (number_in 1 HIGHEST_REVISION r) >>= λ revision. Ok (setup_at revision most_operations)
 opening_by None (Some p) =
     within 1 (number_in 1 HIGHEST_REVISION p.0) >>= λ revision. within 2 (number_in 1 most_operations p.1) >>= λ operations. Ok
-    (opening_at revision operations)
+    (setup_at revision operations)
 opening_by None None = bad Shape
 
-abbrev pub opening_of : Items → Outcome Opening
+abbrev pub opening_of : Items → Outcome Setup
 opening_of ds = opening_by (one_of ds) (two_of ds)
 
 -- ---- scenarios

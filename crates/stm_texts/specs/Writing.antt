@@ -5,7 +5,7 @@ use Rattle.serde_json.specs.View.{items_of}
 use Rattle.stm_program_json.specs.Writing.{written_number, written_program}
 use Rattle.stm_texts.specs.Grammar.{level_text}
 use Rattle.stm_outcome.specs.Terms.{most_operations}
-use Rattle.stm_texts.specs.declared.scenario.Opening.{Opening}
+use Rattle.stm_txn.specs.Standing.{Setup}
 use Rattle.stm_texts.specs.declared.scenario.Scenario.{Scenario}
 use Rattle.stm_outcome.specs.declared.txn.Compare.{Compare}
 use Rattle.stm_outcome.specs.declared.txn.Op.{Op}
@@ -74,15 +74,15 @@ written_event (Cancel watcher) = spelled (codes "cancel") (written_number watche
 -- ---- scenarios
 
 -- the element that says what the store opens with: the limit is left out where it is the highest
-abbrev pub opening_parts : Opening → List Data
+abbrev pub opening_parts : Setup → List Data
 opening_parts o =
-    if nat_eq o.operations most_operations then written_number o.revision ∷ [] else written_number o.revision ∷ written_number o.operations ∷ []
+    if nat_eq o.limit most_operations then written_number o.revision ∷ [] else written_number o.revision ∷ written_number o.limit ∷ []
 
-abbrev pub written_opening : Opening → Data
+abbrev pub written_opening : Setup → Data
 written_opening o = spelled (codes "begin") (opening_parts o)
 
 -- it stands first, where there is one
-abbrev pub opening_elements : Option Opening → List Data
+abbrev pub opening_elements : Option Setup → List Data
 opening_elements None = []
 opening_elements (Some o) = written_opening o ∷ []
 

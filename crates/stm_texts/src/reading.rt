@@ -4,7 +4,7 @@ ghost use Rattle.serde_json.specs.View.{view, items_view};
 ghost use Rattle.stm_json.specs.Elements.{worded, number_in};
 ghost use Rattle.stm_json.specs.Outcome.{within as within_outcome};
 ghost use Rattle.stm_outcome.specs.Terms.{most_operations};
-ghost use Rattle.stm_texts.specs.Opens.{IsOpening};
+ghost use Rattle.stm_texts.specs.Opens.{IsOpening, IsSetup};
 ghost use Rattle.stm_json.specs.Returns.{Returns};
 ghost use Rattle.stm_texts.specs.FirstFault.{first_fault};
 ghost use Rattle.stm_json.specs.Faults.{IsFirstFault};
@@ -56,24 +56,18 @@ fn opening_operations(alloc: Global, value: &Value) -> Result<usize, ReadError>
 /// What the store opens with: a revision, or a revision and a limit.
 fn opening(alloc: Global, elements: &[Value]) -> Result<Opening, ReadError>
     ensures value { Returns (λ o. o) result (opening_of (items_view elements.now)) }
-    ensures range { IfOk result (λ o. IsOpening (Some o)) }
+    ensures range { IfOk result IsSetup }
 {
     if let Some(revision) = one(elements) {
         let revision = opening_revision(alloc, revision)?;
-        return Ok(Opening {
-            revision,
-            operations: MOST_OPERATIONS,
-        });
+        return Ok(Opening::new(revision, MOST_OPERATIONS));
     }
     let Some((revision, operations)) = two(elements) else {
         return Err(fault(alloc, Cause::Shape));
     };
     let revision = opening_revision(alloc, revision)?;
     let operations = opening_operations(alloc, operations)?;
-    Ok(Opening {
-        revision,
-        operations,
-    })
+    Ok(Opening::new(revision, operations))
 }
 
 /// The scenario that a value spells.

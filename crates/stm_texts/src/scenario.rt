@@ -1,18 +1,84 @@
 //! Scenarios.
-ghost use Rattle.std.specs.Prelude.{◌≡◌, Some};
-ghost use Rattle.stm_texts.specs.Opens.{IsOpening, as_setup, setup_of};
+ghost use Rattle.std.specs.Prelude.{◌≡◌, ◌≤◌, SomeIff};
+ghost use Rattle.stm_history.specs.declared.revisions.TheConstants.{HIGHEST_REVISION};
+ghost use Rattle.stm_outcome.specs.Terms.{most_operations};
+ghost use Rattle.stm_texts.specs.Opens.{IsSetup, setup_at, setup_of};
 
+use std::marker::Model;
 use stm_events::WorldEvent;
-use stm_history::Sequence;
+use stm_history::{HIGHEST_REVISION, Sequence};
 use stm_outcome::MOST_OPERATIONS;
 
-/// What the empty store of a scenario opens with.
-#[derive(Clone, Copy, Debug, Drop, PartialEq, Eq)]
+/// What the empty store of a scenario opens with: its revision, from 1 to `HIGHEST_REVISION`, and the most elements that it takes in each of a
+/// transaction's three lists, from 1 to `MOST_OPERATIONS`.
+#[derive(Clone, Copy, Debug, PartialEq, Eq)]
 pub struct Opening {
-    /// Its revision.
-    pub revision: u64,
-    /// The most elements that it takes in each of a transaction's three lists.
-    pub operations: usize,
+    revision: u64,
+    operations: usize,
+}
+
+impl Model for Opening {
+    ghost use Rattle.stm_txn.specs.Standing.{Setup};
+    ghost use Rattle.stm_texts.specs.Opens.{IsSetup, setup_at};
+
+    ghost Value = { Setup };
+
+    ghost view = { λ o. setup_at o.revision o.operations };
+
+    ghost invariant = { λ o. IsSetup (setup_at o.revision o.operations) };
+
+    ghost inverse = { λ s. record { revision = s.revision; operations = s.limit } };
+}
+
+impl Opening {
+    /// A revision and a limit that are in their ranges.
+    pub(crate) fn new(revision: u64, operations: usize) -> Opening
+        requires { IsSetup (setup_at revision operations) }
+        ensures { result ≡ setup_at revision operations }
+    {
+        Opening {
+            revision,
+            operations,
+        }
+    }
+
+    /// A revision and a limit, `None` where one of them is out of its range.
+    pub fn of(revision: u64, operations: usize) -> Option<Opening>
+        ensures { SomeIff result (IsSetup (setup_at revision operations)) (setup_at revision operations) }
+    {
+        if revision < 1 {
+            return None;
+        }
+        if revision > HIGHEST_REVISION {
+            return None;
+        }
+        if operations < 1 {
+            return None;
+        }
+        if operations > MOST_OPERATIONS {
+            return None;
+        }
+        Some(Opening::new(revision, operations))
+    }
+
+    /// The revision.
+    pub fn revision(self) -> u64
+        ensures same { result ≡ self.revision }
+        ensures positive { 1 ≤ result }
+        ensures bounded { result ≤ HIGHEST_REVISION }
+    {
+        self.revision
+    }
+
+    /// The limit of operations. It and the revision are all that there is.
+    pub fn operations(self) -> usize
+        ensures same { result ≡ self.limit }
+        ensures whole { setup_at self.revision result ≡ self }
+        ensures some { 1 ≤ result }
+        ensures few { result ≤ most_operations }
+    {
+        self.operations
+    }
 }
 
 /// What a world is to do.
@@ -26,15 +92,10 @@ pub struct Scenario {
 
 /// What the store opens with where a scenario says this, or nothing.
 pub fn opens_with(opening: Option<Opening>) -> Opening
-    requires { IsOpening opening }
-    ensures setup { as_setup result ≡ setup_of opening }
-    ensures in_range { IsOpening (Some result) }
+    ensures setup { result ≡ setup_of opening }
 {
     match opening {
         Some(opening) => opening,
-        None => Opening {
-            revision: 1,
-            operations: MOST_OPERATIONS,
-        },
+        None => Opening::new(1, MOST_OPERATIONS),
     }
 }

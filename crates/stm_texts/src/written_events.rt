@@ -128,8 +128,10 @@ fn limited_json(alloc: Global, revision: u64, operations: u64) -> Result<Json, A
 pub fn opening_json(alloc: Global, opening: Opening) -> Result<Json, AllocError>
     ensures { IfOk result (λ v. view v ≡ written_opening opening) }
 {
-    if opening.operations == MOST_OPERATIONS {
-        return numbered(alloc, "begin", opening.revision);
+    let revision = opening.revision();
+    let operations = opening.operations();
+    if operations == MOST_OPERATIONS {
+        return numbered(alloc, "begin", revision);
     }
-    limited_json(alloc, opening.revision, opening.operations as u64)
+    limited_json(alloc, revision, operations as u64)
 }

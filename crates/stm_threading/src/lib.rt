@@ -11,5 +11,7 @@ pub use running::{JobsFault, run_jobs};
 pub use shown::Printing;
 pub use stm_devices::{DeviceFault, Sink, Source, Std};
 pub use stm_explain::KeptSource;
+pub use stm_history::Sequence;
+pub use stm_job::JobEnd;
 pub use stm_workers::MOST_WORKERS;
 pub use threading::{ThreadsOptions, threads_as_to, threads_to};

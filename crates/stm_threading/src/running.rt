@@ -2,7 +2,6 @@
 ghost use Rattle.std.specs.Prelude.{◌≡◌, ◌≤◌, ◌+◌, List, false, length, sum, string_bytes, Some, Ok, IfOk, IfErr, OnOk};
 ghost use Rattle.stm_devices.specs.declared.transfer.TheConstants.{MOST_READ};
 ghost use Rattle.stm_texts.specs.Reading.{scenario_in};
-ghost use Rattle.stm_texts.specs.Opens.{IsOpening, as_setup};
 ghost use Rattle.stm_txn.specs.Standing.{Setup};
 ghost use Rattle.stm_job_texts.specs.declared.store_call.StoreCall.{StoreCall};
 ghost use Rattle.stm_threading.specs.declared.running.JobsFault.TheVariants.{OutOfMemory};
@@ -186,9 +185,8 @@ fn run_once<R: Threads + Wait + Sync>(
     shown: Shown,
 ) -> Result<Printed, JobsFault>
     requires workers { (1 ≤ workers) × (workers ≤ MOST_WORKERS) }
-    requires opening { IsOpening (Some opening) }
-    ensures shows { IfOk result (λ p. IsOfRun shown (as_setup opening) calls.now jobs.now p.ends (string_bytes p.text)) }
-    ensures fault { IfErr result (IsBrokenOff (as_setup opening) calls.now jobs.now) }
+    ensures shows { IfOk result (λ p. IsOfRun shown opening calls.now jobs.now p.ends (string_bytes p.text)) }
+    ensures fault { IfErr result (IsBrokenOff opening calls.now jobs.now) }
 {
     let store = open_store(alloc, opening, calls)?;
     run_on_store(rt, alloc, store, jobs, workers, shown)
@@ -206,10 +204,9 @@ fn count_run<R: Threads + Wait + Sync>(
     made: u32,
 ) -> Result<(), JobsFault>
     requires workers { (1 ≤ workers) × (workers ≤ MOST_WORKERS) }
-    requires opening { IsOpening (Some opening) }
     requires made { sum (values_of tally.old.entries) ≡ made }
-    ensures counted { OnOk result (HasCounted (as_setup opening) calls.now jobs.now tally.old.entries tally.new.entries) }
-    ensures fault { IfErr result (IsBrokenOff (as_setup opening) calls.now jobs.now) }
+    ensures counted { OnOk result (HasCounted opening calls.now jobs.now tally.old.entries tally.new.entries) }
+    ensures fault { IfErr result (IsBrokenOff opening calls.now jobs.now) }
 {
     let printed = run_once(rt, alloc, opening, calls, jobs, workers, Shown::Outcome)?;
     count_one(tally, Text::new(printed.text), made)?;
@@ -227,9 +224,8 @@ fn count_runs<R: Threads + Wait + Sync>(
     runs: u32,
 ) -> Result<BTreeMap<Text, u64>, JobsFault>
     requires workers { (1 ≤ workers) × (workers ≤ MOST_WORKERS) }
-    requires opening { IsOpening (Some opening) }
-    ensures counted { IfOk result (λ tally. AreCounted runs (as_setup opening) calls.now jobs.now tally.entries) }
-    ensures fault { IfErr result (IsBrokenOff (as_setup opening) calls.now jobs.now) }
+    ensures counted { IfOk result (λ tally. AreCounted runs opening calls.now jobs.now tally.entries) }
+    ensures fault { IfErr result (IsBrokenOff opening calls.now jobs.now) }
 {
     let mut tally = BTreeMap::new(alloc);
     for made in 0..runs {
@@ -249,9 +245,8 @@ fn run_often<R: Threads + Wait + Sync>(
     runs: u32,
 ) -> Result<Printed, JobsFault>
     requires workers { (1 ≤ workers) × (workers ≤ MOST_WORKERS) }
-    requires opening { IsOpening (Some opening) }
-    ensures printed { IfOk result (λ p. IsPrintedOfJobs (OfRuns runs) (as_setup opening) calls.now jobs.now p.ends (string_bytes p.text)) }
-    ensures fault { IfErr result (IsBrokenOff (as_setup opening) calls.now jobs.now) }
+    ensures printed { IfOk result (λ p. IsPrintedOfJobs (OfRuns runs) opening calls.now jobs.now p.ends (string_bytes p.text)) }
+    ensures fault { IfErr result (IsBrokenOff opening calls.now jobs.now) }
 {
     let tally = count_runs(rt, alloc, opening, calls, jobs, workers, runs)?;
     let text = tally_text(alloc, &tally, runs)?;
@@ -272,9 +267,8 @@ fn run_printing<R: Threads + Wait + Sync>(
     printing: Printing,
 ) -> Result<Printed, JobsFault>
     requires workers { (1 ≤ workers) × (workers ≤ MOST_WORKERS) }
-    requires opening { IsOpening (Some opening) }
-    ensures printed { IfOk result (λ p. IsPrintedOfJobs printing (as_setup opening) calls.now jobs.now p.ends (string_bytes p.text)) }
-    ensures fault { IfErr result (IsBrokenOff (as_setup opening) calls.now jobs.now) }
+    ensures printed { IfOk result (λ p. IsPrintedOfJobs printing opening calls.now jobs.now p.ends (string_bytes p.text)) }
+    ensures fault { IfErr result (IsBrokenOff opening calls.now jobs.now) }
 {
     match printing {
         Printing::Values => run_once(rt, alloc, opening, calls, jobs, workers, Shown::Values),
@@ -292,7 +286,6 @@ fn run_scenario<R: Threads + Wait + Sync>(
     printing: Printing,
 ) -> Result<Printed, JobsFault>
     requires workers { (1 ≤ workers) × (workers ≤ MOST_WORKERS) }
-    requires opening { IsOpening scenario.opening }
     ensures { Answers printing (Ok scenario) result }
 {
     let opening = opens_with(scenario.opening);

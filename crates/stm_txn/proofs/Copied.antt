@@ -20,6 +20,7 @@ abbrev pub store_of : ℕ → Contents → Leases → ℕ → WatchersView → S
 store_of limit keys leases moment watchers = record {
   standing = record { history = keys.history; floor = keys.floor; limit = limit; live = leases.live; moment = moment; watchers = watchings watchers };
   present = keys.present;
+  opened = keys.opened;
 }
 
 module _ (keys copied_keys : Contents) (leases copied_leases : Leases) (watchers copied_watchers : WatchersView)

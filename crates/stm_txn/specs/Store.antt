@@ -9,11 +9,12 @@ use Rattle.stm_leases.specs.Leases.{term_code}
 use Rattle.stm_watch.specs.Watching.{Watching}
 use Rattle.stm_txn.specs.Standing.{Standing}
 
--- What a store is, and beside it the list of its present keys in the order in which `Keys::at` gives them. No call's
--- meaning speaks of that order.
+-- What a store is, and beside it the list of its present keys in the order in which `Keys::at` gives them, of which no call's
+-- meaning speaks, and the revision that it had before any change (`Keys::opening`), which every call keeps.
 pub record StoreView : Type 0 where
   pub standing : Standing
   pub present : List (List ℕ × KeyState)
+  pub opened : ℕ
 
 -- a store is stored as its parts
 abbrev pub store_code : Coded Contents → Coded (List (Option Watching)) → Coded StoreView
@@ -21,11 +22,12 @@ store_code contents watchers =
     code_by (Contents × (Live × (ℕ × (ℕ × List (Option Watching)))))
     (coded× contents (coded× (finmap.code coded_ℕ term_code) (coded× coded_ℕ (coded× coded_ℕ watchers))))
     (λ s. (
-      record { history = s.standing.history; present = s.present; opened = 0; floor = s.standing.floor },
+      record { history = s.standing.history; present = s.present; opened = s.opened; floor = s.standing.floor },
       (s.standing.live, (s.standing.limit, (s.standing.moment, s.standing.watchers))),
     ))
     (λ p. record {
       standing = record { history = p.0.history; floor = p.0.floor; limit = p.1.1.0; live = p.1.0; moment = p.1.1.1.0; watchers = p.1.1.1.1 };
       present = p.0.present;
+      opened = p.0.opened;
     })
     (λ _. refl)

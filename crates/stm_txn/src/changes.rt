@@ -41,7 +41,7 @@ impl Changes {
     {
         match self {
             Changes::One(change) => keys.apply_one(change),
-            Changes::More(changes) => keys.apply(changes),
+            Changes::More(changes) => keys.apply_all(changes),
         }
     }
 }

@@ -66,6 +66,7 @@ impl Store {
         ensures step { Returns (granted self.old.standing id ttl) result self.new.standing }
         ensures log { OnOk result ((log : List LogItem) → StandsFor self.old.standing.live log → StandsFor self.new.standing.live (Grant id ttl self.old.standing.moment ∷ log)) }
         ensures present { self.new.present ≡ self.old.present }
+        ensures opened { self.new.opened ≡ self.old.opened }
         ensures err { OnErr result (self.new ≡ self.old) }
     {
         let granted = self.leases.grant(id, ttl, self.moment);
@@ -77,6 +78,7 @@ impl Store {
         ensures step { kept_alive self.old.standing id ≡ as_defined result self.new.standing }
         ensures log { OnOk result ((log : List LogItem) → StandsFor self.old.standing.live log → StandsFor self.new.standing.live (Renew id self.old.standing.moment ∷ log)) }
         ensures present { self.new.present ≡ self.old.present }
+        ensures opened { self.new.opened ≡ self.old.opened }
         ensures err { OnErr result (self.new ≡ self.old) }
     {
         match self.leases.keep_alive(id, self.moment) {
@@ -111,6 +113,7 @@ impl Store {
         requires { is_live_in self.old.standing.live id ≡ true }
         ensures ok { OnOk result (ended self.old.standing id ≡ Ok self.new.standing) }
         ensures refused { IfErr result (IsRefusalOf (ended self.old.standing id)) }
+        ensures opened { self.new.opened ≡ self.old.opened }
         ensures err { OnErr result (self.new ≡ self.old) }
     {
         if self.is_stuck(id) {
@@ -131,6 +134,7 @@ impl Store {
         ensures step { Returns (revoked self.old.standing id) result self.new.standing }
         ensures log { OnOk result ((log : List LogItem) → StandsFor self.old.standing.live log → StandsFor self.new.standing.live (Revoke id ∷ log)) }
         ensures numbers { IfOk result (λ revision. revision ≤ HIGHEST_NUMBER) }
+        ensures opened { self.new.opened ≡ self.old.opened }
         ensures err { OnErr result (self.new ≡ self.old) }
     {
         if !self.leases.is_live(id) {
@@ -153,6 +157,7 @@ impl Store {
         ensures ok { OnOk result (ended self.old.standing id ≡ Ok self.new.standing) }
         ensures noted { OnOk result (expired.new.items ≡ expired.old.items ++ expired_in id self.new.standing ∷ []) }
         ensures refused { IfErr result (IsRefusalOf (ended self.old.standing id)) }
+        ensures opened { self.new.opened ≡ self.old.opened }
         ensures err { OnErr result (self.new ≡ self.old) }
         ensures same { OnErr result (expired.new.items ≡ expired.old.items) }
         ensures numbers { OnOk result (ExpiredFits (expired_in id self.new.standing)) }
@@ -179,6 +184,7 @@ impl Store {
         ensures logged_so_far { IfErr result (λ refused. (log : List LogItem) → StandsFor self.old.standing.live log → StandsFor self.new.standing.live (with_expiries refused.expired log)) }
         ensures numbers { IfOk result (λ expired. AllExpiredFit expired.items) }
         ensures numbers_so_far { IfErr result (λ refused. AllExpiredFit refused.expired) }
+        ensures opened { self.new.opened ≡ self.old.opened }
     {
         let mut expired = Vec::new(self.alloc);
         while let Some(id) = self.next_due() {
@@ -210,6 +216,7 @@ impl Store {
         ensures logged_so_far { IfErr result (λ refused. (log : List LogItem) → StandsFor self.old.standing.live log → StandsFor self.new.standing.live (with_expiries refused.expired log)) }
         ensures numbers { IfOk result (λ expired. AllExpiredFit expired.items) }
         ensures numbers_so_far { IfErr result (λ refused. AllExpiredFit refused.expired) }
+        ensures opened { self.new.opened ≡ self.old.opened }
     {
         if moment < self.moment {
             return Err(AdvanceRefused {

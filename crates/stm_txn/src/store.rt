@@ -88,6 +88,7 @@ impl Model for Store {
         watchers = watchings s.watchers;
       };
       present = s.keys.present;
+      opened = s.keys.opened;
     } };
 
     ghost invariant = { λ s. AttachedAsStored (lease_of s.leases) s.keys.history × LeasesFit s.keys.history × StandFor s.keys.history s.watchers
@@ -116,6 +117,7 @@ impl Store {
     pub fn new(alloc: Global) -> Result<Store, AllocError>
         ensures standing { IfOk result (λ s. s.standing ≡ opening (at_revision 1)) }
         ensures present { IfOk result (λ s. s.present ≡ []) }
+        ensures opened { IfOk result (λ s. s.opened ≡ 1) }
         ensures log { IfOk result (λ s. StandsFor s.standing.live []) }
     {
         Store::with_revision(alloc, 1)
@@ -128,6 +130,7 @@ impl Store {
         requires unwatched { watchers ≡ no_watchers }
         ensures standing { result.standing ≡ record (opening (at_revision start)) { limit = limit } }
         ensures present { result.present ≡ [] }
+        ensures opened { result.opened ≡ start }
         ensures log { StandsFor result.standing.live [] }
     {
         Store {
@@ -147,6 +150,7 @@ impl Store {
         requires bounded { start ≤ HIGHEST_REVISION }
         ensures standing { IfOk result (λ s. s.standing ≡ opening (at_revision start)) }
         ensures present { IfOk result (λ s. s.present ≡ []) }
+        ensures opened { IfOk result (λ s. s.opened ≡ start) }
         ensures log { IfOk result (λ s. StandsFor s.standing.live []) }
     {
         let watchers = Watchers::new(alloc)?;
@@ -163,6 +167,7 @@ impl Store {
         ensures standing { IfOk result (λ s. s.standing ≡ opening (record { revision = start; limit = operations })) }
         ensures limit { IfOk result (λ s. s.standing.limit ≡ operations) }
         ensures present { IfOk result (λ s. s.present ≡ []) }
+        ensures opened { IfOk result (λ s. s.opened ≡ start) }
         ensures log { IfOk result (λ s. StandsFor s.standing.live []) }
     {
         let watchers = Watchers::new(alloc)?;
@@ -176,6 +181,7 @@ impl Store {
         ensures history { result.now.history ≡ self.now.standing.history }
         ensures floor { result.now.floor ≡ self.now.standing.floor }
         ensures present { result.now.present ≡ self.now.present }
+        ensures opened { result.now.opened ≡ self.now.opened }
         ensures counter { 1 ≤ now self.now.standing.history }
         ensures numbers { StatesFit self.now.standing.history }
     {
@@ -239,6 +245,7 @@ impl Store {
         ensures moment { self.new.standing.moment ≡ self.old.standing.moment }
         ensures watchers { self.new.standing.watchers ≡ self.old.standing.watchers }
         ensures memory { IsOkUnless result Refusal.OutOfMemory }
+        ensures opened { self.new.opened ≡ self.old.opened }
         ensures err { OnErr result (self.new ≡ self.old) }
     {
         self.leases.ids_are_in_range();
@@ -267,6 +274,7 @@ impl Store {
         ensures moment { self.new.standing.moment ≡ self.old.standing.moment }
         ensures watchers { self.new.standing.watchers ≡ self.old.standing.watchers }
         ensures memory { IsOkUnless result Refusal.OutOfMemory }
+        ensures opened { self.new.opened ≡ self.old.opened }
         ensures err { OnErr result (self.new ≡ self.old) }
     {
         match changes.as_slice() {
@@ -296,6 +304,7 @@ impl Store {
         ensures moment { self.new.standing.moment ≡ self.old.standing.moment }
         ensures watchers { self.new.standing.watchers ≡ self.old.standing.watchers }
         ensures memory { IsOkUnless result Refusal.OutOfMemory }
+        ensures opened { self.new.opened ≡ self.old.opened }
         ensures err { OnErr result (self.new ≡ self.old) }
     {
         let branch = run_branch(self.alloc, &self.keys, ops)?;
@@ -326,6 +335,7 @@ impl Store {
         ensures moment { self.new.standing.moment ≡ self.old.standing.moment }
         ensures watchers { self.new.standing.watchers ≡ self.old.standing.watchers }
         ensures memory { IsOkUnless result Refusal.OutOfMemory }
+        ensures opened { self.new.opened ≡ self.old.opened }
         ensures err { OnErr result (self.new ≡ self.old) }
     {
         let change = put_of(key, value, lease)?;
@@ -352,6 +362,7 @@ impl Store {
         ensures moment { self.new.standing.moment ≡ self.old.standing.moment }
         ensures watchers { self.new.standing.watchers ≡ self.old.standing.watchers }
         ensures memory { IsOkUnless result Refusal.OutOfMemory }
+        ensures opened { self.new.opened ≡ self.old.opened }
         ensures err { OnErr result (self.new ≡ self.old) }
     {
         let _highest = self.keys.revision();
@@ -381,6 +392,7 @@ impl Store {
         ensures moment { self.new.standing.moment ≡ self.old.standing.moment }
         ensures watchers { self.new.standing.watchers ≡ self.old.standing.watchers }
         ensures refused { IfErr result (IsRefusalOf (outcome_copied (terms_of self.old.standing) failed ops.now)) }
+        ensures opened { self.new.opened ≡ self.old.opened }
         ensures err { OnErr result (self.new ≡ self.old) }
     {
         match self.run_refusal(ops) {
@@ -393,6 +405,7 @@ impl Store {
     fn run_chosen(&mut self, txn: &Txn) -> Result<TxnAnswer, Refusal>
         requires { fault_of (terms_of self.old.standing).limit txn.now ≡ None }
         ensures step { Returns (transacted self.old.standing txn.now) result self.new.standing }
+        ensures opened { self.new.opened ≡ self.old.opened }
         ensures err { OnErr result (self.new ≡ self.old) }
     {
         let failed = find_failed(txn.compares.as_slice(), &self.keys);
@@ -402,6 +415,7 @@ impl Store {
     /// Looks at the whole transaction, then runs it.
     fn transact(&mut self, txn: &Txn) -> Result<TxnAnswer, Refusal>
         ensures step { Returns (transacted self.old.standing txn.now) result self.new.standing }
+        ensures opened { self.new.opened ≡ self.old.opened }
         ensures err { OnErr result (self.new ≡ self.old) }
     {
         match find_fault(txn, self.limit.count()) {
@@ -425,6 +439,7 @@ impl Store {
         ensures step { Returns (transacted self.old.standing txn.now) result self.new.standing }
         ensures place { IfOk result (λ answer. IfSome answer.failed (λ failed. failed.index < length txn.now.compares)) }
         ensures numbers { IfOk result AnswerFits }
+        ensures opened { self.new.opened ≡ self.old.opened }
         ensures err { OnErr result (self.new ≡ self.old) }
     {
         let _counter = self.keys.revision();
@@ -437,6 +452,7 @@ impl Store {
         requires { HasDistinctKeys writes.items }
         ensures ok { IfOk result (λ revision. made self.old.standing writes.items ≡ Ok (record { answer = revision; next = self.new.standing })) }
         ensures refused { IfErr result (IsRefusalOf (made self.old.standing writes.items)) }
+        ensures opened { self.new.opened ≡ self.old.opened }
         ensures err { OnErr result (self.new ≡ self.old) }
     {
         if any_names_dead_lease(writes.as_slice(), &self.leases) {
@@ -460,6 +476,7 @@ impl Store {
     pub fn write(&mut self, writes: Vec<Change>) -> Result<u64, Refusal>
         requires { HasDistinctKeys writes.items }
         ensures step { Returns (written self.old.standing writes.items) result self.new.standing }
+        ensures opened { self.new.opened ≡ self.old.opened }
         ensures err { OnErr result (self.new ≡ self.old) }
     {
         self.make(writes)
@@ -474,6 +491,7 @@ impl Store {
     pub fn compact(&mut self, revision: u64) -> Result<(), Refusal>
         ensures step { compacted self.old.standing revision ≡ as_defined result self.new.standing }
         ensures present { self.new.present ≡ self.old.present }
+        ensures opened { self.new.opened ≡ self.old.opened }
         ensures err { OnErr result (self.new ≡ self.old) }
     {
         match self.keys.compact(revision) {
@@ -491,6 +509,7 @@ impl Store {
     pub fn raise_floor(&mut self, revision: u64) -> Result<(), Refusal>
         ensures step { raised self.old.standing revision ≡ as_defined result self.new.standing }
         ensures present { self.new.present ≡ self.old.present }
+        ensures opened { self.new.opened ≡ self.old.opened }
         ensures err { OnErr result (self.new ≡ self.old) }
     {
         match self.keys.raise_floor(revision) {

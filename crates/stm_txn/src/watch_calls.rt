@@ -45,6 +45,7 @@ impl Store {
     pub fn watch_key(&mut self, key: &str, from: u64) -> Result<u64, Refusal>
         ensures step { Returns (watched self.old.standing (Key key.now) from) result self.new.standing }
         ensures present { self.new.present ≡ self.old.present }
+        ensures opened { self.new.opened ≡ self.old.opened }
         ensures err { OnErr result (self.new ≡ self.old) }
     {
         let watched = self.watchers.watch_key(key, from, &self.keys);
@@ -56,6 +57,7 @@ impl Store {
     pub fn watch_range(&mut self, first: &str, end: &str, from: u64) -> Result<u64, Refusal>
         ensures step { Returns (watched self.old.standing (Range first.now end.now) from) result self.new.standing }
         ensures present { self.new.present ≡ self.old.present }
+        ensures opened { self.new.opened ≡ self.old.opened }
         ensures err { OnErr result (self.new ≡ self.old) }
     {
         let watched = self.watchers.watch_range(first, end, from, &self.keys);
@@ -67,6 +69,7 @@ impl Store {
     pub fn cancel(&mut self, id: u64) -> Result<(), Refusal>
         ensures step { cancelled self.old.standing id ≡ as_defined result self.new.standing }
         ensures present { self.new.present ≡ self.old.present }
+        ensures opened { self.new.opened ≡ self.old.opened }
         ensures err { OnErr result (self.new ≡ self.old) }
     {
         match self.watchers.cancel(id) {
@@ -88,6 +91,7 @@ impl Store {
         ensures step { Returns (polled self.old.standing id most) result self.new.standing }
         ensures present { self.new.present ≡ self.old.present }
         ensures refused { OnErr result (self.new.standing ≡ poll_refused self.old.standing id) }
+        ensures opened { self.new.opened ≡ self.old.opened }
     {
         let polled = self.watchers.poll(id, &self.keys, most);
         reported_poll(polled)
@@ -105,6 +109,7 @@ impl Store {
         ensures present { self.new.present ≡ self.old.present }
         ensures numbers { IfOk result (λ batch. EventsFit batch.events) }
         ensures refused { OnErr result (self.new.standing ≡ poll_refused self.old.standing id) }
+        ensures opened { self.new.opened ≡ self.old.opened }
     {
         let _counter = self.keys.revision();
         let batch = self.take_batch(id, most)?;

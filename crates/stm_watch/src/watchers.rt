@@ -117,9 +117,11 @@ impl Watchers {
     /// never used again. A start above the counter waits for that revision, and one below the floor leaves the watcher
     /// lost.
     ///
-    /// The watchers stand for the history of these keys, and do so after the call. A refusal changes nothing.
+    /// The watchers stand for the history of these keys, and do so after the call. Their floor is that of the keys: the store was told
+    /// of each compaction (`compacted`), or a watcher from below the floor would pass over what was dropped. A refusal changes nothing.
     pub fn watch_key(&mut self, key: &str, from: u64, keys: &Keys) -> Result<u64, WatchRefusal>
-        requires { StandFor keys.now.history self.old }
+        requires stand { StandFor keys.now.history self.old }
+        requires floor { self.old.floor ≡ keys.now.floor }
         ensures answer { WatchReturns (watch keys.now.history self.old.floor (Key key.now) from (watchings self.old)) result (watchings self.new) }
         ensures stand { StandFor keys.now.history self.new }
         ensures floor { self.new.floor ≡ self.old.floor }
@@ -133,7 +135,7 @@ impl Watchers {
         Ok(id)
     }
 
-    /// Watches the keys from `first` on that are below `end`, by bytes, as `watch_key` watches one. An `end` that is
+    /// Watches the keys from `first` on that are below `end`, by bytes, as `watch_key` watches one, with its conditions. An `end` that is
     /// not above `first` leaves none.
     pub fn watch_range(
         &mut self,
@@ -142,7 +144,8 @@ impl Watchers {
         from: u64,
         keys: &Keys,
     ) -> Result<u64, WatchRefusal>
-        requires { StandFor keys.now.history self.old }
+        requires stand { StandFor keys.now.history self.old }
+        requires floor { self.old.floor ≡ keys.now.floor }
         ensures answer { WatchReturns (watch keys.now.history self.old.floor (Range first.now end.now) from (watchings self.old)) result (watchings self.new) }
         ensures stand { StandFor keys.now.history self.new }
         ensures floor { self.new.floor ≡ self.old.floor }
@@ -220,12 +223,13 @@ impl Watchers {
 
     /// Gives a watcher the pending events of at most `most` revisions, and whole revisions only.
     ///
-    /// The watchers stand for the history of these keys, and do so after the call. It is refused for the first of
+    /// The watchers stand for the history of these keys, with their floor, and do so after the call. It is refused for the first of
     /// these that holds: `NoWatcher` where there is none with this number, or it was cancelled, `Compacted` where it is
     /// lost, which cancels it, and `OutOfMemory`. Otherwise a refusal changes nothing, so that a poll in which an allocation failed
     /// gives the same batch later.
     pub fn poll(&mut self, id: u64, keys: &Keys, most: u64) -> Result<Batch, PollRefusal>
-        requires { StandFor keys.now.history self.old }
+        requires stand { StandFor keys.now.history self.old }
+        requires floor { self.old.floor ≡ keys.now.floor }
         ensures answer { PollReturns (poll keys.now.history id most (watchings self.old)) result (watchings self.new) }
         ensures stand { StandFor keys.now.history self.new }
         ensures floor { self.new.floor ≡ self.old.floor }

@@ -24,7 +24,10 @@ pub use auditing::audit;
 pub use gate::{Gate, NoGate};
 pub use run::{MOST_WORKERS, run_workers};
 pub use start_point::StartPoint;
-pub use stm_hall::{CommitRefusal, FetchRefusal, Hall, ReadAnswer, Sequence, Text, Verdict};
+pub use stm_hall::{
+    AdvanceRefused, CommitRefusal, Entry, Expired, FetchRefusal, Hall, Level, Program, ReadAnswer,
+    Ready, Refusal, Sequence, State, Store, Text, Txn, TxnAnswer, Verdict,
+};
 pub use stm_job::{
     FaultCause, Gathered, Job, JobEnd, JobRefusal, JobSeat, JobTable, LastingRefusal, RunFault,
 };

@@ -2,6 +2,10 @@
 //! reports, looks through the interleavings of a scenario, and prints the programs of recipes.
 #![tactic(auto)]
 
+ghost use Rattle.std.specs.Prelude.{◌≡◌, List, ℕ, Some, None, option_map};
+ghost use Rattle.stm_report.specs.declared.format.Format.TheVariants.{Lines};
+ghost use Rattle.stm_report.specs.Format.{format_named};
+
 mod explaining;
 mod files;
 mod noting;
@@ -15,10 +19,10 @@ use std::thread::Threads;
 use stm_arguments::{
     Asked, PlainWords, asked_of, plain_words, print_topic, read_level, read_words, topic_of,
 };
-use stm_commands::{Format, RecipeWords, Std, no_format_to};
+use stm_commands::{Format, RecipeWords, Shown, Std, no_format_to};
 pub use stm_commands::{
     check_explained_to, check_to, check_whole_explained_to, check_whole_to, recipe_to,
-    script_as_to, script_explained_to, script_to,
+    script_as_to, script_explained_to, script_to, show_to,
 };
 use stm_exploring::Level;
 pub use stm_exploring::{explore_explained_to, explore_to, outcomes_explained_to, outcomes_to};
@@ -40,7 +44,10 @@ fn run_script(rt: &HostRuntime, scenario: Option<&str>, format: Format) -> u8 {
 }
 
 /// The format of this name, or that of lines.
-fn format_of(word: Option<&str>) -> Option<Format> {
+fn format_of(word: Option<&str>) -> Option<Format>
+    ensures named { (name : List ℕ) → option_map (λ w. w.now) word.entry ≡ Some name → result ≡ format_named name }
+    ensures lines { word.entry ≡ None → result ≡ Some Lines }
+{
     match word {
         Some(word) => Format::named(word),
         None => Some(Format::Lines),
@@ -169,6 +176,19 @@ fn run_recipe(rt: &HostRuntime, words: &RecipeWords<'_>) -> u8 {
     recipe_to(rt.alloc(), words, &mut out, &mut err)
 }
 
+/// Prints the source of a path's scenario or program, or of that on standard input.
+fn run_show(rt: &HostRuntime, input: Option<&str>, program: bool) -> u8 {
+    let shown = if program {
+        Shown::Program
+    } else {
+        Shown::Scenario
+    };
+    let mut input = Std::new(open(rt, path_of(input)));
+    let mut out = Std::new(rt.stdout());
+    let mut err = Std::new(rt.stderr());
+    show_to(rt.alloc(), shown, &mut input, &mut out, &mut err)
+}
+
 /// Whether faults are explained: where they are to be, or where standard error is a terminal, unless they are not to be.
 fn is_explained(rt: &HostRuntime, is_silent: bool, explain: bool) -> bool {
     !is_silent && (explain || is_shown(rt))
@@ -217,6 +237,7 @@ fn answer<T: Threads + Wait + Sync>(rt: &HostRuntime, threads: &T, plain: &Plain
             let explain = is_explained(rt, is_silent, explain);
             run_explore(rt, scenario, keeps, level, budget, explain)
         }
+        Asked::Show { input, program } => run_show(rt, input, program),
         Asked::Nothing(status) => status,
     }
 }

@@ -1,4 +1,6 @@
 //! What is shown on a terminal.
+ghost use Rattle.std.specs.Prelude.{◌≡◌};
+
 use std::io::{IsTerminal, Stderr};
 use std::time::Clock;
 use stm_exploring::{Budget, Observer, ProgressLine, ProgressNotes};
@@ -47,7 +49,9 @@ impl<C: Clock> Observer for Progress<'_, C> {
 }
 
 /// The events that a search may take. How far it is, is said on standard error.
-pub(crate) fn shown_budget(rt: &HostRuntime, events: u64) -> Budget<Progress<'_, HostRuntime>> {
+pub(crate) fn shown_budget(rt: &HostRuntime, events: u64) -> Budget<Progress<'_, HostRuntime>>
+    ensures { result.left ≡ events }
+{
     let observer = match terminal(rt) {
         Some(err) => Progress::Shown(ProgressLine::new(Some(err), events)),
         None => Progress::Noted(ProgressNotes::new(rt.stderr(), rt, events)),

@@ -1,5 +1,6 @@
 //! The command `threads` on the file of a path.
-ghost use Rattle.std.specs.Prelude.{◌≤◌};
+ghost use Rattle.std.specs.Prelude.{◌≡◌, ◌≤◌, ℕ, Some, None, true, false};
+ghost use Rattle.stm_threading.specs.declared.shown.Printing.TheVariants.{Values, Ends, Outcomes};
 ghost use Rattle.stm_workers.specs.declared.run.TheConstants.{MOST_WORKERS};
 
 use crate::explaining::{kept, say_unread, say_unwritten};
@@ -10,7 +11,11 @@ use stm_commands::Std;
 use stm_threading::{Printing, ThreadsOptions, threads_as_to};
 
 /// What is printed of jobs: what several runs of them come to, or one run, with the ends of the jobs or without.
-pub(crate) fn printing_of(ends: bool, repeat: Option<u32>) -> Printing {
+pub(crate) fn printing_of(ends: bool, repeat: Option<u32>) -> Printing
+    ensures outcomes { (runs : ℕ) → repeat ≡ Some runs → result ≡ Outcomes runs }
+    ensures ends { repeat ≡ None → ends ≡ true → result ≡ Ends }
+    ensures values { repeat ≡ None → ends ≡ false → result ≡ Values }
+{
     match repeat {
         Some(runs) => Printing::Outcomes(runs),
         None if ends => Printing::Ends,

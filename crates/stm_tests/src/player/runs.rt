@@ -19,7 +19,7 @@ fn report_writes(reported: &mut String, writes: &[Write]) -> Result<(), AllocErr
 }
 
 /// Each write of the effect of these writes on a state.
-fn report_effect(
+pub fn report_effect(
     alloc: Global,
     reported: &mut String,
     writes: &[Write],

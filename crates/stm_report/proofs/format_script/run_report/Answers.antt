@@ -3,7 +3,7 @@ use Rattle.stm_events.specs.declared.event.WorldEvent.{WorldEvent}
 use Rattle.stm_world.specs.World.{World, opened}
 use Rattle.stm_report.specs.FormatScript.{IsTextFrom, IsRunText}
 use Rattle.stm_report.proofs.format_script.run_report.Goals as goal
-use Rattle.stm_texts.specs.Opens.{setup_of}
+use Rattle.stm_texts.specs.Opens.{setup_at, setup_of}
 
 pub returns : goal.returns
 unfolding IsRunText
@@ -11,7 +11,8 @@ returns c =
     let s = c.args.scenario.now in
     let format = c.args.format in
     let begun : World = opened (setup_of s.opening) in
-    let opens : c.in_ok-world.world ≡ begun = c.in_ok-world.ensures ∙ ap opened c.opens_with-opening.ensures.setup in
+    let opens : c.in_ok-world.world ≡ begun = c.in_ok-world.ensures
+    ∙ ap opened (ap (λ r. setup_at r c.operations.result) c.revision.ensures.same ∙ c.operations.ensures.whole ∙ c.opens_with-opening.ensures.setup) in
     subst (λ (w : World). IfOk c.report_from-text.result (λ text. IsTextFrom format w s.events text.items)) opens
     (subst (λ (events : List WorldEvent). IfOk c.report_from-text.result (λ text. IsTextFrom format c.in_ok-world.world events text.items))
     c.as_slice.ensures c.report_from-text.ensures)

@@ -1,7 +1,6 @@
 use Rattle.stm_threading.specs.Running.{AreCounted}
-use Rattle.stm_texts.specs.Opens.{as_setup}
 use Rattle.stm_threading.proofs.running.count_runs.Given as goal
 
 -- the runs so far are counted
 abbrev pub invariant-loop-made : goal.invariant-loop-made
-invariant-loop-made g l = AreCounted l.made (as_setup l.opening) l.calls l.jobs l.tally.entries
+invariant-loop-made g l = AreCounted l.made l.opening l.calls l.jobs l.tally.entries

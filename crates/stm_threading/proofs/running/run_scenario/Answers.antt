@@ -4,7 +4,6 @@ use Rattle.stm_threading.specs.declared.running.JobsFault.{JobsFault}
 use Rattle.stm_job_texts.specs.Accepting.{sorted_of, task_of}
 use Rattle.stm_threading.proofs.RunLemmas.{answers_of, answers_fault}
 use Rattle.stm_threading.proofs.running.run_scenario.Goals as goal
-use Rattle.stm_texts.specs.Opens.{as_setup}
 
 pub returns-in_err-sorted : goal.returns-in_err-sorted
 returns-in_err-sorted g c =
@@ -14,6 +13,6 @@ returns-in_err-sorted g c =
 
 pub returns : goal.returns
 returns g c =
-    answers_of c.args.printing c.args.scenario (sorted_of c.in_ok-sorted.sorted) (as_setup c.opens_with-opening.result) c.as_slice.result.now
+    answers_of c.args.printing c.args.scenario (sorted_of c.in_ok-sorted.sorted) c.opens_with-opening.result c.as_slice.result.now
     c.as_slice-2.result.now c.run_printing.result c.in_ok-sorted.ensures c.opens_with-opening.ensures.setup c.as_slice.ensures (ap (map task_of) c.as_slice-2.ensures)
     c.run_printing.ensures.printed c.run_printing.ensures.fault

@@ -33,6 +33,7 @@ loop-id-preserved c =
           (one_more_come first s next c.in-Some.id c.loop-id.expired.items c.loop-id.invariant.come due c.in-Ok.ensures.ok);
       fit = subst AllExpiredFit (sym c.in-Ok.ensures.noted)
           (AllExpiredFit-push c.loop-id.expired.items (expired_in c.in-Some.id next) c.loop-id.invariant.fit c.in-Ok.ensures.numbers);
+      opened = c.expire.ensures.opened ∙ c.loop-id.invariant.opened;
     }
 
 pub loop-id-smaller : goal.loop-id-smaller

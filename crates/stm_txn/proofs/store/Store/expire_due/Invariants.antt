@@ -12,6 +12,7 @@ invariant-loop-id l = record {
   so_far : expire_all l.fn.self.standing ≡ after l.expired.items (expire_all l.self.standing);
   come : HasCome l.fn.self.standing l.expired.items l.self.standing;
   fit : AllExpiredFit l.expired.items;
+  opened : l.self.opened ≡ l.fn.self.opened;
   logged : (log : List LogItem) → StandsFor l.fn.self.standing.live log → StandsFor l.self.standing.live (with_expiries l.expired.items log);
 }
 

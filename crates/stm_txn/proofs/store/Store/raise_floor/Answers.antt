@@ -38,6 +38,10 @@ pub returns-in-Ok-clause-present : goal.returns-in-Ok-clause-present
 returns-in-Ok-clause-present c =
     ap (λ (k : Contents). k.present) c.in-Ok.ensures.ok ∙ ap (λ (v : StoreView). v.present) c.self.view_is
 
+pub returns-in-Ok-clause-opened : goal.returns-in-Ok-clause-opened
+returns-in-Ok-clause-opened c =
+    ap (λ (k : Contents). k.opened) c.in-Ok.ensures.ok ∙ ap (λ (v : StoreView). v.opened) c.self.view_is
+
 pub returns-in-Err-Compacted-clause-step : goal.returns-in-Err-Compacted-clause-step
 returns-in-Err-Compacted-clause-step c =
     let s : Standing = c.args.self.now.standing in

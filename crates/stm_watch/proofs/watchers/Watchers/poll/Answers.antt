@@ -59,7 +59,7 @@ pub returns-then-is_lost-clause-stand : goal.returns-then-is_lost-clause-stand
 returns-then-is_lost-clause-stand c =
     let h : History = c.args.keys.now.history in
     subst (StandAll h c.self.inside.floor) (sym c.remove.ensures)
-    (stand_set h c.self.inside.floor c.self.inside.table c.in-Some.place None (subst (StandFor h) (sym c.self.view_is) c.requires) tt)
+    (stand_set h c.self.inside.floor c.self.inside.table c.in-Some.place None (subst (StandFor h) (sym c.self.view_is) c.requires.stand) tt)
 
 pub returns-then-is_lost-clause-err : goal.returns-then-is_lost-clause-err
 returns-then-is_lost-clause-err c =
@@ -107,7 +107,7 @@ poll-requires-clause-stands c =
     c.is_lost.ensures) c.in-Some.ensures.2 in
     subst (λ o. IfSome o (IsFollowed h)) (sym found.1)
     (is_followed h floor c.args.id c.args.most table place found.0 c.in-Some.ensures.0 c.in-Some.ensures.1 found.1 (found.2 ∙ c.if-is_lost.false)
-    (subst (StandFor h) (sym c.self.view_is) c.requires))
+    (subst (StandFor h) (sym c.self.view_is) c.requires.stand))
 
 pub returns-in_err-batch-clause-stand : goal.returns-in_err-batch-clause-stand
 returns-in_err-batch-clause-stand c =
@@ -119,7 +119,7 @@ returns-in_err-batch-clause-stand c =
     (subst (λ (v : WatchersView). IfSome (slice_index_or v.places place None) (λ (w : Watcher). c.is_lost.result ≡ is_lost v.floor w.first)) (sym c.self.view_is)
     c.is_lost.ensures) c.in-Some.ensures.2 in
     subst (StandAll h floor) (sym (place_refused h place c.args.most table c.poll.new.self c.poll.result c.poll.ensures c.in-Some.ensures.2 _ c.in_err-batch.was))
-    (subst (StandFor h) (sym c.self.view_is) c.requires)
+    (subst (StandFor h) (sym c.self.view_is) c.requires.stand)
 
 pub returns-in_err-batch-clause-err : goal.returns-in_err-batch-clause-err
 returns-in_err-batch-clause-err c =
@@ -166,7 +166,7 @@ returns-clause-answer c =
     subst (λ (v : WatchersView). poll h c.args.id c.args.most (watchings v)
     ≡ Ok (record { answer = c.in_ok-batch.batch; next = seen_at floor c.poll.new.self })) c.self.view_is
     (found_polled h floor c.args.id c.args.most table place found.0 c.in-Some.ensures.0 c.in-Some.ensures.1 found.1 (found.2 ∙ c.if-is_lost.false)
-    (subst (StandFor h) (sym c.self.view_is) c.requires) c.poll.new.self c.poll.result c.poll.ensures c.in_ok-batch.batch c.in_ok-batch.was)
+    (subst (StandFor h) (sym c.self.view_is) c.requires.stand) c.poll.new.self c.poll.result c.poll.ensures c.in_ok-batch.batch c.in_ok-batch.was)
 
 pub returns-clause-stand : goal.returns-clause-stand
 returns-clause-stand c =
@@ -178,4 +178,4 @@ returns-clause-stand c =
     (subst (λ (v : WatchersView). IfSome (slice_index_or v.places place None) (λ (w : Watcher). c.is_lost.result ≡ is_lost v.floor w.first)) (sym c.self.view_is)
     c.is_lost.ensures) c.in-Some.ensures.2 in
     polled_stand h floor c.args.id c.args.most table place found.0 c.in-Some.ensures.0 c.in-Some.ensures.1 found.1 (found.2 ∙ c.if-is_lost.false)
-    (subst (StandFor h) (sym c.self.view_is) c.requires) c.poll.new.self c.poll.result c.poll.ensures c.in_ok-batch.batch c.in_ok-batch.was
+    (subst (StandFor h) (sym c.self.view_is) c.requires.stand) c.poll.new.self c.poll.result c.poll.ensures c.in_ok-batch.batch c.in_ok-batch.was

@@ -1,0 +1,236 @@
+-- A step from a world with its attempts levelled.
+use Rattle.std.proofs.Common.{◌≡◌, ℕ, zero, suc, ◌+◌, ◌-◌, Bool, true, false, cond, List, [], ◌∷◌, ◌++◌, length, map, Option, Some, None, option_map, Result, Ok, Err}
+use Rattle.std.proofs.Common.{refl, sym, ◌∙◌, ap, subst, arith}
+use Rattle.std.proofs.lemmas.List.{map-set, length-map}
+use Rattle.std.proofs.lemmas.Option.{slice_get-map}
+use Rattle.std.specs.Prelude.{nat_lt, nat_eq, slice_get, slice_set}
+use Rattle.stm_history.specs.declared.key_state.ReadAnswer.{ReadAnswer}
+use Rattle.stm_history.specs.History.{now, key_at, mod_of}
+use Rattle.stm_program.specs.Levels.{is_comparing}
+use Rattle.stm_program.specs.Writes.{latest_writes}
+use Rattle.stm_steps.specs.declared.run.End.{End}
+use Rattle.stm_steps.specs.declared.run.End.TheVariants.{Done as DoneEnd, Aborted as AbortedEnd, Faulted as FaultedEnd}
+use Rattle.stm_steps.specs.declared.run.Run.{Run}
+use Rattle.stm_steps.specs.declared.run.Answered.{Answered}
+use Rattle.stm_steps.specs.declared.run.Answered.TheVariants.{Ended as EndedRun, Wants}
+use Rattle.stm_outcome.specs.declared.answer.FailedCompare.{FailedCompare}
+use Rattle.stm_outcome.specs.declared.refusal.Refusal.{Refusal as StoreRefusal}
+use Rattle.stm_outcome.specs.Outcome.{Done}
+use Rattle.stm_outcome.specs.Commits.{revision_read}
+use Rattle.stm_outcome.specs.Terms.{is_below_floor}
+use Rattle.stm_txn.specs.Standing.{Standing, terms_of, with_history}
+use Rattle.stm_compile.specs.Answers.{answer_now}
+use Rattle.stm_compile.specs.Committed.{committed}
+use Rattle.stm_compile.specs.Conflicts.{Seen, seen_by, seen_in}
+use Rattle.stm_attempt.specs.Known.{Known, known_of}
+use Rattle.stm_attempt.specs.Settled.{run_on}
+use Rattle.stm_attempt.specs.Entering.{is_due, gone_on}
+use Rattle.stm_attempt.specs.Fetches.{at_of}
+use Rattle.stm_entries.specs.Entered.{answers_kept}
+use Rattle.stm_events.specs.declared.event.WorldEvent.{WorldEvent}
+use Rattle.stm_events.specs.declared.event.WorldEvent.TheVariants.{Start, Step, Txn as TxnEvent, Grant, Keep, Revoke, Advance}
+use Rattle.stm_events.specs.declared.event.WorldEvent.TheVariants.{WatchKey, WatchRange, Poll, Cancel, Compact}
+use Rattle.stm_events.specs.declared.reply.Reply.{Reply}
+use Rattle.stm_events.specs.declared.reply.Reply.TheVariants.{Started, Fetched, Committed, Conflict, GaveUp}
+use Rattle.stm_events.specs.declared.reply.CommittedRead.{CommittedRead}
+use Rattle.stm_events.specs.declared.refusal.Denied.{Denied}
+use Rattle.stm_events.specs.Replies.{committed_read}
+use Rattle.stm_world.specs.Task.{Task, answer_at, after_fetch, after_conflict}
+use Rattle.stm_world.specs.World.{World, Runner, Slot, Over, Live, Stepped, live_in, runner_at, with_slot, begin, start_runner, replied, fetch, fetch_at, fetch_list, decided}
+use Rattle.stm_world.specs.World.{commit_reported, commit, finish, step_on, step_live, step_runner, called, quietly_called, step}
+use Rattle.stm_alike.specs.Levelled.{levelled}
+use Rattle.stm_alike.proofs.Levelling.{levelled_again, same_run, same_due, same_at, fetched_same, mapped_same, same_reread, same_seen, same_commit}
+use Rattle.stm_alike.specs.Seen.{seen_known, seen_runner, seen_slot}
+
+-- a world with its attempts levelled, and without its entries
+abbrev pub levelled_world : World → World
+levelled_world w = record { standing = w.standing; runners = map seen_slot w.runners; entries = [] }
+
+-- ---- places of runners
+
+slot_again : (slot : Slot) → seen_slot (seen_slot slot) ≡ seen_slot slot
+slot_again Over = refl
+slot_again (Live r) =
+    ap (λ reads. Live (record { task = r.task; failures = r.failures; known = known_of reads r.known.prefetched })) (levelled_again r.known.reads)
+
+pub slots_again : (slots : List Slot) → map seen_slot (map seen_slot slots) ≡ map seen_slot slots
+slots_again [] = refl
+slots_again (slot ∷ slots) = ap (λ s. s ∷ map seen_slot (map seen_slot slots)) (slot_again slot) ∙ ap (λ rest. seen_slot slot ∷ rest) (slots_again slots)
+
+both_put : (id : ℕ) (one other : Slot) (slots : List Slot) → seen_slot one ≡ seen_slot other →
+    map seen_slot (with_slot id one (map seen_slot slots)) ≡ map seen_slot (with_slot id other slots)
+both_put id one other slots same =
+    map-set seen_slot (map seen_slot slots) (id - 1) one
+    ∙ ap (λ ss. slice_set ss (id - 1) (seen_slot one)) (slots_again slots)
+    ∙ ap (slice_set (map seen_slot slots) (id - 1)) same
+    ∙ sym (map-set seen_slot slots (id - 1) other)
+
+live_seen : (o : Option Slot) → live_in (option_map seen_slot o) ≡ option_map seen_runner (live_in o)
+live_seen None = refl
+live_seen (Some Over) = refl
+live_seen (Some (Live r)) = refl
+
+pub runner_seen : (id : ℕ) (slots : List Slot) → runner_at id (map seen_slot slots) ≡ option_map seen_runner (runner_at id slots)
+runner_seen id slots = by_zero (nat_eq id 0)
+  where
+    by_zero : (b : Bool) → cond b None (live_in (slice_get (map seen_slot slots) (id - 1))) ≡ option_map seen_runner (cond b None (live_in (slice_get slots (id - 1))))
+    by_zero true = refl
+    by_zero false = ap live_in (slice_get-map seen_slot slots (id - 1)) ∙ live_seen (slice_get slots (id - 1))
+
+-- ---- what comes of a step
+
+record Same (a b : Stepped) : Type 0 where
+  reply : a.reply ≡ b.reply
+  next : levelled_world a.next ≡ levelled_world b.next
+
+in_store : (s : Standing) (one other : List Slot) → one ≡ other → (let it : World = record { standing = s; runners = one; entries = [] } in it) ≡ record { standing = s; runners = other; entries = [] }
+in_store s one other same = ap (λ slots. let it : World = record { standing = s; runners = slots; entries = [] } in it) same
+
+by_test : (b : Bool) (x1 y1 x2 y2 : Stepped) → Same x1 x2 → Same y1 y2 → Same (cond b x1 y1) (cond b x2 y2)
+by_test true x1 y1 x2 y2 first second = first
+by_test false x1 y1 x2 y2 first second = second
+
+replied_same : (reply1 reply2 : Reply) (id : ℕ) (slot1 slot2 : Slot) (w : World) → reply1 ≡ reply2 → seen_slot slot1 ≡ seen_slot slot2 →
+    Same (replied reply1 id slot1 (levelled_world w)) (replied reply2 id slot2 w)
+replied_same reply1 reply2 id slot1 slot2 w reply slot = record {
+  reply = ap (λ r. let it : Result Reply Denied = Ok r in it) reply;
+  next = in_store w.standing _ _ (both_put id slot1 slot2 w.runners slot);
+}
+
+fetch_same : (id : ℕ) (r : Runner) (key : List ℕ) (of_rev : ℕ) (w : World) → Same (fetch id (seen_runner r) key of_rev (levelled_world w)) (fetch id r key of_rev w)
+unfolding fetch
+fetch_same id r key of_rev w = replied_same _ _ id _ _ w refl
+    (ap (λ reads. Live (record { task = r.task; failures = r.failures; known = known_of reads r.known.prefetched }))
+    (fetched_same r.task.program r.known.prefetched r.known.reads (answer_at w.standing.history key of_rev)))
+
+fetch_at_same : (id : ℕ) (r : Runner) (key : List ℕ) (base : ℕ) (w : World) → Same (fetch_at id (seen_runner r) key base (levelled_world w)) (fetch_at id r key base w)
+fetch_at_same id r key base w =
+    by_test (is_below_floor w.standing.floor base) _ _ _ _ (replied_same _ _ id Over Over w refl refl) (fetch_same id r key (revision_read w.standing.history base) w)
+
+fetch_list_same : (id : ℕ) (r : Runner) (w : World) → Same (fetch_list id (seen_runner r) (levelled_world w)) (fetch_list id r w)
+fetch_list_same id r w =
+    by_test (nat_lt w.standing.limit (length r.task.program.prefetch)) _ _ _ _ (replied_same _ _ id Over Over w refl refl) (replied_same _ _ id _ _ w refl refl)
+
+kept_same : (r : Runner) → map committed_read (answers_kept r.task.level (levelled r.known.reads)) ≡ map committed_read (answers_kept r.task.level r.known.reads)
+kept_same r = by_level (is_comparing r.task.level)
+  where
+    by_level : (b : Bool) → map committed_read (cond b [] (levelled r.known.reads)) ≡ map committed_read (cond b [] r.known.reads)
+    by_level true = refl
+    by_level false = mapped_same committed_read r.known.reads (λ n a. refl)
+
+decided_same : (id : ℕ) (r : Runner) (run : Run) (done : Done) (o : Option FailedCompare) (w : World) →
+    Same (decided id (seen_runner r) (levelled r.known.reads) run done o (levelled_world w)) (decided id r r.known.reads run done o w)
+decided_same id r run done None w = record {
+  reply = ap (λ (reads : List CommittedRead). let it : Result Reply Denied = Ok (Committed id (now done.history) (r.failures + 1) run.output run.trace reads) in it) (kept_same r);
+  next = in_store (with_history w.standing done.history) _ _ (both_put id Over Over w.runners refl);
+}
+decided_same id r run done (Some failed) w =
+    let seen : seen_in (slice_get (seen_by (levelled r.known.reads) (latest_writes run.writes)) failed.index) ≡ seen_in (slice_get (seen_by r.known.reads (latest_writes run.writes)) failed.index) =
+    ap (λ ss. seen_in (slice_get ss failed.index)) (same_seen r.known.reads (latest_writes run.writes)) in
+    by_test (nat_lt (r.failures + 1) r.task.limit) _ _ _ _
+    (replied_same _ _ id _ _ w (ap (λ (s : Seen). Conflict id s.key s.mod_rev failed.mod_rev) seen)
+    (ap (λ keys. Live (seen_runner (record {
+      task = r.task;
+      failures = r.failures + 1;
+      known = record {
+        reads = gone_on r.task.program (known_of [] (map (answer_now w.standing.history) keys));
+        prefetched = map (answer_now w.standing.history) keys;
+      };
+    })))
+    (same_reread r.task.level r.known.reads)))
+    (replied_same _ _ id Over Over w (ap (λ (s : Seen). GaveUp id (r.failures + 1) s.key s.mod_rev failed.mod_rev) seen) refl)
+
+reported_same : (id : ℕ) (r : Runner) (run : Run) (o : Result Done StoreRefusal) (w : World) →
+    Same (commit_reported id (seen_runner r) (levelled r.known.reads) run o (levelled_world w)) (commit_reported id r r.known.reads run o w)
+reported_same id r run (Ok done) w = decided_same id r run done done.answer.failed w
+reported_same id r run (Err cause) w = replied_same _ _ id Over Over w refl refl
+
+commit_same : (id : ℕ) (r : Runner) (run : Run) (w : World) → Same (commit id (seen_runner r) (levelled r.known.reads) run (levelled_world w)) (commit id r r.known.reads run w)
+unfolding commit
+commit_same id r run w =
+    subst (λ (o : Result Done StoreRefusal). Same (commit_reported id (seen_runner r) (levelled r.known.reads) run o (levelled_world w))
+    (commit_reported id r r.known.reads run (committed (terms_of w.standing) r.task.level r.known.reads run) w))
+    (sym (same_commit (terms_of w.standing) r.task.level r.known.reads run))
+    (reported_same id r run (committed (terms_of w.standing) r.task.level r.known.reads run) w)
+
+finish_same : (id : ℕ) (r : Runner) (run : Run) (end : End) (w : World) →
+    Same (finish id (seen_runner r) (levelled r.known.reads) run end (levelled_world w)) (finish id r r.known.reads run end w)
+finish_same id r run DoneEnd w = commit_same id r run w
+finish_same id r run (AbortedEnd text) w = replied_same _ _ id Over Over w refl refl
+finish_same id r run (FaultedEnd fault) w = replied_same _ _ id Over Over w refl refl
+
+step_on_same : (id : ℕ) (r : Runner) (answered : Answered) (w : World) →
+    Same (step_on id (seen_runner r) (levelled r.known.reads) answered (levelled_world w)) (step_on id r r.known.reads answered w)
+step_on_same id r (Wants key trace) w =
+    subst (λ n. Same (fetch_at id (seen_runner r) key n (levelled_world w)) (fetch_at id r key (at_of r.task.level r.known.reads) w))
+    (sym (same_at r.task.level r.known.reads)) (fetch_at_same id r key (at_of r.task.level r.known.reads) w)
+step_on_same id r (EndedRun run) w = finish_same id r run run.end w
+
+live_same : (id : ℕ) (r : Runner) (w : World) → Same (step_live id (seen_runner r) (levelled_world w)) (step_live id r w)
+unfolding step_live
+live_same id r w =
+    subst (λ b. Same
+    (cond b (fetch_list id (seen_runner r) (levelled_world w))
+    (step_on id (seen_runner r) (levelled r.known.reads) (run_on r.task.program (levelled r.known.reads)) (levelled_world w)))
+    (cond (is_due r.task.program.prefetch r.known.reads) (fetch_list id r w) (step_on id r r.known.reads (run_on r.task.program r.known.reads) w)))
+    (sym (same_due r.task.program.prefetch r.known.reads))
+    (subst (λ (run : Answered). Same
+    (cond (is_due r.task.program.prefetch r.known.reads) (fetch_list id (seen_runner r) (levelled_world w))
+    (step_on id (seen_runner r) (levelled r.known.reads) run (levelled_world w)))
+    (cond (is_due r.task.program.prefetch r.known.reads) (fetch_list id r w) (step_on id r r.known.reads (run_on r.task.program r.known.reads) w)))
+    (sym (same_run r.task.program r.known.reads))
+    (by_test (is_due r.task.program.prefetch r.known.reads) _ _ _ _ (fetch_list_same id r w) (step_on_same id r (run_on r.task.program r.known.reads) w)))
+
+world_again : (w : World) → levelled_world (levelled_world w) ≡ levelled_world w
+world_again w = in_store w.standing _ _ (slots_again w.runners)
+
+some_runner_same : (id : ℕ) (o : Option Runner) (w : World) → Same (step_runner id (option_map seen_runner o) (levelled_world w)) (step_runner id o w)
+some_runner_same id None w = record { reply = refl; next = world_again w }
+some_runner_same id (Some r) w = live_same id r w
+
+step_same : (id : ℕ) (w : World) → Same (step (Step id) (levelled_world w)) (step (Step id) w)
+step_same id w =
+    subst (λ (o : Option Runner). Same (step_runner id o (levelled_world w)) (step_runner id (runner_at id w.runners) w))
+    (sym (runner_seen id w.runners)) (some_runner_same id (runner_at id w.runners) w)
+
+more_slots : (slots : List Slot) (slot : Slot) → map seen_slot (map seen_slot slots ++ slot ∷ []) ≡ map seen_slot (slots ++ slot ∷ [])
+more_slots [] slot = refl
+more_slots (s ∷ slots) slot =
+    ap (λ x. x ∷ map seen_slot (map seen_slot slots ++ slot ∷ [])) (slot_again s) ∙ ap (λ rest. seen_slot s ∷ rest) (more_slots slots slot)
+
+started_same : (task : Task) (w : World) → Same (start_runner task (levelled_world w)) (start_runner task w)
+unfolding start_runner
+started_same task w = by_test (nat_eq task.limit 0) _ _ _ _
+    (record { reply = refl; next = world_again w })
+    (record {
+      reply = ap (λ n. let it : Result Reply Denied = Ok (Started (n + 1)) in it) (length-map w.runners seen_slot);
+      next = in_store w.standing _ _ (more_slots w.runners (Live (begin task)));
+    })
+
+pub next_levelled : (event : WorldEvent) (w : World) → levelled_world (step event (levelled_world w)).next ≡ levelled_world (step event w).next
+next_levelled (Start program level limit) w = (started_same (record { program = program; level = level; limit = limit }) w).next
+next_levelled (Step id) w = (step_same id w).next
+next_levelled (TxnEvent txn) w = in_store _ _ _ (slots_again w.runners)
+next_levelled (Grant id ttl) w = in_store _ _ _ (slots_again w.runners)
+next_levelled (Keep id) w = in_store _ _ _ (slots_again w.runners)
+next_levelled (Revoke id) w = in_store _ _ _ (slots_again w.runners)
+next_levelled (Advance moment) w = in_store _ _ _ (slots_again w.runners)
+next_levelled (WatchKey key from) w = in_store _ _ _ (slots_again w.runners)
+next_levelled (WatchRange first end from) w = in_store _ _ _ (slots_again w.runners)
+next_levelled (Poll watcher most) w = in_store _ _ _ (slots_again w.runners)
+next_levelled (Cancel watcher) w = in_store _ _ _ (slots_again w.runners)
+next_levelled (Compact revision) w = in_store _ _ _ (slots_again w.runners)
+
+pub told_levelled : (event : WorldEvent) (w : World) → (step event (levelled_world w)).reply ≡ (step event w).reply
+told_levelled (Start program level limit) w = (started_same (record { program = program; level = level; limit = limit }) w).reply
+told_levelled (Step id) w = (step_same id w).reply
+told_levelled (TxnEvent txn) w = refl
+told_levelled (Grant id ttl) w = refl
+told_levelled (Keep id) w = refl
+told_levelled (Revoke id) w = refl
+told_levelled (Advance moment) w = refl
+told_levelled (WatchKey key from) w = refl
+told_levelled (WatchRange first end from) w = refl
+told_levelled (Poll watcher most) w = refl
+told_levelled (Cancel watcher) w = refl
+told_levelled (Compact revision) w = refl

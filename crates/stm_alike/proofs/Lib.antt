@@ -1,0 +1,5 @@
+pub mod Comparing
+pub mod Levelling
+pub mod Stepping
+pub mod LevelledSteps
+pub mod SeenSteps

@@ -1,0 +1,2 @@
+pub mod Levelled
+pub mod Seen

@@ -1,0 +1,130 @@
+-- What is found first among the things of a list.
+use Rattle.std.proofs.Common.{◌≡◌, ℕ, zero, suc, ◌<◌, Bool, true, false, ◌||◌, List, [], ◌∷◌, ◌++◌, length, get_or, map, Contains, Option, Some, None}
+use Rattle.std.proofs.Common.{option_map, flat_map, refl, sym, ◌∙◌, ap, subst, arith}
+use Rattle.std.proofs.lemmas.Grind.{flat_map-append}
+use Rattle.std.proofs.lemmas.List.Elements.{Contains-append_left, Contains-append_right}
+use Rattle.std.specs.List.{list_any}
+use Rattle.std.specs.Option.{option_or}
+use Rattle.stm_visited.specs.Search.{first_of}
+
+or_assoc : {A : Type 0} (a b c : Option A) → option_or (option_or a b) c ≡ option_or a (option_or b c)
+or_assoc None b c = refl
+or_assoc (Some x) b c = refl
+
+or_none : {A : Type 0} (a : Option A) → option_or a None ≡ a
+or_none None = refl
+or_none (Some x) = refl
+
+map_or : {A B : Type 0} (g : A → B) (a b : Option A) → option_map g (option_or a b) ≡ option_or (option_map g a) (option_map g b)
+map_or g None b = refl
+map_or g (Some x) b = refl
+
+pub map_map : {A B C : Type 0} (f : A → B) (g : B → C) (o : Option A) → option_map g (option_map f o) ≡ option_map (λ (x : A). g (f x)) o
+map_map f g None = refl
+map_map f g (Some x) = refl
+
+pub first_append : {A B : Type 0} (f : A → Option B) (xs ys : List A) → first_of f (xs ++ ys) ≡ option_or (first_of f xs) (first_of f ys)
+first_append f [] ys = refl
+first_append f (x ∷ xs) ys = ap (option_or (f x)) (first_append f xs ys) ∙ sym (or_assoc (f x) (first_of f xs) (first_of f ys))
+
+pub first_one : {A B : Type 0} (f : A → Option B) (x : A) → first_of f (x ∷ []) ≡ f x
+first_one f x = or_none (f x)
+
+-- the same is found where each comes to the same
+pub first_same : {A B : Type 0} (f g : A → Option B) (xs : List A) → ((x : A) → f x ≡ g x) → first_of f xs ≡ first_of g xs
+first_same f g [] same = refl
+first_same {A} {B} f g (x ∷ xs) same =
+    ap (λ (o : Option B). option_or o (first_of f xs)) (same x) ∙ ap (option_or (g x)) (first_same f g xs same)
+
+-- what is found, changed, is what is found changed
+pub first_mapped : {A B C : Type 0} (h : B → C) (f : A → Option B) (xs : List A) → option_map h (first_of f xs) ≡ first_of (λ (x : A). option_map h (f x)) xs
+first_mapped h f [] = refl
+first_mapped h f (x ∷ xs) = map_or h (f x) (first_of f xs) ∙ ap (option_or (option_map h (f x))) (first_mapped h f xs)
+
+pub first_through : {A B C : Type 0} (g : A → B) (f : B → Option C) (xs : List A) → first_of f (map g xs) ≡ first_of (λ (x : A). f (g x)) xs
+first_through g f [] = refl
+first_through g f (x ∷ xs) = ap (option_or (f (g x))) (first_through g f xs)
+
+pub first_flat : {A B C : Type 0} (g : A → List B) (f : B → Option C) (xs : List A) → first_of f (flat_map g xs) ≡ first_of (λ (x : A). first_of f (g x)) xs
+first_flat g f [] = refl
+first_flat g f (x ∷ xs) = first_append f (g x) (flat_map g xs) ∙ ap (option_or (first_of f (g x))) (first_flat g f xs)
+
+or_left : {A : Type 0} (a b : Option A) → option_or a b ≡ None → a ≡ None
+or_left None b is = refl
+or_left (Some x) b is = absurd (cc)
+
+or_right : {A : Type 0} (a b : Option A) → option_or a b ≡ None → b ≡ None
+or_right None b is = is
+or_right (Some x) b is = absurd (cc)
+
+none_at : {A B : Type 0} (f : A → Option B) (xs : List A) (x : A) (k : ℕ) → k < length xs → get_or xs k x ≡ x → first_of f xs ≡ None → f x ≡ None
+none_at f [] x k within is none = absurd (omega arith)
+none_at f (y ∷ ys) x zero within is none = ap f (sym is) ∙ or_left (f y) (first_of f ys) none
+none_at f (y ∷ ys) x (suc k) within is none = none_at f ys x k (omega arith) is (or_right (f y) (first_of f ys) none)
+
+pub none_found : {A B : Type 0} (f : A → Option B) (xs : List A) (x : A) → Contains xs x → first_of f xs ≡ None → f x ≡ None
+none_found f xs x c none = none_at f xs x c.0 c.1 c.2 none
+
+-- ---- some pass a test
+
+or_of_either : (a b c : Bool) → ((a || b) || c) ≡ (a || (b || c))
+or_of_either true b c = refl
+or_of_either false b c = refl
+
+pub or_false : (a : Bool) → (a || false) ≡ a
+or_false true = refl
+or_false false = refl
+
+pub any_append : {A : Type 0} (f : A → Bool) (xs ys : List A) → list_any f (xs ++ ys) ≡ (list_any f xs || list_any f ys)
+any_append f [] ys = refl
+any_append f (x ∷ xs) ys = ap (λ b. f x || b) (any_append f xs ys) ∙ sym (or_of_either (f x) (list_any f xs) (list_any f ys))
+
+pub any_same : {A : Type 0} (f g : A → Bool) (xs : List A) → ((x : A) → f x ≡ g x) → list_any f xs ≡ list_any g xs
+any_same f g [] same = refl
+any_same f g (x ∷ xs) same = ap (λ b. b || list_any f xs) (same x) ∙ ap (λ b. g x || b) (any_same f g xs same)
+
+pub any_through : {A B : Type 0} (g : A → B) (f : B → Bool) (xs : List A) → list_any f (map g xs) ≡ list_any (λ (x : A). f (g x)) xs
+any_through g f [] = refl
+any_through g f (x ∷ xs) = ap (λ b. f (g x) || b) (any_through g f xs)
+
+pub any_flat : {A B : Type 0} (g : A → List B) (f : B → Bool) (xs : List A) → list_any f (flat_map g xs) ≡ list_any (λ (x : A). list_any f (g x)) xs
+any_flat g f [] = refl
+any_flat g f (x ∷ xs) = any_append f (g x) (flat_map g xs) ∙ ap (λ b. list_any f (g x) || b) (any_flat g f xs)
+
+any_left : (a b : Bool) → (a || b) ≡ false → a ≡ false
+any_left true b is = absurd (cc)
+any_left false b is = refl
+
+any_right : (a b : Bool) → (a || b) ≡ false → b ≡ false
+any_right true b is = absurd (cc)
+any_right false b is = is
+
+none_pass : {A : Type 0} (f : A → Bool) (xs : List A) (x : A) (k : ℕ) → k < length xs → get_or xs k x ≡ x → list_any f xs ≡ false → f x ≡ false
+none_pass f [] x k within is none = absurd (omega arith)
+none_pass f (y ∷ ys) x zero within is none = ap f (sym is) ∙ any_left (f y) (list_any f ys) none
+none_pass f (y ∷ ys) x (suc k) within is none = none_pass f ys x k (omega arith) is (any_right (f y) (list_any f ys) none)
+
+pub none_passes : {A : Type 0} (f : A → Bool) (xs : List A) (x : A) → Contains xs x → list_any f xs ≡ false → f x ≡ false
+none_passes f xs x c none = none_pass f xs x c.0 c.1 c.2 none
+
+-- ---- all that is gathered
+
+pub flat_same : {A B : Type 0} (f g : A → List B) (xs : List A) → ((x : A) → f x ≡ g x) → flat_map f xs ≡ flat_map g xs
+flat_same f g [] same = refl
+flat_same f g (x ∷ xs) same = ap (λ ys. ys ++ flat_map f xs) (same x) ∙ ap (λ ys. g x ++ ys) (flat_same f g xs same)
+
+pub flat_flat : {A B C : Type 0} (g : A → List B) (f : B → List C) (xs : List A) → flat_map f (flat_map g xs) ≡ flat_map (λ (x : A). flat_map f (g x)) xs
+flat_flat g f [] = refl
+flat_flat g f (x ∷ xs) = flat_map-append f (g x) (flat_map g xs) ∙ ap (λ ys. flat_map f (g x) ++ ys) (flat_flat g f xs)
+
+pub append_nil_here : {A : Type 0} (xs : List A) → xs ++ [] ≡ xs
+append_nil_here [] = refl
+append_nil_here (x ∷ xs) = ap (λ ys. x ∷ ys) (append_nil_here xs)
+
+in_flat_at : {A B : Type 0} (f : A → List B) (xs : List A) (x : A) (k : ℕ) → k < length xs → get_or xs k x ≡ x → (y : B) → Contains (f x) y → Contains (flat_map f xs) y
+in_flat_at f [] x k within is y c = absurd (omega arith)
+in_flat_at f (z ∷ xs) x zero within is y c = Contains-append_left (f z) (flat_map f xs) y (subst (λ v. Contains (f v) y) (sym is) c)
+in_flat_at f (z ∷ xs) x (suc k) within is y c = Contains-append_right (f z) (flat_map f xs) y (in_flat_at f xs x k (omega arith) is y c)
+
+pub in_flat : {A B : Type 0} (f : A → List B) (xs : List A) (x : A) → Contains xs x → (y : B) → Contains (f x) y → Contains (flat_map f xs) y
+in_flat f xs x c y has = in_flat_at f xs x c.0 c.1 c.2 y has

@@ -1,0 +1,200 @@
+-- Alike places, and layers of places.
+use Rattle.std.proofs.Common.{◌≡◌, ◌↔◌, ◌⊎◌, inl, inr, subst, flat_map, ℕ, zero, suc, ◌+◌, Bool, true, false, ◌||◌, cond, List, [], ◌∷◌, ◌++◌, Contains, Option, Some, None}
+use Rattle.std.proofs.Common.{option_map, refl, sym, ◌∙◌, ap, arith, append_assoc}
+use Rattle.std.proofs.lemmas.Grind.{flat_map-append}
+use Rattle.std.proofs.lemmas.List.Elements.{Contains-append_left, Contains-append_right, Contains-append_cases}
+use Rattle.std.proofs.lemmas.List.Folds.{flat_map-map}
+use Rattle.std.specs.List.{list_any}
+use Rattle.std.specs.Option.{option_or}
+use Rattle.stm_visited.specs.Search.{Steps, first_of, bad_at, first_bad, goes_on, if_whole, shown_at}
+use Rattle.stm_visited.specs.Alike.{Respects, AlikeAreSame}
+use Rattle.stm_visited.specs.Layers.{Reached, bad_from, bad_among, on_among, shown_among, StandFor, reached_by, moved_from, moved_from_each, IsLayer, LayersGoOn}
+use Rattle.stm_visited.proofs.Founds.{first_append, first_one, first_same, first_mapped, first_through, first_flat, none_found}
+use Rattle.stm_visited.proofs.Founds.{or_false, any_append, any_same, any_through, any_flat, none_passes, flat_same, flat_flat, append_nil_here, in_flat}
+
+-- ---- alike places
+
+alike_bad : {P M O : Type 0} (s : Steps P M O) (Alike : P → P → Type 0) → Respects P M O s Alike → (n : ℕ) (p q : P) → Alike p q → bad_at s n p ≡ bad_at s n q
+alike_bad {P} {M} {O} s Alike r zero p q a = ap (λ (b : Bool). cond b None (let none : Option (List M) = Some [] in none)) (r.keeps p q a)
+alike_bad {P} {M} {O} s Alike r (suc n) p q a =
+    ap (first_of (λ m. option_map (λ (ms : List M). m ∷ ms) (bad_at s n (s.after m p)))) (r.moves p q a)
+    ∙ first_same (λ m. option_map (λ (ms : List M). m ∷ ms) (bad_at s n (s.after m p))) (λ m. option_map (λ (ms : List M). m ∷ ms) (bad_at s n (s.after m q)))
+    (s.moves q) (λ m. ap (option_map (λ (ms : List M). m ∷ ms)) (alike_bad s Alike r n (s.after m p) (s.after m q) (r.after m p q a)))
+
+alike_first : {P M O : Type 0} (s : Steps P M O) (Alike : P → P → Type 0) → Respects P M O s Alike → (n : ℕ) (p q : P) → Alike p q → first_bad s n p ≡ first_bad s n q
+alike_first s Alike r zero p q a = alike_bad s Alike r zero p q a
+alike_first {P} {M} {O} s Alike r (suc n) p q a =
+    ap (λ (o : Option (List M)). option_or o (bad_at s (suc n) p)) (alike_first s Alike r n p q a)
+    ∙ ap (option_or (first_bad s n q)) (alike_bad s Alike r (suc n) p q a)
+
+alike_on : {P M O : Type 0} (s : Steps P M O) (Alike : P → P → Type 0) → Respects P M O s Alike → (n : ℕ) (p q : P) → Alike p q → goes_on s n p ≡ goes_on s n q
+alike_on s Alike r zero p q a = refl
+alike_on s Alike r (suc n) p q a =
+    ap (list_any (λ m. goes_on s n (s.after m p))) (r.moves p q a)
+    ∙ any_same (λ m. goes_on s n (s.after m p)) (λ m. goes_on s n (s.after m q)) (s.moves q)
+    (λ m. alike_on s Alike r n (s.after m p) (s.after m q) (r.after m p q a))
+
+alike_shown : {P M O : Type 0} (s : Steps P M O) (Alike : P → P → Type 0) → Respects P M O s Alike → (n : ℕ) (p q : P) → Alike p q → shown_at s n p ≡ shown_at s n q
+alike_shown s Alike r zero p q a = ap (λ ms. if_whole ms (s.shows p)) (r.moves p q a) ∙ ap (if_whole (s.moves q)) (r.shows p q a)
+alike_shown s Alike r (suc n) p q a =
+    ap (flat_map (λ m. shown_at s n (s.after m p))) (r.moves p q a)
+    ∙ flat_same (λ m. shown_at s n (s.after m p)) (λ m. shown_at s n (s.after m q)) (s.moves q)
+    (λ m. alike_shown s Alike r n (s.after m p) (s.after m q) (r.after m p q a))
+
+pub alike_are_same : {P M O : Type 0} (s : Steps P M O) (Alike : P → P → Type 0) → Respects P M O s Alike → AlikeAreSame P M O s Alike
+alike_are_same s Alike r = record { bad = alike_bad s Alike r; first = alike_first s Alike r; on = alike_on s Alike r; shown = alike_shown s Alike r }
+
+-- ---- one move more
+
+-- what a place comes to by one move and n more, with the path to it in front
+step_bad : {P M O : Type 0} (s : Steps P M O) (n : ℕ) (r : Reached P M) (m : M) →
+    bad_from s n (reached_by s r m) ≡ option_map (λ (ms : List M). r.path ++ ms) (option_map (λ (ms : List M). m ∷ ms) (bad_at s n (s.after m r.place)))
+step_bad {P} {M} {O} s n r m = elim (bad_at s n (s.after m r.place)) as (λ o.
+    option_map (λ (ms : List M). (r.path ++ m ∷ []) ++ ms) o ≡ option_map (λ (ms : List M). r.path ++ ms) (option_map (λ (ms : List M). m ∷ ms) o)) [
+      | None ↦ refl
+      | Some ms ↦ ap (λ (all : List M). Some all) (append_assoc r.path (m ∷ []) ms)
+    ]
+
+moved_bad : {P M O : Type 0} (s : Steps P M O) (n : ℕ) (r : Reached P M) → bad_among s n (moved_from s r) ≡ bad_from s (suc n) r
+moved_bad {P} {M} {O} s n r =
+    first_through (reached_by s r) (bad_from s n) (s.moves r.place)
+    ∙ first_same (λ (m : M). bad_from s n (reached_by s r m))
+    (λ (m : M). option_map (λ (ms : List M). r.path ++ ms) (option_map (λ (ms : List M). m ∷ ms) (bad_at s n (s.after m r.place)))) (s.moves r.place) (step_bad s n r)
+    ∙ sym (first_mapped (λ (ms : List M). r.path ++ ms) (λ m. option_map (λ (ms : List M). m ∷ ms) (bad_at s n (s.after m r.place))) (s.moves r.place))
+
+moved_on : {P M O : Type 0} (s : Steps P M O) (n : ℕ) (r : Reached P M) → on_among s n (moved_from s r) ≡ goes_on s (suc n) r.place
+moved_on {P} {M} {O} s n r = any_through (reached_by s r) (λ (r : Reached P M). goes_on s n r.place) (s.moves r.place)
+
+each_bad : {P M O : Type 0} (s : Steps P M O) (n : ℕ) (rs : List (Reached P M)) → bad_among s n (moved_from_each s rs) ≡ bad_among s (suc n) rs
+each_bad {P} {M} {O} s n rs =
+    first_flat (moved_from s) (bad_from s n) rs
+    ∙ first_same (λ (r : Reached P M). bad_among s n (moved_from s r)) (bad_from s (suc n)) rs (moved_bad s n)
+
+each_on : {P M O : Type 0} (s : Steps P M O) (n : ℕ) (rs : List (Reached P M)) → on_among s n (moved_from_each s rs) ≡ on_among s (suc n) rs
+each_on {P} {M} {O} s n rs =
+    any_flat (moved_from s) (λ (r : Reached P M). goes_on s n r.place) rs
+    ∙ any_same (λ (r : Reached P M). on_among s n (moved_from s r)) (λ (r : Reached P M). goes_on s (suc n) r.place) rs (moved_on s n)
+
+each_shown : {P M O : Type 0} (s : Steps P M O) (n : ℕ) (rs : List (Reached P M)) → shown_among s n (moved_from_each s rs) ≡ shown_among s (suc n) rs
+each_shown {P} {M} {O} s n rs =
+    flat_flat (moved_from s) (λ (r : Reached P M). shown_at s n r.place) rs
+    ∙ flat_same (λ (r : Reached P M). shown_among s n (moved_from s r)) (λ (r : Reached P M). shown_at s (suc n) r.place) rs
+    (λ r. flat_map-map (λ (r : Reached P M). shown_at s n r.place) (reached_by s r) (s.moves r.place))
+
+-- ---- layers
+
+opened_bad : {P M O : Type 0} (s : Steps P M O) (start : P) (n : ℕ) → bad_among s n (record { place = start; path = [] } ∷ []) ≡ bad_at s (0 + n) start
+opened_bad {P} {M} {O} s start n =
+    first_one (bad_from s n) (record { place = start; path = [] })
+    ∙ (elim (bad_at s n start) as (λ o. option_map (λ (ms : List M). [] ++ ms) o ≡ o) [ None ↦ refl | Some ms ↦ refl ])
+    ∙ (let e : n ≡ 0 + n = omega arith in ap (λ k. bad_at s k start) e)
+
+opened_on : {P M O : Type 0} (s : Steps P M O) (start : P) (n : ℕ) → on_among s n (record { place = start; path = [] } ∷ []) ≡ goes_on s (0 + n) start
+opened_on s start n = or_false (goes_on s n start) ∙ (let e : n ≡ 0 + n = omega arith in ap (λ k. goes_on s k start) e)
+
+opened_shown : {P M O : Type 0} (s : Steps P M O) (start : P) (n : ℕ) → shown_among s n (record { place = start; path = [] } ∷ []) ≡ shown_at s (0 + n) start
+opened_shown s start n = append_nil_here (shown_at s n start) ∙ (let e : n ≡ 0 + n = omega arith in ap (λ k. shown_at s k start) e)
+
+-- the same members where the lists are the same
+same_members : {O : Type 0} (xs ys : List O) → xs ≡ ys → (it : O) → Contains xs it ↔ Contains ys it
+same_members xs ys same it = (λ c. subst (λ zs. Contains zs it) same c, λ c. subst (λ zs. Contains zs it) (sym same) c)
+
+through : {A B C : Type 0} → A ↔ B → B ↔ C → A ↔ C
+through one two = (λ a. two.0 (one.0 a), λ c. one.1 (two.1 c))
+
+next_layer : {P M O : Type 0} (s : Steps P M O) (start : P) (k : ℕ) (rs next : List (Reached P M)) → IsLayer P M O s start k rs → StandFor P M O s next (moved_from_each s rs) →
+    IsLayer P M O s start (suc k) next
+next_layer s start k rs next layer stand = record {
+  bad = λ n. stand.bad n ∙ each_bad s n rs ∙ layer.bad (suc n) ∙ (let e : k + suc n ≡ suc k + n = omega arith in ap (λ j. bad_at s j start) e);
+  on = λ n. stand.on n ∙ each_on s n rs ∙ layer.on (suc n) ∙ (let e : k + suc n ≡ suc k + n = omega arith in ap (λ j. goes_on s j start) e);
+  shown = λ n it. through (stand.shown n it) (through (same_members _ _ (each_shown s n rs) it)
+      (through (layer.shown (suc n) it) (let e : k + suc n ≡ suc k + n = omega arith in same_members _ _ (ap (λ j. shown_at s j start) e) it)));
+}
+
+-- members of two lists of which the first have the same
+both_members : {O : Type 0} (xs ys more : List O) (it : O) → Contains xs it ↔ Contains ys it → Contains (xs ++ more) it → Contains (ys ++ more) it
+both_members xs ys more it same c = elim (Contains-append_cases xs more it c) [
+  | inl first ↦ Contains-append_left ys more it (same.0 first)
+  | inr second ↦ Contains-append_right ys more it second
+]
+
+added_shown : {P M O : Type 0} (s : Steps P M O) (rs others more : List (Reached P M)) (n : ℕ) (it : O) → Contains (shown_among s n rs) it ↔ Contains (shown_among s n others) it →
+    Contains (shown_among s n (rs ++ more)) it ↔ Contains (shown_among s n (others ++ more)) it
+added_shown {P} {M} {O} s rs others more n it same =
+    let one = flat_map-append (λ (r : Reached P M). shown_at s n r.place) rs more in
+    let two = flat_map-append (λ (r : Reached P M). shown_at s n r.place) others more in
+    through (same_members _ _ one it) (through (
+      both_members (shown_among s n rs) (shown_among s n others) (shown_among s n more) it same,
+      both_members (shown_among s n others) (shown_among s n rs) (shown_among s n more) it (same.1, same.0),
+    ) (same_members _ _ (sym two) it))
+
+added : {P M O : Type 0} (s : Steps P M O) (rs others more : List (Reached P M)) → StandFor P M O s rs others → StandFor P M O s (rs ++ more) (others ++ more)
+added {P} {M} {O} s rs others more stand = record {
+  bad = λ n. first_append (bad_from s n) rs more ∙ ap (λ (o : Option (List M)). option_or o (bad_among s n more)) (stand.bad n)
+      ∙ sym (first_append (bad_from s n) others more);
+  on = λ n. any_append (λ (r : Reached P M). goes_on s n r.place) rs more ∙ ap (λ b. b || on_among s n more) (stand.on n)
+      ∙ sym (any_append (λ (r : Reached P M). goes_on s n r.place) others more);
+  shown = λ n it. added_shown s rs others more n it (stand.shown n it);
+}
+
+-- nothing is found after one that is found, and nothing at one where nothing is found
+or_skipped : {A : Type 0} (a b : Option A) → (a ≡ None → b ≡ None) → a ≡ option_or a b
+or_skipped None b skip = sym (skip refl)
+or_skipped (Some x) b skip = refl
+
+or_skipped_test : (a b : Bool) → (a ≡ false → b ≡ false) → a ≡ (a || b)
+or_skipped_test true b skip = refl
+or_skipped_test false b skip = sym (skip refl)
+
+map_none : {A B : Type 0} (f : A → B) (o : Option A) → option_map f o ≡ None → o ≡ None
+map_none f None is = refl
+map_none f (Some x) is = absurd (cc)
+
+skipped_bad : {P M O : Type 0} (s : Steps P M O) (Alike : P → P → Type 0) → Respects P M O s Alike → (rs : List (Reached P M)) (r seen : Reached P M) → Contains rs seen →
+    Alike r.place seen.place → (n : ℕ) → bad_among s n rs ≡ None → bad_among s n (r ∷ []) ≡ None
+skipped_bad {P} {M} {O} s Alike re rs r seen c a n none =
+    let at_seen : bad_at s n seen.place ≡ None = map_none (λ (ms : List M). seen.path ++ ms) (bad_at s n seen.place) (none_found (bad_from s n) rs seen c none) in
+    first_one (bad_from s n) r ∙ ap (option_map (λ (ms : List M). r.path ++ ms)) (alike_bad s Alike re n r.place seen.place a ∙ at_seen)
+
+skipped_on : {P M O : Type 0} (s : Steps P M O) (Alike : P → P → Type 0) → Respects P M O s Alike → (rs : List (Reached P M)) (r seen : Reached P M) → Contains rs seen →
+    Alike r.place seen.place → (n : ℕ) → on_among s n rs ≡ false → on_among s n (r ∷ []) ≡ false
+skipped_on {P} {M} {O} s Alike re rs r seen c a n none =
+    or_false (goes_on s n r.place) ∙ alike_on s Alike re n r.place seen.place a ∙ none_passes (λ (r : Reached P M). goes_on s n r.place) rs seen c none
+
+-- what whole schedules come to from a place that is alike to one of these, they come to from these
+skipped_shown : {P M O : Type 0} (s : Steps P M O) (Alike : P → P → Type 0) → Respects P M O s Alike → (rs : List (Reached P M)) (r seen : Reached P M) → Contains rs seen →
+    Alike r.place seen.place → (n : ℕ) (it : O) → Contains (shown_among s n (rs ++ r ∷ [])) it → Contains (shown_among s n rs) it
+skipped_shown {P} {M} {O} s Alike re rs r seen c a n it has =
+    elim (Contains-append_cases (shown_among s n rs) (shown_among s n (r ∷ [])) it
+    (subst (λ (os : List O). Contains os it) (flat_map-append (λ (r : Reached P M). shown_at s n r.place) rs (r ∷ [])) has)) [
+      | inl first ↦ first
+      | inr second ↦
+          in_flat (λ (r : Reached P M). shown_at s n r.place) rs seen c it
+          (subst (λ (os : List O). Contains os it) (append_nil_here (shown_at s n r.place) ∙ alike_shown s Alike re n r.place seen.place a) second)
+    ]
+
+-- a place that is alike to one of these adds nothing to them
+alone : {P M O : Type 0} (s : Steps P M O) (Alike : P → P → Type 0) → Respects P M O s Alike → (rs : List (Reached P M)) (r seen : Reached P M) → Contains rs seen →
+    Alike r.place seen.place → StandFor P M O s rs (rs ++ r ∷ [])
+alone {P} {M} {O} s Alike re rs r seen c a = record {
+  bad = λ n. or_skipped (bad_among s n rs) (bad_among s n (r ∷ [])) (skipped_bad s Alike re rs r seen c a n) ∙ sym (first_append (bad_from s n) rs (r ∷ []));
+  on = λ n. or_skipped_test (on_among s n rs) (on_among s n (r ∷ [])) (skipped_on s Alike re rs r seen c a n)
+      ∙ sym (any_append (λ (r : Reached P M). goes_on s n r.place) rs (r ∷ []));
+  shown = λ n it. (
+    λ has. subst (λ (os : List O). Contains os it) (sym (flat_map-append (λ (r : Reached P M). shown_at s n r.place) rs (r ∷ [])))
+        (Contains-append_left (shown_among s n rs) (shown_among s n (r ∷ [])) it has),
+    skipped_shown s Alike re rs r seen c a n it,
+  );
+}
+
+joined : {P M O : Type 0} (s : Steps P M O) (rs others third : List (Reached P M)) → StandFor P M O s rs others → StandFor P M O s others third → StandFor P M O s rs third
+joined s rs others third one two = record { bad = λ n. one.bad n ∙ two.bad n; on = λ n. one.on n ∙ two.on n; shown = λ n it. through (one.shown n it) (two.shown n it) }
+
+pub layers_go_on : {P M O : Type 0} (s : Steps P M O) (Alike : P → P → Type 0) → Respects P M O s Alike → LayersGoOn P M O s Alike
+layers_go_on {P} {M} {O} s Alike re = record {
+  opens = λ start. record { bad = opened_bad s start; on = opened_on s start; shown = λ n it. same_members _ _ (opened_shown s start n) it };
+  next = next_layer s;
+  stands = λ rs. record { bad = λ n. refl; on = λ n. refl; shown = λ n it. (λ c. c, λ c. c) };
+  added = added s;
+  skipped = λ rs others r seen stand c a. joined s rs (rs ++ r ∷ []) (others ++ r ∷ []) (alone s Alike re rs r seen c a) (added s rs others (r ∷ []) stand);
+}

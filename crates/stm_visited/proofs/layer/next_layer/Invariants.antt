@@ -1,0 +1,11 @@
+use Rattle.std.proofs.Common.{◌≡◌, ◌⊎◌, ◌<◌, ◌≤◌, [], take}
+use Rattle.stm_visited.specs.Layers.{StandFor, moved_from_each}
+use Rattle.stm_visited.proofs.layer.next_layer.Given as goal
+
+abbrev pub invariant-loop-from : goal.invariant-loop-from
+invariant-loop-from g l = record {
+  stand : StandFor g.row.S-Place.Denot g.row.S-Move.Denot g.row.S-Shown.Denot (g.S.System.steps l.system) l.next.items
+      (moved_from_each (g.S.System.steps l.system) (take l.from-index l.layer));
+  taken : (l.next.items ≡ []) ⊎ (l.budget.left < l.fn.budget.left);
+  within : l.budget.left ≤ l.fn.budget.left;
+}

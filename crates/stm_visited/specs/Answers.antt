@@ -1,0 +1,18 @@
+-- What a search answers.
+use Rattle.std.specs.Prelude.{◌≡◌, ℕ, suc, true, false, length, None, Some}
+use Rattle.stm_visited.specs.declared.visited.Visited.{Visited}
+use Rattle.stm_visited.specs.declared.visited.Visited.TheVariants.{Always, Broken, Open}
+use Rattle.stm_visited.specs.Search.{Steps, first_bad, goes_on}
+
+-- No schedule of up to the length of the longest breaks the rule; or this is the first one that does; or none of up to this length does, and some
+-- schedule is longer.
+abbrev pub IsVisited : {P M O : Type 0} → Steps P M O → P → Visited M → Type 0
+IsVisited s p (Always longest) = (first_bad s longest p ≡ None) × (goes_on s longest p ≡ true) × (goes_on s (suc longest) p ≡ false)
+IsVisited s p (Broken moves) = first_bad s (length moves) p ≡ Some moves
+IsVisited s p (Open kept) = (first_bad s kept p ≡ None) × (goes_on s (suc kept) p ≡ true)
+
+-- the budget: an answer is open only where nothing is left of it
+abbrev pub OpenIsSpent : {M : Type 0} → ℕ → Visited M → Type 0
+OpenIsSpent left (Always longest) = Unit {0}
+OpenIsSpent left (Broken moves) = Unit {0}
+OpenIsSpent left (Open kept) = left ≡ 0

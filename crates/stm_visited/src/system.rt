@@ -1,0 +1,45 @@
+//! What a search goes through.
+ghost use Rattle.std.specs.Prelude.{◌≡◌, true, IfOk};
+ghost use Rattle.stm_visited.specs.Search.{Steps};
+ghost use Rattle.stm_visited.specs.Alike.{Respects};
+
+use std::alloc::AllocError;
+
+/// Places, the moves that can be made at each, a rule, and what a place shows where no move can be made. Some places are alike: what can be
+/// seen from there on is the same.
+pub trait System {
+    /// A place.
+    type Place: Drop;
+    /// A move.
+    type Move: Copy;
+    /// What a place shows.
+    type Shown;
+
+    /// The moves at a place, where each leads to, whether a place keeps the rule, and what it shows.
+    ghost steps: { Self → Steps Self.Place Self.Move Self.Shown };
+
+    /// Two places are alike.
+    ghost Alike: { Self → Self.Place → Self.Place → Type 0 };
+
+    /// The moves that can be made at a place, in their order.
+    fn moves(&self, place: &Self::Place) -> Result<Vec<Self::Move>, AllocError>
+        ensures { IfOk result (λ all. all.items ≡ (steps self.now).moves place.now) };
+
+    /// The place that a move leads to.
+    fn moved(&self, place: &Self::Place, chosen: Self::Move) -> Result<Self::Place, AllocError>
+        ensures { IfOk result (λ next. next ≡ (steps self.now).after chosen place.now) };
+
+    /// Whether a place keeps the rule.
+    fn is_kept(&self, place: &Self::Place) -> Result<bool, AllocError>
+        ensures { IfOk result (λ kept. kept ≡ (steps self.now).keeps place.now) };
+
+    /// Whether two places are alike. It may say no of places that are.
+    fn is_alike(&self, one: &Self::Place, other: &Self::Place) -> bool
+        ensures { result ≡ true → Alike self.now one.now other.now };
+
+    /// A number that alike places have in common: places with different numbers are not compared. No contract says so: where alike places
+    /// have different numbers, each is gone on from.
+    fn hint(&self, place: &Self::Place) -> u64;
+
+    ghost respects: { (s : Self) → Respects Self.Place Self.Move Self.Shown (steps s) (Alike s) };
+}

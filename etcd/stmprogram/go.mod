@@ -1,0 +1,3 @@
+module stmprogram
+
+go 1.19

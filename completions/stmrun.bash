@@ -1,10 +1,10 @@
-# Made by completions/make from the help of stmrun; to change it, change the command line there.
+# Made by completions/make from crates/stm_arguments/src; to change it, change the command line there.
 # shellcheck shell=bash
 _stmrun() {
     local word="${COMP_WORDS[COMP_CWORD]}" before="${COMP_WORDS[COMP_CWORD-1]}" words=""
     COMPREPLY=()
     if [ "$COMP_CWORD" -eq 1 ]; then
-        words="script check threads recipe explore help --help --version"
+        words="script check threads recipe explore show help --help --version"
     else
         case "${COMP_WORDS[1]} $before" in
         "script --format") words="lines json text svg" ;;
@@ -20,7 +20,8 @@ _stmrun() {
             threads) case "$word" in -*) ;; *) compopt -o default; return ;; esac; words="--workers --ends --repeat --explain --explain=never --help" ;;
             recipe) words="transfer deposit enqueue dequeue reserve_slot release_slot --help" ;;
             explore) case "$word" in -*) ;; *) compopt -o default; return ;; esac; words="--keeps --level --budget --explain --explain=never --help" ;;
-            help) words="script check threads recipe explore language causes" ;;
+            show) case "$word" in -*) ;; *) compopt -o default; return ;; esac; words="--program --help" ;;
+            help) words="script check threads recipe explore show language causes" ;;
             esac ;;
         esac
     fi

@@ -33,7 +33,7 @@ pub(crate) fn show_command<'a>(alloc: Global) -> Result<Command<'a>, AllocError>
 {
     Command::new(alloc, "show")
         .about("Prints a scenario, or a program, as a source")
-        .after_help(EXAMPLE)
+        .after_long_help(EXAMPLE)
         .arg(optional(
             alloc,
             "FILE",

@@ -1,5 +1,6 @@
 -- How a text is shown, byte by byte.
 use Rattle.std.proofs.Common.{◌≡◌, ℕ, zero, suc, pred, ◌+◌, ◌<◌, Bool, true, false, cond, List, [], ◌∷◌, length, drop, get_or, nat_eq, refl, sym, subst, ap, ◌∙◌, ◌-◌, ◌++◌, append_assoc, arith}
+use Rattle.std.proofs.lemmas.Bool.Decides.{nat_tests}
 use Rattle.stm_report.specs.FormatShown.{hidden, plain_after}
 
 module _ (P : ℕ → List ℕ → List ℕ → Type 0) where
@@ -44,8 +45,7 @@ pred_is zero = refl
 pred_is (suc n) = let less : suc n - 1 ≡ n = omega arith in sym less
 
 not_zero : (n : ℕ) → 0 < n → nat_eq n 0 ≡ false
-not_zero zero some = absurd (omega (arith, some))
-not_zero (suc n) some = refl
+not_zero n some = grind (arith, nat_tests)
 
 -- a byte of a character that was shown is passed over
 pub passed_over : (left i : ℕ) (bs : List ℕ) → i < length bs → 0 < left → plain_after (left - 1) (drop (i + 1) bs) ≡ plain_after left (drop i bs)

@@ -105,7 +105,8 @@ fn push_next(
     if left > 0 {
         return Ok(left - 1);
     }
-    let hidden = hidden(&bytes[index..]);
+    let (_, rest) = bytes.split_at(index);
+    let hidden = hidden(rest);
     if hidden > 0 {
         out.push(b'?')?;
         return Ok(hidden - 1);

@@ -1,5 +1,5 @@
-mod Comparing
-mod Levelling
-mod Stepping
-mod LevelledSteps
-mod SeenSteps
+pub mod Comparing
+pub mod Levelling
+pub mod Stepping
+pub mod LevelledSteps
+pub mod SeenSteps

@@ -11,7 +11,7 @@ use Rattle.clap.specs.declared.error.Error.{Error}
 use Rattle.clap.specs.declared.parser.matches.ArgMatches.{ArgMatches}
 use Rattle.stm_arguments.specs.declared.arguments.TheConstants.{MOST_WORKERS}
 use Rattle.stm_arguments.specs.declared.arguments.Asked.{Asked}
-use Rattle.stm_arguments.specs.declared.arguments.Asked.TheVariants.{Script, Check, Threads, Recipe, Explore, Nothing}
+use Rattle.stm_arguments.specs.declared.arguments.Asked.TheVariants.{Script, Check, Threads, Recipe, Explore, Show, Nothing}
 use Rattle.stm_arguments.specs.Asking.{Asks, AsksBy, HasFiles, HasName, HasSearch, HasNumbers, IsWhole}
 use Rattle.stm_arguments.specs.CommandLine.{IsStatusOf, IsReportedBy, faults_of, stmrun_app}
 
@@ -37,6 +37,7 @@ asks words (Check scenario report whole explain) none by = (none, by)
 asks words (Threads file workers ends repeat explain) none by = (none, by)
 asks words (Recipe named) none by = (none, by)
 asks words (Explore scenario keeps level budget explain) none by = (none, by)
+asks words (Show file program) none by = (none, by)
 asks words (Nothing status) none by = absurd (asks_something (subcommand_of stmrun_app words) status by)
 
 -- ---- the number of threads, and that of runs
@@ -109,15 +110,28 @@ threads_or_explore name = not_both name (codes "threads") (codes "explore") (λ 
 recipe_or_explore : (name : Text) → name ≡ codes "recipe" → name ≡ codes "explore" → ⊥
 recipe_or_explore name = not_both name (codes "recipe") (codes "explore") (λ (same : 114 ≡ 101). absurd (omega (arith, same)))
 
+check_or_show : (name : Text) → name ≡ codes "check" → name ≡ codes "show" → ⊥
+check_or_show name = not_both name (codes "check") (codes "show") (λ (same : 99 ≡ 115). absurd (omega (arith, same)))
+
+threads_or_show : (name : Text) → name ≡ codes "threads" → name ≡ codes "show" → ⊥
+threads_or_show name = not_both name (codes "threads") (codes "show") (λ (same : 116 ≡ 115). absurd (omega (arith, same)))
+
+recipe_or_show : (name : Text) → name ≡ codes "recipe" → name ≡ codes "show" → ⊥
+recipe_or_show name = not_both name (codes "recipe") (codes "show") (λ (same : 114 ≡ 115). absurd (omega (arith, same)))
+
+explore_or_show : (name : Text) → name ≡ codes "explore" → name ≡ codes "show" → ⊥
+explore_or_show name = not_both name (codes "explore") (codes "show") (λ (same : 101 ≡ 115). absurd (omega (arith, same)))
+
 -- what is said of each command that is whole
 each : (name : Text) (rows : List Row) → (name ≡ codes "script" → ⊥) → (name ≡ codes "check" → HasFiles rows → ⊥)
     → (name ≡ codes "threads" → HasNumbers rows → ⊥) → (name ≡ codes "recipe" → HasName rows → ⊥) → (name ≡ codes "explore" → HasSearch rows → ⊥)
-    → IsWhole (Some (name, rows)) → ⊥
-each name rows script check threads recipe explore whole = ⊎_elim
+    → (name ≡ codes "show" → ⊥) → IsWhole (Some (name, rows)) → ⊥
+each name rows script check threads recipe explore show whole = ⊎_elim
     (λ is. script is)
     (λ rest. ⊎_elim
     (λ is. check is.0 is.1)
-    (λ more. ⊎_elim (λ is. threads is.0 is.1) (λ last. ⊎_elim (λ is. recipe is.0 is.1) (λ is. explore is.0 is.1) last) more)
+    (λ more. ⊎_elim (λ is. threads is.0 is.1) (λ others. ⊎_elim (λ is. recipe is.0 is.1)
+    (λ last. ⊎_elim (λ is. explore is.0 is.1) (λ is. show is) last) others) more)
     rest)
     whole
 
@@ -127,7 +141,7 @@ pub whole_check : (name : Text) (rows : List Row) (o : Option Asked) → name �
 whole_check name rows (Some asked) is other missing = tt
 whole_check name rows None is other missing =
     each name rows other (λ _. missing) (λ threads _. check_or_threads name is threads) (λ recipe _. check_or_recipe name is recipe)
-    (λ explore _. check_or_explore name is explore)
+    (λ explore _. check_or_explore name is explore) (λ show. check_or_show name is show)
 
 -- nor is a run without its number of threads
 pub whole_threads : (name : Text) (rows : List Row) (o : Option Asked) → name ≡ codes "threads" → (name ≡ codes "script" → ⊥)
@@ -135,7 +149,7 @@ pub whole_threads : (name : Text) (rows : List Row) (o : Option Asked) → name 
 whole_threads name rows (Some asked) is other missing = tt
 whole_threads name rows None is other missing =
     each name rows other (λ check _. check_or_threads name check is) (λ _. missing) (λ recipe _. threads_or_recipe name is recipe)
-    (λ explore _. threads_or_explore name is explore)
+    (λ explore _. threads_or_explore name is explore) (λ show. threads_or_show name is show)
 
 -- nor a recipe without its name
 pub whole_recipe : (name : Text) (rows : List Row) (o : Option Asked) → name ≡ codes "recipe" → (name ≡ codes "script" → ⊥)
@@ -143,7 +157,7 @@ pub whole_recipe : (name : Text) (rows : List Row) (o : Option Asked) → name �
 whole_recipe name rows (Some asked) is other missing = tt
 whole_recipe name rows None is other missing =
     each name rows other (λ check _. check_or_recipe name check is) (λ threads _. threads_or_recipe name threads is) (λ _. missing)
-    (λ explore _. recipe_or_explore name is explore)
+    (λ explore _. recipe_or_explore name is explore) (λ show. recipe_or_show name is show)
 
 -- nor a search without its scenario, or with what is no number of events
 pub whole_explore : (name : Text) (rows : List Row) (o : Option Asked) → name ≡ codes "explore" → (name ≡ codes "script" → ⊥)
@@ -151,10 +165,11 @@ pub whole_explore : (name : Text) (rows : List Row) (o : Option Asked) → name 
 whole_explore name rows (Some asked) is other missing = tt
 whole_explore name rows None is other missing =
     each name rows other (λ check _. check_or_explore name check is) (λ threads _. threads_or_explore name threads is)
-    (λ recipe _. recipe_or_explore name recipe is) (λ _. missing)
+    (λ recipe _. recipe_or_explore name recipe is) (λ _. missing) (λ show. explore_or_show name is show)
 
 -- nor one of another name
 pub whole_other : (name : Text) (rows : List Row) → (name ≡ codes "script" → ⊥) → (name ≡ codes "check" → ⊥) → (name ≡ codes "threads" → ⊥)
-    → (name ≡ codes "recipe" → ⊥) → (name ≡ codes "explore" → ⊥) → IsWhole (Some (name, rows)) → ⊥
-whole_other name rows script check threads recipe explore =
-    each name rows script (λ is _. check is) (λ is _. threads is) (λ is _. recipe is) (λ is _. explore is)
+    → (name ≡ codes "recipe" → ⊥) → (name ≡ codes "explore" → ⊥) → (name ≡ codes "show" → ⊥)
+    → IsWhole (Some (name, rows)) → ⊥
+whole_other name rows script check threads recipe explore show =
+    each name rows script (λ is _. check is) (λ is _. threads is) (λ is _. recipe is) (λ is _. explore is) show

@@ -72,20 +72,25 @@ explore_app =
     (option_rule (codes "budget") (Unsigned 0 18446744073709551615)))
     explain_rule
 
+abbrev pub show_app : App
+show_app = with_rule (with_rule (new_app (codes "show")) (new_rule (codes "FILE"))) (flag_rule (codes "program"))
+
 -- a command that is added to another makes it that one with this as a subcommand, the last
 abbrev pub IsAddedAs : App → Command → Type 0
 IsAddedAs app command = (old new : Command) → AddsSubcommand old command new → app_of new ≡ with_subcommand (app_of old) app.top
 
--- stmrun: it has a version, and needs a subcommand, script, check, threads, recipe or explore
+-- stmrun: it has a version, and needs a subcommand, script, check, threads, recipe, explore or show
 abbrev pub stmrun_app : App
 stmrun_app =
     with_subcommand
     (with_subcommand
     (with_subcommand
+    (with_subcommand
     (with_subcommand (with_subcommand (on_top (λ top. record top { subcommand_required = true; has_version = true }) (new_app (codes "stmrun"))) script_app.top) check_app.top)
     threads_app.top)
     recipe_app.top)
-    explore_app.top
+    explore_app.top)
+    show_app.top
 
 -- 0 for help and the version, 3 where memory ran out and 2 for usage
 abbrev pub status_of_kind : ErrorKind → ℕ

@@ -7,6 +7,7 @@ ghost use Rattle.stm_arguments.specs.Asking.{Asks, AsksAt, AsksBy, HasFiles, Has
 
 use crate::exploring::{explore_command, explore_of, option};
 use crate::repeating::{MOST_RUNS, repeat_at};
+use crate::showing::{show_command, show_of};
 use clap::builder::ValueParser;
 use clap::error::ErrorKind;
 use clap::{Arg, ArgAction, ArgMatches, Command, Error};
@@ -58,6 +59,12 @@ pub enum Asked<'a> {
         budget: u64,
         /// Whether a fault is explained.
         explain: bool,
+    },
+    /// The source of a scenario, or of a program, by the path of that; of standard input, where there is none.
+    Show {
+        input: Option<&'a str>,
+        /// Whether it is a program.
+        program: bool,
     },
     /// Nothing more: help was printed, or the command line was refused, with this status.
     Nothing(u8),
@@ -278,7 +285,7 @@ pub(crate) fn required<'a>(alloc: Global, name: &'a str, help: &'a str) -> Arg<'
 }
 
 /// An argument that may be there, by its place.
-fn optional<'a>(alloc: Global, name: &'a str, help: &'a str) -> Arg<'a>
+pub(crate) fn optional<'a>(alloc: Global, name: &'a str, help: &'a str) -> Arg<'a>
     ensures rule { rule_of result ≡ new_rule name.now }
     ensures local { result.global ≡ false }
 {
@@ -286,7 +293,7 @@ fn optional<'a>(alloc: Global, name: &'a str, help: &'a str) -> Arg<'a>
 }
 
 /// A flag, which is set where it stands in the command line.
-fn flag<'a>(alloc: Global, name: &'a str, help: &'a str) -> Arg<'a>
+pub(crate) fn flag<'a>(alloc: Global, name: &'a str, help: &'a str) -> Arg<'a>
     ensures rule { rule_of result ≡ flag_rule name.now }
     ensures local { result.global ≡ false }
 {
@@ -431,7 +438,9 @@ fn command<'a>(alloc: Global) -> Result<Command<'a>, AllocError>
     let recipe = recipe_command(alloc)?;
     let with_recipe = with_threads.subcommand(recipe)?;
     let explore = explore_command(alloc)?;
-    with_recipe.subcommand(explore)
+    let with_explore = with_recipe.subcommand(explore)?;
+    let show = show_command(alloc)?;
+    with_explore.subcommand(show)
 }
 
 /// The status of a command line that is refused, or that asks for help or the version, once its text is printed: 0 for help and
@@ -598,6 +607,9 @@ fn asked_at<'a>(name: &str, found: &ArgMatches<'a>) -> Option<Asked<'a>>
     }
     if name == "explore" {
         return explore_of(found);
+    }
+    if name == "show" {
+        return Some(show_of(found));
     }
     None
 }

@@ -4,6 +4,7 @@
 mod arguments;
 mod exploring;
 mod repeating;
+mod showing;
 
 pub use arguments::{Asked, asked_of, read_words};
 pub use exploring::read_level;

@@ -1,4 +1,4 @@
-//! The commands that start no thread, over devices: what `script`, `check` and `recipe` write, their statuses, and what they say of a fault.
+//! The commands that start no thread, over devices: what `script`, `check`, `show` and `recipe` write, their statuses, and what they say of a fault.
 #![tactic(auto)]
 
 mod checking;
@@ -6,6 +6,7 @@ mod explaining;
 mod formats;
 mod recipes;
 mod scripting;
+mod showing;
 mod whole_checking;
 
 pub use checking::check_to;
@@ -13,7 +14,9 @@ pub use explaining::{check_explained_to, check_whole_explained_to, script_explai
 pub use formats::{NO_FORMAT, no_format_to, script_as_to};
 pub use recipes::{USAGE, recipe_to};
 pub use scripting::script_to;
+pub use showing::show_to;
 pub use stm_explain::{Input, KeptSource};
 pub use stm_recipe_lines::RecipeWords;
 pub use stm_report::{BadInput, DeviceFault, Format, Sink, Source, Std};
+pub use stm_show::Shown;
 pub use whole_checking::check_whole_to;

@@ -1,6 +1,6 @@
 //! What is wrong with a text that is no JSON.
 ghost use Rattle.std.specs.Prelude.{◌≡◌, ◌≤◌, length, IfErr, IfOk, IsUtf8, None};
-ghost use Rattle.serde_json.specs.Read.{read_text};
+ghost use Rattle.serde_json.specs.Read.{read as read_text};
 
 use crate::explaining::Explained;
 use crate::offsets::line_start;

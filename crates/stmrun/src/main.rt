@@ -17,10 +17,10 @@ use std::process::ExitCode;
 use std::sync::Wait;
 use std::thread::Threads;
 use stm_arguments::{Asked, asked_of, read_level, read_words};
-use stm_commands::{Format, RecipeWords, Std, no_format_to};
+use stm_commands::{Format, RecipeWords, Shown, Std, no_format_to};
 pub use stm_commands::{
     check_explained_to, check_to, check_whole_explained_to, check_whole_to, recipe_to,
-    script_as_to, script_explained_to, script_to,
+    script_as_to, script_explained_to, script_to, show_to,
 };
 use stm_exploring::Level;
 pub use stm_exploring::{explore_explained_to, explore_to, outcomes_explained_to, outcomes_to};
@@ -168,6 +168,19 @@ fn run_recipe(rt: &HostRuntime, words: &RecipeWords<'_>) -> u8 {
     recipe_to(rt.alloc(), words, &mut out, &mut err)
 }
 
+/// Prints the source of a path's scenario or program, or of that on standard input.
+fn run_show(rt: &HostRuntime, input: Option<&str>, program: bool) -> u8 {
+    let shown = if program {
+        Shown::Program
+    } else {
+        Shown::Scenario
+    };
+    let mut input = Std::new(open(rt, path_of(input)));
+    let mut out = Std::new(rt.stdout());
+    let mut err = Std::new(rt.stderr());
+    show_to(rt.alloc(), shown, &mut input, &mut out, &mut err)
+}
+
 /// Does what the command line asks for, and gives the status. A run of jobs starts threads and waits for them.
 fn run<T: Threads + Wait + Sync>(rt: &HostRuntime, threads: &T) -> u8 {
     let words = match read_words(rt) {
@@ -204,6 +217,7 @@ fn run<T: Threads + Wait + Sync>(rt: &HostRuntime, threads: &T) -> u8 {
             budget,
             explain,
         } => run_explore(rt, scenario, keeps, level, budget, explain),
+        Asked::Show { input, program } => run_show(rt, input, program),
         Asked::Nothing(status) => status,
     }
 }

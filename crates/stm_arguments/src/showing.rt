@@ -1,0 +1,56 @@
+//! The command line of `show`.
+ghost use Rattle.std.specs.Prelude.{◌≡◌, codes, IfOk};
+ghost use Rattle.clap.specs.Words.{found_of, rows_of};
+ghost use Rattle.stm_arguments.specs.Asking.{AsksAt};
+ghost use Rattle.stm_arguments.specs.CommandLine.{show_app, IsAddedAs};
+
+use crate::arguments::{Asked, flag, flag_of, optional, word_of};
+use clap::{ArgMatches, Command};
+use std::alloc::{AllocError, Global};
+
+const EXAMPLE: &str =
+    "Prints a scenario as a source, in one form: each event on lines of its own, in their order, indented by 4 spaces a block, the
+variables under their names v0 to v15, and neighbouring steps in one line. If s.json holds
+
+  [[\"start\",\"Serializable\",1,[[\"if\",[\"eq\",[\"get\",\"a\"],\"\"],[[\"put\",\"a\",\"1\",0]],[]]]],[\"step\",1],[\"step\",1]]
+
+then stmrun show s.json prints
+
+  start {
+      if get(\"a\") == \"\" {
+          put(\"a\", \"1\")
+      }
+  } at Serializable limit 1
+  step 1 1
+
+With --program the input is a program, as stmrun recipe prints one, and what is printed is the body of a start.
+
+Statuses: 0 done, 2 bad input or usage, 3 out of memory or a failed device.";
+
+/// The command `show`.
+pub(crate) fn show_command<'a>(alloc: Global) -> Result<Command<'a>, AllocError>
+    ensures { IfOk result (IsAddedAs show_app) }
+{
+    Command::new(alloc, "show")
+        .about("Prints a scenario, or a program, as a source")
+        .after_help(EXAMPLE)
+        .arg(optional(
+            alloc,
+            "FILE",
+            "The file of the scenario or of the program, in the place of standard input",
+        ))?
+        .arg(flag(
+            alloc,
+            "program",
+            "Whether the input is a program, and no scenario",
+        ))
+}
+
+/// What a printed source asks for.
+pub(crate) fn show_of<'a>(found: &ArgMatches<'a>) -> Asked<'a>
+    ensures { AsksAt (codes "show") (rows_of (found_of found.now)) result }
+{
+    let input = word_of(found, "FILE");
+    let program = flag_of(found, "program");
+    Asked::Show { input, program }
+}

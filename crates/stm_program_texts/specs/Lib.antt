@@ -1,0 +1,3 @@
+pub mod Reading
+pub use Rattle.stm_json.specs.Outcome
+pub use Rattle.stm_json.specs.Returns

@@ -1,0 +1,198 @@
+-- Events of which each is so, and the programs that are started.
+use Rattle.std.proofs.Common.{◌≡◌, ℕ, zero, suc, ◌+◌, ◌-◌, ◌<◌, ◌≤◌, List, [], ◌∷◌, ◌++◌, length, get_or, drop, Some, None, Bool, true, false, cond}
+use Rattle.std.proofs.Common.{refl, sym, ◌∙◌, ap, subst, append_assoc, append-nil, length-append, arith}
+use Rattle.std.specs.Prelude.{nat_eq, slice_get, Ok}
+use Rattle.std.proofs.Math.Seq.{drop-cons}
+use Rattle.std.proofs.lemmas.List.{drop_all}
+use Rattle.stm_program.specs.Syntax.{ProgramTree}
+use Rattle.stm_events.specs.declared.event.WorldEvent.{WorldEvent}
+use Rattle.stm_events.specs.declared.event.WorldEvent.TheVariants.{Start, Step, Txn, Grant, Keep, Revoke, Advance}
+use Rattle.stm_events.specs.declared.event.WorldEvent.TheVariants.{WatchKey, WatchRange, Poll, Cancel, Compact}
+use Rattle.stm_events.specs.declared.reply.Reply.TheVariants.{Started}
+use Rattle.stm_events.specs.declared.refusal.EventRefusal.TheVariants.{BadLimit}
+use Rattle.stm_world.specs.Task.{Task}
+use Rattle.stm_world.specs.World.{World, Runner, Slot, Live, live_in, runner_at, refused, begin, start_runner, step, opened, world_after}
+use Rattle.stm_world.proofs.Slots.{equal_numbers, differ, runner_there, runner_new, runner_old, count_grows, no_runner}
+use Rattle.stm_schedules.specs.Scenarios.{up_to_last_start, after_last_start}
+use Rattle.stm_schedules.proofs.Splits.{scenarios_are_split}
+use Rattle.stm_serial.specs.Asked.{is_orderly, AreOrderly}
+use Rattle.stm_serial.specs.Serial.{is_foreign, AreForeign}
+use Rattle.stm_serial_search.specs.Search.{AreProgramsOf, program_started, programs_started}
+use Rattle.stm_serial_search.specs.Started.{is_step, HaveNoStep, StartedAreThose}
+
+-- ---- events of which each is so
+
+-- each of these events is so
+abbrev pub EachIs : (WorldEvent → Bool) → List WorldEvent → Type 0
+EachIs is [] = Unit {0}
+EachIs is (e ∷ es) = (is e ≡ true) × EachIs is es
+
+one_more_is : (is : WorldEvent → Bool) (events : List WorldEvent) (i : ℕ) (d : WorldEvent) → i < length events → is (get_or events i d) ≡ true →
+    EachIs is (drop (suc i) events) → EachIs is (drop i events)
+one_more_is is [] i d within here rest = absurd (omega arith)
+one_more_is is (e ∷ es) zero d within here rest = (here, rest)
+one_more_is is (e ∷ es) (suc i) d within here rest = one_more_is is es i d (omega arith) here rest
+
+-- where those from here on are so, all are
+pub record SoFar (is : WorldEvent → Bool) (i : ℕ) (events : List WorldEvent) : Type 0 where
+  pub all : EachIs is (drop i events) → EachIs is events
+
+pub none_passed : (is : WorldEvent → Bool) (events : List WorldEvent) → SoFar is 0 events
+none_passed is events = record { all = λ rest. rest }
+
+pub one_passed : (is : WorldEvent → Bool) (i : ℕ) (events : List WorldEvent) (e : WorldEvent) → i < length events → e ≡ get_or events i e → is e ≡ true →
+    SoFar is i events → SoFar is (i + 1) events
+one_passed is i events e within at here so_far =
+    let next : i + 1 ≡ suc i = omega arith in
+    record {
+      all = λ rest. so_far.all
+          (one_more_is is events i e within (sym (ap is at) ∙ here) (subst (λ (k : ℕ). EachIs is (drop k events)) next rest));
+    }
+
+none_left : (is : WorldEvent → Bool) (events : List WorldEvent) (i : ℕ) → length events ≤ i → EachIs is (drop i events)
+none_left is [] zero most = tt
+none_left is [] (suc i) most = tt
+none_left is (e ∷ es) zero most = absurd (omega arith)
+none_left is (e ∷ es) (suc i) most = none_left is es i (omega arith)
+
+all_are : (is : WorldEvent → Bool) (events : List WorldEvent) (i : ℕ) → length events ≤ i → SoFar is i events → EachIs is events
+all_are is events i most so_far = so_far.all (none_left is events i most)
+
+orderly : (events : List WorldEvent) → EachIs is_orderly events → AreOrderly events
+orderly [] are = tt
+orderly (e ∷ es) are = (are.0, orderly es are.1)
+
+foreign : (events : List WorldEvent) → EachIs is_foreign events → AreForeign events
+foreign [] are = tt
+foreign (e ∷ es) are = (are.0, foreign es are.1)
+
+pub all_orderly : (events : List WorldEvent) (i : ℕ) → length events ≤ i → SoFar is_orderly i events → AreOrderly events
+all_orderly events i most so_far = orderly events (all_are is_orderly events i most so_far)
+
+pub all_foreign : (events : List WorldEvent) (i : ℕ) → length events ≤ i → SoFar is_foreign i events → AreForeign events
+all_foreign events i most so_far = foreign events (all_are is_foreign events i most so_far)
+
+-- ---- the programs that are started
+
+-- those of these events are these, and then those of the events from here on
+pub record StartedSoFar (programs : List ProgramTree) (i : ℕ) (events : List WorldEvent) : Type 0 where
+  pub all : programs ++ programs_started (drop i events) ≡ programs_started events
+
+pub none_started : (events : List WorldEvent) → StartedSoFar [] 0 events
+none_started events = record { all = refl }
+
+next_event : (events : List WorldEvent) (i : ℕ) (e : WorldEvent) → i < length events → e ≡ get_or events i e → drop i events ≡ e ∷ drop (i + 1) events
+next_event events i e within at =
+    let next : i + 1 ≡ suc i = omega arith in
+    drop-cons events i e within ∙ ap (λ (x : WorldEvent). x ∷ drop (suc i) events) (sym at) ∙ ap (λ (n : ℕ). e ∷ drop n events) (sym next)
+
+pub one_started : (before after : List ProgramTree) (events : List WorldEvent) (i : ℕ) (e : WorldEvent) → i < length events → e ≡ get_or events i e →
+    after ≡ before ++ program_started e → StartedSoFar before i events → StartedSoFar after (i + 1) events
+one_started before after events i e within at pushed so_far =
+    let rest : List ProgramTree = programs_started (drop (i + 1) events) in
+    record {
+      all = ap (λ (ps : List ProgramTree). ps ++ rest) pushed
+          ∙ append_assoc before (program_started e) rest
+          ∙ ap (λ (es : List WorldEvent). before ++ programs_started es) (sym (next_event events i e within at))
+          ∙ so_far.all;
+    }
+
+pub all_started : (programs : List ProgramTree) (events : List WorldEvent) (i : ℕ) → length events ≤ i → StartedSoFar programs i events →
+    programs ≡ programs_started events
+all_started programs events i most so_far =
+    sym (append-nil programs) ∙ ap (λ (es : List WorldEvent). programs ++ programs_started es) (sym (drop_all i events most)) ∙ so_far.all
+
+-- ---- they are those of the runners
+
+-- a program for each place, those of the runners at theirs
+record HasPrograms (programs : List ProgramTree) (slots : List Slot) : Type 0 where
+  count : length programs ≡ length slots
+  are : AreProgramsOf programs slots
+
+last_program : (programs : List ProgramTree) (p : ProgramTree) → slice_get (programs ++ p ∷ []) (length programs) ≡ Some p
+last_program [] p = refl
+last_program (q ∷ programs) p = last_program programs p
+
+old_program : (programs : List ProgramTree) (p : ProgramTree) (i : ℕ) → i < length programs → slice_get (programs ++ p ∷ []) i ≡ slice_get programs i
+old_program [] p i within = absurd (omega arith)
+old_program (q ∷ programs) p zero within = refl
+old_program (q ∷ programs) p (suc i) within = old_program programs p i (omega arith)
+
+new_runner : (task : Task) (r : Runner) → live_in (Some (Live (begin task))) ≡ Some r → task.program ≡ r.task.program
+new_runner task r is = let same : begin task ≡ r = cc in ap (λ (x : Runner). x.task.program) same
+
+program_by : (programs : List ProgramTree) (slots : List Slot) (task : Task) (id : ℕ) (r : Runner) (b : Bool) → nat_eq id (length slots + 1) ≡ b →
+    HasPrograms programs slots → runner_at id (slots ++ Live (begin task) ∷ []) ≡ Some r →
+    slice_get (programs ++ task.program ∷ []) (id - 1) ≡ Some r.task.program
+program_by programs slots task id r true is has found =
+    let same : id ≡ length slots + 1 = equal_numbers id (length slots + 1) is in
+    let long : length programs ≡ length slots = has.count in
+    let last : id - 1 ≡ length programs = omega arith in
+    let new : live_in (Some (Live (begin task))) ≡ Some r =
+    sym (runner_new slots (Live (begin task))) ∙ subst (λ (k : ℕ). runner_at k (slots ++ Live (begin task) ∷ []) ≡ Some r) same found in
+    ap (slice_get (programs ++ task.program ∷ [])) last ∙ last_program programs task.program ∙ ap (λ (p : ProgramTree). Some p) (new_runner task r new)
+program_by programs slots task id r false is has found =
+    let old : runner_at id slots ≡ Some r = sym (runner_old slots (Live (begin task)) id (differ id (length slots + 1) is)) ∙ found in
+    let there = runner_there id slots r old in
+    let some : 0 < id = there.0 in
+    let most : id ≤ length slots = there.1 in
+    let long : length programs ≡ length slots = has.count in
+    let within : id - 1 < length programs = omega arith in
+    old_program programs task.program (id - 1) within ∙ has.are id r old
+
+one_runner : (programs : List ProgramTree) (slots : List Slot) (task : Task) → HasPrograms programs slots →
+    HasPrograms (programs ++ task.program ∷ []) (slots ++ Live (begin task) ∷ [])
+one_runner programs slots task has = record {
+  count = length-append programs (task.program ∷ []) ∙ ap (λ (n : ℕ). n + 1) has.count ∙ sym (count_grows slots (Live (begin task)));
+  are = λ id r found. program_by programs slots task id r (nat_eq id (length slots + 1)) refl has found;
+}
+
+no_more : (programs : List ProgramTree) (slots : List Slot) → HasPrograms programs slots → HasPrograms (programs ++ []) slots
+no_more programs slots has = subst (λ (ps : List ProgramTree). HasPrograms ps slots) (sym (append-nil programs)) has
+
+start_by : (programs : List ProgramTree) (task : Task) (w : World) (none : Bool) → HasPrograms programs w.runners →
+    HasPrograms (programs ++ cond none [] (task.program ∷ [])) (cond none (refused BadLimit w) (record {
+      reply = Ok (Started (length w.runners + 1));
+      next = record { standing = w.standing; runners = w.runners ++ Live (begin task) ∷ []; entries = w.entries };
+    })).next.runners
+start_by programs task w true has = no_more programs w.runners has
+start_by programs task w false has = one_runner programs w.runners task has
+
+start_has : (programs : List ProgramTree) (task : Task) (w : World) → HasPrograms programs w.runners →
+    HasPrograms (programs ++ cond (nat_eq task.limit 0) [] (task.program ∷ [])) (start_runner task w).next.runners
+unfolding start_runner
+start_has programs task w has = start_by programs task w (nat_eq task.limit 0) has
+
+event_has : (e : WorldEvent) (programs : List ProgramTree) (w : World) → is_step e ≡ false → HasPrograms programs w.runners →
+    HasPrograms (programs ++ program_started e) (step e w).next.runners
+event_has (Start program level limit) programs w none has = start_has programs (record { program = program; level = level; limit = limit }) w has
+event_has (Step id) programs w none has = absurd (cc)
+event_has (Txn txn) programs w none has = no_more programs w.runners has
+event_has (Grant id ttl) programs w none has = no_more programs w.runners has
+event_has (Keep id) programs w none has = no_more programs w.runners has
+event_has (Revoke id) programs w none has = no_more programs w.runners has
+event_has (Advance moment) programs w none has = no_more programs w.runners has
+event_has (WatchKey key from) programs w none has = no_more programs w.runners has
+event_has (WatchRange first end from) programs w none has = no_more programs w.runners has
+event_has (Poll watcher most) programs w none has = no_more programs w.runners has
+event_has (Cancel watcher) programs w none has = no_more programs w.runners has
+event_has (Compact revision) programs w none has = no_more programs w.runners has
+
+events_have : (es : List WorldEvent) (programs : List ProgramTree) (w : World) → HaveNoStep es → HasPrograms programs w.runners →
+    HasPrograms (programs ++ programs_started es) (world_after es w).runners
+events_have [] programs w none has = no_more programs w.runners has
+events_have (e ∷ es) programs w none has =
+    subst (λ (ps : List ProgramTree). HasPrograms ps (world_after (e ∷ es) w).runners) (append_assoc programs (program_started e) (programs_started es))
+    (events_have es (programs ++ program_started e) (step e w).next none.1 (event_has e programs w none.0 has))
+
+first_part : (first second : List WorldEvent) → HaveNoStep (first ++ second) → HaveNoStep first
+first_part [] second none = tt
+first_part (e ∷ first) second none = (none.0, first_part first second none.1)
+
+none_at_first : HasPrograms [] []
+none_at_first = record { count = refl; are = λ id r at. let none : runner_at id [] ≡ None = no_runner id in absurd (cc) }
+
+pub started_are_those : StartedAreThose
+started_are_those start events none =
+    (events_have (up_to_last_start events) [] (opened start)
+    (first_part (up_to_last_start events) (after_last_start events) (subst HaveNoStep (sym (scenarios_are_split.both events)) none)) none_at_first).are

@@ -1,0 +1,9 @@
+pub mod StateRuns
+pub mod WholeRuns
+pub mod MarkedSlots
+pub mod Looks
+pub mod Made
+pub mod Found
+pub mod Replays
+pub mod Comparisons
+pub mod Judges

@@ -1,0 +1,45 @@
+//! Who follows a search, and what stops it.
+ghost use Rattle.std.specs.Prelude.{◌≡◌};
+
+use std::alloc::AllocError;
+use stm_events::EventRefusal;
+use stm_meaning::End;
+
+/// Who is asked before each move of a search whether it may be made, and is notified of how each whole run ended.
+pub trait Follower {
+    /// Whether one move more may be made. Where it may not, the search is stopped.
+    fn may_move(&mut self) -> bool;
+
+    /// A runner's program was run alone, and came to this end. Where that is its last statement, its writes were applied.
+    fn ran(&mut self, runner: u64, end: &End);
+
+    /// A runner's program was run alone to its last statement, but the store refused its writes.
+    fn refused(&mut self, runner: u64, cause: EventRefusal);
+}
+
+/// What stops a search before it has an answer.
+#[derive(Debug, Clone, Copy, PartialEq, Eq)]
+pub enum Halt {
+    /// An allocation failed.
+    OutOfMemory,
+    /// No further move may be made.
+    Stopped,
+}
+
+impl From<AllocError> for Halt {
+    ghost use Rattle.stm_serial_search.specs.declared.following.Halt.TheVariants.{OutOfMemory};
+
+    ghost from_gives = { λ _ halt. halt ≡ OutOfMemory };
+
+    fn from(_error: AllocError) -> Halt {
+        Halt::OutOfMemory
+    }
+}
+
+/// Asks whether one move more may be made.
+pub(crate) fn ask<F: Follower>(follower: &mut F) -> Result<(), Halt> {
+    if follower.may_move() {
+        return Ok(());
+    }
+    Err(Halt::Stopped)
+}

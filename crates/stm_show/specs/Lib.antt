@@ -1,0 +1,4 @@
+pub mod Events
+pub mod Scenario
+pub mod Showing
+pub mod Transactions

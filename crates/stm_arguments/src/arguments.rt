@@ -92,14 +92,18 @@ const EXAMPLE: &str = "A scenario is a JSON array of events, in their order:
   [\"grant\",ID,TTL]                    a lease is granted for TTL seconds
   [\"keep\",ID] and [\"revoke\",ID]       a lease is renewed, or ends with its keys
   [\"advance\",NOW]                     the moment is set, and the leases that are due end with their keys
+  [\"compact\",REVISION]                the revisions below this one are dropped
   [\"watch_key\",KEY,FROM]              a key is watched from a revision on (0: the next one)
   [\"watch_range\",FIRST,END,FROM]      so are the keys from FIRST to before END, by bytes
   [\"poll\",WATCHER,MAX]                a watcher is given what is pending, of at most MAX revisions
   [\"cancel\",WATCHER]                  a watcher is given up
 
+The first element may be [\"begin\",REVISION] or [\"begin\",REVISION,OPERATIONS]: the revision at which the store opens, and
+how many operations it takes in each list of a transaction, 1 to 128.
+
 LEVEL is ReadCommitted, RepeatableReads, Serializable or SerializableSnapshot. PROGRAM is an array of
-statements, which may begin with a list of keys to read first, [\"prefetch\",[KEY,..]]; stmrun recipe prints
-ready ones. This scenario starts a program that puts a key, and lets it take a step:
+statements: stmrun help language has them, with the compares and operations of a txn, and stmrun help causes
+has why a text, an event or a program is refused; stmrun recipe prints ready programs. This scenario starts a program that puts a key, and lets it take a step:
 
   [[\"start\",\"Serializable\",1,[[\"put\",\"a\",\"1\",0]]],[\"step\",1]]
 
@@ -136,54 +140,18 @@ it prints no report, but says
 
   stmrun: bad scenario at /0: Shape
 
-The place is a JSON Pointer: the indices of the arrays around it, counted from 0. The causes are
+The place is a JSON Pointer: the indices of the arrays around it, counted from 0. stmrun help causes has the causes,
+and those of refused events and of programs that fault.
 
-  NotJson        the scenario is no JSON in UTF-8, or nests deeper than 127
-  Shape          another word, kind of value or length of an array is wanted there; a number is whole
-                 and of 64 bits
-  Range          the number is outside its range
-  TooMany        it is event 100001, or key 129 of a program's list
-  TooLong        the scenario has more than 16777216 bytes, or a text of a program more than 65536
-  TooDeep        it is at depth 33 of a program
-  TooManyNodes   it is node 4097 of a program
+With --explain, or where standard error is a terminal, more lines say where that is, what was found there and what is
+allowed, and so of up to nine other faults; --explain=never ends that. So do check, threads and explore:
 
-With --explain a second line says where that is, what was found there and what is allowed; check, threads and
-explore have --explain too:
-
-  s.json:1:2: elements after \"step\": 0 found, 1 wanted
+  s.json:1:2: elements after \"step\": 0 found, 1 wanted: [\"step\",RUNNER]
 
 After the report of a good scenario it says of each run that came to a fault, threads of each job and explore of
 a rule that did, at which place the program stopped and on which values:
 
   s.json:3:38: event 4: NotANumber of runner 1 at /1/3/0/2/1/1: \"seven\" is no whole number of 64 bits
-
-In a report the line refused says why an event was refused, and the line ended why a fetch or a commit was:
-
-  BadLimit            the limit is 0
-  NoRunner            there is no such runner, or its run is over
-  TooManyOps          a list of the transaction or the commit, or a program's list, has more elements than the store takes
-  EmptyKey            a key is empty
-  DuplicateKey        a list of the transaction puts a key twice, or puts and deletes it
-  FutureRevision      a read is of a revision that the store has not reached
-  Compacted           the revision is one that a compaction forgot, or is to be compacted again
-  LeaseIdOutOfRange   the id is 0
-  TtlOutOfRange       the time to live is not from 1 to 9000000000
-  LeaseExists         there is such a lease already
-  LeaseNotFound       there is no such lease, or it has ended
-  TimeGoesBack        the store's moment is later than that
-  NoWatcher           there is no such watcher, or it was cancelled
-  RevisionsUsedUp     something is to change, and the last revision, 9223372036854775806, is reached
-
-The line faulted says what ended a program:
-
-  Kind          a text stands where a number is wanted, or a number where a text is
-  Overflow      a result is outside the 64 bits of a number
-  ZeroDivisor   a number is divided by 0
-  NotANumber    a text is to be a number, and spells none
-  LoopTooLong   the count of a loop is above its limit
-  TurnLimit     it is turn 10001 of the program's loops
-  TextTooLong   a text of more than 65536 bytes is made
-  EmptyKey      a key is empty
 
 Statuses: 0 done, 2 bad input or usage, 3 out of memory or a failed device.";
 
@@ -311,7 +279,7 @@ pub(crate) fn explain<'a>(alloc: Global) -> Arg<'a>
     flag(
         alloc,
         "explain",
-        "Whether faults are explained, of an input or of a run: where each stands, and what was found there",
+        "Explains faults, of an input or of a run: where each stands and what was found there; where standard error is a terminal this is the default, which --explain=never ends",
     )
 }
 
@@ -332,7 +300,7 @@ fn script_command<'a>(alloc: Global) -> Result<Command<'a>, AllocError>
 {
     Command::new(alloc, "script")
         .about("Runs a scenario, and prints its report")
-        .after_help(SCRIPT_EXAMPLE)
+        .after_long_help(SCRIPT_EXAMPLE)
         .arg(optional(
             alloc,
             "FILE",
@@ -348,7 +316,7 @@ fn check_command<'a>(alloc: Global) -> Result<Command<'a>, AllocError>
 {
     Command::new(alloc, "check")
         .about("Says whether REPORT is a report of SCENARIO, and if not, which line is wrong first")
-        .after_help(CHECK_EXAMPLE)
+        .after_long_help(CHECK_EXAMPLE)
         .arg(required(alloc, "SCENARIO", "The file of the scenario"))?
         .arg(required(alloc, "REPORT", "The file of the report"))?
         .arg(flag(
@@ -379,7 +347,7 @@ fn threads_command<'a>(alloc: Global) -> Result<Command<'a>, AllocError>
 {
     Command::new(alloc, "threads")
         .about("Runs the starts of a scenario as jobs, by several threads on one store")
-        .after_help(THREADS_EXAMPLE)
+        .after_long_help(THREADS_EXAMPLE)
         .arg(optional(
             alloc,
             "FILE",
@@ -407,7 +375,7 @@ fn recipe_command<'a>(alloc: Global) -> Result<Command<'a>, AllocError>
 {
     Command::new(alloc, "recipe")
         .about("Prints the program of a recipe, as a scenario's start takes it")
-        .after_help(RECIPE_EXAMPLE)
+        .after_long_help(RECIPE_EXAMPLE)
         .arg(required(alloc, "NAME", "The name of the recipe"))?
         .arg(optional(alloc, "FIRST", "Its first argument"))?
         .arg(optional(alloc, "SECOND", "Its second argument"))?
@@ -420,7 +388,7 @@ fn bare_command<'a>(alloc: Global) -> Command<'a>
 {
     Command::new(alloc, "stmrun")
         .about("Runs transactional programs over an etcd-like store, one event at a time")
-        .after_help(EXAMPLE)
+        .after_long_help(EXAMPLE)
         .version(VERSION)
         .subcommand_required(true)
 }

@@ -79,7 +79,7 @@ pub(crate) fn explore_command<'a>(alloc: Global) -> Result<Command<'a>, AllocErr
         .about(
             "Looks through every interleaving of a scenario, for one that breaks a rule or for what they come to",
         )
-        .after_help(EXAMPLE)
+        .after_long_help(EXAMPLE)
         .arg(required(alloc, "SCENARIO", "The file of the scenario"))?
         .arg(option(
             alloc,

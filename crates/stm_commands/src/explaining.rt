@@ -36,7 +36,7 @@ fn check_explanation<S, R>(
     ensures { IsExplained (string_bytes result) }
 {
     match fault {
-        CheckFault::BadScenario(bad) => scenario.explanation(alloc, Input::Scenario, bad),
+        CheckFault::BadScenario(bad) => scenario.explanation(alloc, Input::Checked, bad),
         CheckFault::BadReport(bad) => report.explanation(alloc, Input::Report, bad),
         CheckFault::OutOfMemory | CheckFault::Device => String::new(alloc),
     }

@@ -54,11 +54,11 @@ text_of (Audit job) = audit_fault job
 abbrev pub Says : Option (List ℕ) → Option (List ℕ) → Bool → List ℕ → Type 0
 Says before after failed text = WritesFront before after text × (failed ≡ false → Appends before after text)
 
--- an explanation of a fault of some text under some name, or nothing; that they are those of the input is the body's matter
+-- explanations of faults of some text under some name, or nothing; that they are those of the input is the body's matter
 abbrev pub IsExplained : List ℕ → Type 0
 IsExplained more = (name text : List ℕ) × ExplainsOrNothing name text more
 
--- a message was written and its explanation after it, or a prefix of the two where the sink then has failed
+-- a message was written and its explanations after it, or a prefix of the two where the sink then has failed
 abbrev pub SaysMore : Option (List ℕ) → Option (List ℕ) → Bool → List ℕ → Type 0
 SaysMore before after failed message = (more : List ℕ) × IsExplained more × Says before after failed (message ++ more)
 

@@ -1,8 +1,8 @@
 //! What is allowed in a place.
 
 use crate::forms::{
-    BEGINNINGS, COMPARES, CONDITIONS, EVENTS, EXPRESSIONS, FIRST_ELEMENTS, LEVELS, LINES,
-    OPERATIONS, ORDERS, Part, Parts, STATEMENTS,
+    BEGINNINGS, COMPARES, CONDITIONS, EVENTS, EXPRESSIONS, Entry, FIRST_ELEMENTS, Form, LEVELS,
+    LINES, OPERATIONS, ORDERS, Part, Parts, STATEMENTS,
 };
 use std::alloc::{AllocError, Global};
 use strsim::levenshtein;
@@ -10,50 +10,55 @@ use strsim::levenshtein;
 /// A word of more bytes than this has no near miss.
 const MOST_NEAR: usize = 60;
 
-/// The elements that follow a word, where it is one of these.
-fn elements_after(forms: &[(&str, Parts)], word: &str) -> Option<Parts> {
-    for form in forms {
-        if form.0 == word {
-            return Some(form.1);
+/// The form of a word, where it is one of these.
+fn named(entries: &[Entry], word: &str) -> Option<Form> {
+    for (own, parts, spelling) in entries {
+        if *own == word {
+            return Some(Form {
+                word: *own,
+                parts: *parts,
+                spelling: *spelling,
+            });
         }
     }
     None
 }
 
-/// The elements that follow a word in such a place, where the word is allowed there.
-pub(crate) fn parts_after(part: Part, word: &str) -> Option<Parts> {
+/// The form of a word in such a place, where the word is allowed there.
+pub(crate) fn form_of(part: Part, word: &str) -> Option<Form> {
     match part {
-        Part::Event => elements_after(&EVENTS, word),
-        Part::Beginning => elements_after(&BEGINNINGS, word),
-        Part::Level => elements_after(&LEVELS, word),
-        Part::FirstElement => elements_after(&FIRST_ELEMENTS, word),
-        Part::Statement => elements_after(&STATEMENTS, word),
-        Part::Expression => elements_after(&EXPRESSIONS, word),
-        Part::Condition => elements_after(&CONDITIONS, word),
-        Part::Compare => elements_after(&COMPARES, word),
-        Part::Operation => elements_after(&OPERATIONS, word),
-        Part::Order => elements_after(&ORDERS, word),
-        Part::Line => elements_after(&LINES, word),
+        Part::Event => named(&EVENTS, word),
+        Part::Beginning => named(&BEGINNINGS, word),
+        Part::Level => named(&LEVELS, word),
+        Part::FirstElement => named(&FIRST_ELEMENTS, word),
+        Part::Statement => named(&STATEMENTS, word),
+        Part::Expression => named(&EXPRESSIONS, word),
+        Part::Condition => named(&CONDITIONS, word),
+        Part::Compare => named(&COMPARES, word),
+        Part::Operation => named(&OPERATIONS, word),
+        Part::Order => named(&ORDERS, word),
+        Part::Line => named(&LINES, word),
         _ => None,
     }
 }
 
+/// The elements that follow a word in such a place, where the word is allowed there.
+pub(crate) fn parts_after(part: Part, word: &str) -> Option<Parts> {
+    Some(form_of(part, word)?.parts)
+}
+
 /// The word of these that is nearest to one, by edits of characters: an empty one, where each is further than half of the word.
-fn nearest<'a>(
-    alloc: Global,
-    forms: &[(&'a str, Parts)],
-    word: &str,
-) -> Result<&'a str, AllocError> {
+fn nearest(alloc: Global, entries: &[Entry], word: &str) -> Result<&'static str, AllocError> {
     let mut found = "";
     if word.len() > MOST_NEAR {
         return Ok(found);
     }
     let mut least = word.chars().count() / 2 + 1;
-    for form in forms {
-        let distance = levenshtein(alloc, word, form.0)?;
+    for entry in entries {
+        let distance = levenshtein(alloc, word, entry.0)?;
         if distance < least {
             least = distance;
-            found = form.0;
+            found = entry.0;
         }
     }
     Ok(found)
@@ -67,21 +72,21 @@ fn push_quoted(text: &mut String, word: &str) -> Result<(), AllocError> {
 }
 
 /// Adds these words, with commas between them.
-fn push_words(text: &mut String, forms: &[(&str, Parts)]) -> Result<(), AllocError> {
-    for (index, form) in forms.iter().enumerate() {
+fn push_words(text: &mut String, entries: &[Entry]) -> Result<(), AllocError> {
+    for (index, entry) in entries.iter().enumerate() {
         if index > 0 {
             text.push_str(", ")?;
         }
-        push_quoted(text, form.0)?;
+        push_quoted(text, entry.0)?;
     }
     Ok(())
 }
 
 /// The words of a table, and that of them which is nearest to one that is not among them.
-fn listed(alloc: Global, forms: &[(&str, Parts)], word: &str) -> Result<String, AllocError> {
+fn listed(alloc: Global, entries: &[Entry], word: &str) -> Result<String, AllocError> {
     let mut text = String::from_str(alloc, "one of ")?;
-    push_words(&mut text, forms)?;
-    let near = nearest(alloc, forms, word)?;
+    push_words(&mut text, entries)?;
+    let near = nearest(alloc, entries, word)?;
     if !near.is_empty() {
         text.push_str("; the nearest is ")?;
         push_quoted(&mut text, near)?;
@@ -139,7 +144,7 @@ pub(crate) fn described(part: Part) -> &'static str {
         Part::FirstElement | Part::Statement =>
             "a statement, which is an array that begins with a word,",
         Part::Expression =>
-            "an expression, which is a text, a whole number of 64 bits or an array that begins with a word,",
+            "an expression, which is a text, a whole number from -9223372036854775808 to 9223372036854775807 or an array that begins with a word,",
         Part::Condition => "a condition, which is an array that begins with a word,",
         Part::Variable => "a variable, which is a whole number from 0 to 15,",
         Part::Turns => "a whole number from 0 to 1000",

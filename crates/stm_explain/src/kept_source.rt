@@ -34,7 +34,8 @@ impl<'a, S> KeptSource<'a, S> {
         }
     }
 
-    /// The explanation of a fault that a reader found in what was read, as a line; nothing where an allocation failed, now or before.
+    /// The explanation of a fault that a reader found in what was read, and those of other faults of it, as lines; nothing where an allocation
+    /// failed, now or before.
     pub fn explanation(&self, alloc: Global, input: Input, bad: &BadInput) -> String
         ensures { ExplainsOrNothing self.now.name.now self.now.bytes.items (string_bytes result) }
     {

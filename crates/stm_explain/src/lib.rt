@@ -5,7 +5,9 @@
 #![tactic(auto)]
 
 mod allowed;
+mod exchanged;
 mod explaining;
+mod faults;
 mod forms;
 mod kept_source;
 mod laws;
@@ -14,13 +16,14 @@ mod messages;
 mod offsets;
 mod position;
 mod syntax;
+mod tokens;
 mod values;
 mod walking;
 
 pub use explaining::{explain, explained_at};
 pub use forms::{
-    COMPARES, CONDITIONS, EVENTS, EXPRESSIONS, FIRST_ELEMENTS, Input, LEVELS, LINES, OPERATIONS,
-    ORDERS, Part, STATEMENTS,
+    COMPARES, CONDITIONS, EVENTS, EXPRESSIONS, Entry, FIRST_ELEMENTS, Input, LEVELS, LINES,
+    OPERATIONS, ORDERS, Part, Parts, STATEMENTS,
 };
 pub use kept_source::KeptSource;
 pub use laws::words_are_those_of_readers;
@@ -29,4 +32,4 @@ pub use messages::{Message, write_text};
 pub use position::{Position, position_of};
 pub use stm_devices::{DeviceFault, Sink};
 pub use stm_json::BadInput;
-pub use values::shown;
+pub use values::{is_hidden, shown};

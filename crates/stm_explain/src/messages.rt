@@ -130,7 +130,7 @@ impl Message<'_> {
         self.status()
     }
 
-    /// Says what went wrong, and its explanation after it, and returns the status, all as `report` does.
+    /// Says what went wrong, and its explanations after it, and returns the status, all as `report` does.
     pub fn report_with<E: Sink>(&self, err: &mut E, more: &str) -> u8
         requires works { E.failed err.old ≡ false }
         requires explains { IsExplained more.now }

@@ -1,9 +1,10 @@
 //! What is wrong with a text that is no JSON.
-ghost use Rattle.std.specs.Prelude.{◌≡◌, ◌≤◌, length, IfErr, IfOk, IsUtf8, None};
+ghost use Rattle.std.specs.Prelude.{◌≡◌, ◌≤◌, length, IfErr, IfOk, IfSome, IsUtf8, None};
 ghost use Rattle.serde_json.specs.Read.{read as read_text};
 
 use crate::explaining::Explained;
 use crate::offsets::line_start;
+use crate::tokens::{Slip, Wrong, slip_of};
 use serde_json::{Error, Value};
 use std::alloc::{AllocError, Global};
 
@@ -51,19 +52,31 @@ fn has_mark(text: &[u8]) -> bool {
     text.starts_with(b"\xef\xbb\xbf")
 }
 
-/// What may be meant where this byte stands.
-fn hint(byte: u8) -> &'static str {
+/// Whether a value ends with these bytes, and white space.
+fn ends_a_value(bytes: &[u8]) -> bool {
+    for byte in bytes.iter().rev() {
+        if !is_blank(*byte) {
+            return !matches!(*byte, b'[' | b'{' | b',' | b':');
+        }
+    }
+    false
+}
+
+/// What may be meant where this byte stands, after these.
+fn hint(before: &[u8], byte: u8) -> &'static str {
     match byte {
         b']' | b'}' => "; a value is missing before it, or a comma is too many",
         b'\'' => "; texts stand between \" and \"",
         b'/' | b'#' => "; JSON has no comments",
+        b'"' | b'[' | b'{' | b'-' | b'0'..=b'9' if ends_a_value(before) =>
+            "; a comma is missing before it",
         _ => "",
     }
 }
 
 /// What is said of a byte that cannot stand where it does.
-fn found_text(alloc: Global, byte: u8) -> Result<String, AllocError> {
-    let hint = hint(byte);
+fn found_text(alloc: Global, before: &[u8], byte: u8) -> Result<String, AllocError> {
+    let hint = hint(before, byte);
     if byte > 32 && byte < 127 {
         let found = char::from(byte);
         format!(in alloc; "no JSON: {found} cannot stand here{hint}")
@@ -72,28 +85,76 @@ fn found_text(alloc: Global, byte: u8) -> Result<String, AllocError> {
     }
 }
 
+/// What is said of a byte in a token.
+fn slipped(alloc: Global, byte: u8, wrong: Wrong) -> Result<String, AllocError> {
+    match wrong {
+        Wrong::Byte => found_text(alloc, b"", byte),
+        Wrong::Control => {
+            format!(in alloc;
+                "no JSON: byte {byte} cannot stand in a text; it is written as an escape, \\u{byte:04x}"
+            )
+        }
+        Wrong::Escape => String::from_str(
+            alloc,
+            "no JSON: no escape begins here; there are \\\" \\\\ \\/ \\b \\f \\n \\r \\t and \\u with four hexadecimal digits",
+        ),
+        Wrong::Digits => String::from_str(
+            alloc,
+            "no JSON: \\u is wanted with four hexadecimal digits",
+        ),
+        Wrong::Half => String::from_str(
+            alloc,
+            "no JSON: this escape is half of a surrogate pair, and the other half is missing",
+        ),
+    }
+}
+
 /// What is wrong at an offset of a text whose value does not end too early.
 fn reason_at(alloc: Global, text: &[u8], offset: usize) -> Result<String, AllocError>
     requires { offset ≤ length text.now }
 {
     let (before, rest) = text.split_at(offset);
-    let depth = depth_after(before);
-    if std::str::from_utf8(text).is_err() {
-        return String::from_str(alloc, "no JSON: what stands here is not UTF-8");
-    }
-    if depth > MOST_DEPTH {
-        return String::from_str(alloc, "no JSON: nested deeper than 127");
-    }
-    if depth == 0 && has_more(before) {
+    if depth_after(before) == 0 && has_more(before) {
         return String::from_str(alloc, "no JSON: the value has ended before this");
     }
     match rest.first() {
-        Some(byte) => found_text(alloc, *byte),
+        Some(byte) => found_text(alloc, before, *byte),
         None => String::from_str(alloc, "no JSON"),
     }
 }
 
-/// What is wrong, by what JSON's reader says of it.
+/// What is wrong in the token at an offset of a text, where something is.
+fn reported_in_token(
+    alloc: Global,
+    text: &[u8],
+    offset: usize,
+) -> Result<Option<Explained>, AllocError>
+    requires { offset ≤ length text.now }
+    ensures { IfOk result (λ found. IfSome found (λ reported. reported.offset ≤ length text.now)) }
+{
+    let (_, rest) = text.split_at(offset);
+    let Some(
+        Slip {
+            offset: within,
+            wrong,
+        },
+    ) = slip_of(rest)
+    else {
+        return Ok(None);
+    };
+    match rest.get(within) {
+        Some(byte) => {
+            let words = slipped(alloc, *byte, wrong)?;
+            Ok(Some(Explained {
+                offset: offset + within,
+                words,
+            }))
+        }
+        None => Ok(None),
+    }
+}
+
+/// What is wrong where JSON's reader stopped, by what it says of it.
 fn reason(alloc: Global, text: &[u8], offset: usize, error: &Error) -> Result<String, AllocError>
     requires { offset ≤ length text.now }
 {
@@ -108,6 +169,31 @@ fn reason(alloc: Global, text: &[u8], offset: usize, error: &Error) -> Result<St
         return String::from_str(alloc, "no JSON: the number before this is too far from 0");
     }
     reason_at(alloc, text, offset)
+}
+
+/// What is wrong where JSON's reader stopped: before this offset where it is nested too deep, in the token that begins there, or there.
+fn reported_at(
+    alloc: Global,
+    text: &[u8],
+    offset: usize,
+    error: &Error,
+) -> Result<Explained, AllocError>
+    requires { offset ≤ length text.now }
+    ensures { IfOk result (λ reported. reported.offset ≤ length text.now) }
+{
+    if depth_after(&text[..offset]) > MOST_DEPTH {
+        let bracket = offset.saturating_sub(1);
+        return Explained::new(alloc, bracket, "no JSON: nested deeper than 127");
+    }
+    if let Err(error) = std::str::from_utf8(text) {
+        let byte = error.valid_up_to().min(text.len());
+        return Explained::new(alloc, byte, "no JSON: what stands here is not UTF-8");
+    }
+    if let Some(reported) = reported_in_token(alloc, text, offset)? {
+        return Ok(reported);
+    }
+    let words = reason(alloc, text, offset, error)?;
+    Ok(Explained { offset, words })
 }
 
 /// Where JSON's reader stopped.
@@ -134,9 +220,8 @@ pub(crate) fn json_of(alloc: Global, text: &[u8]) -> Result<Result<Value, Explai
             if error.is_memory() {
                 return Err(AllocError);
             }
-            let offset = stop_of(text, &error);
-            let words = reason(alloc, text, offset, &error)?;
-            Ok(Err(Explained { offset, words }))
+            let reported = reported_at(alloc, text, stop_of(text, &error), &error)?;
+            Ok(Err(reported))
         }
     }
 }

@@ -1,7 +1,7 @@
 //! From the place of a fault to the value there, and to what is expected in its place.
 
-use crate::allowed::parts_after;
-use crate::forms::Part;
+use crate::allowed::{form_of, parts_after};
+use crate::forms::{Form, Input, Part};
 use serde_json::Value;
 use std::alloc::{AllocError, Global};
 use stm_json::worded_array;
@@ -13,6 +13,38 @@ pub(crate) struct Found<'a> {
     pub(crate) part: Part,
     /// The value.
     pub(crate) value: &'a Value,
+}
+
+/// What is expected in the place of the whole input; of a report, in that of a line.
+pub(crate) fn whole_of(input: Input) -> Part {
+    match input {
+        Input::Scenario | Input::Checked | Input::Jobs | Input::Search => Part::Scenario,
+        Input::Program => Part::Program,
+        Input::Report => Part::Line,
+    }
+}
+
+/// What is expected in such a place of this input.
+fn wanted(input: Input, part: Part) -> Part {
+    match (input, part) {
+        (Input::Jobs, Part::Limit) => Part::JobLimit,
+        _ => part,
+    }
+}
+
+/// The word of a line of a report: its first element, or the one after a number.
+pub(crate) fn word_of_line(line: &Value) -> Option<&Value> {
+    let first = line.get(0)?;
+    if first.is_number() {
+        line.get(1)
+    } else {
+        Some(first)
+    }
+}
+
+/// The form of a line of a report, where it has one.
+pub(crate) fn form_of_line(line: &Value) -> Option<Form> {
+    form_of(Part::Line, word_of_line(line)?.as_str()?)
 }
 
 /// The indices that a place leads by, each in the array that the ones before it lead to.
@@ -58,8 +90,14 @@ fn element_part(index: usize) -> Part {
     }
 }
 
-/// What is expected at an index of an array, whose element there is this.
-fn part_within(part: Part, array: &Value, index: usize, element: &Value) -> Option<Part> {
+/// What is expected at an index of an array of this input, whose element there is this.
+pub(crate) fn part_within(
+    input: Input,
+    part: Part,
+    array: &Value,
+    index: usize,
+    element: &Value,
+) -> Option<Part> {
     match part {
         Part::Scenario => Some(event_part(index, element)),
         Part::Program => Some(element_part(index)),
@@ -68,22 +106,23 @@ fn part_within(part: Part, array: &Value, index: usize, element: &Value) -> Opti
         Part::Compares => Some(Part::Compare),
         Part::Operations => Some(Part::Operation),
         Part::Line | Part::OfLine => Some(Part::OfLine),
-        _ => part_of(part, array, index),
+        _ => Some(wanted(input, part_of(part, array, index)?)),
     }
 }
 
 /// The element of an array that was found, and what is expected there; `None` where it has none there.
-fn element<'a>(found: Found<'a>, index: usize) -> Option<Found<'a>> {
+fn element<'a>(input: Input, found: Found<'a>, index: usize) -> Option<Found<'a>> {
     let value = found.value.get(index)?;
-    let part = part_within(found.part, found.value, index, value)?;
+    let part = part_within(input, found.part, found.value, index, value)?;
     Some(Found { part, value })
 }
 
-/// The value that some steps lead to, and what is expected in its place; `None` where they lead to none.
-pub(crate) fn walk<'a>(part: Part, value: &'a Value, steps: &[usize]) -> Option<Found<'a>> {
+/// The value that some steps lead to in an input, and what is expected in its place; `None` where they lead to none.
+pub(crate) fn walk<'a>(input: Input, value: &'a Value, steps: &[usize]) -> Option<Found<'a>> {
+    let part = whole_of(input);
     let mut found = Found { part, value };
     for index in steps {
-        found = element(found, *index)?;
+        found = element(input, found, *index)?;
     }
     Some(found)
 }

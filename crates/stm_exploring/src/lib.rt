@@ -27,7 +27,7 @@ pub use exploring::explore_sources;
 pub use laws::schedules_spell;
 pub use outcomes::outcomes_of_source;
 pub use printed::{Printed, SearchAnswer};
-pub use progress::ProgressLine;
+pub use progress::{ProgressLine, ProgressNotes};
 pub use reading::ExploreFault;
 pub use stm_devices::{DeviceFault, Sink, Source, Std};
 pub use stm_explain::{Input, KeptSource};

@@ -1,5 +1,6 @@
-//! A line on a terminal that shows how far a search is.
+//! How far a search is: a line on a terminal that shows it, and lines that say it elsewhere.
 use std::io::Write;
+use std::time::{Clock, Instant};
 use stm_explore::Observer;
 
 /// Puts the cursor at the start of its line, and wipes the line out.
@@ -73,4 +74,100 @@ impl<W: Write> Observer for ProgressLine<W> {
             self.is_shown = false;
         }
     }
+}
+
+/// Says how far a search is where no terminal shows it: a line each ten seconds, and one at the end of a search for which there was one.
+///
+/// It takes no memory, and passes over a write that fails and over a clock that cannot be read.
+#[derive(Drop)]
+pub struct ProgressNotes<'a, W, C> {
+    /// Where the lines are written.
+    pub out: W,
+    clock: &'a C,
+    /// When the search began.
+    begun: Option<Instant>,
+    /// How many pauses had passed when a line was last written.
+    pauses: u64,
+    /// How many events the search may take.
+    most: u64,
+    /// How many of them are left.
+    left: u64,
+    /// All schedules of at most this many moves were gone through.
+    length: u64,
+}
+
+/// So many seconds pass from one line to the next, at least.
+const PAUSE: u64 = 10;
+
+impl<'a, W, C: Clock> ProgressNotes<'a, W, C> {
+    /// The notes of a search that begins now and may take at most this many events.
+    pub fn new(out: W, clock: &'a C, most: u64) -> ProgressNotes<'a, W, C> {
+        ProgressNotes {
+            out,
+            clock,
+            begun: Instant::now(clock).ok(),
+            pauses: 0,
+            most,
+            left: most,
+            length: 0,
+        }
+    }
+
+    /// How many seconds ago the search began.
+    fn seconds(&self) -> u64 {
+        match self.begun {
+            Some(begun) => match begun.elapsed(self.clock) {
+                Ok(elapsed) => elapsed.as_secs(),
+                Err(_) => 0,
+            },
+            None => 0,
+        }
+    }
+}
+
+impl<W: Write, C: Clock> ProgressNotes<'_, W, C> {
+    /// Writes how far the search is.
+    fn write(&mut self, begin: &str, seconds: u64) {
+        let length = self.length;
+        let most = self.most;
+        let taken = most.saturating_sub(self.left);
+        let out = &mut self.out;
+        let _ = writeln!(
+            out,
+            "stmrun: {begin}schedules of up to {length} moves done, {taken} of {most} events, {seconds} seconds"
+        );
+    }
+
+    /// Writes how far the search is, where it is time for that.
+    fn note(&mut self) {
+        let seconds = self.seconds();
+        if seconds / PAUSE > self.pauses {
+            self.pauses = seconds / PAUSE;
+            self.write("", seconds);
+        }
+    }
+
+    /// Writes how far the search came, where there was a line before: so many events are left.
+    pub fn close(&mut self, left: u64) {
+        if self.pauses > 0 {
+            self.left = left;
+            let seconds = self.seconds();
+            self.write("ended: ", seconds);
+        }
+    }
+}
+
+impl<W: Write, C: Clock> Observer for ProgressNotes<'_, W, C> {
+    fn passed(&mut self, length: u64, left: u64) {
+        self.length = length;
+        self.left = left;
+        self.note();
+    }
+
+    fn spent(&mut self, left: u64) {
+        self.left = left;
+        self.note();
+    }
+
+    fn ended(&mut self) {}
 }

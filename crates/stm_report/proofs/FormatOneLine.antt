@@ -1,6 +1,6 @@
 -- The words of a row have no line feed, and so each row is one line.
-use Rattle.std.proofs.Common.{◌≡◌, ℕ, zero, suc, ◌+◌, ◌-◌, ◌*◌, ◌/◌, ◌%◌, Bool, true, false, cond, ◌||◌, ◌==◌, List, [], ◌∷◌, ◌++◌, length, map}
-use Rattle.std.proofs.Common.{replicate}
+use Rattle.std.proofs.Common.{◌≡◌, ℕ, zero, suc, pred, ◌+◌, ◌-◌, ◌*◌, ◌/◌, ◌%◌, Bool, true, false, cond, ◌||◌, ◌==◌, List, [], ◌∷◌, ◌++◌, length}
+use Rattle.std.proofs.Common.{replicate, true≢false, sym}
 use Rattle.std.proofs.Common.{nat_eq, nat_lt, nat_le, codes, decimal, Result, Ok, Err, refl, ap, ◌∙◌, arith}
 use Rattle.std.proofs.lemmas.Bool.Decides.{nat_tests}
 use Rattle.std.specs.Fmt.{digits, digits_onto, digit_glyph}
@@ -19,7 +19,7 @@ use Rattle.stm_meaning.specs.Faults.{fault_name}
 use Rattle.stm_report.specs.declared.format_row.Lane.{Lane}
 use Rattle.stm_report.specs.declared.format_row.Lane.TheVariants.{Store, Runner}
 use Rattle.stm_report.specs.declared.format_pieces.TheConstants.{MOST_SHOWN, KEPT, MOST_COLUMNS}
-use Rattle.stm_report.specs.FormatShown.{shown, plain, front}
+use Rattle.stm_report.specs.FormatShown.{shown, plain, plain_after, hidden, front}
 use Rattle.stm_report.specs.FormatPieces.{joined, padded, tag_text}
 use Rattle.stm_report.specs.FormatWords.{named_words, reported_words, start_words, listed_words, fetched_words, commit_words, compared_words, txn_words, revoked_words}
 use Rattle.stm_report.specs.FormatWords.{changed_words, advanced_words, batch_words, lost_words, asked_word, refused_words, reply_words, words_of}
@@ -43,19 +43,27 @@ one_without : (b : Bool) (rest : Bool) → b ≡ false → rest ≡ false → (b
 one_without false rest first second = second
 one_without true rest first second = first
 
-plain_by : (control delete : Bool) (x : ℕ) → nat_lt x 32 ≡ control → nat_eq (cond (control || delete) 63 x) 10 ≡ false
-plain_by true delete x is = refl
-plain_by false true x is = refl
-plain_by false false x is = grind (arith, nat_tests)
+-- what is no control character is no line feed
+other_by : (control delete : Bool) (x : ℕ) (rest : ℕ) → nat_lt x 32 ≡ control → nat_eq (cond (control || delete) 1 rest) 0 ≡ true → nat_eq x 10 ≡ false
+other_by true delete x rest is none = absurd (true≢false (sym none))
+other_by false true x rest is none = absurd (true≢false (sym none))
+other_by false false x rest is none = grind (arith, nat_tests)
 
-plain_without : (xs : List ℕ) → has 10 (map plain xs) ≡ false
-plain_without [] = refl
-plain_without (x ∷ xs) =
-    one_without (nat_eq (plain x) 10) (has 10 (map plain xs)) (plain_by (nat_lt x 32) (nat_eq x 127) x refl) (plain_without xs)
+next_without : (is_other : Bool) (x : ℕ) (more hidden_more : List ℕ) → (is_other ≡ true → nat_eq x 10 ≡ false) → has 10 more ≡ false → has 10 hidden_more ≡ false
+    → has 10 (cond is_other (x ∷ more) (63 ∷ hidden_more)) ≡ false
+next_without true x more hidden_more other rest hidden_rest = one_without (nat_eq x 10) (has 10 more) (other refl) rest
+next_without false x more hidden_more other rest hidden_rest = hidden_rest
 
-shown_by : (b : Bool) (text : List ℕ) → has 10 (cond b (map plain text) (map plain (front KEPT text) ++ codes "..")) ≡ false
-shown_by true text = plain_without text
-shown_by false text = has-append 10 (map plain (front KEPT text)) (codes "..") (plain_without (front KEPT text)) refl
+plain_without : (left : ℕ) (xs : List ℕ) → has 10 (plain_after left xs) ≡ false
+plain_without left [] = refl
+plain_without (suc left) (x ∷ xs) = plain_without left xs
+plain_without zero (x ∷ xs) =
+    next_without (nat_eq (hidden (x ∷ xs)) 0) x (plain_after 0 xs) (plain_after (pred (hidden (x ∷ xs))) xs)
+    (other_by (nat_lt x 32) (nat_eq x 127) x _ refl) (plain_without 0 xs) (plain_without (pred (hidden (x ∷ xs))) xs)
+
+shown_by : (b : Bool) (text : List ℕ) → has 10 (cond b (plain text) (plain (front KEPT text) ++ codes "..")) ≡ false
+shown_by true text = plain_without 0 text
+shown_by false text = has-append 10 (plain (front KEPT text)) (codes "..") (plain_without 0 (front KEPT text)) refl
 
 shown_without : (text : List ℕ) → has 10 (shown text) ≡ false
 shown_without text = shown_by (nat_le (length text) MOST_SHOWN) text

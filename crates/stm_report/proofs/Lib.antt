@@ -22,6 +22,7 @@ pub mod SmallLines
 pub mod ScriptsRead
 pub mod Joining
 pub mod FormatFronts
+pub mod FormatPlain
 pub mod FormatRowLemmas
 pub mod FormatEscapedLaws
 pub mod FormatNoFloats

@@ -1,7 +1,8 @@
 -- How a key, a value or a message is shown: shortened, and without control characters.
 --
--- RFC 3629, UTF-8: the bytes 128 to 191 go on with a character that began before them.
-use Rattle.std.specs.Prelude.{ℕ, zero, suc, List, [], ◌∷◌, ◌++◌, length, map, Bool, ◌&&◌, ◌||◌, nat_eq, nat_lt, nat_le, if◌then◌else◌, codes}
+-- RFC 3629, UTF-8: the bytes 128 to 191 go on with a character that began before them; U+0080 to U+009F are 194 and 128 to 159, U+202A to U+202E are 226, 128
+-- and 170 to 174, and U+2066 to U+2069 are 226, 129 and 166 to 169.
+use Rattle.std.specs.Prelude.{ℕ, zero, suc, pred, List, [], ◌∷◌, ◌++◌, length, get_or, Bool, ◌&&◌, ◌||◌, nat_eq, nat_lt, nat_le, if◌then◌else◌, codes}
 use Rattle.stm_report.specs.declared.format_pieces.TheConstants.{MOST_SHOWN, KEPT}
 
 abbrev pub is_continuation : ℕ → Bool
@@ -13,9 +14,27 @@ front n [] = []
 front zero (b ∷ bs) = if is_continuation b then b ∷ front zero bs else []
 front (suc n) (b ∷ bs) = b ∷ front n bs
 
--- `?` for a control character
-abbrev pub plain : ℕ → ℕ
-plain b = if nat_lt b 32 || nat_eq b 127 then 63 else b
+abbrev pub is_between : ℕ → ℕ → ℕ → Bool
+is_between least most b = nat_le least b && nat_le b most
+
+-- how many bytes the character has that these begin with, where it is a control character or turns the direction of writing, and 0 where it is another
+abbrev pub hidden : List ℕ → ℕ
+hidden bs =
+    if nat_lt (get_or bs 0 255) 32 || nat_eq (get_or bs 0 255) 127 then 1
+    else (if nat_eq (get_or bs 0 255) 194 && is_between 128 159 (get_or bs 1 255) then 2
+    else (if nat_eq (get_or bs 0 255) 226
+    && ((nat_eq (get_or bs 1 255) 128 && is_between 170 174 (get_or bs 2 255)) || (nat_eq (get_or bs 1 255) 129 && is_between 166 169 (get_or bs 2 255)))
+    then 3
+    else 0))
+
+-- `?` for each such character; of the one before, that many bytes are still to come
+abbrev pub plain_after : ℕ → List ℕ → List ℕ
+plain_after left [] = []
+plain_after (suc left) (b ∷ bs) = plain_after left bs
+plain_after zero (b ∷ bs) = if nat_eq (hidden (b ∷ bs)) 0 then b ∷ plain_after 0 bs else 63 ∷ plain_after (pred (hidden (b ∷ bs))) bs
+
+abbrev pub plain : List ℕ → List ℕ
+plain text = plain_after 0 text
 
 abbrev pub shown : List ℕ → List ℕ
-shown text = if nat_le (length text) MOST_SHOWN then map plain text else map plain (front KEPT text) ++ codes ".."
+shown text = if nat_le (length text) MOST_SHOWN then plain text else plain (front KEPT text) ++ codes ".."

@@ -1,6 +1,6 @@
 //! Writing a text piece by piece.
-ghost use Rattle.std.specs.Prelude.{◌≡◌, ◌++◌, ◌<◌, ◌≤◌, ◌+◌, map, decimal, replicate, length, take, IfOk, OnOk};
-ghost use Rattle.stm_report.specs.FormatShown.{front, plain, shown, is_continuation};
+ghost use Rattle.std.specs.Prelude.{◌≡◌, ◌++◌, ◌<◌, ◌≤◌, ◌+◌, drop, get_or, decimal, replicate, length, take, IfOk, OnOk};
+ghost use Rattle.stm_report.specs.FormatShown.{front, hidden, plain, plain_after, shown, is_continuation};
 ghost use Rattle.stm_report.specs.FormatEscaped.{entity, escaped};
 ghost use Rattle.stm_report.specs.FormatPieces.{joined, padded, title, tag_text, piece_text};
 
@@ -48,11 +48,34 @@ fn is_continuation(byte: u8) -> bool
     byte >= 128 && byte < 192
 }
 
-/// A byte of a text that is shown: `?` for a control character.
-fn plain(byte: u8) -> u8
-    ensures { result ≡ plain byte }
+/// A byte, or 255, which no text has, where there are fewer.
+fn byte_at(bytes: &[u8], index: usize) -> u8
+    ensures { result ≡ get_or bytes.now index 255 }
 {
-    if byte < 32 || byte == 127 { b'?' } else { byte }
+    if index < bytes.len() {
+        bytes[index]
+    } else {
+        255
+    }
+}
+
+/// How many bytes the character has that these begin with, where it is a control character or turns the direction of writing; 0 for another.
+fn hidden(bytes: &[u8]) -> usize
+    ensures length { result ≡ hidden bytes.now }
+    ensures most { result ≤ 3 }
+{
+    let first = byte_at(bytes, 0);
+    let second = byte_at(bytes, 1);
+    let third = byte_at(bytes, 2);
+    if first < 32 || first == 127 {
+        return 1;
+    }
+    if first == 194 && second >= 128 && second <= 159 {
+        return 2;
+    }
+    let turns = second == 128 && third >= 170 && third <= 174
+        || second == 129 && third >= 166 && third <= 169;
+    if first == 226 && turns { 3 } else { 0 }
 }
 
 /// Where the front of that many bytes ends, with the rest of its last character.
@@ -68,12 +91,36 @@ fn end_of_front(bytes: &[u8], kept: usize) -> usize
     end
 }
 
+/// Adds the byte at an index as it is shown, where so many more bytes belong to a character that was shown; how many do behind it.
+fn push_next(
+    out: &mut Vec<u8>,
+    bytes: &[u8],
+    index: usize,
+    left: usize,
+) -> Result<usize, AllocError>
+    requires { index < length bytes.now }
+    ensures { IfOk result (λ next.
+        out.new.items ++ plain_after next (drop (index + 1) bytes.now) ≡ out.old.items ++ plain_after left (drop index bytes.now)) }
+{
+    if left > 0 {
+        return Ok(left - 1);
+    }
+    let hidden = hidden(&bytes[index..]);
+    if hidden > 0 {
+        out.push(b'?')?;
+        return Ok(hidden - 1);
+    }
+    out.push(bytes[index])?;
+    Ok(0)
+}
+
 /// Adds bytes as they are shown.
 fn push_plain(out: &mut Vec<u8>, bytes: &[u8]) -> Result<(), AllocError>
-    ensures { OnOk result (out.new.items ≡ out.old.items ++ map plain bytes.now) }
+    ensures { OnOk result (out.new.items ≡ out.old.items ++ plain bytes.now) }
 {
-    for byte in bytes {
-        out.push(plain(*byte))?;
+    let mut left = 0usize;
+    for index in 0..bytes.len() {
+        left = push_next(out, bytes, index, left)?;
     }
     Ok(())
 }

@@ -3,18 +3,30 @@ ghost use Rattle.std.specs.Prelude.{◌≡◌, false};
 
 use crate::files::{Opened, open};
 use crate::noting::Noting;
-use crate::terminals::shown_budget;
+use crate::terminals::{close, shown_budget};
 use std::io;
 use std::io::Input;
 use std::rt::Files;
 use stm_commands::{
     Format, KeptSource, Std, check_explained_to, check_whole_explained_to, script_explained_to,
 };
+use stm_explain::is_hidden;
 use stm_exploring::{Level, explore_explained_to, outcomes_explained_to};
 
-/// The name of an input, as people know it.
+/// Whether a path has a character that does something to a terminal.
+fn has_hidden(path: &str) -> bool {
+    path.chars().any(is_hidden)
+}
+
+/// The name of an input, as people know it: that of its file, if it can be shown on a terminal.
 fn name_of(path: &str) -> &str {
-    if path == "-" { "standard input" } else { path }
+    if path == "-" {
+        "standard input"
+    } else if has_hidden(path) {
+        "the file"
+    } else {
+        path
+    }
 }
 
 /// The file of a path, or standard input, to be read and kept.
@@ -82,15 +94,17 @@ pub(crate) fn run_rule(
     let mut keeps = kept(rt, keeps);
     let mut out = Std::new(Noting::new(rt.stdout()));
     let mut err = Std::new(rt.stderr());
+    let mut budget = shown_budget(rt, budget);
     let status = explore_explained_to(
         rt.alloc(),
         &mut scenario,
         &mut keeps,
         level,
-        &mut shown_budget(rt, budget),
+        &mut budget,
         &mut out,
         &mut err,
     );
+    close(&mut budget);
     say_unread(rt, scenario.name, scenario.source.device.failure);
     say_unread(rt, keeps.name, keeps.source.device.failure);
     say_unwritten(rt, out.device.failure);
@@ -107,14 +121,16 @@ pub(crate) fn run_outcomes(
     let mut scenario = kept(rt, scenario);
     let mut out = Std::new(Noting::new(rt.stdout()));
     let mut err = Std::new(rt.stderr());
+    let mut budget = shown_budget(rt, budget);
     let status = outcomes_explained_to(
         rt.alloc(),
         &mut scenario,
         level,
-        &mut shown_budget(rt, budget),
+        &mut budget,
         &mut out,
         &mut err,
     );
+    close(&mut budget);
     say_unread(rt, scenario.name, scenario.source.device.failure);
     say_unwritten(rt, out.device.failure);
     status

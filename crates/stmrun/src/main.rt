@@ -16,7 +16,9 @@ use files::open;
 use std::process::ExitCode;
 use std::sync::Wait;
 use std::thread::Threads;
-use stm_arguments::{Asked, asked_of, read_level, read_words};
+use stm_arguments::{
+    Asked, PlainWords, asked_of, plain_words, print_topic, read_level, read_words, topic_of,
+};
 use stm_commands::{Format, RecipeWords, Shown, Std, no_format_to};
 pub use stm_commands::{
     check_explained_to, check_to, check_whole_explained_to, check_whole_to, recipe_to,
@@ -25,7 +27,7 @@ pub use stm_commands::{
 use stm_exploring::Level;
 pub use stm_exploring::{explore_explained_to, explore_to, outcomes_explained_to, outcomes_to};
 pub use stm_threading::{threads_as_to, threads_to};
-use terminals::shown_budget;
+use terminals::{close, is_shown, shown_budget};
 use threading::{printing_of, run_threads};
 
 /// The path of an input that may be named: that of standard input where it is not.
@@ -107,15 +109,18 @@ fn run_rule(
     let mut keeps = Std::new(open(rt, keeps));
     let mut out = Std::new(rt.stdout());
     let mut err = Std::new(rt.stderr());
-    explore_to(
+    let mut budget = shown_budget(rt, budget);
+    let status = explore_to(
         rt.alloc(),
         &mut scenario,
         &mut keeps,
         level,
-        &mut shown_budget(rt, budget),
+        &mut budget,
         &mut out,
         &mut err,
-    )
+    );
+    close(&mut budget);
+    status
 }
 
 /// Goes through the interleavings of a path's scenario. A fault is explained, or is not.
@@ -132,14 +137,17 @@ fn run_outcomes(
     let mut scenario = Std::new(open(rt, scenario));
     let mut out = Std::new(rt.stdout());
     let mut err = Std::new(rt.stderr());
-    outcomes_to(
+    let mut budget = shown_budget(rt, budget);
+    let status = outcomes_to(
         rt.alloc(),
         &mut scenario,
         level,
-        &mut shown_budget(rt, budget),
+        &mut budget,
         &mut out,
         &mut err,
-    )
+    );
+    close(&mut budget);
+    status
 }
 
 /// Looks through the interleavings of a path's scenario, for one that breaks a rule or for what they come to, where the word names a level.
@@ -181,24 +189,32 @@ fn run_show(rt: &HostRuntime, input: Option<&str>, program: bool) -> u8 {
     show_to(rt.alloc(), shown, &mut input, &mut out, &mut err)
 }
 
-/// Does what the command line asks for, and gives the status. A run of jobs starts threads and waits for them.
-fn run<T: Threads + Wait + Sync>(rt: &HostRuntime, threads: &T) -> u8 {
-    let words = match read_words(rt) {
-        Ok(words) => words,
-        Err(status) => return status,
-    };
-    match asked_of(rt, rt.alloc(), words.as_slice()) {
+/// Whether faults are explained: where they are to be, or where standard error is a terminal, unless they are not to be.
+fn is_explained(rt: &HostRuntime, is_silent: bool, explain: bool) -> bool {
+    !is_silent && (explain || is_shown(rt))
+}
+
+/// Does what these words ask for, and gives the status. A run of jobs starts threads and waits for them.
+fn answer<T: Threads + Wait + Sync>(rt: &HostRuntime, threads: &T, plain: &PlainWords) -> u8 {
+    let is_silent = plain.is_silent;
+    match asked_of(rt, rt.alloc(), plain.words.as_slice()) {
         Asked::Script {
             scenario,
             format,
             explain,
-        } => run_script_in(rt, scenario, format, explain),
+        } => {
+            let explain = is_explained(rt, is_silent, explain);
+            run_script_in(rt, scenario, format, explain)
+        }
         Asked::Check {
             scenario,
             report,
             whole,
             explain,
-        } => run_check(rt, scenario, report, whole, explain),
+        } => {
+            let explain = is_explained(rt, is_silent, explain);
+            run_check(rt, scenario, report, whole, explain)
+        }
         Asked::Threads {
             scenario,
             workers,
@@ -206,6 +222,7 @@ fn run<T: Threads + Wait + Sync>(rt: &HostRuntime, threads: &T) -> u8 {
             repeat,
             explain,
         } => {
+            let explain = is_explained(rt, is_silent, explain);
             let printing = printing_of(ends, repeat);
             run_threads(rt, threads, path_of(scenario), workers, printing, explain)
         }
@@ -216,10 +233,29 @@ fn run<T: Threads + Wait + Sync>(rt: &HostRuntime, threads: &T) -> u8 {
             level,
             budget,
             explain,
-        } => run_explore(rt, scenario, keeps, level, budget, explain),
+        } => {
+            let explain = is_explained(rt, is_silent, explain);
+            run_explore(rt, scenario, keeps, level, budget, explain)
+        }
         Asked::Show { input, program } => run_show(rt, input, program),
         Asked::Nothing(status) => status,
     }
+}
+
+/// Does what the command line asks for, and gives the status.
+fn run<T: Threads + Wait + Sync>(rt: &HostRuntime, threads: &T) -> u8 {
+    let words = match read_words(rt) {
+        Ok(words) => words,
+        Err(status) => return status,
+    };
+    if let Some(topic) = topic_of(words.as_slice()) {
+        return print_topic(rt, topic);
+    }
+    let Ok(plain) = plain_words(rt.alloc(), words) else {
+        let _ = rt.eprintln("stmrun: out of memory");
+        return 3;
+    };
+    answer(rt, threads, &plain)
 }
 
 fn main(rt: HostRuntime) -> ExitCode {

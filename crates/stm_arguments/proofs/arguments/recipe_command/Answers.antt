@@ -9,8 +9,8 @@ neither a b left right = ap₂ (λ (x y : Bool). x || y) left right
 
 pub returns : goal.returns
 returns c =
-    let bare_is : app_of c.after_help.result ≡ new_app (codes "recipe") = search rules in
-    let alone_is = (λ i. (c.after_help.ensures i).has_globals) ∙ ((λ i. (c.about.ensures i).has_globals) ∙ c.new.ensures.local) in
+    let bare_is : app_of c.after_long_help.result ≡ new_app (codes "recipe") = search rules in
+    let alone_is = (λ i. (c.after_long_help.ensures i).has_globals) ∙ ((λ i. (c.about.ensures i).has_globals) ∙ c.new.ensures.local) in
     let one_is = neither _ _ alone_is c.required.ensures.local in
     let two_are = neither _ _ (c.in_ok-arg.ensures.globals ∙ one_is) c.optional.ensures.local in
     let three_are = neither _ _ (c.in_ok-arg-2.ensures.globals ∙ two_are) c.optional-2.ensures.local in

@@ -1,7 +1,7 @@
-use Rattle.std.proofs.Common.{◌≡◌, ◌++◌, map, take}
-use Rattle.stm_report.specs.FormatShown.{plain}
+use Rattle.std.proofs.Common.{◌≡◌, ◌++◌, drop}
+use Rattle.stm_report.specs.FormatShown.{plain, plain_after}
 use Rattle.stm_report.proofs.format_pieces.push_plain.Given as goal
 
--- the bytes so far were added
-abbrev pub invariant-loop-byte : goal.invariant-loop-byte
-invariant-loop-byte l = l.out.items ≡ l.fn.out.items ++ map plain (take l.byte-index l.bytes)
+-- what was added, and what the bytes that are left are shown as, is what all are shown as
+abbrev pub invariant-loop-index : goal.invariant-loop-index
+invariant-loop-index l = l.out.items ++ plain_after l.left (drop l.index l.bytes) ≡ l.fn.out.items ++ plain l.bytes

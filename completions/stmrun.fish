@@ -1,0 +1,35 @@
+# Made by completions/make from the help of stmrun; to change it, change the command line there.
+complete -c stmrun -f
+complete -c stmrun -n __fish_use_subcommand -a script -d 'Runs a scenario, and prints its report'
+complete -c stmrun -n '__fish_seen_subcommand_from script' -F
+complete -c stmrun -n '__fish_seen_subcommand_from script' -l format -d 'The form of the report' -x -a 'lines json text svg'
+complete -c stmrun -n '__fish_seen_subcommand_from script' -l explain -d 'Whether faults are explained, of an input or of a run'
+complete -c stmrun -n '__fish_seen_subcommand_from script' -a '--explain=never'
+complete -c stmrun -n '__fish_seen_subcommand_from script' -l help -d 'Print help (see more with --help)'
+complete -c stmrun -n __fish_use_subcommand -a check -d 'Says whether REPORT is a report of SCENARIO, and if not, which line is wrong first'
+complete -c stmrun -n '__fish_seen_subcommand_from check' -F
+complete -c stmrun -n '__fish_seen_subcommand_from check' -l whole -d 'Whether REPORT is, line by line, what script prints for SCENARIO'
+complete -c stmrun -n '__fish_seen_subcommand_from check' -l explain -d 'Whether faults are explained, of an input or of a run'
+complete -c stmrun -n '__fish_seen_subcommand_from check' -a '--explain=never'
+complete -c stmrun -n '__fish_seen_subcommand_from check' -l help -d 'Print help (see more with --help)'
+complete -c stmrun -n __fish_use_subcommand -a threads -d 'Runs the starts of a scenario as jobs, by several threads on one store'
+complete -c stmrun -n '__fish_seen_subcommand_from threads' -F
+complete -c stmrun -n '__fish_seen_subcommand_from threads' -l workers -d 'How many threads run the jobs, from 1 to 16' -x -a ''
+complete -c stmrun -n '__fish_seen_subcommand_from threads' -l ends -d 'Whether a line is printed for the end of each job'
+complete -c stmrun -n '__fish_seen_subcommand_from threads' -l repeat -d 'How many runs are made, from 1 to 1000000, of which is printed what they come to, and how often' -x -a ''
+complete -c stmrun -n '__fish_seen_subcommand_from threads' -l explain -d 'Whether faults are explained, of an input or of a run'
+complete -c stmrun -n '__fish_seen_subcommand_from threads' -a '--explain=never'
+complete -c stmrun -n '__fish_seen_subcommand_from threads' -l help -d 'Print help (see more with --help)'
+complete -c stmrun -n __fish_use_subcommand -a recipe -d 'Prints the program of a recipe, as a scenarios start takes it'
+complete -c stmrun -n '__fish_seen_subcommand_from recipe' -a 'transfer deposit enqueue dequeue reserve_slot release_slot'
+complete -c stmrun -n '__fish_seen_subcommand_from recipe' -l help -d 'Print help (see more with --help)'
+complete -c stmrun -n __fish_use_subcommand -a explore -d 'Looks through every interleaving of a scenario, for one that breaks a rule or for what they come to'
+complete -c stmrun -n '__fish_seen_subcommand_from explore' -F
+complete -c stmrun -n '__fish_seen_subcommand_from explore' -l keeps -d 'The file of a program that is to come to its last statement after every schedule' -r -F
+complete -c stmrun -n '__fish_seen_subcommand_from explore' -l level -d 'The level of every start, in the place of its own' -x -a 'SerializableSnapshot Serializable RepeatableReads ReadCommitted'
+complete -c stmrun -n '__fish_seen_subcommand_from explore' -l budget -d 'How many events are taken at most, 5000000 if not said' -x -a ''
+complete -c stmrun -n '__fish_seen_subcommand_from explore' -l explain -d 'Whether faults are explained, of an input or of a run'
+complete -c stmrun -n '__fish_seen_subcommand_from explore' -a '--explain=never'
+complete -c stmrun -n '__fish_seen_subcommand_from explore' -l help -d 'Print help (see more with --help)'
+complete -c stmrun -n __fish_use_subcommand -a help -d 'Prints the help of a command or a topic'
+complete -c stmrun -n '__fish_seen_subcommand_from help' -a 'script check threads recipe explore language causes'

@@ -146,7 +146,7 @@ class Statements(Values):
         self.word("in")
         if self.token.kind == "number" and self.token.value == 0 and self.behind.is_sign(".."):
             return self.count(at, given)
-        if is_numbered(given.value):
+        if is_numbered(given.value) and (self.token.kind in ("text", "number", "name") or self.token.is_sign("-")):
             raise self.wrong("Name", given)
         return self.copies(at, given)
 
@@ -186,7 +186,7 @@ class Statements(Values):
         if isinstance(value, Named) and isinstance(value.binding, Parameter):
             self.refuse_item(value, 0, 1000)
             return
-        if not isinstance(value, Literal):
+        if not isinstance(value, Literal) or value is count and isinstance(value.value, str):
             raise self.wrong()
         if isinstance(value.value, str):
             raise Fault(count.at, "Kind")

@@ -125,8 +125,6 @@ class Values(Cursor):
             return self.numbered_variable(token)
         meant = self.meant_by(token)
         if isinstance(meant, Variable) or isinstance(meant, Parameter) and not meant.is_list:
-            if self.token.is_sign("("):
-                raise self.wrong("Name", token)
             return Named(token.at, meant)
         if not isinstance(meant, Definition):
             raise self.wrong("Name", token)

@@ -1,5 +1,5 @@
 -- How events are printed.
-use Rattle.std.specs.Prelude.{ℕ, ◌+◌, List, [], ◌∷◌, ◌++◌, Bool, true, false, ◌&&◌, nat_eq, nat_lt, if◌then◌else◌, codes, decimal}
+use Rattle.std.specs.Prelude.{ℕ, ◌+◌, List, [], ◌∷◌, ◌++◌, Bool, false, ◌&&◌, nat_eq, nat_lt, if◌then◌else◌, codes, decimal}
 use Rattle.json.specs.Print.{quoted}
 use Rattle.stm_program.specs.Syntax.{ProgramTree}
 use Rattle.stm_program.specs.declared.level.Level.{Level}

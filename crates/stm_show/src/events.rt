@@ -178,6 +178,7 @@ fn goes_on(steps: u8, events: &[WorldEvent]) -> bool
 
 /// Adds an event in a line in which stand so many steps already, and ends the line where the next event does not stand in it. Gives how many
 /// steps stand in the line of that.
+#[tactic(auto, using(crate::proofs::NextEvents::same_line, crate::proofs::NextEvents::next_line))]
 fn push_next(
     alloc: Global,
     out: &mut String,

@@ -24,8 +24,8 @@ fn push_opening(out: &mut String, opening: Option<Opening>) -> Result<(), AllocE
     match opening {
         None => Ok(()),
         Some(opening) => {
-            push_numbered(out, "begin", opening.revision)?;
-            push_limit(out, opening.operations)?;
+            push_numbered(out, "begin", opening.revision())?;
+            push_limit(out, opening.operations())?;
             out.push('\n')
         }
     }

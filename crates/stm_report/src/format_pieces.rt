@@ -1,5 +1,5 @@
 //! Writing a text piece by piece.
-ghost use Rattle.std.specs.Prelude.{◌≡◌, ◌++◌, ◌<◌, ◌≤◌, ◌+◌, drop, get_or, decimal, replicate, length, take, IfOk, OnOk};
+ghost use Rattle.std.specs.Prelude.{◌≡◌, ◌++◌, ◌<◌, ◌≤◌, ◌+◌, drop, get_or, decimal, replicate, length, map, take, IfOk, OnOk};
 ghost use Rattle.stm_report.specs.FormatShown.{front, hidden, plain, plain_after, shown, is_continuation};
 ghost use Rattle.stm_report.specs.FormatEscaped.{entity, escaped};
 ghost use Rattle.stm_report.specs.FormatPieces.{joined, padded, title, tag_text, piece_text};

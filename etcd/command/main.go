@@ -8,7 +8,6 @@ import (
 	"fmt"
 	"io"
 	"os"
-	"os/exec"
 	"os/signal"
 	"strings"
 	"syscall"
@@ -33,9 +32,8 @@ const (
 )
 
 const usage = `Usage: etcd/stm --endpoints ADDRESS[,ADDRESS..] [OPTION..] PROGRAM.json
-       etcd/stm --endpoints ADDRESS[,ADDRESS..] [OPTION..] SOURCE.stm NAME [ARGUMENT..]
 
-Runs the program of the file (- for standard input), or the one of that name of a source, on an etcd cluster, and prints how it ended:
+Runs the program of the file (- for standard input) on an etcd cluster, and prints how it ended:
   ["committed",REVISION,ATTEMPTS,[OUTPUT..],[LOOKED..]]   its writes stand in the store; LOOKED as ["get",KEY,VALUE] or ["rev",KEY,REVISION]
   ["aborted",TEXT,ATTEMPTS]      the program aborted; nothing was committed
   ["faulted",FAULT,ATTEMPTS]     the program faulted; nothing was committed
@@ -48,7 +46,7 @@ Runs the program of the file (- for standard input), or the one of that name of 
   --timeout TIME         ends the run after that time, as 5s (if not said: 10s)
   --user NAME[:PASSWORD] the password is asked of the environment's ETCD_PASSWORD if not said
   --cacert, --cert, --key FILE   for TLS
-Options may begin with one dash, too. The program stmrun compiles sources; STMRUN names another one than ./stmrun.
+Options may begin with one dash, too.
 
 Statuses: 0 committed, 1 ended otherwise and nothing committed, 2 bad program or usage, 3 the cluster or a device failed and nothing was committed,
 5 not known whether it committed: its commit was sent and had no answer; 70 the command could not be built.
@@ -79,10 +77,10 @@ func answer(arguments []string) int {
 	}
 	if err != nil {
 		say(err)
-		fmt.Fprint(os.Stderr, usage)
+		fmt.Fprintln(os.Stderr, "etcd/stm --help has the options")
 		return statusBad
 	}
-	program, status := programOf(said.words)
+	program, status := programOf(said.words[0])
 	if program == nil {
 		return status
 	}
@@ -122,43 +120,32 @@ func (s *settings) check(flags *flag.FlagSet) error {
 		return errors.New("--timeout is above 0")
 	case len(s.words) == 0:
 		return errors.New("a program is wanted")
-	case len(s.words) > 1 && !strings.HasSuffix(s.words[0], ".stm"):
-		return fmt.Errorf("%q is one word too many: only a source, FILE.stm, has programs with names and arguments", s.words[1])
-	case len(s.words) == 1 && strings.HasSuffix(s.words[0], ".stm"):
-		return errors.New("the name of a program of the source is wanted")
+	case len(s.words) > 1:
+		return fmt.Errorf("%q is one word too many: one program is run", s.words[1])
 	}
 	return nil
 }
 
-// programOf reads the program of a file, or compiles that of a source; where there is none, it says why and returns the status.
-func programOf(words []string) (*stmprogram.Program, int) {
-	text, err := textOf(words)
-	if exit := (*exec.ExitError)(nil); errors.As(err, &exit) {
-		// (stmrun has said why)
-		return nil, exit.ExitCode()
-	}
+// programOf reads the program of a file; where there is none, it says why and returns the status.
+func programOf(path string) (*stmprogram.Program, int) {
+	text, err := textOf(path)
 	if err != nil {
 		say(err)
 		return nil, statusDevice
 	}
 	program, err := stmprogram.Load(text)
 	if err != nil {
-		say(fmt.Errorf("%s: bad program %v", words[0], err))
+		say(fmt.Errorf("%s: bad program %v", path, err))
 		return nil, statusBad
 	}
 	return program, statusDone
 }
 
-func textOf(words []string) ([]byte, error) {
-	if len(words) > 1 {
-		compile := exec.Command(os.Getenv("STMRUN"), append([]string{"compile"}, words...)...)
-		compile.Stderr = os.Stderr
-		return compile.Output()
-	}
-	if words[0] == "-" {
+func textOf(path string) ([]byte, error) {
+	if path == "-" {
 		return io.ReadAll(io.LimitReader(os.Stdin, reading.LongestInput+1))
 	}
-	file, err := os.Open(words[0])
+	file, err := os.Open(path)
 	if err != nil {
 		return nil, err
 	}
@@ -183,7 +170,7 @@ func run(said *settings, program *stmprogram.Program) int {
 	}
 	result, err := stmprogram.Run(ctx, client, program, stmprogram.Levels[said.level], options...)
 	if err != nil {
-		return failed(err)
+		return failed(fmt.Errorf("%s: %w", said.endpoints, err))
 	}
 	return printed(result)
 }

@@ -60,6 +60,7 @@ fn an_observer_is_notified_once_at_the_end(rt: HostRuntime) {
 }
 
 /// A clock that is four seconds further each time that it is read.
+#[derive(Drop)]
 struct Ticking {
     seconds: Cell<u64>,
 }
@@ -99,6 +100,6 @@ stmrun: ended: schedules of up to 8 moves done, 93 of 100 events, 40 seconds
 
 #[test]
 fn a_search_says_each_ten_seconds_how_far_it_is(rt: HostRuntime) {
-    assert_eq!(rt; notes(rt.alloc(), 2).as_slice(), b"");
+    assert_eq!(rt; notes(rt.alloc(), 2).as_slice(), b"".as_slice());
     assert_eq!(rt; notes(rt.alloc(), 9).as_slice(), NOTES.as_bytes());
 }

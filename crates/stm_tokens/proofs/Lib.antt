@@ -1,0 +1,3 @@
+pub mod NameLemmas
+pub mod QuotedLemmas
+pub mod TokenLemmas

@@ -27,7 +27,8 @@ complete -c stmrun -n __fish_use_subcommand -a explore -d 'Looks through every i
 complete -c stmrun -n '__fish_seen_subcommand_from explore' -F
 complete -c stmrun -n '__fish_seen_subcommand_from explore' -l keeps -d 'The file of a program that is to come to its last statement after every schedule' -r -F
 complete -c stmrun -n '__fish_seen_subcommand_from explore' -l level -d 'The level of every start, in the place of its own' -x -a 'SerializableSnapshot Serializable RepeatableReads ReadCommitted'
-complete -c stmrun -n '__fish_seen_subcommand_from explore' -l budget -d 'How many events are taken at most, 5000000 if not said' -x -a ''
+complete -c stmrun -n '__fish_seen_subcommand_from explore' -l budget -d 'How many events are taken at most, 1500000 if not said' -x -a ''
+complete -c stmrun -n '__fish_seen_subcommand_from explore' -l after -d 'Which runners make no step before another has ended' -x -a ''
 complete -c stmrun -n '__fish_seen_subcommand_from explore' -l explain -d 'Explains faults, of an input or of a run'
 complete -c stmrun -n '__fish_seen_subcommand_from explore' -a '--explain=never'
 complete -c stmrun -n '__fish_seen_subcommand_from explore' -l help -d 'Print help'
@@ -35,5 +36,10 @@ complete -c stmrun -n __fish_use_subcommand -a show -d 'Prints a scenario, or a 
 complete -c stmrun -n '__fish_seen_subcommand_from show' -F
 complete -c stmrun -n '__fish_seen_subcommand_from show' -l program -d 'Whether the input is a program, and no scenario'
 complete -c stmrun -n '__fish_seen_subcommand_from show' -l help -d 'Print help'
+complete -c stmrun -n __fish_use_subcommand -a compile -d 'Prints the scenario of a source as JSON'
+complete -c stmrun -n '__fish_seen_subcommand_from compile' -F
+complete -c stmrun -n '__fish_seen_subcommand_from compile' -l explain -d 'Explains faults, of an input or of a run'
+complete -c stmrun -n '__fish_seen_subcommand_from compile' -a '--explain=never'
+complete -c stmrun -n '__fish_seen_subcommand_from compile' -l help -d 'Print help'
 complete -c stmrun -n __fish_use_subcommand -a help -d 'Prints the help of a command or a topic'
-complete -c stmrun -n '__fish_seen_subcommand_from help' -a 'script check threads recipe explore show language causes'
+complete -c stmrun -n '__fish_seen_subcommand_from help' -a 'script check threads recipe explore show compile language causes'

@@ -46,6 +46,8 @@ Runs the program of the file (- for standard input) on an etcd cluster, and prin
   --timeout TIME         ends the run after that time, as 5s (if not said: 10s)
   --user NAME[:PASSWORD] the password is asked of the environment's ETCD_PASSWORD if not said
   --cacert, --cert, --key FILE   for TLS
+  --explain              says where in the file a program that is none is wrong, and where a run came to a fault, as FILE:LINE:COLUMN: WORDS on standard
+                         error; the default where that is a terminal, which --explain=false ends
 Options may begin with one dash, too.
 
 Statuses: 0 committed, 1 ended otherwise and nothing committed, 2 bad program or usage, 3 the cluster or a device failed and nothing was committed,
@@ -59,6 +61,7 @@ type settings struct {
 	key                    string
 	attempts               uint
 	timeout                time.Duration
+	explain                bool
 	words                  []string
 }
 
@@ -80,11 +83,16 @@ func answer(arguments []string) int {
 		fmt.Fprintln(os.Stderr, "etcd/stm --help has the options")
 		return statusBad
 	}
-	program, status := programOf(said.words[0])
-	if program == nil {
-		return status
+	text, err := textOf(said.words[0])
+	if err != nil {
+		say(err)
+		return statusDevice
 	}
-	return run(said, program)
+	program, err := stmprogram.Load(text)
+	if err != nil {
+		return refused(said, text, err)
+	}
+	return run(said, text, program)
 }
 
 func settingsOf(arguments []string) (*settings, error) {
@@ -99,6 +107,7 @@ func settingsOf(arguments []string) (*settings, error) {
 	flags.StringVar(&said.authority, "cacert", "", "")
 	flags.StringVar(&said.certificate, "cert", "", "")
 	flags.StringVar(&said.key, "key", "", "")
+	flags.BoolVar(&said.explain, "explain", isTerminal(os.Stderr), "")
 	if err := flags.Parse(arguments); err != nil {
 		return nil, err
 	}
@@ -126,19 +135,27 @@ func (s *settings) check(flags *flag.FlagSet) error {
 	return nil
 }
 
-// programOf reads the program of a file; where there is none, it says why and returns the status.
-func programOf(path string) (*stmprogram.Program, int) {
-	text, err := textOf(path)
-	if err != nil {
-		say(err)
-		return nil, statusDevice
+func isTerminal(file *os.File) bool {
+	found, err := file.Stat()
+	return err == nil && found.Mode()&os.ModeCharDevice != 0
+}
+
+// refused says why a text is no program.
+func refused(said *settings, text []byte, err error) int {
+	say(fmt.Errorf("%s: bad program %v", said.words[0], err))
+	if fault := (*reading.Fault)(nil); errors.As(err, &fault) {
+		offset, words := stmprogram.Explained(text, fault)
+		said.point(text, offset, words)
 	}
-	program, err := stmprogram.Load(text)
-	if err != nil {
-		say(fmt.Errorf("%s: bad program %v", path, err))
-		return nil, statusBad
+	return statusBad
+}
+
+// point says what stands at a place of the program's file, where that is asked for.
+func (s *settings) point(text []byte, offset int, words string) {
+	if s.explain {
+		line, column := stmprogram.Position(text, offset)
+		fmt.Fprintf(os.Stderr, "%s:%d:%d: %s\n", s.words[0], line, column, words)
 	}
-	return program, statusDone
 }
 
 func textOf(path string) ([]byte, error) {
@@ -153,7 +170,7 @@ func textOf(path string) ([]byte, error) {
 	return io.ReadAll(io.LimitReader(file, reading.LongestInput+1))
 }
 
-func run(said *settings, program *stmprogram.Program) int {
+func run(said *settings, text []byte, program *stmprogram.Program) int {
 	ctx, stop := signal.NotifyContext(context.Background(), os.Interrupt, syscall.SIGTERM)
 	defer stop()
 	ctx, cancel := context.WithTimeout(ctx, said.timeout)
@@ -172,7 +189,11 @@ func run(said *settings, program *stmprogram.Program) int {
 	if err != nil {
 		return failed(fmt.Errorf("%s: %w", said.endpoints, err))
 	}
-	return printed(result)
+	status := printed(result)
+	if result.End == stmprogram.IsFaulted && result.Stopped != nil {
+		said.point(text, reading.Offset(text, reading.Steps(result.Stopped.Place)), result.Stopped.Reason(result.Detail))
+	}
+	return status
 }
 
 func connect(ctx context.Context, said *settings) (*clientv3.Client, error) {

@@ -30,6 +30,8 @@ type Attempt struct {
 	Output []Value
 	// Trace has an item for each get and rev, in order, those of written keys too.
 	Trace []Looked
+	// Stopped is where the run came to its fault, nil where it came to none.
+	Stopped *Stopped
 
 	memory    Memory
 	variables [16]Value
@@ -59,6 +61,14 @@ func (a *Attempt) run(statements []*node) error {
 	return nil
 }
 
+// noted keeps where a fault comes from: the innermost node that it passes.
+func (a *Attempt) noted(n *node, values []Value, err error) error {
+	if _, isFault := err.(Faulted); isFault && a.Stopped == nil {
+		a.Stopped = &Stopped{n.place, values}
+	}
+	return err
+}
+
 func (a *Attempt) statement(n *node) error {
 	switch n.word {
 	case "if":
@@ -77,6 +87,11 @@ func (a *Attempt) statement(n *node) error {
 	if err != nil {
 		return err
 	}
+	return a.noted(n, values, a.simple(n, values))
+}
+
+// simple runs a statement that has no other in it, by the values of its parts.
+func (a *Attempt) simple(n *node, values []Value) error {
 	switch n.word {
 	case "set":
 		a.variables[n.variable] = values[0]
@@ -101,13 +116,13 @@ func (a *Attempt) loop(n *node) error {
 	case err != nil:
 		return err
 	case count.IsText:
-		return Faulted("Kind")
+		return a.noted(n, []Value{count}, Faulted("Kind"))
 	case count.Number > n.limit:
-		return Faulted("LoopTooLong")
+		return a.noted(n, []Value{count}, Faulted("LoopTooLong"))
 	}
 	for turn := int64(0); turn < count.Number; turn++ {
 		if a.turns == mostTurns {
-			return Faulted("TurnLimit")
+			return a.noted(n, nil, Faulted("TurnLimit"))
 		}
 		a.turns++
 		a.variables[n.variable] = NumberOf(turn)
@@ -198,7 +213,13 @@ func (a *Attempt) evaluate(n *node) (Value, error) {
 	if err != nil {
 		return Value{}, err
 	}
-	switch n.word {
+	value, err := a.valueOf(n.word, values)
+	return value, a.noted(n, values, err)
+}
+
+// valueOf is the value of an expression that begins with this word, by those of its parts.
+func (a *Attempt) valueOf(word string, values []Value) (Value, error) {
+	switch word {
 	case "get":
 		return a.get(values[0])
 	case "rev":
@@ -213,7 +234,7 @@ func (a *Attempt) evaluate(n *node) (Value, error) {
 	case "num_of":
 		return written(values[0])
 	}
-	return computed(n.word, values[0], values[1])
+	return computed(word, values[0], values[1])
 }
 
 func (a *Attempt) holds(n *node) (bool, error) {
@@ -234,7 +255,7 @@ func (a *Attempt) holds(n *node) (bool, error) {
 	}
 	left, right := values[0], values[1]
 	if left.IsText != right.IsText {
-		return false, Faulted("Kind")
+		return false, a.noted(n, values, Faulted("Kind"))
 	}
 	if n.word == "eq" {
 		return left == right, nil

@@ -63,6 +63,7 @@ func Read(value interface{}, place string) (*Program, error) {
 // node is a statement, an expression or a condition of a program.
 type node struct {
 	word     string // "text" and "number" for these
+	place    string
 	text     string // of a text
 	number   int64  // of a number
 	variable int64
@@ -179,10 +180,10 @@ func (r *programReader) expression(value interface{}, place string, depth int) (
 		if len(v) > longestText {
 			return nil, &reading.Fault{Place: place, Cause: "TooLong"}
 		}
-		return &node{word: "text", text: v}, nil
+		return &node{word: "text", place: place, text: v}, nil
 	case json.Number:
 		number, err := reading.Number(v, place, math.MinInt64, math.MaxInt64)
-		return &node{word: "number", number: number}, err
+		return &node{word: "number", place: place, number: number}, err
 	}
 	return r.worded(value, place, depth, expressionForms, expressionLengths)
 }
@@ -200,7 +201,7 @@ func (r *programReader) worded(value interface{}, place string, depth int, forms
 	if err != nil {
 		return nil, err
 	}
-	read := &node{word: word}
+	read := &node{word: word, place: place}
 	for i, kind := range forms[word] {
 		if err := r.element(read, kind, elements[i+1], reading.Within(place, i+1), depth+1); err != nil {
 			return nil, err

@@ -50,6 +50,7 @@ type Result struct {
 	Attempts int64  // how many commits were sent
 	Output   []Value
 	Trace    []Looked
+	Stopped  *Stopped // of a fault where the program stopped, else nil
 }
 
 // Unknown is the error of a run whose commit was sent and had no answer: it may have been made, now or later, or not.
@@ -148,7 +149,7 @@ func (r *running) ended(err error) (Result, error) {
 }
 
 func (r *running) result(end End, detail string, revision int64) Result {
-	return Result{end, detail, revision, r.sent, r.attempt.Output, r.attempt.Trace}
+	return Result{end, detail, revision, r.sent, r.attempt.Output, r.attempt.Trace, r.attempt.Stopped}
 }
 
 // refusals are the names of etcd's refusals of a transaction, a lease call or a compaction.

@@ -3,9 +3,12 @@ package stmprogram
 import (
 	"context"
 	"errors"
+	"fmt"
 	"testing"
 
 	"go.etcd.io/etcd/etcdserver/api/v3rpc/rpctypes"
+
+	"stmprogram/reading"
 )
 
 const increment = `[["set",0,["get","n"]],["if",["eq",["var",0],""],[["set",0,"0"]],[]],["put","n",["text_of",["add",["num_of",["var",0]],1]],0],["emit",["var",0]]]`
@@ -184,5 +187,45 @@ func TestLostAnswers(t *testing.T) {
 	fetch.before = answers(rpctypes.ErrTimeout, false)
 	if err := run(fetch, increment); err == nil || isUnknown(err) {
 		t.Errorf("fetch: %v", err)
+	}
+}
+
+// What was found and is wanted, and where, of texts that are no program.
+func TestExplainsBadPrograms(t *testing.T) {
+	for text, wanted := range map[string]string{
+		"[[\"del\",\"b\"],\n [\"put\",\"a\",\"1\"]]": `2:2: elements after "put": 2 found, 3 wanted: ["put",EXPRESSION,EXPRESSION,LEASE]`,
+		`[["set",16,1]]`:                   `1:9: found 16, where a variable, 0 to 15, is wanted`,
+		`[["if",["eq",1,1],["abort"],[]]]`: `1:20: found "abort", where a statement is wanted: an array that begins with one of abort, del, emit, for, if, put, set`,
+		`[["prefetch",["a",""]]]`:          `1:19: found "", where a text that is not empty and stands in the list once is wanted`,
+		"[[\"emit\",1],\n]":                `2:1: no JSON: invalid character ']' looking for beginning of value`,
+	} {
+		_, err := Load([]byte(text))
+		fault, isFault := err.(*reading.Fault)
+		if !isFault {
+			t.Fatalf("%s: %v", text, err)
+		}
+		offset, words := Explained([]byte(text), fault)
+		line, column := Position([]byte(text), offset)
+		if got := fmt.Sprintf("%d:%d: %s", line, column, words); got != wanted {
+			t.Errorf("%s: %s", text, got)
+		}
+	}
+}
+
+// The innermost node at which a run stopped, with the values of its parts.
+func TestExplainsFaults(t *testing.T) {
+	for text, wanted := range map[string]string{
+		`[["put","n","1",0],["emit",["div",1,["sub",2,2]]]]`:    `ZeroDivisor at /1/1: of 1 and 0`,
+		`[["if",["eq",0,["num_of",["get","n"]]],[],[]]]`:        `NotANumber at /0/1/2: of ""`,
+		`[["for",0,9,8,[["abort","no"]]]]`:                      `LoopTooLong at /0: of 9`,
+		`[["for",0,2,2,[["if",["less",["var",0],"b"],[],[]]]]]`: `Kind at /0/4/0/1: of 0 and "b"`,
+	} {
+		result, err := Run(context.Background(), newStore().client(), load(t, text), Levels["Serializable"])
+		if err != nil || result.Stopped == nil {
+			t.Fatalf("%s: %v %v", text, err, result)
+		}
+		if got := result.Stopped.Reason(result.Detail); got != wanted {
+			t.Errorf("%s: %s", text, got)
+		}
 	}
 }

@@ -5,7 +5,7 @@ use std::alloc::Global;
 use std::cell::Cell;
 use std::io;
 use std::time::{Clock, Duration};
-use stm_exploring::{Budget, Observer, ProgressNotes, Std, explore_to};
+use stm_exploring::{Audience, Budget, Observer, ProgressNotes, Std, explore_to};
 
 /// Two programs that each put a key.
 const TWO_PUTS: &str =
@@ -27,6 +27,14 @@ impl Observer for Listener {
     }
 }
 
+impl Audience for Listener {
+    fn wants_all(&self) -> bool {
+        true
+    }
+
+    fn hear(&mut self, _line: &str) {}
+}
+
 /// How often it is notified by a search for a schedule that breaks this rule.
 fn endings(alloc: Global, keeps: &str) -> u8 {
     let mut scenario = Std::new(TWO_PUTS.as_bytes());
@@ -41,6 +49,7 @@ fn endings(alloc: Global, keeps: &str) -> u8 {
         alloc,
         &mut scenario,
         &mut keeps,
+        &[],
         None,
         &mut budget,
         &mut out,

@@ -11,7 +11,7 @@ use Rattle.clap.specs.declared.error.Error.{Error}
 use Rattle.clap.specs.declared.parser.matches.ArgMatches.{ArgMatches}
 use Rattle.stm_arguments.specs.declared.arguments.TheConstants.{MOST_WORKERS}
 use Rattle.stm_arguments.specs.declared.arguments.Asked.{Asked}
-use Rattle.stm_arguments.specs.declared.arguments.Asked.TheVariants.{Script, Check, Threads, Recipe, Explore, Show, Nothing}
+use Rattle.stm_arguments.specs.declared.arguments.Asked.TheVariants.{Script, Check, Threads, Recipe, Explore, Show, Compile, Nothing}
 use Rattle.stm_arguments.specs.Asking.{Asks, AsksBy, HasFiles, HasName, HasSearch, HasNumbers, IsWhole}
 use Rattle.stm_arguments.specs.CommandLine.{IsStatusOf, IsReportedBy, faults_of, stmrun_app}
 
@@ -36,8 +36,9 @@ asks words (Script file format explain) none by = (none, by)
 asks words (Check scenario report whole explain) none by = (none, by)
 asks words (Threads file workers ends repeat explain) none by = (none, by)
 asks words (Recipe named) none by = (none, by)
-asks words (Explore scenario keeps level budget explain) none by = (none, by)
+asks words (Explore scenario keeps level budget after explain) none by = (none, by)
 asks words (Show file program) none by = (none, by)
+asks words (Compile file explain) none by = (none, by)
 asks words (Nothing status) none by = absurd (asks_something (subcommand_of stmrun_app words) status by)
 
 -- ---- the number of threads, and that of runs
@@ -122,16 +123,32 @@ recipe_or_show name = not_both name (codes "recipe") (codes "show") (λ (same : 
 explore_or_show : (name : Text) → name ≡ codes "explore" → name ≡ codes "show" → ⊥
 explore_or_show name = not_both name (codes "explore") (codes "show") (λ (same : 101 ≡ 115). absurd (omega (arith, same)))
 
+abbrev second_byte : Text → ℕ
+second_byte [] = 0
+second_byte (b ∷ bs) = first_byte bs
+
+check_or_compile : (name : Text) → name ≡ codes "check" → name ≡ codes "compile" → ⊥
+check_or_compile name is other = let same : 104 ≡ 111 = ap second_byte (sym is ∙ other) in absurd (omega (arith, same))
+
+threads_or_compile : (name : Text) → name ≡ codes "threads" → name ≡ codes "compile" → ⊥
+threads_or_compile name = not_both name (codes "threads") (codes "compile") (λ (same : 116 ≡ 99). absurd (omega (arith, same)))
+
+recipe_or_compile : (name : Text) → name ≡ codes "recipe" → name ≡ codes "compile" → ⊥
+recipe_or_compile name = not_both name (codes "recipe") (codes "compile") (λ (same : 114 ≡ 99). absurd (omega (arith, same)))
+
+explore_or_compile : (name : Text) → name ≡ codes "explore" → name ≡ codes "compile" → ⊥
+explore_or_compile name = not_both name (codes "explore") (codes "compile") (λ (same : 101 ≡ 99). absurd (omega (arith, same)))
+
 -- what is said of each command that is whole
 each : (name : Text) (rows : List Row) → (name ≡ codes "script" → ⊥) → (name ≡ codes "check" → HasFiles rows → ⊥)
     → (name ≡ codes "threads" → HasNumbers rows → ⊥) → (name ≡ codes "recipe" → HasName rows → ⊥) → (name ≡ codes "explore" → HasSearch rows → ⊥)
-    → (name ≡ codes "show" → ⊥) → IsWhole (Some (name, rows)) → ⊥
-each name rows script check threads recipe explore show whole = ⊎_elim
+    → (name ≡ codes "show" → ⊥) → (name ≡ codes "compile" → ⊥) → IsWhole (Some (name, rows)) → ⊥
+each name rows script check threads recipe explore show compile whole = ⊎_elim
     (λ is. script is)
     (λ rest. ⊎_elim
     (λ is. check is.0 is.1)
     (λ more. ⊎_elim (λ is. threads is.0 is.1) (λ others. ⊎_elim (λ is. recipe is.0 is.1)
-    (λ last. ⊎_elim (λ is. explore is.0 is.1) (λ is. show is) last) others) more)
+    (λ last. ⊎_elim (λ is. explore is.0 is.1) (λ texts. ⊎_elim (λ is. show is) (λ is. compile is) texts) last) others) more)
     rest)
     whole
 
@@ -142,6 +159,7 @@ whole_check name rows (Some asked) is other missing = tt
 whole_check name rows None is other missing =
     each name rows other (λ _. missing) (λ threads _. check_or_threads name is threads) (λ recipe _. check_or_recipe name is recipe)
     (λ explore _. check_or_explore name is explore) (λ show. check_or_show name is show)
+    (λ compile. check_or_compile name is compile)
 
 -- nor is a run without its number of threads
 pub whole_threads : (name : Text) (rows : List Row) (o : Option Asked) → name ≡ codes "threads" → (name ≡ codes "script" → ⊥)
@@ -150,6 +168,7 @@ whole_threads name rows (Some asked) is other missing = tt
 whole_threads name rows None is other missing =
     each name rows other (λ check _. check_or_threads name check is) (λ _. missing) (λ recipe _. threads_or_recipe name is recipe)
     (λ explore _. threads_or_explore name is explore) (λ show. threads_or_show name is show)
+    (λ compile. threads_or_compile name is compile)
 
 -- nor a recipe without its name
 pub whole_recipe : (name : Text) (rows : List Row) (o : Option Asked) → name ≡ codes "recipe" → (name ≡ codes "script" → ⊥)
@@ -158,6 +177,7 @@ whole_recipe name rows (Some asked) is other missing = tt
 whole_recipe name rows None is other missing =
     each name rows other (λ check _. check_or_recipe name check is) (λ threads _. threads_or_recipe name threads is) (λ _. missing)
     (λ explore _. recipe_or_explore name is explore) (λ show. recipe_or_show name is show)
+    (λ compile. recipe_or_compile name is compile)
 
 -- nor a search without its scenario, or with what is no number of events
 pub whole_explore : (name : Text) (rows : List Row) (o : Option Asked) → name ≡ codes "explore" → (name ≡ codes "script" → ⊥)
@@ -166,10 +186,11 @@ whole_explore name rows (Some asked) is other missing = tt
 whole_explore name rows None is other missing =
     each name rows other (λ check _. check_or_explore name check is) (λ threads _. threads_or_explore name threads is)
     (λ recipe _. recipe_or_explore name recipe is) (λ _. missing) (λ show. explore_or_show name is show)
+    (λ compile. explore_or_compile name is compile)
 
 -- nor one of another name
 pub whole_other : (name : Text) (rows : List Row) → (name ≡ codes "script" → ⊥) → (name ≡ codes "check" → ⊥) → (name ≡ codes "threads" → ⊥)
     → (name ≡ codes "recipe" → ⊥) → (name ≡ codes "explore" → ⊥) → (name ≡ codes "show" → ⊥)
-    → IsWhole (Some (name, rows)) → ⊥
-whole_other name rows script check threads recipe explore show =
-    each name rows script (λ is _. check is) (λ is _. threads is) (λ is _. recipe is) (λ is _. explore is) show
+    → (name ≡ codes "compile" → ⊥) → IsWhole (Some (name, rows)) → ⊥
+whole_other name rows script check threads recipe explore show compile =
+    each name rows script (λ is _. check is) (λ is _. threads is) (λ is _. recipe is) (λ is _. explore is) show compile

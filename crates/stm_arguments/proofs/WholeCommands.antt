@@ -538,32 +538,37 @@ explore_shape = first_of_subs (drop 4 whole_app.subs)
 abbrev show_shape : Shape
 show_shape = first_of_subs (drop 5 whole_app.subs)
 
+abbrev compile_shape : Shape
+compile_shape = first_of_subs (drop 6 whole_app.subs)
+
 abbrev help_shape : Shape
-help_shape = first_of_subs (drop 6 whole_app.subs)
+help_shape = first_of_subs (drop 7 whole_app.subs)
 
 abbrev IsNoHelp : Text → Type 0
 IsNoHelp name = answers_to name (codes "help", []) ≡ false
 
 -- the subcommand that a word without a fault names is not help
-abbrev picked : Bool → Bool → Bool → Bool → Bool → Bool → Bool → Option (Text × List Text)
-picked one two three four five six seven =
+abbrev picked : Bool → Bool → Bool → Bool → Bool → Bool → Bool → Bool → Option (Text × List Text)
+picked one two three four five six seven eight =
     cond one (Some (codes "script", []))
     (cond two (Some (codes "check", []))
     (cond three (Some (codes "threads", []))
     (cond four (Some (codes "recipe", [])) (cond five (Some (codes "explore", []))
-    (cond six (Some (codes "show", [])) (cond seven (Some (codes "help", [])) None))))))
+    (cond six (Some (codes "show", [])) (cond seven (Some (codes "compile", []))
+    (cond eight (Some (codes "help", [])) None)))))))
 
-named_so : (one two three four five six seven : Bool) (word : Text) (h : Held)
-    → other_fault whole_app.top (option_map (λ (s : Text × List Text). s.0) (picked one two three four five six seven)) word h ≡ []
-    → IfSome (option_map (λ (s : Text × List Text). s.0) (picked one two three four five six seven)) IsNoHelp
-named_so true two three four five six seven word h none = refl
-named_so false true three four five six seven word h none = refl
-named_so false false true four five six seven word h none = refl
-named_so false false false true five six seven word h none = refl
-named_so false false false false true six seven word h none = refl
-named_so false false false false false true seven word h none = refl
-named_so false false false false false false true word h none = absurd (some_kind _ _ none)
-named_so false false false false false false false word h none = tt
+named_so : (one two three four five six seven eight : Bool) (word : Text) (h : Held)
+    → other_fault whole_app.top (option_map (λ (s : Text × List Text). s.0) (picked one two three four five six seven eight)) word h ≡ []
+    → IfSome (option_map (λ (s : Text × List Text). s.0) (picked one two three four five six seven eight)) IsNoHelp
+named_so true two three four five six seven eight word h none = refl
+named_so false true three four five six seven eight word h none = refl
+named_so false false true four five six seven eight word h none = refl
+named_so false false false true five six seven eight word h none = refl
+named_so false false false false true six seven eight word h none = refl
+named_so false false false false false true seven eight word h none = refl
+named_so false false false false false false true eight word h none = refl
+named_so false false false false false false false true word h none = absurd (some_kind _ _ none)
+named_so false false false false false false false false word h none = tt
 
 called : (is_trailing : Bool) (waiting : Waiting) (word : Text) (h : Held) → word_fault whole_app.top (names_of whole_app) is_trailing waiting word h ≡ []
     → is_trailing ≡ false → IfSome (subcommand_met (names_of whole_app) waiting word) IsNoHelp
@@ -573,7 +578,7 @@ called false positional word h none first = tt
 called false idle word h none first =
     named_so (answers_to word (codes "script", [])) (answers_to word (codes "check", [])) (answers_to word (codes "threads", []))
     (answers_to word (codes "recipe", [])) (answers_to word (codes "explore", [])) (answers_to word (codes "show", []))
-    (answers_to word (codes "help", [])) word h none
+    (answers_to word (codes "compile", [])) (answers_to word (codes "help", [])) word h none
 
 -- the word itself passes where its turn does
 word_passes : (stop : Option (Text × List Text)) (a b : Kinds) → cond (is_some stop) [] (or_else a b) ≡ [] → stop ≡ None → a ≡ []
@@ -738,14 +743,15 @@ explore_sets =
     let keeps = one_value IsBudgetIfThere again (first_of_rules (drop 1 explore_shape.rules)) refl refl (λ v vs none same. absurd (true≢false (sym same))) in
     let level = one_value IsBudgetIfThere again (first_of_rules (drop 2 explore_shape.rules)) refl refl (λ v vs none same. absurd (true≢false (sym same))) in
     let budget = one_value IsBudgetIfThere again (first_of_rules (drop 3 explore_shape.rules)) refl refl (λ v vs none same. any_number_passes v _ none) in
-    let explain = one_flag IsBudgetIfThere again (first_of_rules (drop 4 explore_shape.rules)) refl refl refl (λ same. absurd (true≢false (sym same))) in
-    (scenario, (keeps, (level, (budget, (explain, (no_request IsBudgetIfThere again (first_of_rules (drop 5 explore_shape.rules)) refl, tt))))))
+    let after = one_value IsBudgetIfThere again (first_of_rules (drop 4 explore_shape.rules)) refl refl (λ v vs none same. absurd (true≢false (sym same))) in
+    let explain = one_flag IsBudgetIfThere again (first_of_rules (drop 5 explore_shape.rules)) refl refl refl (λ same. absurd (true≢false (sym same))) in
+    (scenario, (keeps, (level, (budget, (after, (explain, (no_request IsBudgetIfThere again (first_of_rules (drop 6 explore_shape.rules)) refl, tt)))))))
 
 search_given : (words : List Text) → level_fault explore_shape [] nothing_held words false [] ≡ [] → HasSearch (rows_after explore_shape.rules [] words)
 search_given words none =
     let rows = rows_after explore_shape.rules [] words in
     let kept = level_starts IsBudgetIfThere explore_shape explore_sets words
-    (tt, (tt, (tt, (tt, ((λ same. absurd (true≢false (sym same))), (tt, tt)))))) none in
+    (tt, (tt, (tt, (tt, (tt, ((λ same. absurd (true≢false (sym same))), (tt, tt))))))) none in
     let given = one_given (is_given (codes "SCENARIO") rows) (last_checks explore_shape rows false kept.1).1 in
     let scenario = given_first IsBudgetIfThere (AnyText []) (codes "SCENARIO") rows (λ other v same may. tt) kept.0 given in (
       is_there (first_of (codes "SCENARIO") rows) (AnyText []) scenario,
@@ -754,26 +760,27 @@ search_given words none =
 
 -- ---- the whole command line
 
-abbrev picked_shape : Bool → Bool → Bool → Bool → Bool → Bool → Bool → Option Shape
-picked_shape one two three four five six seven =
+abbrev picked_shape : Bool → Bool → Bool → Bool → Bool → Bool → Bool → Bool → Option Shape
+picked_shape one two three four five six seven eight =
     cond one (Some script_shape)
     (cond two (Some check_shape)
     (cond three (Some threads_shape)
     (cond four (Some recipe_shape) (cond five (Some explore_shape)
-    (cond six (Some show_shape) (cond seven (Some help_shape) None))))))
+    (cond six (Some show_shape) (cond seven (Some compile_shape) (cond eight (Some help_shape) None)))))))
 
-chosen : (one two three four five six seven : Bool) (words : List Text) → seven ≡ false
-    → option_map_or (λ (s : Shape). level_fault s [] nothing_held words false []) (picked_shape one two three four five six seven) [] ≡ []
-    → (not (is_some (option_map (λ (s : Shape). rows_at s words) (picked_shape one two three four five six seven))) && true) ≡ false
-    → IsWhole (option_map (λ (s : Shape). rows_at s words) (picked_shape one two three four five six seven))
-chosen true two three four five six seven words no_help none entered_one = inl refl
-chosen false true three four five six seven words no_help none entered_one = inr (inl (refl, files_given words none))
-chosen false false true four five six seven words no_help none entered_one = inr (inr (inl (refl, numbers_given words none)))
-chosen false false false true five six seven words no_help none entered_one = inr (inr (inr (inl (refl, name_given words none))))
-chosen false false false false true six seven words no_help none entered_one = inr (inr (inr (inr (inl (refl, search_given words none)))))
-chosen false false false false false true seven words no_help none entered_one = inr (inr (inr (inr (inr refl))))
-chosen false false false false false false true words no_help none entered_one = absurd (true≢false no_help)
-chosen false false false false false false false words no_help none entered_one = absurd (true≢false entered_one)
+chosen : (one two three four five six seven eight : Bool) (words : List Text) → eight ≡ false
+    → option_map_or (λ (s : Shape). level_fault s [] nothing_held words false []) (picked_shape one two three four five six seven eight) [] ≡ []
+    → (not (is_some (option_map (λ (s : Shape). rows_at s words) (picked_shape one two three four five six seven eight))) && true) ≡ false
+    → IsWhole (option_map (λ (s : Shape). rows_at s words) (picked_shape one two three four five six seven eight))
+chosen true two three four five six seven eight words no_help none entered_one = inl refl
+chosen false true three four five six seven eight words no_help none entered_one = inr (inl (refl, files_given words none))
+chosen false false true four five six seven eight words no_help none entered_one = inr (inr (inl (refl, numbers_given words none)))
+chosen false false false true five six seven eight words no_help none entered_one = inr (inr (inr (inl (refl, name_given words none))))
+chosen false false false false true six seven eight words no_help none entered_one = inr (inr (inr (inr (inl (refl, search_given words none)))))
+chosen false false false false false true seven eight words no_help none entered_one = inr (inr (inr (inr (inr (inl refl)))))
+chosen false false false false false false true eight words no_help none entered_one = inr (inr (inr (inr (inr (inr refl)))))
+chosen false false false false false false false true words no_help none entered_one = absurd (true≢false no_help)
+chosen false false false false false false false false words no_help none entered_one = absurd (true≢false entered_one)
 
 named : (stop : Option (Text × List Text)) → IfSome stop (λ p. IsNoHelp p.0) → entered_fault whole_app stop ≡ []
     → (not (is_some (entered whole_app stop)) && true) ≡ false → IsWhole (entered whole_app stop)
@@ -781,7 +788,7 @@ named None no_help none entered_one = absurd (true≢false entered_one)
 named (Some p) no_help none entered_one =
     chosen (answers_to p.0 (label_of script_shape)) (answers_to p.0 (label_of check_shape)) (answers_to p.0 (label_of threads_shape))
     (answers_to p.0 (label_of recipe_shape)) (answers_to p.0 (label_of explore_shape)) (answers_to p.0 (label_of show_shape))
-    (answers_to p.0 (label_of help_shape)) p.1 no_help none
+    (answers_to p.0 (label_of compile_shape)) (answers_to p.0 (label_of help_shape)) p.1 no_help none
     entered_one
 
 pub whole_command : (words : List Text) → fault_of stmrun_app words ≡ [] → IsWhole (subcommand_of stmrun_app words)

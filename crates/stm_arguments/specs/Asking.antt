@@ -9,7 +9,7 @@ use Rattle.stm_arguments.specs.declared.exploring.TheConstants.{USUAL_BUDGET}
 use Rattle.stm_arguments.specs.declared.arguments.TheConstants.{MOST_WORKERS}
 use Rattle.stm_arguments.specs.declared.repeating.TheConstants.{MOST_RUNS}
 use Rattle.stm_arguments.specs.declared.arguments.Asked.{Asked}
-use Rattle.stm_arguments.specs.declared.arguments.Asked.TheVariants.{Script, Check, Threads, Recipe, Explore, Show, Nothing}
+use Rattle.stm_arguments.specs.declared.arguments.Asked.TheVariants.{Script, Check, Threads, Recipe, Explore, Show, Compile, Nothing}
 use Rattle.stm_arguments.specs.CommandLine.{stmrun_app, faults_of, IsStatusOf}
 
 -- the text spells this number
@@ -54,7 +54,7 @@ RunsAt (Some text) runs = IsSomeAnd runs (λ n. (1 ≤ n) × (n ≤ MOST_RUNS) �
 -- in the format that it names, for a check of its files, a whole one where that flag is set, for a run of its file by the number of threads that it
 -- names, 1 to MOST_WORKERS, with the ends of its jobs where that flag is set, or for as many runs as it names, for the recipe of its words, for a search of
 -- its files, at the level of a name, with at most the events that it names, each but a recipe with its fault explained, where that flag is set, or for
--- the source of its file, or of standard input, that of a program where that flag is set
+-- the source of its file, or of standard input, that of a program where that flag is set, or for the scenario of the source that is its file
 abbrev pub AsksAt : Text → List Row → Asked → Type 0
 AsksAt name rows (Script file format explain) =
     (name ≡ codes "script") × (first_of (codes "FILE") rows ≡ option_map (λ path. path.now) file)
@@ -72,13 +72,16 @@ AsksAt name rows (Recipe words) =
     × (first_of (codes "FIRST") rows ≡ option_map (λ word. word.now) words.first)
     × (first_of (codes "SECOND") rows ≡ option_map (λ word. word.now) words.second)
     × (first_of (codes "THIRD") rows ≡ option_map (λ word. word.now) words.third)
-AsksAt name rows (Explore scenario keeps level budget explain) =
+AsksAt name rows (Explore scenario keeps level budget after explain) =
     (name ≡ codes "explore") × (first_of (codes "SCENARIO") rows ≡ Some scenario.now)
     × (first_of (codes "keeps") rows ≡ option_map (λ path. path.now) keeps)
     × (first_of (codes "level") rows ≡ option_map (λ name. name.now) level)
-    × BudgetAt (first_of (codes "budget") rows) budget × (explain ≡ is_set (first_of (codes "explain") rows))
+    × BudgetAt (first_of (codes "budget") rows) budget × (first_of (codes "after") rows ≡ option_map (λ waits. waits.now) after)
+    × (explain ≡ is_set (first_of (codes "explain") rows))
 AsksAt name rows (Show file program) =
     (name ≡ codes "show") × (first_of (codes "FILE") rows ≡ option_map (λ path. path.now) file) × (program ≡ is_set (first_of (codes "program") rows))
+AsksAt name rows (Compile file explain) =
+    (name ≡ codes "compile") × (first_of (codes "FILE") rows ≡ option_map (λ path. path.now) file) × (explain ≡ is_set (first_of (codes "explain") rows))
 AsksAt name rows (Nothing status) = ⊥
 
 -- the same, of the command that the words name
@@ -86,7 +89,7 @@ abbrev pub AsksBy : Option (Text × List Row) → Asked → Type 0
 AsksBy None asked = ⊥
 AsksBy (Some named) asked = AsksAt named.0 named.1 asked
 
--- a script, a check with its files, a run by threads, a recipe, a search, or a source, where the words have no fault, and else the status of their fault
+-- a script, a check with its files, a run by threads, a recipe, a search, a source, or the scenario of one, where the words have no fault, and else the status of their fault
 abbrev pub Asks : List Text → Asked → Type 0
 Asks words (Nothing status) = IsStatusOf (faults_of words) status
 Asks words asked = (faults_of words ≡ []) × AsksBy (subcommand_of stmrun_app words) asked
@@ -109,7 +112,7 @@ abbrev pub HasSearch : List Row → Type 0
 HasSearch rows = IsSome (first_of (codes "SCENARIO") rows) × IfSome (first_of (codes "budget") rows) (IsUnsignedIn 0 18446744073709551615)
 
 -- what is found of the command that the words name is that of a script, of a check with its files, of a run by a number of threads, of
--- a recipe with a name, of a search, or of a source
+-- a recipe with a name, of a search, of a source, or of the scenario of one
 abbrev pub IsWhole : Option (Text × List Row) → Type 0
 IsWhole None = ⊥
 IsWhole (Some named) =
@@ -117,4 +120,5 @@ IsWhole (Some named) =
     ⊎ (((named.0 ≡ codes "check") × HasFiles named.1)
     ⊎ (((named.0 ≡ codes "threads") × HasNumbers named.1)
     ⊎ (((named.0 ≡ codes "recipe") × HasName named.1)
-    ⊎ (((named.0 ≡ codes "explore") × HasSearch named.1) ⊎ (named.0 ≡ codes "show")))))
+    ⊎ (((named.0 ≡ codes "explore") × HasSearch named.1)
+    ⊎ ((named.0 ≡ codes "show") ⊎ (named.0 ≡ codes "compile"))))))

@@ -67,22 +67,28 @@ explore_app =
     with_rule
     (with_rule
     (with_rule
+    (with_rule
     (with_rule (with_rule (new_app (codes "explore")) (wanted (codes "SCENARIO"))) (option_rule (codes "keeps") AnyText))
     (option_rule (codes "level") AnyText))
     (option_rule (codes "budget") (Unsigned 0 18446744073709551615)))
+    (option_rule (codes "after") AnyText))
     explain_rule
 
 abbrev pub show_app : App
 show_app = with_rule (with_rule (new_app (codes "show")) (new_rule (codes "FILE"))) (flag_rule (codes "program"))
 
+abbrev pub compile_app : App
+compile_app = with_rule (with_rule (new_app (codes "compile")) (new_rule (codes "FILE"))) explain_rule
+
 -- a command that is added to another makes it that one with this as a subcommand, the last
 abbrev pub IsAddedAs : App → Command → Type 0
 IsAddedAs app command = (old new : Command) → AddsSubcommand old command new → app_of new ≡ with_subcommand (app_of old) app.top
 
--- stmrun: it has a version, and needs a subcommand, script, check, threads, recipe, explore or show
+-- stmrun: it has a version, and needs a subcommand, script, check, threads, recipe, explore, show or compile
 abbrev pub stmrun_app : App
 stmrun_app =
     with_subcommand
+    (with_subcommand
     (with_subcommand
     (with_subcommand
     (with_subcommand
@@ -90,7 +96,8 @@ stmrun_app =
     threads_app.top)
     recipe_app.top)
     explore_app.top)
-    show_app.top
+    show_app.top)
+    compile_app.top
 
 -- 0 for help and the version, 3 where memory ran out and 2 for usage
 abbrev pub status_of_kind : ErrorKind → ℕ

@@ -5,6 +5,7 @@ ghost use Rattle.clap.specs.Words.{IsUnsignedIn, app_of, first_of, found_of, kin
 ghost use Rattle.stm_arguments.specs.CommandLine.{format_rule, script_app, check_app, threads_app, recipe_app, stmrun_app, explain_rule, flag_rule, wanted, workers_rule, IsAddedAs, IsReportedBy};
 ghost use Rattle.stm_arguments.specs.Asking.{Asks, AsksAt, AsksBy, HasFiles, HasName, HasNumbers, IsWhole, NamesNumber, is_set};
 
+use crate::compiling::{compile_command, compile_of};
 use crate::exploring::{explore_command, explore_of, option};
 use crate::repeating::{MOST_RUNS, repeat_at};
 use crate::showing::{show_command, show_of};
@@ -12,8 +13,6 @@ use clap::builder::ValueParser;
 use clap::error::ErrorKind;
 use clap::{Arg, ArgAction, ArgMatches, Command, Error};
 use std::alloc::{AllocError, Global};
-use std::rt::Env;
-use std::{env, io};
 use stm_recipe_lines::RecipeWords;
 
 /// What a command line asks for.
@@ -57,6 +56,8 @@ pub enum Asked<'a> {
         level: Option<&'a str>,
         /// At most this many events are taken.
         budget: u64,
+        /// Which runners wait for which others, as it is spelled.
+        after: Option<&'a str>,
         /// Whether a fault is explained.
         explain: bool,
     },
@@ -66,20 +67,18 @@ pub enum Asked<'a> {
         /// Whether it is a program.
         program: bool,
     },
+    /// The scenario of a source, by the path of that; of standard input, where there is none.
+    Compile {
+        source: Option<&'a str>,
+        /// Whether a fault is explained.
+        explain: bool,
+    },
     /// Nothing more: help was printed, or the command line was refused, with this status.
     Nothing(u8),
 }
 
-/// Why the words of the command line could not be read.
-enum WordsFault {
-    /// An allocation failed.
-    OutOfMemory,
-    /// One of them is not UTF-8.
-    NotText,
-}
-
 /// How many threads may run jobs, at most.
-const MOST_WORKERS: usize = 16;
+pub const MOST_WORKERS: usize = 16;
 
 /// What `--version` prints after the name: the program's version, and the kit that it is proved with.
 const VERSION: &str = "0.1.0 (rattle-kit-13f)";
@@ -103,7 +102,8 @@ how many operations it takes in each list of a transaction, 1 to 128.
 
 LEVEL is ReadCommitted, RepeatableReads, Serializable or SerializableSnapshot. PROGRAM is an array of
 statements: stmrun help language has them, with the compares and operations of a txn, and stmrun help causes
-has why a text, an event or a program is refused; stmrun recipe prints ready programs. This scenario starts a program that puts a key, and lets it take a step:
+has why a text, an event or a program is refused; stmrun recipe prints ready programs. A file whose name ends in .stm
+is a scenario in words: stmrun compile --help. This scenario starts a program that puts a key, and lets it take a step:
 
   [[\"start\",\"Serializable\",1,[[\"put\",\"a\",\"1\",0]]],[\"step\",1]]
 
@@ -236,13 +236,6 @@ prints the program of this scenario, which makes account a and puts 30 there:
    [\"step\",1],[\"step\",1]]
 
 Statuses: 0 done, 2 usage, 3 out of memory or a failed device.";
-
-/// What is said of words that are not UTF-8, in the manner of the other usage faults.
-const NOT_TEXT: &str = "error: the command line is not UTF-8
-
-Usage: stmrun <COMMAND>
-
-For more information, try '--help'.";
 
 /// An argument that has to be there, by its place.
 pub(crate) fn required<'a>(alloc: Global, name: &'a str, help: &'a str) -> Arg<'a>
@@ -408,7 +401,9 @@ fn command<'a>(alloc: Global) -> Result<Command<'a>, AllocError>
     let explore = explore_command(alloc)?;
     let with_explore = with_recipe.subcommand(explore)?;
     let show = show_command(alloc)?;
-    with_explore.subcommand(show)
+    let with_show = with_explore.subcommand(show)?;
+    let compile = compile_command(alloc)?;
+    with_show.subcommand(compile)
 }
 
 /// The status of a command line that is refused, or that asks for help or the version, once its text is printed: 0 for help and
@@ -435,19 +430,6 @@ pub(crate) fn fail<R: Eprint>(rt: &R, line: &str, status: u8) -> u8
 {
     let _ = rt.eprintln(line);
     status
-}
-
-/// The words of this process's command line, the program's name first.
-fn words<R: Env + AllocGlobal>(rt: &R) -> Result<Vec<String>, WordsFault> {
-    let arguments = match env::args(rt) {
-        Ok(arguments) => arguments,
-        Err(error) if error.kind() == io::ErrorKind::InvalidData => return Err(WordsFault::NotText),
-        Err(_) => return Err(WordsFault::OutOfMemory),
-    };
-    match arguments.collect::<Vec<String>>(rt.alloc()) {
-        Ok(words) => Ok(words),
-        Err(_) => Err(WordsFault::OutOfMemory),
-    }
 }
 
 /// The word in the place of an argument.
@@ -579,6 +561,9 @@ fn asked_at<'a>(name: &str, found: &ArgMatches<'a>) -> Option<Asked<'a>>
     if name == "show" {
         return Some(show_of(found));
     }
+    if name == "compile" {
+        return Some(compile_of(found));
+    }
     None
 }
 
@@ -609,17 +594,5 @@ pub fn asked_of<'a, R: Print + Eprint>(rt: &R, alloc: Global, words: &'a [String
             None => unreachable!(),
         },
         Err(error) => Asked::Nothing(reported(rt, &error)),
-    }
-}
-
-/// The words of this process's command line, or the status where they cannot be read, which was printed: 2 where one of
-/// them is not UTF-8, and 3 where an allocation failed.
-pub fn read_words<R: Eprint + Env + AllocGlobal>(rt: &R) -> Result<Vec<String>, u8>
-    ensures { IfErr result (λ status. (status ≡ 2) ⊎ (status ≡ 3)) }
-{
-    match words(rt) {
-        Ok(words) => Ok(words),
-        Err(WordsFault::NotText) => Err(fail(rt, NOT_TEXT, 2)),
-        Err(WordsFault::OutOfMemory) => Err(fail(rt, "stmrun: out of memory", 3)),
     }
 }

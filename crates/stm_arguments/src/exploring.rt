@@ -11,10 +11,10 @@ use std::alloc::{AllocError, Global};
 use stm_program::Level;
 
 /// At most this many events are taken, where no number is named.
-pub(crate) const USUAL_BUDGET: u64 = 5000000;
+pub const USUAL_BUDGET: u64 = 1500000;
 
 const EXAMPLE: &str =
-    "SCENARIO is a scenario without steps. Its events up to the last start are run first. Then every schedule is looked
+    "The steps of SCENARIO are left out. Its events up to the last start are run first. Then every schedule is looked
 at: each way in which the runners' steps and the events after the last start, in their order, can be mixed, and each
 beginning of such a way, the shortest first.
 
@@ -22,9 +22,16 @@ With --keeps, PROGRAM is a rule: a program, as a start has one, that is run alon
 it comes to its last statement the schedule keeps the rule; where it aborts, or comes to a fault, the rule is broken:
 
   [\"always\",LENGTH]        every schedule keeps it, and the longest has LENGTH moves
+  [\"always\",null]          the same, by the orders alone in which the programs run one after another: at levels that
+                           compare reads these are enough. They are looked at once 4000 moves decided nothing, and
+                           a broken rule that they find need not be the first, nor the shortest
   [\"broken\",LENGTH,END]    this is the first that does not, with [\"aborted\",TEXT] or [\"faulted\",FAULT], and the next line
                            is the scenario with its steps in it, which stmrun script takes
   [\"open\",LENGTH]          N events were taken before that was decided; every schedule of up to LENGTH moves keeps it
+
+With --after 3:1 runner 3, as starts are numbered from 1, makes no step before runner 1 has ended: it is a later call of the
+same client. With --after 3:1:committed it makes none at all unless runner 1 committed. Several are separated by commas. They
+are for a search with --keeps, which then looks at every schedule in which the runners wait, and at no serial orders.
 
 Without --keeps, what whole schedules come to is printed, after which no move is left, each once: the keys with their
 values, and how each runner ended ([\"committed\",OUTPUT], [\"gaveup\",KEY], [\"aborted\",TEXT], [\"faulted\",FAULT] or
@@ -100,7 +107,14 @@ pub(crate) fn explore_command<'a>(alloc: Global) -> Result<Command<'a>, AllocErr
             "budget",
             "N",
             ValueParser::Unsigned(0, u64::MAX),
-            "How many events are taken at most, 5000000 if not said",
+            "How many events are taken at most, 1500000 if not said",
+        ))?
+        .arg(option(
+            alloc,
+            "after",
+            "RUNNER:FIRST,..",
+            ValueParser::String,
+            "Which runners make no step before another has ended; RUNNER:FIRST:committed: and none at all unless that one committed",
         ))?
         .arg(explain(alloc))
 }
@@ -136,6 +150,21 @@ pub fn read_level<R: Eprint>(rt: &R, name: Option<&str>) -> Result<Option<Level>
     }
 }
 
+/// What is said of waits that are spelled wrongly, or of which there is no use, in the manner of the other usage faults.
+const NO_WAITS: &str =
+    "error: invalid value for '--after <RUNNER:FIRST,..>': RUNNER:FIRST or RUNNER:FIRST:committed, with commas between them, and with --keeps
+
+Usage: stmrun explore [OPTIONS] <SCENARIO>
+
+For more information, try '--help'.";
+
+/// Says that waits are spelled wrongly, and gives the status.
+pub fn refuse_waits<R: Eprint>(rt: &R) -> u8
+    ensures { result ≡ 2 }
+{
+    fail(rt, NO_WAITS, 2)
+}
+
 /// The number that a text spells.
 fn number_in(text: &str) -> Option<u64>
     ensures number { IfSome result (NamesNumber text.now) }
@@ -167,12 +196,14 @@ pub(crate) fn explore_of<'a>(found: &ArgMatches<'a>) -> Option<Asked<'a>>
     let keeps = word_of(found, "keeps");
     let level = word_of(found, "level");
     let budget = budget_at(word_of(found, "budget"))?;
+    let after = word_of(found, "after");
     let explain = flag_of(found, "explain");
     Some(Asked::Explore {
         scenario,
         keeps,
         level,
         budget,
+        after,
         explain,
     })
 }

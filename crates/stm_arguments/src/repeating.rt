@@ -4,7 +4,7 @@ ghost use Rattle.clap.specs.Words.{IsUnsignedIn};
 ghost use Rattle.stm_arguments.specs.Asking.{NamesNumber, RunsAt};
 
 /// How many runs may be made, at most.
-pub(crate) const MOST_RUNS: u64 = 1000000;
+pub const MOST_RUNS: u64 = 1000000;
 
 /// A number that was read, where it is from 1 to `MOST_RUNS`.
 fn runs_at(number: u64) -> Option<u32>

@@ -26,6 +26,8 @@ Expressions
   [\"rev\",KEY]                         its modification revision, or 0      [\"rev\",\"a\"]
   [\"text_of\",NUMBER]                  the number in decimal                [\"text_of\",42]
   [\"num_of\",TEXT]                     the number that the text spells      [\"num_of\",[\"get\",\"a\"]]
+                                      with \"0\" in front, an absent key     [\"num_of\",[\"cat\",\"0\",[\"get\",\"a\"]]]
+                                      counts as 0 (not for one below 0)
   [\"cat\",TEXT,TEXT]                   the two texts joined                 [\"cat\",\"jobs/\",[\"text_of\",[\"var\",1]]]
   [\"add\",NUMBER,NUMBER]               the sum; also sub, mul, div and rem  [\"add\",[\"var\",0],1]
 

@@ -9,7 +9,10 @@ ghost use Rattle.stm_outcome.specs.declared.check.TheConstants.{MOST_OPERATIONS}
 ghost use Rattle.stm_recipes.specs.declared.names.TheConstants.{MAX_NAME};
 ghost use Rattle.stm_json.specs.declared.limits.TheConstants.{MOST_BYTES};
 ghost use Rattle.stm_devices.specs.declared.transfer.TheConstants.{MOST_READ};
-ghost use Rattle.stm_texts.specs.declared.events.TheConstants.{MOST_EVENTS};
+ghost use Rattle.stm_texts.specs.declared.events.TheConstants.{MOST_EVENTS, HIGHEST_LIMIT};
+ghost use Rattle.stm_arguments.specs.declared.arguments.TheConstants.{MOST_WORKERS as MOST_NAMED_WORKERS};
+ghost use Rattle.stm_arguments.specs.declared.repeating.TheConstants.{MOST_RUNS};
+ghost use Rattle.stm_arguments.specs.declared.exploring.TheConstants.{USUAL_BUDGET};
 ghost use Rattle.stm_workers.specs.declared.run.TheConstants.{MOST_WORKERS};
 
 /// A revision is at most one below the highest number of 64 bits with a sign, and every other number is at most that.
@@ -58,12 +61,20 @@ pub fn bounds_of_texts()
     ensures reads { MOST_READ ≡ 16777217 }
 {}
 
-/// A scenario has at most 100000 events.
+/// A scenario has at most 100000 events, and a start names at most 4294967295 commits.
 pub fn bounds_of_scenarios()
     ensures events { MOST_EVENTS ≡ 100000 }
+    ensures limit { HIGHEST_LIMIT ≡ 4294967295 }
 {}
 
 /// At most 16 threads run jobs.
 pub fn bounds_of_threads()
     ensures { MOST_WORKERS ≡ 16 }
+{}
+
+/// A command line names at most 16 workers and at most 1000000 runs, and a search that is given no budget takes 1500000 events.
+pub fn bounds_of_command_lines()
+    ensures workers { MOST_NAMED_WORKERS ≡ 16 }
+    ensures runs { MOST_RUNS ≡ 1000000 }
+    ensures budget { USUAL_BUDGET ≡ 1500000 }
 {}

@@ -1,9 +1,13 @@
 pub mod KeepLemmas
 pub mod MoveLemmas
-pub mod FewerLooks
-pub mod LookLemmas
 pub mod ExploreLemmas
+pub mod Walking
 pub mod GatherLemmas
 pub mod OutcomeLemmas
+pub mod LayerOutcomes
 pub mod ShownLemmas
-pub mod KeptLemmas
+pub mod LeaseLog
+pub mod SameRevisions
+pub mod AlikeStores
+pub mod PatientSchedules
+pub mod WaitingPlaces

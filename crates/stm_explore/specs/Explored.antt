@@ -1,13 +1,14 @@
 -- What a search through every schedule answers.
-use Rattle.std.specs.Prelude.{◌≡◌, ◌↔◌, ◌<◌, ◌≤◌, ℕ, suc, true, List, length, Option, None, Some, Contains}
+use Rattle.std.specs.Prelude.{◌≡◌, ◌↔◌, ◌+◌, ◌<◌, ◌≤◌, ℕ, zero, suc, true, List, length, Option, None, Some, Contains}
 use Rattle.stm_program.specs.Syntax.{ProgramTree}
 use Rattle.stm_events.specs.declared.event.WorldEvent.{WorldEvent}
 use Rattle.stm_world.specs.World.{world_after}
 use Rattle.stm_schedules.specs.declared.outcome.Outcome.{Outcome}
-use Rattle.stm_schedules.specs.Places.{Place}
+use Rattle.stm_schedules.specs.Places.{Place, moves, moved}
 use Rattle.stm_schedules.specs.Schedules.{place_after, IsLongest}
 use Rattle.stm_schedules.specs.Keeping.{end_alone, keeps, AllKeep, AllKeepUpTo, IsFirstBad, goes_on}
 use Rattle.stm_schedules.specs.Merges.{IsMerge}
+use Rattle.stm_visited.specs.Search.{total}
 use Rattle.stm_schedules.specs.Outcomes.{Ends, IsOutcome}
 use Rattle.stm_explore.specs.Gathering.{AreDistinct}
 use Rattle.stm_explore.specs.declared.exploring.Explored.{Explored}
@@ -53,3 +54,25 @@ OpenIsSpent left (Open kept) = left ≡ 0
 abbrev pub OpenOutcomesAreSpent : ℕ → Outcomes → Type 0
 OpenOutcomesAreSpent left (Found outcomes) = Unit {0}
 OpenOutcomesAreSpent left (OpenAt gone_through) = left ≡ 0
+
+-- ---- how far an open answer is
+
+-- how many schedules from a place have exactly n moves
+abbrev pub count_at : ℕ → Place → ℕ
+count_at zero p = 1
+count_at (suc n) p = total (λ m. count_at n (moved m p)) (moves p)
+
+-- how many have at least one move, and up to n
+abbrev pub count_up_to : ℕ → Place → ℕ
+count_up_to zero p = 0
+count_up_to (suc n) p = count_up_to n p + count_at (suc n) p
+
+-- the schedules of up to one move more are no fewer than the moves that were made
+abbrev pub OpenIsFar : Place → ℕ → Explored → Type 0
+OpenIsFar p made (Always longest) = Unit {0}
+OpenIsFar p made (Broken schedule end) = Unit {0}
+OpenIsFar p made (Open kept) = made ≤ count_up_to (suc kept) p
+
+abbrev pub OpenOutcomesAreFar : Place → ℕ → Outcomes → Type 0
+OpenOutcomesAreFar p made (Found outcomes) = Unit {0}
+OpenOutcomesAreFar p made (OpenAt gone_through) = made ≤ count_up_to (suc gone_through) p

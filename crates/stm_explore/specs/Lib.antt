@@ -1,3 +1,6 @@
-pub mod Seen
+pub mod Leases
+pub mod Spots
+pub mod AlikeSpots
 pub mod Gathering
 pub mod Explored
+pub mod Waiting

@@ -1,5 +1,5 @@
 //! What is known of the ends of runners.
-ghost use Rattle.std.specs.Prelude.{◌≡◌, ◌++◌, [], ◌∷◌, map, Option, Some, None, slice_set, IfOk, OnOk};
+ghost use Rattle.std.specs.Prelude.{◌≡◌, ◌↔◌, IsTrue, true, ◌++◌, [], ◌∷◌, map, Option, Some, None, slice_set, IfOk, OnOk};
 ghost use Rattle.stm_schedules.specs.Outcomes.{with_end, after_reply, after_reported, after_replies, known_ends};
 
 use std::alloc::{AllocError, Global};
@@ -62,6 +62,41 @@ pub(crate) fn copy_of_ends(
         copy.push(copy_of_known(end)?)?;
     }
     Ok(copy)
+}
+
+/// Whether two runs ended in the same way.
+fn is_same_end(left: &RunnerEnd, right: &RunnerEnd) -> bool
+    ensures { IsTrue result ↔ left.now ≡ right.now }
+{
+    left == right
+}
+
+/// Whether the same is known of one runner's end.
+fn is_same_known(left: &Option<RunnerEnd>, right: &Option<RunnerEnd>) -> bool
+    ensures { result ≡ true → left.now ≡ right.now }
+{
+    match left {
+        None => right.is_none(),
+        Some(end) => match right {
+            None => false,
+            Some(other) => is_same_end(end, other),
+        },
+    }
+}
+
+/// Whether the same is known of the ends.
+pub(crate) fn are_same_ends(left: &[Option<RunnerEnd>], right: &[Option<RunnerEnd>]) -> bool
+    ensures { result ≡ true → left.now ≡ right.now }
+{
+    if left.len() != right.len() {
+        return false;
+    }
+    for i in 0..left.len() {
+        if !is_same_known(&left[i], &right[i]) {
+            return false;
+        }
+    }
+    true
 }
 
 /// The ends that are known, by the runners' numbers.

@@ -1,19 +1,21 @@
 //! Whether a rule is kept after every schedule.
-ghost use Rattle.std.specs.Prelude.{◌≡◌, ◌≤◌, ◌+◌, true, None, IfOk};
-ghost use Rattle.stm_schedules.specs.Keeping.{keeps, first_bad, goes_on};
-ghost use Rattle.stm_explore.specs.Explored.{IsExplored, MergesAreKept, OpenIsSpent};
-ghost use Rattle.stm_explore.specs.Seen.{IsSeen};
+ghost use Rattle.std.specs.Prelude.{◌≡◌, ◌≤◌, ℕ, Some, IfOk};
+ghost use Rattle.stm_schedules.specs.Keeping.{end_alone};
+ghost use Rattle.stm_schedules.specs.Schedules.{place_after};
+ghost use Rattle.stm_visited.specs.Answers.{IsVisited, OpenIsSpent as VisitedIsSpent, OpenIsFar as VisitedIsFar};
+ghost use Rattle.stm_explore.specs.Explored.{IsExplored, MergesAreKept, OpenIsSpent, OpenIsFar};
+ghost use Rattle.stm_explore.specs.Spots.{rule_steps};
 
-use crate::budget::{Budget, Observer};
-use crate::halt::Halt;
-use crate::looked::Looked;
-use crate::looking::{look_from, look_here};
+use crate::judging::Judged;
+use crate::keeping::end_alone;
+use crate::places::{WorldPlace, shared_copy};
 use std::alloc::{AllocError, Global};
 use stm_history::Sequence;
 use stm_meaning::End;
 use stm_program::Program;
-use stm_retry::World;
+use stm_retry::{SharedWorld, World};
 use stm_schedules::Move;
+use stm_visited::{Budget, Observer, System, Visited, find_first_bad};
 use stm_world::WorldEvent;
 
 /// Whether a rule is kept after every schedule.
@@ -31,42 +33,55 @@ pub enum Explored {
         /// The end that the rule's program has after it: an abort or a fault.
         end: End,
     },
-    /// As many events were taken as may be, before that was decided.
+    /// As many moves were made as may be, before that was decided.
     Open {
         /// It is kept after each schedule of up to this many moves, and there are longer ones.
         kept: u64,
     },
 }
 
-/// Goes on after the place itself, where the rule is kept and a move can be made. No schedule is looked at that has more moves than events may
-/// be taken.
-fn look_deeper<O: Observer>(
+/// The end that a rule's program has after a schedule.
+pub(crate) fn end_after(
     alloc: Global,
-    rule: &Program,
-    world: &World,
-    others: &[WorldEvent],
-    budget: &mut Budget<O>,
-) -> Result<Explored, AllocError>
-    requires kept { first_bad (keeps rule.now) 0 (record { world = world.now; others = others.now }) ≡ None }
-    requires more { goes_on 1 (record { world = world.now; others = others.now }) ≡ true }
-    ensures explored { IfOk result (IsExplored rule.now (record { world = world.now; others = others.now })) }
-    ensures left { budget.new.left ≤ budget.old.left }
-    ensures spent { IfOk result (OpenIsSpent budget.new.left) }
+    judged: &Judged,
+    start: &SharedWorld,
+    moves: &[Move],
+) -> Result<End, AllocError>
+    ensures { IfOk result (λ end. end_alone judged.now.rule.now (place_after moves.now (record { world = start.now; others = judged.now.others.now })).world ≡ Some end) }
 {
-    let most = budget.left;
-    for kept in 0..most {
-        budget.observer.passed(kept, budget.left);
-        match look_from(alloc, rule, world, others, kept + 1, budget) {
-            Ok(Looked::Kept { goes_on: true }) => {}
-            Ok(Looked::Kept { goes_on: false }) => return Ok(Explored::Always {
-                longest: kept + 1,
-            }),
-            Ok(Looked::Broken { moves, end }) => return Ok(Explored::Broken { moves, end }),
-            Err(Halt::Spent) => return Ok(Explored::Open { kept }),
-            Err(Halt::OutOfMemory) => return Err(AllocError),
-        }
+    let mut place = WorldPlace {
+        world: start.share()?,
+        taken: 0,
+    };
+    for chosen in moves {
+        let next = judged.moved(&place, *chosen)?;
+        place = next;
     }
-    Ok(Explored::Open { kept: most })
+    let end = end_alone(alloc, judged.rule, &place.world)?;
+    Ok(end)
+}
+
+/// What the search through places has found, with the end of the rule's program where the rule is broken.
+fn with_end(
+    alloc: Global,
+    judged: &Judged,
+    start: &SharedWorld,
+    visited: Visited<Move>,
+) -> Result<Explored, AllocError>
+    requires { IsVisited (rule_steps judged.now.rule.now judged.now.others.now) (record { world = start.now; taken = 0 }) visited }
+    ensures explored { IfOk result (IsExplored judged.now.rule.now (record { world = start.now; others = judged.now.others.now })) }
+    ensures same { IfOk result (λ explored. (left : ℕ) → VisitedIsSpent left visited → OpenIsSpent left explored) }
+    ensures far { IfOk result (λ explored. (made : ℕ) → VisitedIsFar (rule_steps judged.now.rule.now judged.now.others.now) (record { world = start.now; taken = 0 }) made visited
+        → OpenIsFar (record { world = start.now; others = judged.now.others.now }) made explored) }
+{
+    match visited {
+        Visited::Always { longest } => Ok(Explored::Always { longest }),
+        Visited::Broken { moves } => {
+            let end = end_after(alloc, judged, start, moves.as_slice())?;
+            Ok(Explored::Broken { moves, end })
+        }
+        Visited::Open { kept } => Ok(Explored::Open { kept }),
+    }
 }
 
 /// Whether a rule is kept after every schedule.
@@ -80,22 +95,33 @@ fn explore_schedules<O: Observer>(
     ensures explored { IfOk result (IsExplored rule.now (record { world = world.now; others = others.now })) }
     ensures left { budget.new.left ≤ budget.old.left }
     ensures spent { IfOk result (OpenIsSpent budget.new.left) }
+    ensures far { IfOk result (OpenIsFar (record { world = world.now; others = others.now }) budget.old.left) }
 {
-    match look_here(alloc, rule, world, others, None)? {
-        Looked::Kept { goes_on: true } => look_deeper(alloc, rule, world, others, budget),
-        Looked::Kept { goes_on: false } => Ok(Explored::Always { longest: 0 }),
-        Looked::Broken { moves, end } => Ok(Explored::Broken { moves, end }),
-    }
+    let judged = Judged {
+        alloc,
+        others,
+        rule,
+    };
+    let world = shared_copy(alloc, world)?;
+    let start = WorldPlace {
+        world: world.share()?,
+        taken: 0,
+    };
+    let visited = find_first_bad(alloc, &judged, start, budget)?;
+    let explored = with_end(alloc, &judged, &world, visited)?;
+    Ok(explored)
 }
 
 /// Whether a rule is kept after every schedule: the moves of this world's runners, and of others that have these events yet to bring.
 ///
 /// The rule is a program, which is run alone on the state after each schedule: the schedule keeps it where the run comes to its last
-/// statement. Schedules are looked at by length, those of one length in the order of their moves, and at most as many events are taken as
-/// `budget` has left: it keeps those that are not, and the answer is `Open` only where none is left. Its observer is notified of how far the
-/// search is. The answer holds also for steps of any runners, merged in any way with a prefix of what the others bring.
+/// statement. Places are looked at by the number of moves to them, those of one number in the order of the schedules to them, and of places
+/// from which the steps see the same the first one alone is gone on from. At most as many moves are made as `budget` has left: it keeps
+/// those that are not, and the answer is `Open` only where none is left, with a length such that the schedules of up to one move more are no
+/// fewer than these moves. Its observer is notified of how far the search is. The answer holds also for steps of any runners, merged in any way
+/// with a prefix of what the others bring.
 ///
-/// It fails only when out of memory. The world is left as it was.
+/// It keeps a world for each place of two lengths. It fails only when out of memory. The world is left as it was.
 pub fn explore<O: Observer>(
     alloc: Global,
     world: &World,
@@ -107,6 +133,7 @@ pub fn explore<O: Observer>(
     ensures merges { IfOk result (MergesAreKept rule.now (record { world = world.now; others = others.now })) }
     ensures left { budget.new.left ≤ budget.old.left }
     ensures spent { IfOk result (OpenIsSpent budget.new.left) }
+    ensures far { IfOk result (OpenIsFar (record { world = world.now; others = others.now }) budget.old.left) }
 {
     let explored = explore_schedules(alloc, rule, world, others, budget);
     budget.observer.ended();

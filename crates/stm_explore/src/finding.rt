@@ -1,17 +1,17 @@
 //! What whole schedules come to.
-ghost use Rattle.std.specs.Prelude.{◌≡◌, ◌≤◌, true, [], IfOk, OnSome};
-ghost use Rattle.stm_schedules.specs.Keeping.{goes_on};
-ghost use Rattle.stm_schedules.specs.Outcomes.{outcomes_at};
-ghost use Rattle.stm_explore.specs.Explored.{IsCollected, AreOutcomes, OpenOutcomesAreSpent};
-ghost use Rattle.stm_explore.specs.Gathering.{Gathers};
+ghost use Rattle.std.specs.Prelude.{◌≡◌, ◌≤◌, suc, [], IfOk, IfSome, OnSome};
+ghost use Rattle.stm_explore.specs.Explored.{IsCollected, AreOutcomes, OpenOutcomesAreSpent, OpenOutcomesAreFar, count_up_to};
+ghost use Rattle.stm_explore.specs.Spots.{place_of};
 
-use crate::budget::{Budget, Observer};
-use crate::collecting::{collect_from, collect_here};
-use crate::halt::Halt;
+use crate::collecting::collect_whole;
+use crate::ends::copy_of_ends;
+use crate::gathering::Gathered;
+use crate::places::{ReportedPlace, WorldPlace, shared_copy};
 use std::alloc::{AllocError, Global};
 use stm_history::Sequence;
 use stm_retry::World;
 use stm_schedules::{Outcome, RunnerEnd};
+use stm_visited::{Budget, Halt, Observer, can_go_on, next_layer, opening_layer};
 use stm_world::WorldEvent;
 
 /// What whole schedules come to.
@@ -22,37 +22,47 @@ pub enum Outcomes {
         /// The outcomes.
         outcomes: Sequence<Outcome>,
     },
-    /// As many events were taken as may be, before all of them were found.
+    /// As many moves were made as may be, before all of them were found.
     Open {
         /// Every schedule of up to this many moves was gone through, and there are longer ones.
         gone_through: u64,
     },
 }
 
-/// Adds the outcomes of whole schedules that have some move, those of each length after those of shorter ones. No schedule is looked at that
-/// has more moves than events may be taken.
+/// Adds the outcomes of all whole schedules, those of each length after those of shorter ones. No schedule is looked at that has more moves than
+/// may be made.
 ///
 /// The answer is None once all are found, and else up to which length every schedule was gone through.
-fn collect_deeper<O: Observer>(
+fn collect_layers<O: Observer>(
     alloc: Global,
-    world: &World,
-    others: &[WorldEvent],
-    ends: &[Option<RunnerEnd>],
+    gathered: &Gathered,
+    start: ReportedPlace,
     budget: &mut Budget<O>,
     found: &mut Vec<Outcome>,
 ) -> Result<Option<u64>, AllocError>
-    requires found { Gathers (outcomes_at 0 (record { world = world.now; others = others.now }) ends.now) [] found.old.items }
-    requires more { goes_on 1 (record { world = world.now; others = others.now }) ≡ true }
-    ensures collected { IfOk result (IsCollected (record { world = world.now; others = others.now }) ends.now found.new.items) }
+    requires { found.old.items ≡ [] }
+    ensures collected { IfOk result (IsCollected (place_of gathered.now.others.now start.at) start.ends found.new.items) }
     ensures left { budget.new.left ≤ budget.old.left }
     ensures spent { IfOk result (λ stopped. OnSome stopped (budget.new.left ≡ 0)) }
+    ensures far { IfOk result (λ stopped. IfSome stopped (λ n. budget.old.left ≤ count_up_to (suc n) (place_of gathered.now.others.now start.at))) }
 {
+    let others = gathered.others;
+    let mut layer = opening_layer(alloc, start)?;
+    collect_whole(alloc, others, layer.as_slice(), found)?;
+    if !can_go_on(gathered, layer.as_slice())? {
+        return Ok(None);
+    }
     let most = budget.left;
     for gone_through in 0..most {
         budget.observer.passed(gone_through, budget.left);
-        match collect_from(alloc, world, others, ends, gone_through + 1, found, budget) {
-            Ok(true) => {}
-            Ok(false) => return Ok(None),
+        match next_layer(alloc, gathered, layer.as_slice(), budget) {
+            Ok(next) => {
+                collect_whole(alloc, others, next.as_slice(), found)?;
+                if !can_go_on(gathered, next.as_slice())? {
+                    return Ok(None);
+                }
+                layer = next;
+            }
             Err(Halt::Spent) => return Ok(Some(gone_through)),
             Err(Halt::OutOfMemory) => return Err(AllocError),
         }
@@ -60,7 +70,7 @@ fn collect_deeper<O: Observer>(
     Ok(Some(most))
 }
 
-/// Adds the outcomes of all whole schedules. The answer is as for those that have some move.
+/// Adds the outcomes of all whole schedules. The answer is as for those of layers.
 fn collect_all<O: Observer>(
     alloc: Global,
     world: &World,
@@ -73,18 +83,26 @@ fn collect_all<O: Observer>(
     ensures collected { IfOk result (IsCollected (record { world = world.now; others = others.now }) ends.now found.new.items) }
     ensures left { budget.new.left ≤ budget.old.left }
     ensures spent { IfOk result (λ stopped. OnSome stopped (budget.new.left ≡ 0)) }
+    ensures far { IfOk result (λ stopped. IfSome stopped (λ n. budget.old.left ≤ count_up_to (suc n) (record { world = world.now; others = others.now }))) }
 {
-    if collect_here(alloc, world, others, ends, found)? {
-        return collect_deeper(alloc, world, others, ends, budget, found);
-    }
-    Ok(None)
+    let ends = copy_of_ends(alloc, ends)?;
+    let world = shared_copy(alloc, world)?;
+    let start = ReportedPlace {
+        at: WorldPlace { world, taken: 0 },
+        ends: Sequence::of(ends),
+    };
+    let gathered = Gathered { alloc, others };
+    let stopped = collect_layers(alloc, &gathered, start, budget, found)?;
+    Ok(stopped)
 }
 
 /// What whole schedules come to: those of the moves of this world's runners, and of others that have these events yet to bring.
 ///
-/// `ends` has what is known of the runners' ends before, by the runners' numbers, as `ends_reported` returns it. Schedules are gone
-/// through by length, and at most as many events are taken as `budget` has left: it keeps those that are not, and the answer is `Open`
-/// only where none is left. Its observer is notified of how far the search is.
+/// `ends` has what is known of the runners' ends before, by the runners' numbers, as `ends_reported` returns it. Places are gone through by the
+/// number of moves to them; of those from which the steps see the same, and where the same is known of the ends, the first one alone is
+/// gone on from. At most as many moves are made as `budget` has left: it keeps those that are not, and the answer is `Open` only where none
+/// is left, with a length such that the schedules of up to one move more are no fewer than these moves. Its observer is notified of how far the
+/// search is.
 ///
 /// It fails only when out of memory. The world is left as it was.
 pub fn find_outcomes<O: Observer>(
@@ -97,6 +115,7 @@ pub fn find_outcomes<O: Observer>(
     ensures outcomes { IfOk result (AreOutcomes (record { world = world.now; others = others.now }) ends.now) }
     ensures left { budget.new.left ≤ budget.old.left }
     ensures spent { IfOk result (OpenOutcomesAreSpent budget.new.left) }
+    ensures far { IfOk result (OpenOutcomesAreFar (record { world = world.now; others = others.now }) budget.old.left) }
 {
     let mut found = Vec::new(alloc);
     let stopped = collect_all(alloc, world, others, ends, budget, &mut found);

@@ -1,29 +1,31 @@
 //! A search that judges every interleaving: whether a rule is kept after each schedule of a world's runners and of what others do, and
 //! what whole schedules come to.
 //!
-//! Schedules are gone through by length, those of one length in the order of their moves. Of those that differ by exchanges of steps which
-//! enter nothing only the first is gone through, and the answer holds for all of them. For each length the moves are made anew from the
-//! beginning; schedules of one length that begin alike share the moves of that beginning. Each move from a place is made on a copy of its
-//! world, but the last one, which is made in the world itself, so that at most one copy more is kept than a schedule has moves.
+//! Places are gone through by the number of moves to them. Of the places of one number from which the steps of runners can see the same, one is
+//! gone on from: the first in the order of the schedules to them. So the first schedule that breaks a rule, the length of the longest one and
+//! what whole ones come to are those of all schedules. The worlds of two numbers are kept at a time.
 //!
 //! Meanwhile an observer is notified of how far the search is.
 #![tactic(auto)]
 
-mod budget;
+mod alike;
 mod collecting;
 mod ends;
 mod exploring;
 mod finding;
 mod found;
-mod halt;
+mod gathering;
+mod judging;
 mod keeping;
-mod looked;
-mod looking;
+mod leases;
 mod moving;
+mod places;
 mod reporting;
+mod revisions;
 mod shown;
+mod waiting;
+mod waits;
 
-pub use budget::{Budget, Nobody, Observer};
 pub use ends::ends_reported;
 pub use exploring::{Explored, explore};
 pub use finding::{Outcomes, find_outcomes};
@@ -32,4 +34,7 @@ pub use stm_meaning::End;
 pub use stm_program::Program;
 pub use stm_retry::World;
 pub use stm_schedules::{Move, Outcome, RunnerEnd};
+pub use stm_visited::{Budget, Nobody, Observer};
 pub use stm_world::WorldEvent;
+pub use waiting::explore_waiting;
+pub use waits::Wait;

@@ -2,65 +2,63 @@
 ghost use Rattle.std.specs.Prelude.{◌≡◌, IfOk, OnOk};
 ghost use Rattle.stm_events.specs.declared.event.WorldEvent.TheVariants.{Step};
 ghost use Rattle.stm_world.specs.World.{step, world_after, replies_to};
-ghost use Rattle.stm_schedules.specs.declared.moves.Move.TheVariants.{Step as StepOf, Other};
-ghost use Rattle.stm_schedules.specs.Fewer.{quiet_runner};
+ghost use Rattle.stm_schedules.specs.declared.moves.Move.TheVariants.{Other};
 ghost use Rattle.stm_schedules.specs.Outcomes.{after_reported, after_replies};
 ghost use Rattle.stm_schedules.specs.Places.{event_of};
 
 use crate::ends::note_end;
-use crate::moving::{quiet_by, take, take_step};
-use std::alloc::AllocError;
-use stm_retry::World;
+use crate::moving::after_step;
+use std::alloc::{AllocError, Global};
+use stm_retry::SharedWorld;
 use stm_schedules::{Move, RunnerEnd};
 use stm_world::WorldEvent;
 
-/// Makes a step of a runner, and records what it says of the ends. The answer is the runner, if the step was quiet.
+/// The world after a step of a runner. What the reply says of the ends is recorded.
 fn describe_step(
-    world: &mut World,
+    alloc: Global,
+    world: &SharedWorld,
     runner: u64,
     ends: &mut Vec<Option<RunnerEnd>>,
-) -> Result<Option<u64>, AllocError>
-    ensures quiet { IfOk result (λ quiet. quiet ≡ quiet_runner (StepOf runner) world.old) }
-    ensures next { OnOk result (world.new ≡ (step (Step runner) world.old).next) }
-    ensures ends { OnOk result (ends.new.items ≡ after_reported (step (Step runner) world.old).reply ends.old.items) }
+) -> Result<SharedWorld, AllocError>
+    ensures next { IfOk result (λ next. next ≡ (step (Step runner) world.now).next) }
+    ensures ends { OnOk result (ends.new.items ≡ after_reported (step (Step runner) world.now).reply ends.old.items) }
 {
-    let reply = take_step(world, runner)?;
+    let (next, reply) = after_step(alloc, world, runner)?;
     note_end(ends, &reply)?;
-    Ok(quiet_by(runner, &reply))
+    Ok(next)
 }
 
-/// Takes the next event of the others, if they have one, and records what it says of the ends.
+/// The world after the next event of the others, if they have one. What the reply says of the ends is recorded.
 fn report_other(
-    world: &mut World,
+    alloc: Global,
+    world: &SharedWorld,
     others: &[WorldEvent],
     ends: &mut Vec<Option<RunnerEnd>>,
-) -> Result<(), AllocError>
-    ensures next { OnOk result (world.new ≡ world_after (event_of Other others.now) world.old) }
-    ensures ends { OnOk result (ends.new.items ≡ after_replies (replies_to (event_of Other others.now) world.old) ends.old.items) }
+) -> Result<SharedWorld, AllocError>
+    ensures next { IfOk result (λ next. next ≡ world_after (event_of Other others.now) world.now) }
+    ensures ends { OnOk result (ends.new.items ≡ after_replies (replies_to (event_of Other others.now) world.now) ends.old.items) }
 {
     if others.is_empty() {
-        return Ok(());
+        return world.share();
     }
-    let reply = take(world, &others[0])?;
-    note_end(ends, &reply)
+    let (next, reply) = world.after(alloc, &others[0])?;
+    note_end(ends, &reply)?;
+    Ok(next)
 }
 
-/// Makes a move, and records what it says of the ends. The answer is the runner whose quiet step it was.
+/// The world after a move. What the reply says of the ends is recorded.
 pub(crate) fn describe_move(
-    world: &mut World,
+    alloc: Global,
+    world: &SharedWorld,
     others: &[WorldEvent],
     chosen: Move,
     ends: &mut Vec<Option<RunnerEnd>>,
-) -> Result<Option<u64>, AllocError>
-    ensures quiet { IfOk result (λ quiet. quiet ≡ quiet_runner chosen world.old) }
-    ensures next { OnOk result (world.new ≡ world_after (event_of chosen others.now) world.old) }
-    ensures ends { OnOk result (ends.new.items ≡ after_replies (replies_to (event_of chosen others.now) world.old) ends.old.items) }
+) -> Result<SharedWorld, AllocError>
+    ensures next { IfOk result (λ next. next ≡ world_after (event_of chosen others.now) world.now) }
+    ensures ends { OnOk result (ends.new.items ≡ after_replies (replies_to (event_of chosen others.now) world.now) ends.old.items) }
 {
     match chosen {
-        Move::Step { runner } => describe_step(world, runner, ends),
-        Move::Other => {
-            report_other(world, others, ends)?;
-            Ok(None)
-        }
+        Move::Step { runner } => describe_step(alloc, world, runner, ends),
+        Move::Other => report_other(alloc, world, others, ends),
     }
 }

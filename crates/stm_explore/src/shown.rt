@@ -8,7 +8,7 @@ use std::alloc::{AllocError, Global};
 use stm_history::{Sequence, Text};
 use stm_journal::present_keys;
 use stm_keys::Keys;
-use stm_retry::World;
+use stm_retry::SharedWorld;
 use stm_schedules::{KeyValue, Outcome, RunnerEnd};
 
 /// A key with the value that it has.
@@ -38,7 +38,7 @@ fn state_shown(alloc: Global, keys: &Keys) -> Result<Sequence<KeyValue>, AllocEr
 /// The outcome at a place where no move can be made.
 pub(crate) fn outcome_of(
     alloc: Global,
-    world: &World,
+    world: &SharedWorld,
     ends: &[Option<RunnerEnd>],
 ) -> Result<Outcome, AllocError>
     ensures { IfOk result (λ it. it ≡ shown world.now ends.now) }

@@ -1,42 +1,48 @@
 -- Looking at the events of a scenario one after the other, as loops do.
 use Rattle.std.proofs.Common.{◌≡◌, ℕ, zero, suc, ◌+◌, ◌<◌, ◌≤◌, ◌||◌, Bool, true, false, List, [], ◌∷◌, ◌++◌, length, map, take, drop, get_or, slice_set}
-use Rattle.std.proofs.Common.{Some, None, option_map, if◌then◌else◌, refl, sym, ap, ap₂, ◌∙◌, arith, true≢false}
+use Rattle.std.proofs.Common.{Option, Some, None, cond, not, refl, sym, ap, ap₂, ◌∙◌, arith}
 use Rattle.std.specs.List.{list_any}
 use Rattle.std.proofs.lemmas.List.Folds.{list_any_more}
 use Rattle.stm_events.specs.declared.event.WorldEvent.{WorldEvent}
-use Rattle.stm_schedules.specs.Scenarios.{is_start, has_start, up_to_last_start, after_last_start}
-use Rattle.stm_exploring.specs.Asking.{is_step, first_step}
+use Rattle.stm_schedules.specs.Scenarios.{at_level, is_start, has_start, up_to_last_start, after_last_start}
+use Rattle.stm_events.specs.declared.event.WorldEvent.TheVariants.{Start, Step, Txn, Grant, Keep, Revoke, Advance}
+use Rattle.stm_events.specs.declared.event.WorldEvent.TheVariants.{WatchKey, WatchRange, Poll, Cancel, Compact}
+use Rattle.stm_program.specs.declared.level.Level.{Level}
+use Rattle.stm_serial_search.specs.Started.{is_step, HaveNoStep}
+use Rattle.stm_exploring.specs.Asking.{without_steps, events_at}
 
-neither : (a b : Bool) → (a || b) ≡ false → (a ≡ false) × (b ≡ false)
-neither true b e = absurd (true≢false e)
-neither false b e = (refl, e)
+-- ---- no step
 
--- ---- the first step
+kept_stepless : (step : Bool) (e : WorldEvent) (es : List WorldEvent) → is_step e ≡ step → HaveNoStep es → HaveNoStep (cond (not step) (e ∷ es) es)
+kept_stepless true e es is none = none
+kept_stepless false e es is none = (is, none)
 
-first_after : (b : Bool) (es : List WorldEvent) (i : ℕ) → b ≡ false → first_step es ≡ Some i
-    → (if b then Some 0 else option_map suc (first_step es)) ≡ Some (suc i)
-first_after b es i none found = rw (none, found) refl
+stepless : (es : List WorldEvent) → HaveNoStep (without_steps es)
+stepless [] = tt
+stepless (e ∷ es) = kept_stepless (is_step e) e (without_steps es) refl (stepless es)
 
--- a step before which no step stands is the first one
-pub first_step_at : (es : List WorldEvent) (i : ℕ) (e : WorldEvent) → i < length es → e ≡ get_or es i e → list_any is_step (take i es) ≡ false
-    → is_step e ≡ true → first_step es ≡ Some i
-first_step_at [] i e within at none is = absurd (omega (arith, within))
-first_step_at (x ∷ es) zero e within at none is = rw (sym (ap is_step at) ∙ is) refl
-first_step_at (x ∷ es) (suc i) e within at none is =
-    let parts = neither (is_step x) (list_any is_step (take i es)) none in
-    first_after (is_step x) es i parts.0 (first_step_at es i e (omega (arith, within)) at parts.1 is)
+step_at : (level : Level) (e : WorldEvent) → is_step e ≡ false → is_step (at_level level e) ≡ false
+step_at level (Start program other limit) none = refl
+step_at level (Step runner) none = absurd (cc)
+step_at level (Txn txn) none = refl
+step_at level (Grant id ttl) none = refl
+step_at level (Keep id) none = refl
+step_at level (Revoke id) none = refl
+step_at level (Advance moment) none = refl
+step_at level (WatchKey key from) none = refl
+step_at level (WatchRange begin end from) none = refl
+step_at level (Poll watcher most) none = refl
+step_at level (Cancel watcher) none = refl
+step_at level (Compact revision) none = refl
 
--- one more event that is no step
-pub no_step_yet : (es : List WorldEvent) (i : ℕ) (e : WorldEvent) → i < length es → e ≡ get_or es i e → list_any is_step (take i es) ≡ false
-    → is_step e ≡ false → list_any is_step (take (i + 1) es) ≡ false
-no_step_yet es i e within at none is =
-    list_any_more is_step es i e within ∙ ap₂ (λ (x y : Bool). x || y) none (sym (ap is_step at) ∙ is)
+steps_at : (level : Level) (es : List WorldEvent) → HaveNoStep es → HaveNoStep (map (at_level level) es)
+steps_at level [] none = tt
+steps_at level (x ∷ es) none = (step_at level x none.0, steps_at level es none.1)
 
-pub no_step : (es : List WorldEvent) → list_any is_step es ≡ false → first_step es ≡ None
-no_step [] none = refl
-no_step (x ∷ es) none =
-    let parts = neither (is_step x) (list_any is_step es) none in
-    rw (parts.0, no_step es parts.1) refl
+-- what is left of a scenario, at any level
+pub stepless_at : (level : Option Level) (es : List WorldEvent) → HaveNoStep (events_at level (without_steps es))
+stepless_at None es = stepless es
+stepless_at (Some level) es = steps_at level (without_steps es) (stepless es)
 
 -- ---- the last start
 

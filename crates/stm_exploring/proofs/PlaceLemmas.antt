@@ -1,11 +1,18 @@
 -- The place from which the schedules of a scenario go, as the code has it at hand.
-use Rattle.std.proofs.Common.{◌≡◌, List, [], ap, ◌∙◌}
+use Rattle.std.proofs.Common.{◌≡◌, Bool, true, List, [], sym, ap, ◌∙◌, subst}
 use Rattle.stm_txn.specs.Standing.{Setup}
 use Rattle.stm_events.specs.declared.event.WorldEvent.{WorldEvent}
 use Rattle.stm_world.specs.World.{World, opened, world_after, replies_to}
 use Rattle.stm_schedules.specs.Outcomes.{after_replies}
 use Rattle.stm_schedules.specs.Places.{Place}
 use Rattle.stm_schedules.specs.Scenarios.{up_to_last_start, after_last_start}
+use Rattle.stm_program.specs.Syntax.{ProgramTree}
+use Rattle.stm_serial.specs.Asked.{AreOrderly}
+use Rattle.stm_serial.specs.Serial.{IsComparing}
+use Rattle.stm_serial.proofs.Scenarios.{orderly_scenarios_compare}
+use Rattle.stm_serial_search.specs.Search.{AreProgramsOf, programs_started}
+use Rattle.stm_serial_search.specs.Started.{HaveNoStep}
+use Rattle.stm_serial_search.proofs.Comparisons.{started_are_those}
 use Rattle.stm_texts.specs.declared.scenario.Scenario.{Scenario}
 use Rattle.stm_texts.specs.Opens.{setup_of}
 use Rattle.stm_exploring.specs.Asking.{place_of, ends_of}
@@ -27,3 +34,20 @@ pub ends_are : (s : Scenario) (setup events : List WorldEvent) (start : Setup) (
 ends_are s setup events start w front all new opens =
     ap (λ (es : List WorldEvent). after_replies (replies_to es w) []) (front ∙ ap up_to_last_start all)
     ∙ ap (λ (x : World). after_replies (replies_to (up_to_last_start s.events) x) []) (new ∙ ap opened opens)
+
+-- ---- the programs of its runners
+
+pub programs_are : (s : Scenario) (setup events : List WorldEvent) (programs : List ProgramTree) → setup ≡ up_to_last_start events → events ≡ s.events →
+    programs ≡ programs_started setup → HaveNoStep s.events → AreProgramsOf programs (place_of s).world.runners
+programs_are s setup events programs front all started none =
+    subst (λ (ps : List ProgramTree). AreProgramsOf ps (place_of s).world.runners)
+    (sym (started ∙ ap programs_started (front ∙ ap up_to_last_start all))) (started_are_those (setup_of s.opening) s.events none)
+
+pub programs_placed : (s : Scenario) (setup others : List WorldEvent) (w : World) (programs : List ProgramTree) → placed setup others w ≡ place_of s →
+    AreProgramsOf programs (place_of s).world.runners → AreProgramsOf programs (world_after setup w).runners
+programs_placed s setup others w programs same are = subst (λ (p : Place). AreProgramsOf programs p.world.runners) (sym same) are
+
+pub comparing_placed : (s : Scenario) (setup others events : List WorldEvent) (w : World) (orderly : Bool) → placed setup others w ≡ place_of s →
+    events ≡ s.events → (orderly ≡ true → AreOrderly events) → orderly ≡ true → IsComparing (placed setup others w)
+comparing_placed s setup others events w orderly same all are is =
+    subst IsComparing (sym same) (orderly_scenarios_compare (setup_of s.opening) s.events (subst AreOrderly all (are is)))

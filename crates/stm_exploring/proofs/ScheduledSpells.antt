@@ -1,5 +1,5 @@
 -- What is printed of a schedule spells the scenario with the schedule's events.
-use Rattle.std.proofs.Common.{◌≡◌, ℕ, ◌≤◌, List, [], ◌∷◌, ◌++◌, map, Bool, true, false, cond, Option, Some, None, Ok, Err, inl, inr, refl, sym, subst, arith}
+use Rattle.std.proofs.Common.{◌≡◌, ℕ, ◌≤◌, List, [], ◌∷◌, ◌++◌, map, Bool, true, false, cond, not, Option, Some, None, Ok, Err, inl, inr, refl, sym, subst, arith}
 use Rattle.serde_json.specs.Data.{Data, string, unsigned, Items}
 use Rattle.stm_history.specs.declared.revisions.TheConstants.{HIGHEST_NUMBER}
 use Rattle.stm_json.specs.Outcome.{Outcome, ◌>>=◌}
@@ -21,7 +21,8 @@ use Rattle.stm_txn.specs.Standing.{Setup}
 use Rattle.stm_json.specs.Parts.{SpellsEach}
 use Rattle.stm_events.specs.declared.event.WorldEvent.{WorldEvent}
 use Rattle.stm_events.specs.declared.event.WorldEvent.TheVariants as event
-use Rattle.stm_exploring.specs.Asking.{first_step, events_at, scenario_at, without_step, asked}
+use Rattle.stm_exploring.specs.Asking.{without_steps, events_at, asked}
+use Rattle.stm_serial_search.specs.Started.{is_step}
 use Rattle.stm_exploring.specs.Laws.{AreNumbered, SchedulesSpell}
 
 -- ---- what was read is spelled
@@ -69,6 +70,16 @@ events_at-spelled : (level : Option Level) (es : List WorldEvent) → AreSpelled
 events_at-spelled None es all = all
 events_at-spelled (Some level) es all = levels_spelled level es all
 
+-- ---- without its steps
+
+kept_spelled : (kept : Bool) (e : WorldEvent) (es : List WorldEvent) → ((d : Data) × SpellsEvent d e) → AreSpelled es → AreSpelled (cond kept (e ∷ es) es)
+kept_spelled true e es s all = (s, all)
+kept_spelled false e es s all = all
+
+left_spelled : (es : List WorldEvent) → AreSpelled es → AreSpelled (without_steps es)
+left_spelled [] all = tt
+left_spelled (e ∷ es) (s, rest) = kept_spelled (not (is_step e)) e (without_steps es) s (left_spelled es rest)
+
 -- ---- with a schedule
 
 append_spelled : (es fs : List WorldEvent) → AreSpelled es → AreSpelled fs → AreSpelled (es ++ fs)
@@ -109,17 +120,13 @@ schedule_spelled es ms numbered all =
 
 -- ---- the law
 
-asked_of : (first : Option ℕ) (level : Option Level) (read s : Scenario) → without_step first (scenario_at level read) ≡ Ok s → scenario_at level read ≡ s
-asked_of None level read s is = cc is
-asked_of (Some before) level read s is = absurd (cc)
-
 read_as : (level : Option Level) (bytes : List ℕ) (reading : Outcome Scenario) (s : Scenario) → scenario_in bytes ≡ reading
-    → (reading >>= asked level) ≡ Ok s → IsOpening s.opening × AreSpelled s.events
+    → (reading >>= (λ (t : Scenario). Ok (asked level t))) ≡ Ok s → IsOpening s.opening × AreSpelled s.events
 read_as level bytes (Err fault) s is asked_is = absurd (cc)
 read_as level bytes (Ok read) s is asked_is =
     let spelled = read_spelled bytes read (scenario_sound bytes read is) in
-    subst (λ (t : Scenario). IsOpening t.opening × AreSpelled t.events) (asked_of (first_step read.events) level read s asked_is)
-    (spelled.0, events_at-spelled level read.events spelled.1)
+    subst (λ (t : Scenario). IsOpening t.opening × AreSpelled t.events) (cc asked_is)
+    (spelled.0, events_at-spelled level (without_steps read.events) (left_spelled read.events spelled.1))
 
 pub schedules_spell : SchedulesSpell
 schedules_spell level bytes s schedule is numbered few =

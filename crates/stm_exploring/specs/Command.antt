@@ -8,6 +8,7 @@ use Rattle.stm_exploring.specs.declared.printed.SearchAnswer.{SearchAnswer}
 use Rattle.stm_exploring.specs.declared.printed.SearchAnswer.TheVariants.{Kept, Broken, Open}
 use Rattle.stm_exploring.specs.declared.reading.ExploreFault.{ExploreFault}
 use Rattle.stm_exploring.specs.declared.reading.ExploreFault.TheVariants.{OutOfMemory, BadScenario, BadProgram, Device}
+use Rattle.stm_explore.specs.declared.waits.Wait.{Wait}
 use Rattle.stm_exploring.specs.Exploring.{Sources, Searches, Gathers}
 use Rattle.stm_explain.specs.Saying.{bad_input, memory_fault, device_fault, Reports}
 
@@ -62,8 +63,9 @@ Finishes searched out err status =
     (ended : Result SearchAnswer ExploreFault) × Writes searched out.before out.after out.failed ended × EndsBy err ended status
 
 -- with a rule
-abbrev pub Explores : Option Level → Sources → Sunk → Sunk → ℕ → Type 0
-Explores level sources out err status = (searched : Result Printed ExploreFault) × Searches level sources searched × Finishes searched out err status
+abbrev pub Explores : List Wait → Option Level → Sources → Sunk → Sunk → ℕ → Type 0
+Explores waits level sources out err status =
+    (searched : Result Printed ExploreFault) × Searches waits level sources searched × Finishes searched out err status
 
 -- without one
 abbrev pub GoesThrough : Option Level → Option (List ℕ) → Bool → Sunk → Sunk → ℕ → Type 0

@@ -12,6 +12,7 @@ use Rattle.stm_exploring.specs.declared.printed.Printed.{Printed}
 use Rattle.stm_exploring.specs.declared.printed.SearchAnswer.{SearchAnswer}
 use Rattle.stm_exploring.specs.declared.printed.SearchAnswer.TheVariants.{Broken}
 use Rattle.stm_exploring.specs.declared.reading.ExploreFault.{ExploreFault}
+use Rattle.stm_explore.specs.declared.waits.Wait.{Wait}
 use Rattle.stm_exploring.specs.Exploring.{Sources, Searches, Gathers}
 use Rattle.stm_exploring.specs.Command.{Sunk, Writes, verdict_status, fault_status, fault_message}
 
@@ -47,9 +48,9 @@ RuleFinishes name text searched out err status =
     (ended : Result SearchAnswer ExploreFault) × Writes searched out.before out.after out.failed ended × RuleEndsBy name text searched err ended status
 
 -- with a rule, which was kept under this name as this text: it is explained where it is broken by a fault
-abbrev pub Explores : Option Level → List ℕ → List ℕ → Sources → Sunk → Sunk → ℕ → Type 0
-Explores level name text sources out err status =
-    (searched : Result Printed ExploreFault) × Searches level sources searched × RuleFinishes name text searched out err status
+abbrev pub Explores : List Wait → Option Level → List ℕ → List ℕ → Sources → Sunk → Sunk → ℕ → Type 0
+Explores waits level name text sources out err status =
+    (searched : Result Printed ExploreFault) × Searches waits level sources searched × RuleFinishes name text searched out err status
 
 abbrev pub EndsBy : Sunk → Result SearchAnswer ExploreFault → ℕ → Type 0
 EndsBy err (Ok verdict) status = (status ≡ verdict_status verdict) × (err.failed ≡ false) × Keeps err.before err.after

@@ -1,46 +1,33 @@
 -- What a search does: from the bytes of a scenario and of a rule's program to what is printed.
-use Rattle.std.specs.Prelude.{◌≡◌, ◌⊎◌, ℕ, List, length, nat_lt, if◌then◌else◌, Bool, true, false, Option, Some, None, Result, Ok, Err, IfSome, codes}
-use Rattle.serde_json.specs.Data.{Data}
+use Rattle.std.specs.Prelude.{◌≡◌, ◌⊎◌, ℕ, List, Bool, true, false, Option, Result, Ok, Err, IfSome, codes}
 use Rattle.stm_devices.specs.declared.transfer.ReadFault.{ReadFault}
 use Rattle.stm_devices.specs.declared.transfer.ReadFault.TheVariants.{OutOfMemory as NoRoom, Device as NoDevice}
-use Rattle.stm_json.specs.Bytes.{data_of}
-use Rattle.stm_json.specs.Outcome.{Outcome, bad, ◌>>=◌}
-use Rattle.stm_json.specs.declared.cause.Cause.TheVariants.{NotJson, TooLong}
-use Rattle.stm_json.specs.declared.limits.TheConstants.{MOST_BYTES}
+use Rattle.stm_json.specs.Outcome.{Outcome, ◌>>=◌}
 use Rattle.stm_program.specs.Syntax.{ProgramTree}
 use Rattle.stm_program.specs.declared.level.Level.{Level}
-use Rattle.stm_program_json.specs.Reading.{program_of}
-use Rattle.stm_schedules.specs.Places.{Place}
+use Rattle.stm_program_texts.specs.Reading.{program_in}
 use Rattle.stm_texts.specs.declared.scenario.Scenario.{Scenario}
 use Rattle.stm_texts.specs.Reading.{scenario_in}
-use Rattle.stm_texts.specs.Opens.{IsOpening}
-use Rattle.stm_explore.specs.Explored.{IsExplored, MergesAreKept, AreOutcomes}
+use Rattle.stm_explore.specs.Explored.{AreOutcomes}
+use Rattle.stm_explore.specs.declared.waits.Wait.{Wait}
 use Rattle.stm_explore.specs.declared.finding.Outcomes.{Outcomes}
 use Rattle.stm_explore.specs.declared.finding.Outcomes.TheVariants.{Found, Open as OpenAt}
-use Rattle.stm_explore.specs.declared.exploring.Explored.{Explored}
-use Rattle.stm_explore.specs.declared.exploring.Explored.TheVariants.{Always, Broken, Open}
 use Rattle.stm_exploring.specs.declared.reading.ExploreFault.{ExploreFault}
 use Rattle.stm_exploring.specs.declared.reading.ExploreFault.TheVariants.{OutOfMemory, BadScenario, BadProgram, Device}
 use Rattle.stm_exploring.specs.declared.printed.SearchAnswer.{SearchAnswer}
 use Rattle.stm_exploring.specs.declared.printed.SearchAnswer.TheVariants as verdict
 use Rattle.stm_exploring.specs.declared.printed.Printed.{Printed}
 use Rattle.stm_exploring.specs.Asking.{asked, place_of, ends_of}
-use Rattle.stm_exploring.specs.Lines.{count_line, answer_text, outcomes_text}
+use Rattle.stm_exploring.specs.Lines.{count_line, outcomes_text}
+use Rattle.stm_exploring.specs.declared.judging.Answer.{Answer}
+use Rattle.stm_exploring.specs.Judging.{IsFound, verdict_of, answer_text}
 use Rattle.stm_report_lines.specs.Text.{line_text}
 
 -- ---- what bytes spell
 
 -- a scenario, as it is asked about
 abbrev pub asked_in : Option Level → List ℕ → Outcome Scenario
-asked_in level bytes = scenario_in bytes >>= asked level
-
-abbrev pub program_read : Option Data → Outcome ProgramTree
-program_read None = bad NotJson
-program_read (Some d) = program_of d
-
--- the program of a rule: their number comes first, and then whether they are JSON
-unfoldable pub program_in : List ℕ → Outcome ProgramTree
-program_in bytes = if nat_lt MOST_BYTES (length bytes) then bad TooLong else program_read (data_of bytes)
+asked_in level bytes = scenario_in bytes >>= (λ s. Ok (asked level s))
 
 -- ---- one source: its bytes, where they are known, whether it has failed then, and the answer
 
@@ -51,7 +38,7 @@ fault_of_read NoDevice = Device
 
 -- what reading its scenario did
 abbrev pub ReadsScenario : Option Level → Option (List ℕ) → Bool → Result Scenario ExploreFault → Type 0
-ReadsScenario level known failed (Ok s) = (failed ≡ false) × IfSome known (λ all. asked_in level all ≡ Ok s) × IsOpening s.opening
+ReadsScenario level known failed (Ok s) = (failed ≡ false) × IfSome known (λ all. asked_in level all ≡ Ok s)
 ReadsScenario level known failed (Err OutOfMemory) = failed ≡ false
 ReadsScenario level known failed (Err (BadScenario fault)) = (failed ≡ false) × IfSome known (λ all. asked_in level all ≡ Err fault)
 ReadsScenario level known failed (Err (BadProgram fault)) = ⊥
@@ -67,22 +54,13 @@ ReadsProgram known failed (Err Device) = failed ≡ true
 
 -- ---- whether a rule is kept
 
-abbrev pub verdict_of : Explored → SearchAnswer
-verdict_of (Always longest) = verdict.Kept
-verdict_of (Broken moves end) = verdict.Broken
-verdict_of (Open kept) = verdict.Open
-
 -- what is printed of an answer about a scenario
-abbrev pub printed : Scenario → Explored → Printed
-printed s explored = record { verdict = verdict_of explored; text = answer_text s explored }
+abbrev pub printed : Scenario → Answer → Printed
+printed s answer = record { verdict = verdict_of answer; text = answer_text s answer }
 
--- a search through the schedules from a place comes to this, in terms of schedules and of merges of events
-abbrev pub IsAnswer : ProgramTree → Place → Explored → Type 0
-IsAnswer rule p explored = IsExplored rule p explored × MergesAreKept rule p explored
-
--- it is what is printed of what a search about this scenario and this rule comes to
-abbrev pub IsPrinted : Scenario → ProgramTree → Printed → Type 0
-IsPrinted s rule p = (explored : Explored) × IsAnswer rule (place_of s) explored × (p ≡ printed s explored)
+-- it is what is printed of what is known about this scenario and this rule
+abbrev pub IsPrinted : List Wait → Scenario → ProgramTree → Printed → Type 0
+IsPrinted waits s rule p = (answer : Answer) × IsFound waits rule s answer × (p ≡ printed s answer)
 
 -- what was left of the sources before, and whether each has failed
 pub record Sources : Type 0 where
@@ -96,15 +74,15 @@ NoneFailed d = (d.scenario_failed ≡ false) × (d.keeps_failed ≡ false)
 
 -- What a search of two sources did, by its answer. The scenario is read and judged before the program. A failed source is
 -- answered exactly where one has failed.
-abbrev pub Searches : Option Level → Sources → Result Printed ExploreFault → Type 0
-Searches level d (Ok p) =
+abbrev pub Searches : List Wait → Option Level → Sources → Result Printed ExploreFault → Type 0
+Searches waits level d (Ok p) =
     NoneFailed d × (s : Scenario) × (rule : ProgramTree) × IfSome d.scenario (λ all. asked_in level all ≡ Ok s)
-    × IfSome d.keeps (λ all. program_in all ≡ Ok rule) × IsPrinted s rule p
-Searches level d (Err OutOfMemory) = NoneFailed d
-Searches level d (Err (BadScenario fault)) = NoneFailed d × IfSome d.scenario (λ all. asked_in level all ≡ Err fault)
-Searches level d (Err (BadProgram fault)) =
+    × IfSome d.keeps (λ all. program_in all ≡ Ok rule) × IsPrinted waits s rule p
+Searches waits level d (Err OutOfMemory) = NoneFailed d
+Searches waits level d (Err (BadScenario fault)) = NoneFailed d × IfSome d.scenario (λ all. asked_in level all ≡ Err fault)
+Searches waits level d (Err (BadProgram fault)) =
     NoneFailed d × (s : Scenario) × IfSome d.scenario (λ all. asked_in level all ≡ Ok s) × IfSome d.keeps (λ all. program_in all ≡ Err fault)
-Searches level d (Err Device) = (d.scenario_failed ≡ true) ⊎ ((d.scenario_failed ≡ false) × (d.keeps_failed ≡ true))
+Searches waits level d (Err Device) = (d.scenario_failed ≡ true) ⊎ ((d.scenario_failed ≡ false) × (d.keeps_failed ≡ true))
 
 -- ---- what whole schedules come to
 

@@ -1,5 +1,6 @@
 pub mod Asking
 pub mod Lines
+pub mod Judging
 pub mod Exploring
 pub mod Laws
 pub mod Command

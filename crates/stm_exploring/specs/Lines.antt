@@ -12,7 +12,7 @@ use Rattle.stm_steps.specs.declared.run.End.{End}
 use Rattle.stm_steps.specs.declared.run.End.TheVariants.{Done, Aborted as ByAbort, Faulted as ByFault}
 use Rattle.stm_meaning.specs.Faults.{fault_name}
 use Rattle.stm_events.specs.Names.{refusal_name}
-use Rattle.stm_report_lines.specs.Text.{line_text, lines_text}
+use Rattle.stm_report_lines.specs.Text.{line_text}
 use Rattle.stm_schedules.specs.declared.outcome.KeyValue.{KeyValue}
 use Rattle.stm_schedules.specs.declared.outcome.Outcome.{Outcome}
 use Rattle.stm_schedules.specs.declared.outcome.RunnerEnd.{RunnerEnd}
@@ -38,14 +38,11 @@ end_data (ByFault fault) = list (string (codes "faulted") ∷ string (fault_name
 abbrev pub broken_line : ℕ → End → Data
 broken_line n end = list (string (codes "broken") ∷ whole n ∷ end_data end ∷ [])
 
--- the line of an answer, and after a rule that is broken the scenario with the schedule
-abbrev pub answer_lines : Scenario → Explored → List Data
-answer_lines s (Always longest) = count_line (codes "always") longest ∷ []
-answer_lines s (Broken moves end) = broken_line (length moves) end ∷ written_scenario (scheduled s moves) ∷ []
-answer_lines s (Open kept) = count_line (codes "open") kept ∷ []
-
-abbrev pub answer_text : Scenario → Explored → List ℕ
-answer_text s explored = lines_text (answer_lines s explored)
+-- the line of what a search through schedules comes to, and after a rule that is broken the scenario with the schedule
+abbrev pub explored_lines : Scenario → Explored → List Data
+explored_lines s (Always longest) = count_line (codes "always") longest ∷ []
+explored_lines s (Broken moves end) = broken_line (length moves) end ∷ written_scenario (scheduled s moves) ∷ []
+explored_lines s (Open kept) = count_line (codes "open") kept ∷ []
 
 -- ---- what whole schedules come to
 

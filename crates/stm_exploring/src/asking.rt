@@ -1,16 +1,12 @@
 //! What a search is asked.
-ghost use Rattle.std.specs.Prelude.{◌≡◌, ◌≤◌, ◌<◌, ◌+◌, ◌^◌, map, IfOk, IfSome};
-ghost use Rattle.stm_json.specs.Outcome.{bad, within as within_list};
-ghost use Rattle.stm_json.specs.Returns.{Returns};
-ghost use Rattle.stm_json.specs.declared.cause.Cause.TheVariants.{Shape};
+ghost use Rattle.std.specs.Prelude.{◌≡◌, map};
 ghost use Rattle.stm_schedules.specs.Scenarios.{at_level};
-ghost use Rattle.stm_exploring.specs.Asking.{is_step, first_step, events_at, scenario_at, first_index, asked};
+ghost use Rattle.stm_serial_search.specs.Started.{is_step, HaveNoStep};
+ghost use Rattle.stm_exploring.specs.Asking.{without_steps, events_at, asked};
 
-use std::alloc::Global;
 use stm_history::Sequence;
-use stm_json::{Cause, ReadError, fault, within};
 use stm_program::Level;
-use stm_texts::{Opening, Scenario, WorldEvent};
+use stm_texts::{Scenario, WorldEvent};
 
 /// Whether an event is a step.
 fn is_step(event: &WorldEvent) -> bool
@@ -19,17 +15,13 @@ fn is_step(event: &WorldEvent) -> bool
     matches!(event, WorldEvent::Step { .. })
 }
 
-/// How many events stand before the first step, where there is one.
-fn first_step(events: &[WorldEvent]) -> Option<usize>
-    ensures first { result ≡ first_step events.now }
-    ensures fits { IfSome result (λ before. before + 1 < 2 ^ 64) }
+/// The events that are no steps.
+fn without_steps(events: Vec<WorldEvent>) -> Vec<WorldEvent>
+    ensures { result.items ≡ without_steps events.items }
 {
-    for before in 0..events.len() {
-        if is_step(&events[before]) {
-            return Some(before);
-        }
-    }
-    None
+    let mut kept = events;
+    kept.retain(|event| !is_step(event));
+    kept
 }
 
 /// Puts a level into an event, where it is a start.
@@ -62,48 +54,21 @@ fn events_at(level: Option<Level>, events: Vec<WorldEvent>) -> Vec<WorldEvent>
     events
 }
 
-/// The scenario, each start at the level that is named, where one is.
-fn scenario_at(level: Option<Level>, scenario: Scenario) -> Scenario
-    ensures { result ≡ scenario_at level scenario }
+/// The scenario without its steps, each start at the level that is named, where one is.
+fn asked(level: Option<Level>, scenario: Scenario) -> Scenario
+    ensures { result ≡ asked level scenario }
 {
+    let events = without_steps(scenario.events.into_vec());
     Scenario {
         opening: scenario.opening,
-        events: Sequence::of(events_at(level, scenario.events.into_vec())),
+        events: Sequence::of(events_at(level, events)),
     }
 }
 
-/// The index of the first event in a scenario's array.
-fn first_index(opening: Option<Opening>) -> usize
-    ensures index { result ≡ first_index opening }
-    ensures at_most { result ≤ 1 }
+/// The scenario that is asked about: without its steps, since a search makes its own, and each start at the level that is named, where one is.
+pub(crate) fn ask(level: Option<Level>, scenario: Scenario) -> Scenario
+    ensures value { result ≡ asked level scenario }
+    ensures stepless { HaveNoStep result.events }
 {
-    match opening {
-        Some(_) => 1,
-        None => 0,
-    }
-}
-
-/// The fault of a step that has this many events before it, where the first event stands at this index.
-fn step_fault(alloc: Global, first: usize, before: usize) -> Result<Scenario, ReadError>
-    requires { first + before < 2 ^ 64 }
-    ensures { Returns (λ s. s) result (within_list (first + before) (bad Shape)) }
-{
-    within(alloc, first + before, Err(fault(alloc, Cause::Shape)))
-}
-
-/// The scenario that is asked about, each start at the level that is named, where one is.
-///
-/// A scenario with a step is refused, as `Shape` at its first one. Beside that, out of memory is the only refusal.
-pub(crate) fn ask(
-    alloc: Global,
-    level: Option<Level>,
-    scenario: Scenario,
-) -> Result<Scenario, ReadError>
-    ensures value { Returns (λ s. s) result (asked level scenario) }
-    ensures opening { IfOk result (λ s. s.opening ≡ scenario.opening) }
-{
-    match first_step(scenario.events.as_slice()) {
-        Some(before) => step_fault(alloc, first_index(scenario.opening), before),
-        None => Ok(scenario_at(level, scenario)),
-    }
+    asked(level, scenario)
 }

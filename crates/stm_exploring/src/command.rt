@@ -5,6 +5,7 @@ ghost use Rattle.stm_explain.specs.Saying.{status_of as code_of, text_of, IsExpl
 ghost use Rattle.stm_exploring.specs.Command.{verdict_status, fault_status, fault_message, SaysOf, Writes, Finishes, Explores, GoesThrough};
 ghost use Rattle.stm_exploring.specs.Explaining.{SaysMoreOf};
 
+use crate::audience::Audience;
 use crate::exploring::explore_sources;
 use crate::outcomes::outcomes_of_source;
 use crate::printed::{Printed, SearchAnswer};
@@ -12,7 +13,7 @@ use crate::reading::ExploreFault;
 use std::alloc::Global;
 use stm_devices::{Sink, Source};
 use stm_explain::{Message, write_text};
-use stm_explore::{Budget, Observer};
+use stm_explore::{Budget, Wait};
 use stm_program::Level;
 
 /// The status of what a search came to.
@@ -99,15 +100,16 @@ fn finish<W: Sink, E: Sink>(searched: Result<Printed, ExploreFault>, out: &mut W
 /// and after every schedule of at most LENGTH moves it does. The observer of `budget` is notified of how far the search is, and that it has ended
 /// before anything is written.
 ///
-/// Each start is taken at `level`, where one is named. The scenario is read and judged first, then the program. Status 2 is for a bad scenario,
-/// which one with a step is, and for a bad program, 3 for a failed allocation and for a failed device other than `err`: then nothing was written,
+/// Of the schedules those alone are looked at in which the runners wait for others, as `waits` says. The steps of the scenario are left out. Each start is taken at `level`, where one is named. The scenario is read and judged first, then the
+/// program. Status 2 is for a bad scenario and for a bad program, 3 for a failed allocation and for a failed device other than `err`: then nothing was written,
 /// but for a front where `out` has failed. On `err` it says what went wrong, and takes no memory for it: `stmrun: bad scenario at PLACE: CAUSE`,
 /// `stmrun: bad program at PLACE: CAUSE`, `stmrun: out of memory` or `stmrun: device fault`, whole where `err` then has not failed. That `err`
 /// fails changes no status. None of the devices has failed before. `scenario` and `keeps` are read at most 16777217 times each.
-pub fn explore_to<S: Source, R: Source, W: Sink, E: Sink, O: Observer>(
+pub fn explore_to<S: Source, R: Source, W: Sink, E: Sink, O: Audience>(
     alloc: Global,
     scenario: &mut S,
     keeps: &mut R,
+    waits: &[Wait],
     level: Option<Level>,
     budget: &mut Budget<O>,
     out: &mut W,
@@ -117,7 +119,7 @@ pub fn explore_to<S: Source, R: Source, W: Sink, E: Sink, O: Observer>(
     requires keeps_works { R.failed keeps.old ≡ false }
     requires out_works { W.failed out.old ≡ false }
     requires err_works { E.failed err.old ≡ false }
-    ensures ends { Explores level (record {
+    ensures ends { Explores waits.now level (record {
       scenario = S.left scenario.old;
       keeps = R.left keeps.old;
       scenario_failed = S.failed scenario.new;
@@ -128,7 +130,7 @@ pub fn explore_to<S: Source, R: Source, W: Sink, E: Sink, O: Observer>(
     ensures keeps_bounded { R.reads keeps.new ≤ R.reads keeps.old + MOST_READ }
 {
     finish(
-        explore_sources(alloc, scenario, keeps, level, budget),
+        explore_sources(alloc, scenario, keeps, waits, level, budget),
         out,
         err,
     )
@@ -141,7 +143,7 @@ pub fn explore_to<S: Source, R: Source, W: Sink, E: Sink, O: Observer>(
 /// had left, before all were found, and every schedule of at most LENGTH moves was gone through.
 ///
 /// All else is as with `explore_to`, for which there is a rule.
-pub fn outcomes_to<S: Source, W: Sink, E: Sink, O: Observer>(
+pub fn outcomes_to<S: Source, W: Sink, E: Sink, O: Audience>(
     alloc: Global,
     scenario: &mut S,
     level: Option<Level>,

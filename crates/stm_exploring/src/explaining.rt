@@ -8,6 +8,7 @@ ghost use Rattle.stm_faulted_runs.specs.Rules.{ExplainsRule};
 ghost use Rattle.stm_exploring.specs.Command.{verdict_status};
 ghost use Rattle.stm_exploring.specs.Explaining.{SaysOfVerdict, schedule_in, ExplainsOnSchedule, ExplainsSearched, Explores, GoesThrough};
 
+use crate::audience::Audience;
 use crate::command::{report_explained, status_of, write};
 use crate::exploring::explore_sources;
 use crate::outcomes::outcomes_of_source;
@@ -16,7 +17,7 @@ use crate::reading::ExploreFault;
 use std::alloc::Global;
 use stm_devices::{Sink, Source};
 use stm_explain::{Input, KeptSource, write_text};
-use stm_explore::{Budget, Observer};
+use stm_explore::{Budget, Wait};
 use stm_faulted_runs::{Named, rule_explained};
 use stm_program::Level;
 
@@ -30,7 +31,7 @@ fn rule_explanation<S, R>(
     ensures { IsExplained (string_bytes result) }
 {
     match fault {
-        ExploreFault::BadScenario(bad) => scenario.explanation(alloc, Input::Search, bad),
+        ExploreFault::BadScenario(bad) => scenario.explanation(alloc, Input::Scenario, bad),
         ExploreFault::BadProgram(bad) => keeps.explanation(alloc, Input::Program, bad),
         ExploreFault::OutOfMemory | ExploreFault::Device => String::new(alloc),
     }
@@ -45,7 +46,7 @@ fn search_explanation<S>(
     ensures { IsExplained (string_bytes result) }
 {
     match fault {
-        ExploreFault::BadScenario(bad) => scenario.explanation(alloc, Input::Search, bad),
+        ExploreFault::BadScenario(bad) => scenario.explanation(alloc, Input::Scenario, bad),
         _ => String::new(alloc),
     }
 }
@@ -132,10 +133,11 @@ fn report_verdict<E: Sink>(err: &mut E, verdict: SearchAnswer, more: &str) -> u8
 /// Does what `explore_to` does, with that status and that output. After what is said of a bad input stands its explanation, as a line
 /// `NAME:LINE:COLUMN: WORDS`, and after what is printed of a rule that was broken by a fault a line of that form; or nothing where memory ran out
 /// refused for these.
-pub fn explore_explained_to<S: Source, R: Source, W: Sink, E: Sink, O: Observer>(
+pub fn explore_explained_to<S: Source, R: Source, W: Sink, E: Sink, O: Audience>(
     alloc: Global,
     scenario: &mut KeptSource<'_, S>,
     keeps: &mut KeptSource<'_, R>,
+    waits: &[Wait],
     level: Option<Level>,
     budget: &mut Budget<O>,
     out: &mut W,
@@ -145,7 +147,7 @@ pub fn explore_explained_to<S: Source, R: Source, W: Sink, E: Sink, O: Observer>
     requires keeps_works { R.failed keeps.old.source ≡ false }
     requires out_works { W.failed out.old ≡ false }
     requires err_works { E.failed err.old ≡ false }
-    ensures ends { Explores level keeps.new.name.now keeps.new.bytes.items (record {
+    ensures ends { Explores waits.now level keeps.new.name.now keeps.new.bytes.items (record {
       scenario = S.left scenario.old.source;
       keeps = R.left keeps.old.source;
       scenario_failed = S.failed scenario.new.source;
@@ -155,7 +157,7 @@ pub fn explore_explained_to<S: Source, R: Source, W: Sink, E: Sink, O: Observer>
     ensures scenario_bounded { S.reads scenario.new.source ≤ S.reads scenario.old.source + MOST_READ }
     ensures keeps_bounded { R.reads keeps.new.source ≤ R.reads keeps.old.source + MOST_READ }
 {
-    let searched = explore_sources(alloc, scenario, keeps, level, budget);
+    let searched = explore_sources(alloc, scenario, keeps, waits, level, budget);
     let more = searched_explanation(alloc, keeps, &searched);
     match write(out, searched) {
         Ok(verdict) => report_verdict(err, verdict, more.as_str()),
@@ -168,7 +170,7 @@ pub fn explore_explained_to<S: Source, R: Source, W: Sink, E: Sink, O: Observer>
 
 /// Does what `outcomes_to` does, with that status and that output. After what is said of a bad scenario stands its explanation, as a line
 /// `NAME:LINE:COLUMN: WORDS`, or nothing where an allocation failed for it.
-pub fn outcomes_explained_to<S: Source, W: Sink, E: Sink, O: Observer>(
+pub fn outcomes_explained_to<S: Source, W: Sink, E: Sink, O: Audience>(
     alloc: Global,
     scenario: &mut KeptSource<'_, S>,
     level: Option<Level>,

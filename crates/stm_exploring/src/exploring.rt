@@ -3,31 +3,33 @@ ghost use Rattle.std.specs.Prelude.{◌≡◌, ◌≤◌, ◌+◌, false};
 ghost use Rattle.stm_devices.specs.declared.transfer.TheConstants.{MOST_READ};
 ghost use Rattle.stm_exploring.specs.Exploring.{Searches};
 
+use crate::audience::Audience;
 use crate::printed::Printed;
 use crate::reading::{ExploreFault, program_of, scenario_of};
 use crate::searching::search;
 use std::alloc::Global;
 use stm_devices::Source;
-use stm_explore::{Budget, Observer};
+use stm_explore::{Budget, Wait};
 use stm_program::Level;
 
 /// Reads a scenario from its source to the end, then the program of a rule from its own, and looks after which schedules of the scenario the
 /// rule is kept: the first by length, and then by the order of their moves, after which it is not, or that there is none.
 ///
-/// Each start is taken at the level that is named, where one is. At most as many events are taken as `budget` has left, and its observer is notified
-/// of how far the search is. Neither source has failed before. It fails as `BadScenario` with the scenario's first fault, or with its first step, as
-/// `Shape`, and then the program is not read; as `BadProgram` with the program's first fault; as `OutOfMemory` where an allocation failed; and as
+/// Of the schedules those alone are looked at in which the runners wait for others, as `waits` says. The steps of the scenario are left out. Each start is taken at the level that is named, where one is. At most as many events are taken as `budget` has left, and its observer is notified
+/// of how far the search is. Neither source has failed before. It fails as `BadScenario` with the scenario's first fault,
+/// and then the program is not read; as `BadProgram` with the program's first fault; as `OutOfMemory` where an allocation failed; and as
 /// `Device` exactly where a source has failed. At most 16777217 bytes of each are read, in at most that many reads of each.
-pub fn explore_sources<S: Source, R: Source, O: Observer>(
+pub fn explore_sources<S: Source, R: Source, O: Audience>(
     alloc: Global,
     scenario: &mut S,
     keeps: &mut R,
+    waits: &[Wait],
     level: Option<Level>,
     budget: &mut Budget<O>,
 ) -> Result<Printed, ExploreFault>
     requires scenario_works { S.failed scenario.old ≡ false }
     requires keeps_works { R.failed keeps.old ≡ false }
-    ensures searched { Searches level (record {
+    ensures searched { Searches waits.now level (record {
       scenario = S.left scenario.old;
       keeps = R.left keeps.old;
       scenario_failed = S.failed scenario.new;
@@ -36,9 +38,9 @@ pub fn explore_sources<S: Source, R: Source, O: Observer>(
     ensures scenario_bounded { S.reads scenario.new ≤ S.reads scenario.old + MOST_READ }
     ensures keeps_bounded { R.reads keeps.new ≤ R.reads keeps.old + MOST_READ }
 {
-    let scenario = scenario_of(alloc, scenario, level)?;
+    let scenario = scenario_of(alloc, scenario, level, &mut budget.observer)?;
     let keeps = program_of(alloc, keeps)?;
-    match search(alloc, &scenario, &keeps, budget) {
+    match search(alloc, &scenario, waits, &keeps, budget) {
         Ok(printed) => Ok(printed),
         Err(_) => Err(ExploreFault::OutOfMemory),
     }

@@ -1,14 +1,17 @@
 //! Searches through the interleavings of a scenario, from the bytes of sources to what is printed of them, and the command `explore` over
 //! devices.
 //!
-//! A scenario whose schedules are looked at has no step. `specs/Asking.antt` has what is asked, `specs/Lines.antt` what is printed, and
+//! The steps of a scenario whose schedules are looked at are left out. `specs/Asking.antt` has what is asked, `specs/Lines.antt` what is printed, and
 //! `specs/Command.antt` the statuses and what is said of a fault.
 #![tactic(auto)]
 
+mod accounts;
 mod asking;
+mod audience;
 mod command;
 mod explaining;
 mod exploring;
+mod judging;
 mod laws;
 mod lines;
 mod lists;
@@ -20,7 +23,10 @@ mod reading;
 mod schedule_lines;
 mod searching;
 mod setup;
+mod unput;
+mod waits;
 
+pub use audience::Audience;
 pub use command::{explore_to, outcomes_to};
 pub use explaining::{explore_explained_to, outcomes_explained_to};
 pub use exploring::explore_sources;
@@ -31,6 +37,7 @@ pub use progress::{ProgressLine, ProgressNotes};
 pub use reading::ExploreFault;
 pub use stm_devices::{DeviceFault, Sink, Source, Std};
 pub use stm_explain::{Input, KeptSource};
-pub use stm_explore::{Budget, Nobody, Observer};
+pub use stm_explore::{Budget, Nobody, Observer, Wait};
 pub use stm_json::BadInput;
 pub use stm_program::Level;
+pub use waits::waits_in;

@@ -2,6 +2,7 @@
 ghost use Rattle.std.specs.Prelude.{◌≡◌, ◌++◌, IfOk, OnOk, string_bytes};
 ghost use Rattle.serde_json.specs.View.{view};
 ghost use Rattle.stm_report_lines.specs.Text.{line_text};
+ghost use Rattle.stm_exploring.specs.Judging.{always_line};
 ghost use Rattle.stm_exploring.specs.Lines.{count_line, end_data, broken_line};
 
 use serde_json::{Value as Json, json};
@@ -36,6 +37,21 @@ pub(crate) fn count_text(alloc: Global, word: &str, count: u64) -> Result<String
     let mut text = String::new(alloc);
     push_count(alloc, &mut text, word, count)?;
     Ok(text)
+}
+
+/// The line of a rule that is always kept, without the length of the longest schedule.
+fn always_json(alloc: Global) -> Result<Json, AllocError>
+    ensures { IfOk result (λ v. view v ≡ always_line) }
+{
+    json!(in alloc; ["always", null])
+}
+
+/// Adds that line.
+pub(crate) fn push_always(alloc: Global, text: &mut String) -> Result<(), AllocError>
+    ensures { OnOk result (string_bytes text.new ≡ string_bytes text.old ++ line_text always_line) }
+{
+    let line = always_json(alloc)?;
+    push_line(alloc, text, &line)
 }
 
 /// An end of a program at which its rule is not kept.

@@ -3,11 +3,11 @@ ghost use Rattle.std.specs.Prelude.{◌≡◌, ◌≤◌, ◌+◌, [], false, If
 ghost use Rattle.stm_devices.specs.declared.transfer.TheConstants.{MOST_READ};
 ghost use Rattle.stm_explore.specs.Explored.{AreOutcomes};
 ghost use Rattle.stm_schedules.specs.Outcomes.{after_replies};
-ghost use Rattle.stm_texts.specs.Opens.{IsOpening};
 ghost use Rattle.stm_world.specs.World.{world_after, replies_to};
 ghost use Rattle.stm_exploring.specs.Asking.{place_of, ends_of};
 ghost use Rattle.stm_exploring.specs.Exploring.{gathered_text, verdict_of_outcomes, printed_outcomes, ArePrinted, Gathers};
 
+use crate::audience::{Audience, tell_parts};
 use crate::lines::count_text;
 use crate::outcome_lines::outcomes_text;
 use crate::printed::{Printed, SearchAnswer};
@@ -15,7 +15,7 @@ use crate::reading::{ExploreFault, scenario_of};
 use crate::setup::{run_setup, setup_and_others};
 use std::alloc::{AllocError, Global};
 use stm_devices::Source;
-use stm_explore::{Budget, Observer, Outcomes, find_outcomes};
+use stm_explore::{Budget, Outcomes, find_outcomes};
 use stm_history::Text;
 use stm_program::Level;
 use stm_retry::World;
@@ -53,7 +53,7 @@ fn print(alloc: Global, gathered: &Outcomes) -> Result<Printed, AllocError>
 }
 
 /// What whole schedules come to, once these events were run in a world.
-fn gather_from<O: Observer>(
+fn gather_from<O: Audience>(
     alloc: Global,
     world: &mut World,
     setup: &[WorldEvent],
@@ -64,16 +64,16 @@ fn gather_from<O: Observer>(
         (after_replies (replies_to setup.now world.old) [])) }
 {
     let ends = run_setup(alloc, world, setup)?;
+    tell_parts(alloc, setup.len(), others.len(), &mut budget.observer);
     find_outcomes(alloc, world, others, ends.as_slice(), budget)
 }
 
 /// What the whole schedules of a scenario come to.
-fn gather_scenario<O: Observer>(
+fn gather_scenario<O: Audience>(
     alloc: Global,
     scenario: &Scenario,
     budget: &mut Budget<O>,
 ) -> Result<Outcomes, AllocError>
-    requires { IsOpening scenario.now.opening }
     ensures { IfOk result (AreOutcomes (place_of scenario.now) (ends_of scenario.now)) }
 {
     let (setup, others) = setup_and_others(scenario.events.as_slice());
@@ -85,12 +85,11 @@ fn gather_scenario<O: Observer>(
 }
 
 /// What is printed of what the whole schedules of a scenario come to.
-fn gather<O: Observer>(
+fn gather<O: Audience>(
     alloc: Global,
     scenario: &Scenario,
     budget: &mut Budget<O>,
 ) -> Result<Printed, AllocError>
-    requires { IsOpening scenario.now.opening }
     ensures { IfOk result (ArePrinted scenario.now) }
 {
     let gathered = gather_scenario(alloc, scenario, budget)?;
@@ -99,11 +98,10 @@ fn gather<O: Observer>(
 
 /// Reads a scenario from its source to the end, and looks what its whole schedules come to: the state, and how each runner ended.
 ///
-/// Each start is taken at the level that is named, where one is. At most as many events are taken as `budget` has left, and its observer is notified
-/// of how far the search is. The source has not failed before. It fails as `BadScenario` with the scenario's first fault, or with its first step, as
-/// `Shape`; as `OutOfMemory` where an allocation failed; and as `Device` exactly where the source has failed. At most 16777217 bytes are read, in at
+/// The steps of the scenario are left out. Each start is taken at the level that is named, where one is. At most as many events are taken as `budget` has left, and its observer is notified
+/// of how far the search is. The source has not failed before. It fails as `BadScenario` with the scenario's first fault; as `OutOfMemory` where an allocation failed; and as `Device` exactly where the source has failed. At most 16777217 bytes are read, in at
 /// most that many reads.
-pub fn outcomes_of_source<S: Source, O: Observer>(
+pub fn outcomes_of_source<S: Source, O: Audience>(
     alloc: Global,
     scenario: &mut S,
     level: Option<Level>,
@@ -113,7 +111,7 @@ pub fn outcomes_of_source<S: Source, O: Observer>(
     ensures gathered { Gathers level (S.left scenario.old) (S.failed scenario.new) result }
     ensures bounded { S.reads scenario.new ≤ S.reads scenario.old + MOST_READ }
 {
-    let scenario = scenario_of(alloc, scenario, level)?;
+    let scenario = scenario_of(alloc, scenario, level, &mut budget.observer)?;
     match gather(alloc, &scenario, budget) {
         Ok(printed) => Ok(printed),
         Err(_) => Err(ExploreFault::OutOfMemory),

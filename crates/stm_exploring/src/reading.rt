@@ -2,16 +2,16 @@
 ghost use Rattle.std.specs.Prelude.{◌≡◌, ◌≤◌, ◌+◌, false, IfOk};
 ghost use Rattle.stm_devices.specs.declared.transfer.TheConstants.{MOST_READ};
 ghost use Rattle.stm_json.specs.Returns.{Returns};
-ghost use Rattle.stm_texts.specs.Opens.{IsOpening};
-ghost use Rattle.stm_exploring.specs.Exploring.{asked_in, program_in, ReadsScenario, ReadsProgram};
+ghost use Rattle.stm_serial_search.specs.Started.{HaveNoStep};
+ghost use Rattle.stm_exploring.specs.Exploring.{asked_in, ReadsScenario, ReadsProgram};
 
 use crate::asking::ask;
-use serde_json::Value;
+use crate::audience::{Audience, tell_left_out};
 use std::alloc::Global;
 use stm_devices::{ReadFault, Source, read_all};
-use stm_json::{BadInput, Cause, MOST_BYTES, ReadError, fault};
+use stm_json::{BadInput, ReadError};
 use stm_program::{Level, Program};
-use stm_program_json::read_program;
+use stm_program_texts::read_program_text;
 use stm_texts::{Scenario, read_scenario};
 use thiserror::Error;
 
@@ -21,7 +21,7 @@ pub enum ExploreFault {
     /// An allocation failed.
     #[error("out of memory")]
     OutOfMemory,
-    /// The first input is no scenario without steps: its first fault.
+    /// The first input is no scenario: its first fault.
     #[error("bad scenario {0}")]
     BadScenario(BadInput),
     /// The second input is no program: its first fault.
@@ -46,54 +46,40 @@ impl From<ReadFault> for ExploreFault {
     }
 }
 
-/// The scenario that bytes spell, as it is asked about.
-fn scenario_in_bytes(
+/// The scenario that bytes spell, as it is asked about. It is said how many steps are left out.
+fn scenario_in_bytes<O: Audience>(
     alloc: Global,
     bytes: &[u8],
     level: Option<Level>,
+    audience: &mut O,
 ) -> Result<Scenario, ReadError>
     ensures scenario { Returns (λ s. s) result (asked_in level bytes.now) }
-    ensures opening { IfOk result (λ s. IsOpening s.opening) }
+    ensures stepless { IfOk result (λ s. HaveNoStep s.events) }
 {
     let scenario = read_scenario(alloc, bytes)?;
-    ask(alloc, level, scenario)
+    let count = scenario.events.len();
+    let asked = ask(level, scenario);
+    tell_left_out(alloc, count.saturating_sub(asked.events.len()), audience);
+    Ok(asked)
 }
 
-/// The scenario of a source, as it is asked about.
-pub(crate) fn scenario_of<S: Source>(
+/// The scenario of a source, as it is asked about. It is said how many steps are left out.
+pub(crate) fn scenario_of<S: Source, O: Audience>(
     alloc: Global,
     source: &mut S,
     level: Option<Level>,
+    audience: &mut O,
 ) -> Result<Scenario, ExploreFault>
     requires { S.failed source.old ≡ false }
     ensures scenario { ReadsScenario level (S.left source.old) (S.failed source.new) result }
+    ensures stepless { IfOk result (λ s. HaveNoStep s.events) }
     ensures bounded { S.reads source.new ≤ S.reads source.old + MOST_READ }
 {
     let bytes = read_all(alloc, source)?;
-    match scenario_in_bytes(alloc, bytes.as_slice(), level) {
+    match scenario_in_bytes(alloc, bytes.as_slice(), level, audience) {
         Ok(scenario) => Ok(scenario),
         Err(ReadError::OutOfMemory) => Err(ExploreFault::OutOfMemory),
         Err(ReadError::Bad(fault)) => Err(ExploreFault::BadScenario(fault)),
-    }
-}
-
-/// The program that bytes spell, as JSON in UTF-8, or their first fault.
-#[tactic(auto, unfolding(crate::specs::Exploring::program_in))]
-fn program_in_bytes(alloc: Global, bytes: &[u8]) -> Result<Program, ReadError>
-    ensures { Returns (λ p. p) result (program_in bytes.now) }
-{
-    if bytes.len() > MOST_BYTES {
-        return Err(fault(alloc, Cause::TooLong));
-    }
-    match Value::from_slice(alloc, bytes) {
-        Ok(value) => read_program(alloc, &value),
-        Err(error) => {
-            if error.is_memory() {
-                Err(ReadError::OutOfMemory)
-            } else {
-                Err(fault(alloc, Cause::NotJson))
-            }
-        }
     }
 }
 
@@ -104,7 +90,7 @@ pub(crate) fn program_of<S: Source>(alloc: Global, source: &mut S) -> Result<Pro
     ensures bounded { S.reads source.new ≤ S.reads source.old + MOST_READ }
 {
     let bytes = read_all(alloc, source)?;
-    match program_in_bytes(alloc, bytes.as_slice()) {
+    match read_program_text(alloc, bytes.as_slice()) {
         Ok(program) => Ok(program),
         Err(ReadError::OutOfMemory) => Err(ExploreFault::OutOfMemory),
         Err(ReadError::Bad(fault)) => Err(ExploreFault::BadProgram(fault)),

@@ -1,24 +1,35 @@
 //! A search about a scenario and a rule, and what is printed of it.
-ghost use Rattle.std.specs.Prelude.{◌≡◌, [], ◌∷◌, length, IfOk, string_bytes};
-ghost use Rattle.stm_report_lines.specs.Text.{lines_text};
+ghost use Rattle.std.specs.Prelude.{◌≡◌, true, [], ◌∷◌, length, IfOk, string_bytes};
+ghost use Rattle.stm_report_lines.specs.Text.{line_text, lines_text};
 ghost use Rattle.stm_texts.specs.Writing.{written_scenario};
-ghost use Rattle.stm_texts.specs.Opens.{IsOpening};
-ghost use Rattle.stm_world.specs.World.{world_after};
-ghost use Rattle.stm_exploring.specs.Asking.{place_of, scheduled};
-ghost use Rattle.stm_exploring.specs.Exploring.{verdict_of, printed, IsAnswer, IsPrinted};
-ghost use Rattle.stm_exploring.specs.Lines.{broken_line, answer_text};
+ghost use Rattle.stm_explore.specs.declared.exploring.Explored.{Explored as ExploredValue};
+ghost use Rattle.stm_explore.specs.Waiting.{IsExploredPatiently};
+ghost use Rattle.stm_schedules.specs.Outcomes.{after_replies};
+ghost use Rattle.stm_world.specs.World.{opened, replies_to, world_after};
+ghost use Rattle.stm_serial.specs.Serial.{IsComparing};
+ghost use Rattle.stm_serial_search.specs.Search.{AreProgramsOf};
+ghost use Rattle.stm_serial_search.specs.Started.{HaveNoStep};
+ghost use Rattle.stm_exploring.specs.Asking.{ends_of, opening_of, place_of, scheduled};
+ghost use Rattle.stm_exploring.specs.Exploring.{printed, IsPrinted};
+ghost use Rattle.stm_exploring.specs.declared.judging.Answer.TheVariants.{BySchedules};
+ghost use Rattle.stm_exploring.specs.Judging.{always_line, answer_text, IsAnswer, IsFound, verdict_of, verdict_of_explored};
+ghost use Rattle.stm_exploring.specs.Lines.{broken_line, explored_lines};
 
-use crate::lines::{count_text, push_broken};
+use crate::accounts::tell_account;
+use crate::audience::{Audience, tell_parts, tell_strangers};
+use crate::judging::{Answer, judge_comparing, judge_schedules};
+use crate::lines::{count_text, push_always, push_broken};
 use crate::printed::{Printed, SearchAnswer};
 use crate::schedule_lines::push_scheduled;
 use crate::setup::{run_setup, setup_and_others};
 use std::alloc::{AllocError, Global};
-use stm_explore::{Budget, Explored, Observer, explore};
+use stm_explore::{Budget, Explored, Observer, Wait, explore_waiting};
 use stm_history::Text;
 use stm_meaning::End;
 use stm_program::Program;
 use stm_retry::World;
 use stm_schedules::Move;
+use stm_serial_search::{are_orderly, programs_started};
 use stm_texts::{Scenario, WorldEvent, opens_with};
 
 /// The lines of a rule that is not kept after this schedule.
@@ -37,13 +48,22 @@ fn broken_text(
     Ok(text)
 }
 
-/// What is printed of an answer about a scenario.
-fn answer_text(
+/// The line of a rule that serial orders keep.
+fn always_text(alloc: Global) -> Result<String, AllocError>
+    ensures { IfOk result (λ text. string_bytes text ≡ line_text always_line) }
+{
+    let mut text = String::new(alloc);
+    push_always(alloc, &mut text)?;
+    Ok(text)
+}
+
+/// What is printed of what a search through schedules came to.
+fn explored_text(
     alloc: Global,
     scenario: &Scenario,
     explored: &Explored,
 ) -> Result<String, AllocError>
-    ensures { IfOk result (λ text. string_bytes text ≡ answer_text scenario.now explored.now) }
+    ensures { IfOk result (λ text. string_bytes text ≡ lines_text (explored_lines scenario.now explored.now)) }
 {
     match explored {
         Explored::Always { longest } => count_text(alloc, "always", *longest),
@@ -52,9 +72,22 @@ fn answer_text(
     }
 }
 
-/// What an answer comes to.
-fn verdict_of(explored: &Explored) -> SearchAnswer
-    ensures { result ≡ verdict_of explored.now }
+/// What is printed of an answer about a scenario.
+fn answer_text(alloc: Global, scenario: &Scenario, answer: &Answer) -> Result<String, AllocError>
+    ensures { IfOk result (λ text. string_bytes text ≡ answer_text scenario.now answer.now) }
+{
+    match answer {
+        Answer::BySchedules(explored) => explored_text(alloc, scenario, explored),
+        Answer::AlwaysByOrders => always_text(alloc),
+        Answer::BrokenByOrder(found) => {
+            broken_text(alloc, scenario, found.moves.as_slice(), &found.end)
+        }
+    }
+}
+
+/// What a search through schedules came to.
+fn verdict_of_explored(explored: &Explored) -> SearchAnswer
+    ensures { result ≡ verdict_of_explored explored.now }
 {
     match explored {
         Explored::Always { .. } => SearchAnswer::Kept,
@@ -63,61 +96,226 @@ fn verdict_of(explored: &Explored) -> SearchAnswer
     }
 }
 
-/// What is printed of an answer, with what it comes to.
-fn print(alloc: Global, scenario: &Scenario, explored: &Explored) -> Result<Printed, AllocError>
-    ensures { IfOk result (λ p. p ≡ printed scenario.now explored.now) }
+/// What an answer comes to.
+fn verdict_of(answer: &Answer) -> SearchAnswer
+    ensures { result ≡ verdict_of answer.now }
 {
-    let text = answer_text(alloc, scenario, explored)?;
+    match answer {
+        Answer::BySchedules(explored) => verdict_of_explored(explored),
+        Answer::AlwaysByOrders => SearchAnswer::Kept,
+        Answer::BrokenByOrder(_) => SearchAnswer::Broken,
+    }
+}
+
+/// What is printed of an answer, with what it comes to.
+fn print(alloc: Global, scenario: &Scenario, answer: &Answer) -> Result<Printed, AllocError>
+    ensures { IfOk result (λ p. p ≡ printed scenario.now answer.now) }
+{
+    let text = answer_text(alloc, scenario, answer)?;
     Ok(Printed {
-        verdict: verdict_of(explored),
+        verdict: verdict_of(answer),
         text: Text::new(text),
     })
 }
 
-/// Whether a program keeps its rule after every schedule, once these events were run in a world.
-fn explore_from<O: Observer>(
+/// Whether a program keeps its rule after every schedule, from where a world is, whose runners have these programs: by serial orders, too, where all
+/// commit at levels that compare.
+fn judge<O: Observer>(
+    alloc: Global,
+    world: &World,
+    others: &[WorldEvent],
+    programs: &[Program],
+    comparing: bool,
+    keeps: &Program,
+    budget: &mut Budget<O>,
+) -> Result<Answer, AllocError>
+    requires programs { AreProgramsOf programs.now world.now.runners }
+    requires comparing { comparing ≡ true → IsComparing (record { world = world.now; others = others.now }) }
+    ensures { IfOk result (IsAnswer keeps.now (record { world = world.now; others = others.now })) }
+{
+    if comparing {
+        return judge_comparing(alloc, world, others, programs, keeps, budget);
+    }
+    judge_schedules(alloc, world, others, keeps, budget)
+}
+
+/// The same, and it is said what that covers, where the rule is always kept or all is wanted.
+fn judge_and_tell<O: Audience>(
+    alloc: Global,
+    world: &World,
+    others: &[WorldEvent],
+    programs: &[Program],
+    comparing: bool,
+    keeps: &Program,
+    budget: &mut Budget<O>,
+) -> Result<Answer, AllocError>
+    requires programs { AreProgramsOf programs.now world.now.runners }
+    requires comparing { comparing ≡ true → IsComparing (record { world = world.now; others = others.now }) }
+    ensures { IfOk result (IsAnswer keeps.now (record { world = world.now; others = others.now })) }
+{
+    let answer = judge(alloc, world, others, programs, comparing, keeps, budget)?;
+    if budget.observer.wants_all() || verdict_of(&answer) == SearchAnswer::Kept {
+        tell_account(alloc, world, others, programs, keeps, &mut budget.observer);
+    }
+    Ok(answer)
+}
+
+/// Whether a program keeps its rule after every schedule, once these events were run in a world, which start these programs.
+fn explore_from<O: Audience>(
     alloc: Global,
     world: &mut World,
     setup: &[WorldEvent],
     others: &[WorldEvent],
+    programs: &[Program],
+    comparing: bool,
     keeps: &Program,
     budget: &mut Budget<O>,
-) -> Result<Explored, AllocError>
+) -> Result<Answer, AllocError>
+    requires programs { AreProgramsOf programs.now (world_after setup.now world.old).runners }
+    requires comparing { comparing ≡ true → IsComparing (record { world = world_after setup.now world.old; others = others.now }) }
     ensures { IfOk result (IsAnswer keeps.now (record { world = world_after setup.now world.old; others = others.now })) }
 {
     let _ends = run_setup(alloc, world, setup)?;
-    let explored = explore(alloc, world, others, keeps, budget)?;
-    Ok(explored)
+    tell_parts(alloc, setup.len(), others.len(), &mut budget.observer);
+    judge_and_tell(alloc, world, others, programs, comparing, keeps, budget)
+}
+
+/// The world of a scenario before its first event.
+fn world_of(alloc: Global, scenario: &Scenario) -> Result<World, AllocError>
+    ensures { IfOk result (λ world. world ≡ opened (opening_of scenario.now)) }
+{
+    let opening = opens_with(scenario.opening);
+    let world = World::with_limits(alloc, opening.revision(), opening.operations())?;
+    Ok(world)
+}
+
+/// Whether a program keeps its rule after every schedule of a scenario whose runners have these programs.
+fn explore_programs<O: Audience>(
+    alloc: Global,
+    scenario: &Scenario,
+    programs: &[Program],
+    keeps: &Program,
+    budget: &mut Budget<O>,
+) -> Result<Answer, AllocError>
+    requires programs { AreProgramsOf programs.now (place_of scenario.now).world.runners }
+    ensures { IfOk result (IsAnswer keeps.now (place_of scenario.now)) }
+{
+    let (setup, others) = setup_and_others(scenario.events.as_slice());
+    let comparing = are_orderly(scenario.events.as_slice());
+    let mut world = world_of(alloc, scenario)?;
+    let answer = explore_from(
+        alloc, &mut world, setup, others, programs, comparing, keeps, budget,
+    );
+    drop(world);
+    answer
+}
+
+/// The programs of a scenario's runners, by their numbers.
+fn programs_of(alloc: Global, scenario: &Scenario) -> Result<Vec<Program>, AllocError>
+    requires { HaveNoStep scenario.now.events }
+    ensures { IfOk result (λ programs. AreProgramsOf programs.items (place_of scenario.now).world.runners) }
+{
+    let (setup, _) = setup_and_others(scenario.events.as_slice());
+    let programs = programs_started(alloc, setup)?;
+    Ok(programs)
 }
 
 /// Whether a program keeps its rule after every schedule of a scenario.
-fn explore_scenario<O: Observer>(
+fn explore_scenario<O: Audience>(
     alloc: Global,
     scenario: &Scenario,
     keeps: &Program,
     budget: &mut Budget<O>,
-) -> Result<Explored, AllocError>
-    requires { IsOpening scenario.now.opening }
+) -> Result<Answer, AllocError>
+    requires stepless { HaveNoStep scenario.now.events }
     ensures { IfOk result (IsAnswer keeps.now (place_of scenario.now)) }
 {
+    let programs = programs_of(alloc, scenario)?;
+    let answer = explore_programs(alloc, scenario, programs.as_slice(), keeps, budget);
+    drop(programs);
+    answer
+}
+
+/// Whether a program keeps its rule after every schedule in which runners wait, once these events were run in a world.
+fn explore_waiting_from<O: Audience>(
+    alloc: Global,
+    world: &mut World,
+    setup: &[WorldEvent],
+    others: &[WorldEvent],
+    waits: &[Wait],
+    keeps: &Program,
+    budget: &mut Budget<O>,
+) -> Result<Explored, AllocError>
+    ensures { IfOk result (IsExploredPatiently waits.now keeps.now (record { world = world_after setup.now world.old; others = others.now })
+        (after_replies (replies_to setup.now world.old) [])) }
+{
+    let ends = run_setup(alloc, world, setup)?;
+    tell_parts(alloc, setup.len(), others.len(), &mut budget.observer);
+    let count = world.runner_count();
+    tell_strangers(alloc, waits, count, &mut budget.observer);
+    explore_waiting(alloc, world, others, ends.as_slice(), waits, keeps, budget)
+}
+
+/// Whether a program keeps its rule after every schedule of a scenario in which runners wait.
+fn explore_patiently<O: Audience>(
+    alloc: Global,
+    scenario: &Scenario,
+    waits: &[Wait],
+    keeps: &Program,
+    budget: &mut Budget<O>,
+) -> Result<Explored, AllocError>
+    ensures { IfOk result (IsExploredPatiently waits.now keeps.now (place_of scenario.now) (ends_of scenario.now)) }
+{
     let (setup, others) = setup_and_others(scenario.events.as_slice());
-    let opening = opens_with(scenario.opening);
-    let mut world = World::with_limits(alloc, opening.revision(), opening.operations())?;
-    let explored = explore_from(alloc, &mut world, setup, others, keeps, budget);
+    let mut world = world_of(alloc, scenario)?;
+    let explored = explore_waiting_from(alloc, &mut world, setup, others, waits, keeps, budget);
     drop(world);
     explored
 }
 
-/// What is printed of a search about a scenario.
-pub(crate) fn search<O: Observer>(
+/// The same, as an answer.
+fn answer_patiently<O: Audience>(
     alloc: Global,
     scenario: &Scenario,
+    waits: &[Wait],
+    keeps: &Program,
+    budget: &mut Budget<O>,
+) -> Result<Answer, AllocError>
+    ensures { IfOk result (λ answer. (explored : ExploredValue) × (answer ≡ BySchedules explored)
+        × IsExploredPatiently waits.now keeps.now (place_of scenario.now) (ends_of scenario.now) explored) }
+{
+    let explored = explore_patiently(alloc, scenario, waits, keeps, budget)?;
+    Ok(Answer::BySchedules(explored))
+}
+
+/// What is known of a rule about a scenario in which these runners wait.
+fn answer_about<O: Audience>(
+    alloc: Global,
+    scenario: &Scenario,
+    waits: &[Wait],
+    keeps: &Program,
+    budget: &mut Budget<O>,
+) -> Result<Answer, AllocError>
+    requires { HaveNoStep scenario.now.events }
+    ensures { IfOk result (IsFound waits.now keeps.now scenario.now) }
+{
+    match waits {
+        [] => explore_scenario(alloc, scenario, keeps, budget),
+        [_, ..] => answer_patiently(alloc, scenario, waits, keeps, budget),
+    }
+}
+
+/// What is printed of a search about a scenario in which these runners wait.
+pub(crate) fn search<O: Audience>(
+    alloc: Global,
+    scenario: &Scenario,
+    waits: &[Wait],
     keeps: &Program,
     budget: &mut Budget<O>,
 ) -> Result<Printed, AllocError>
-    requires { IsOpening scenario.now.opening }
-    ensures { IfOk result (IsPrinted scenario.now keeps.now) }
+    requires stepless { HaveNoStep scenario.now.events }
+    ensures { IfOk result (IsPrinted waits.now scenario.now keeps.now) }
 {
-    let explored = explore_scenario(alloc, scenario, keeps, budget)?;
-    print(alloc, scenario, &explored)
+    let answer = answer_about(alloc, scenario, waits, keeps, budget)?;
+    print(alloc, scenario, &answer)
 }

@@ -3,7 +3,7 @@ use Rattle.std.proofs.Common.{◌≡◌, ◌∙◌, ℕ, List, ap}
 use Rattle.stm_history.specs.declared.key_state.ReadAnswer.{ReadAnswer}
 use Rattle.stm_program.specs.Syntax.{ProgramTree}
 use Rattle.stm_program.specs.declared.level.Level.{Level}
-use Rattle.stm_attempt.specs.Known.{Known, known_of}
+use Rattle.stm_attempt.specs.Known.{known_of}
 use Rattle.stm_world.specs.Task.{with_served}
 use Rattle.stm_world.specs.World.{Runner}
 use Rattle.stm_alike.specs.Levelled.{levelled}

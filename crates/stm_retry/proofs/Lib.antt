@@ -6,6 +6,7 @@ pub mod StepLemmas
 pub mod WorldLemmas
 pub mod AlikeLemmas
 pub mod KeptWorlds
+pub mod SharingLemmas
 pub mod Stops
 pub mod WorkedExamples
 mod TxnReplies

@@ -45,3 +45,12 @@ pub(crate) fn are_slots_alike(left: &[Slot], right: &[Slot]) -> bool
     }
     true
 }
+
+/// A number that alike runners at these places have in common, and others mostly do not.
+pub(crate) fn hint_of(slots: &[Slot]) -> u64 {
+    let mut hint = 0;
+    for slot in slots {
+        hint = mix(hint, slot.hint());
+    }
+    hint
+}

@@ -5,6 +5,7 @@ ghost use Rattle.stm_outcome.specs.Terms.{most_operations};
 ghost use Rattle.stm_world.specs.World.{opened};
 ghost use Rattle.stm_retry.specs.StepReturns.{as_reply};
 ghost use Rattle.stm_retry.specs.Kept.{KeptReturns, BasesAreReached};
+ghost use Rattle.stm_retry.specs.WorldOf.{with_places};
 
 use crate::slots::Slot;
 use crate::store_calls::{advance, grant, keep, reply_to_txn, revoke};
@@ -119,7 +120,7 @@ impl KeptWorld {
 }
 
 /// A copy of the places of the runners.
-fn copy_runners(runners: &Vec<Slot>) -> Result<Vec<Slot>, AllocError>
+pub(crate) fn copy_runners(runners: &Vec<Slot>) -> Result<Vec<Slot>, AllocError>
     ensures { IfOk result (λ copy. copy.items ≡ runners.now.items) }
 {
     let copy = runners.clone()?;
@@ -134,5 +135,17 @@ impl KeptWorld {
         let runners = copy_runners(&self.runners)?;
         let journal = self.journal.copy()?;
         Ok(KeptWorld { journal, runners })
+    }
+
+    /// A copy of the journal, with these runners.
+    pub(crate) fn copy_with(&self, runners: &Vec<Slot>) -> Result<KeptWorld, AllocError>
+        ensures { IfOk result (λ copy. copy ≡ with_places runners.now.items self.now) }
+    {
+        let copy = copy_runners(runners)?;
+        let journal = self.journal.copy()?;
+        Ok(KeptWorld {
+            journal,
+            runners: copy,
+        })
     }
 }

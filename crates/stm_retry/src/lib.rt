@@ -12,12 +12,14 @@ pub mod laws;
 mod runner;
 mod runner_steps;
 mod shared_runner;
+mod shared_world;
 mod slots;
 mod step_outcome;
 mod store_calls;
 mod watch_calls;
 mod world;
 
+pub use shared_world::SharedWorld;
 pub use stm_entries::Entry;
 pub use stm_events::{
     CommittedRead, Denied, Event, EventRefusal, KeyRead, OpReply, Reply, WorldEvent,

@@ -1,5 +1,5 @@
 //! The steps of runners.
-ghost use Rattle.std.specs.Prelude.{◌≡◌, ◌≢◌, ◌<◌, ◌≤◌, [], Some, Ok, true, false, length, map, All, IfOk, OnOk, OnErr};
+ghost use Rattle.std.specs.Prelude.{◌≡◌, ◌≢◌, ◌<◌, ◌≤◌, [], Some, Ok, true, false, length, map, vec_len, All, IfOk, IfSome, OnOk, OnErr};
 ghost use Rattle.stm_history.specs.declared.key_state.ReadAnswer.{ReadAnswer as Answer};
 ghost use Rattle.stm_history.specs.History.{now, mod_of};
 ghost use Rattle.stm_steps.specs.declared.run.End.TheVariants.{Done};
@@ -10,16 +10,20 @@ ghost use Rattle.stm_outcome.specs.Commits.{AreNamed as KeysAreNamed};
 ghost use Rattle.stm_program.specs.Levels.{is_serializable};
 ghost use Rattle.stm_attempt.specs.Known.{HaveDistinctKeys};
 ghost use Rattle.stm_attempt.specs.Fetches.{ShowOneRevision, at_of};
-ghost use Rattle.stm_journal.specs.Fetched.{fetch_reported, fetch_all_reported};
+ghost use Rattle.stm_journal.specs.Fetched.{fetch_reported, IsFetch, fetch_all_reported};
 ghost use Rattle.stm_events.specs.declared.reply.Reply.TheVariants.{Prefetched, Fetched, Started, Committed, Ended};
+ghost use Rattle.stm_events.specs.declared.event.WorldEvent.TheVariants.{Step};
 ghost use Rattle.stm_events.specs.Replies.{event_refusal};
-ghost use Rattle.stm_world.specs.World.{Runner as LiveRunner, start_runner, step_runner, step_live, commit as commit_of, runner_at};
+ghost use Rattle.stm_world.specs.World.{Runner as LiveRunner, start_runner, step_runner, step_live, step, with_slot, commit as commit_of, runner_at};
 ghost use Rattle.stm_retry.specs.declared.step_outcome.StepOutcome.TheVariants.{GoesOn, Ends};
 ghost use Rattle.stm_retry.specs.StepReturns.{Returns};
+ghost use Rattle.stm_retry.specs.Returns.{IsStep};
+ghost use Rattle.stm_retry.specs.Kept.{BasesAreReached};
+ghost use Rattle.stm_retry.specs.WorldOf.{world_of, with_places};
 ghost use Rattle.stm_retry.specs.RunnerView.{task_of, AreNamed, with_answer, with_answers, begun_again};
 ghost use Rattle.stm_retry.specs.RunnerReturns.{workplace, Leaves, ReturnsEnd, IsReady, reported_of_fetch, after_reported_fetch, key_read};
 ghost use Rattle.stm_retry.specs.RunnerReturns.{reported_of_list, after_reported_list, reported_of_failure, may_go_on, reply_in, reply_reported};
-ghost use Rattle.stm_retry.specs.RunnerReturns.{slot_left};
+ghost use Rattle.stm_retry.specs.RunnerReturns.{slot_left, slot_after};
 
 use crate::copies::{Copies, copies_of};
 use crate::kept_world::{KeptWorld, denied};
@@ -31,7 +35,7 @@ use std::alloc::{AllocError, Global};
 use stm_attempt::{Next, Ready};
 use stm_events::{Denied, EventRefusal, KeyRead, Reply};
 use stm_history::{ReadAnswer, Sequence, Text, mod_rev_of};
-use stm_journal::{Journal, Verdict};
+use stm_journal::{Journal, Verdict, read};
 use stm_meaning::{End, Run};
 use stm_program::{Level, Program};
 use stm_txn::Refusal as StoreRefusal;
@@ -62,10 +66,25 @@ fn take_answer(
     }))
 }
 
+/// Reads a key, which is not empty, at a revision that the store has reached, 0 for the current one.
+fn read_key(
+    alloc: Global,
+    journal: &Journal,
+    key: &str,
+    at: u64,
+) -> Result<ReadAnswer, StoreRefusal>
+    requires named { 0 < length key.now }
+    requires reached { at ≤ now journal.now.standing.history }
+    ensures reported { IsFetch (fetch_reported journal.now.standing key.now at) result }
+    ensures in_range { IfOk result ReadFits }
+{
+    read(alloc, journal.store(), key, at)
+}
+
 /// Fetches the key that a runner waits for. A fetch that the store refuses, since its revision is compacted, ends the run.
 fn fetch(
     alloc: Global,
-    journal: &mut Journal,
+    journal: &Journal,
     id: u64,
     runner: &mut Runner,
     key: Text,
@@ -73,13 +92,12 @@ fn fetch(
 ) -> Result<StepOutcome, AllocError>
     requires asked { runner.old.awaits ≡ Some key }
     requires named { 0 < length key }
-    requires reached { at ≤ now journal.old.standing.history }
-    ensures reported { IfOk result (λ reported. reported ≡ reported_of_fetch id key (fetch_reported journal.old.standing key at)) }
-    ensures ok { OnOk result (runner.new.runner ≡ after_reported_fetch (fetch_reported journal.old.standing key at) runner.old.runner) }
+    requires reached { at ≤ now journal.now.standing.history }
+    ensures reported { IfOk result (λ reported. reported ≡ reported_of_fetch id key (fetch_reported journal.now.standing key at)) }
+    ensures ok { OnOk result (runner.new.runner ≡ after_reported_fetch (fetch_reported journal.now.standing key at) runner.old.runner) }
     ensures err { OnErr result (runner.new.runner ≡ runner.old.runner) }
-    ensures journal { journal.new ≡ journal.old }
 {
-    match journal.fetch_key(alloc, key.as_str(), at) {
+    match read_key(alloc, journal, key.as_str(), at) {
         Ok(answer) => take_answer(id, runner, key, answer),
         Err(cause) => end_refused(id, cause),
     }
@@ -310,6 +328,74 @@ pub(crate) fn step_live(
     }
 }
 
+/// Makes one step of a runner, if it changes nothing in the journal and fetches no list: the fetch of a key, or the end of a run that aborts or
+/// faults. `None` says that it does something else; then the runner may have gone on with its program.
+pub(crate) fn step_live_quietly(
+    alloc: Global,
+    journal: &Journal,
+    id: u64,
+    runner: &mut Runner,
+) -> Result<Option<StepOutcome>, AllocError>
+    requires { at_of runner.old.runner.task.level runner.old.runner.known.reads ≤ now journal.now.standing.history }
+    ensures { IfOk result (λ o. IfSome o (λ outcome. Leaves id (Ok outcome) (workplace journal.now runner.old.runner)
+        (workplace journal.now runner.new.runner) (step_live id runner.old.runner))) }
+{
+    let next = runner.advance()?;
+    match next {
+        Next::Fetch { key, at } => {
+            let reported = fetch(alloc, journal, id, runner, key, at)?;
+            Ok(Some(reported))
+        }
+        Next::Aborted(run) => Ok(Some(StepOutcome::Ends(reply_at_end(id, run)))),
+        Next::Faulted(run) => Ok(Some(StepOutcome::Ends(reply_at_end(id, run)))),
+        Next::FetchAll { .. } => Ok(None),
+        Next::Ready(_) => Ok(None),
+    }
+}
+
+/// Puts a runner back after its step, or notes the end of its run, and returns the reply.
+fn put_back(runners: &mut Vec<Slot>, id: u64, outcome: StepOutcome, runner: SharedRunner) -> Reply
+    requires { (0 < id) × (id ≤ vec_len runners.old) }
+    ensures slots { runners.new.items ≡ with_slot id (slot_after outcome runner.runner) runners.old.items }
+    ensures reply { result ≡ reply_in outcome }
+{
+    match outcome {
+        StepOutcome::GoesOn(reply) => {
+            put_slot(runners, id, Slot::live(runner));
+            reply
+        }
+        StepOutcome::Ends(reply) => {
+            drop(runner);
+            put_slot(runners, id, Slot::over());
+            reply
+        }
+    }
+}
+
+/// Makes one step of the runner with this number, if it changes nothing in the journal and fetches no list. Where it does not, nothing is said of
+/// the runners.
+fn step_among(
+    alloc: Global,
+    journal: &Journal,
+    runners: &mut Vec<Slot>,
+    id: u64,
+) -> Result<Option<Reply>, AllocError>
+    requires { BasesAreReached (world_of journal.now runners.old.items) }
+    ensures { IfOk result (λ o. IfSome o (λ reply. IsStep (step (Step id) (world_of journal.now runners.old.items)) (Ok reply)
+        (world_of journal.now runners.new.items))) }
+{
+    let Some(mut runner) = take_runner(runners, id) else {
+        return Ok(None);
+    };
+    match runner.step_quietly(alloc, journal, id)? {
+        None => {
+            drop(runner);
+            Ok(None)
+        }
+        Some(outcome) => Ok(Some(put_back(runners, id, outcome, runner))),
+    }
+}
+
 /// What stands at a runner's place after its step.
 fn slot_after(reported: &Result<StepOutcome, AllocError>, runner: SharedRunner) -> Slot
     ensures { result ≡ slot_left reported.now runner.runner }
@@ -402,5 +488,20 @@ impl KeptWorld {
         let slot = slot_after(&reported, runner);
         put_slot(&mut self.runners, id, slot);
         reply_of(reported)
+    }
+
+    /// Makes one step of the runner with this number among these, if it changes nothing in the journal and fetches no list. Where it does not,
+    /// nothing is said of the runners.
+    pub(crate) fn step_quietly(
+        &self,
+        alloc: Global,
+        runners: &mut Vec<Slot>,
+        id: u64,
+    ) -> Result<Option<Reply>, AllocError>
+        requires { BasesAreReached (with_places runners.old.items self.now) }
+        ensures { IfOk result (λ o. IfSome o (λ reply. IsStep (step (Step id) (with_places runners.old.items self.now)) (Ok reply)
+            (with_places runners.new.items self.now))) }
+    {
+        step_among(alloc, &self.journal, runners, id)
     }
 }

@@ -1,13 +1,13 @@
 //! Runners that several worlds share.
 ghost use Rattle.stm_alike.specs.Seen.{seen_runner};
-ghost use Rattle.std.specs.Prelude.{true, ◌≡◌, ◌≤◌, IfOk};
+ghost use Rattle.std.specs.Prelude.{true, ◌≡◌, ◌≤◌, Ok, IfOk, IfSome};
 ghost use Rattle.stm_history.specs.History.{now};
 ghost use Rattle.stm_attempt.specs.Fetches.{at_of};
 ghost use Rattle.stm_world.specs.World.{step_live};
 ghost use Rattle.stm_retry.specs.RunnerReturns.{workplace, Leaves};
 
 use crate::runner::Runner;
-use crate::runner_steps::step_live;
+use crate::runner_steps::{step_live, step_live_quietly};
 use crate::step_outcome::StepOutcome;
 use std::alloc::{AllocError, Global};
 use std::marker::Model;
@@ -67,6 +67,23 @@ impl SharedRunner {
     {
         match Arc::make_mut(&mut self.runner) {
             Ok(runner) => step_live(alloc, journal, id, runner),
+            Err(error) => Err(error),
+        }
+    }
+
+    /// The same of a step that changes nothing in the journal and fetches no list. Where it does not, nothing is said of the runner.
+    pub(crate) fn step_quietly(
+        &mut self,
+        alloc: Global,
+        journal: &Journal,
+        id: u64,
+    ) -> Result<Option<StepOutcome>, AllocError>
+        requires { at_of self.old.runner.task.level self.old.runner.known.reads ≤ now journal.now.standing.history }
+        ensures { IfOk result (λ o. IfSome o (λ outcome. Leaves id (Ok outcome) (workplace journal.now self.old.runner)
+            (workplace journal.now self.new.runner) (step_live id self.old.runner))) }
+    {
+        match Arc::make_mut(&mut self.runner) {
+            Ok(runner) => step_live_quietly(alloc, journal, id, runner),
             Err(error) => Err(error),
         }
     }

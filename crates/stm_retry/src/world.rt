@@ -1,6 +1,6 @@
 //! The world.
 ghost use Rattle.stm_alike.specs.Seen.{seen_slot};
-ghost use Rattle.std.specs.Prelude.{true, map, ◌≡◌, ◌≢◌, ◌≤◌, false, List, [], ◌∷◌, ◌++◌, length, is_some, Result, Ok, Err, IfOk, IfErr, OnOk, OnErr};
+ghost use Rattle.std.specs.Prelude.{true, map, ◌≡◌, ◌≢◌, ◌≤◌, false, List, [], ◌∷◌, ◌++◌, length, is_some, Result, Ok, Err, IfOk, IfErr, IfSome, OnOk, OnErr};
 ghost use Rattle.stm_history.specs.declared.revisions.TheConstants.{HIGHEST_REVISION};
 ghost use Rattle.stm_history.specs.History.{now, AreRevisions};
 ghost use Rattle.stm_outcome.specs.Terms.{most_operations};
@@ -10,7 +10,7 @@ ghost use Rattle.stm_entries.specs.Replay.{replay};
 ghost use Rattle.stm_entries.specs.Legal.{AreLegal};
 ghost use Rattle.stm_journal.specs.StateOf.{IsStateOf};
 ghost use Rattle.stm_events.specs.declared.event.WorldEvent.{WorldEvent};
-ghost use Rattle.stm_events.specs.declared.event.WorldEvent.TheVariants.{Start};
+ghost use Rattle.stm_events.specs.declared.event.WorldEvent.TheVariants.{Start, Step};
 ghost use Rattle.stm_events.specs.declared.refusal.Denied.{Denied};
 ghost use Rattle.stm_events.specs.declared.refusal.EventRefusal.TheVariants.{OutOfMemory, BadLimit};
 ghost use Rattle.stm_events.specs.declared.reply.Reply.{Reply};
@@ -19,14 +19,15 @@ ghost use Rattle.stm_world.specs.Appended.{HasAppended};
 ghost use Rattle.stm_world.specs.Headline.{Holds};
 ghost use Rattle.stm_world.specs.ReadsNow.{ReadsAreNow};
 ghost use Rattle.stm_world.specs.Sound.{IsSound};
-ghost use Rattle.stm_world.specs.World.{opened, runner_at, start_runner, world_after, replies_to};
-ghost use Rattle.stm_retry.specs.Returns.{Returns, ran_out, expired_of, IsRunStop};
+ghost use Rattle.stm_world.specs.World.{opened, runner_at, start_runner, step, world_after, replies_to};
+ghost use Rattle.stm_retry.specs.Returns.{IsStep, Returns, ran_out, expired_of, IsRunStop};
 ghost use Rattle.stm_retry.specs.Stops.{GoesOnAlike};
 ghost use Rattle.stm_retry.specs.Kept.{whole_store};
+ghost use Rattle.stm_retry.specs.WorldOf.{with_places};
 
-use crate::alike::{are_slots_alike, mix};
-use crate::kept_world::KeptWorld;
-use crate::slots::is_running;
+use crate::alike::{are_slots_alike, hint_of};
+use crate::kept_world::{KeptWorld, copy_runners};
+use crate::slots::{Slot, is_running};
 use std::alloc::{AllocError, Global};
 use std::marker::Model;
 use stm_entries::Entry;
@@ -319,6 +320,13 @@ impl World {
         })
     }
 
+    /// The revision at which the store opened. The entries begin there, also where a compaction has dropped revisions since.
+    pub fn opened_at(&self) -> u64
+        ensures { result ≡ self.now.standing.history.opening.number }
+    {
+        self.opened
+    }
+
     /// Whether the runners of another world are alike: the steps from both can see the same of them. The revisions that later answers of an
     /// attempt carry may differ.
     pub fn has_alike_runners(&self, other: &World) -> bool
@@ -329,11 +337,7 @@ impl World {
 
     /// A number that worlds with alike runners have in common, and others mostly do not. No contract says so: `has_alike_runners` tells.
     pub fn runners_hint(&self) -> u64 {
-        let mut hint = 0;
-        for slot in self.kept.runners.as_slice() {
-            hint = mix(hint, slot.hint());
-        }
-        hint
+        hint_of(self.kept.runners.as_slice())
     }
 
     /// The number of runners that were started. They have the numbers from 1 up to this one.
@@ -348,5 +352,45 @@ impl World {
         ensures { result ≡ is_some (runner_at runner self.now.runners) }
     {
         is_running(self.kept.runners.as_slice(), runner)
+    }
+}
+
+// ---- what worlds that share their store are made of
+
+impl World {
+    /// A copy of the places of the runners.
+    pub(crate) fn copy_places(&self) -> Result<Vec<Slot>, AllocError>
+        ensures places { IfOk result (λ copy. copy.items ≡ self.now.runners) }
+        ensures sound { IsSound self.now }
+    {
+        self.know_sound();
+        copy_runners(&self.kept.runners)
+    }
+
+    /// A separate world with this one's store and entries, and these runners.
+    pub(crate) fn copy_with(&self, runners: &Vec<Slot>) -> Result<World, AllocError>
+        requires { IsSound (with_places runners.now.items self.now) }
+        ensures { IfOk result (λ copy. copy ≡ with_places runners.now.items self.now) }
+    {
+        let kept = self.kept.copy_with(runners)?;
+        Ok(World {
+            alloc: self.alloc,
+            opened: self.opened,
+            kept,
+        })
+    }
+
+    /// Makes one step of the runner with this number among these, if it changes nothing in the store and fetches no list. Where it does not,
+    /// nothing is said of the runners.
+    pub(crate) fn step_quietly(
+        &self,
+        runners: &mut Vec<Slot>,
+        id: u64,
+    ) -> Result<Option<Reply>, AllocError>
+        requires { IsSound (with_places runners.old.items self.now) }
+        ensures { IfOk result (λ o. IfSome o (λ reply. IsStep (step (Step id) (with_places runners.old.items self.now)) (Ok reply)
+            (with_places runners.new.items self.now))) }
+    {
+        self.kept.step_quietly(self.alloc, runners, id)
     }
 }

@@ -3,15 +3,15 @@ ghost use Rattle.std.specs.Prelude.{◌≡◌};
 
 use std::alloc::AllocError;
 use stm_events::EventRefusal;
-use stm_meaning::End;
+use stm_meaning::Run;
 
 /// Who is asked before each move of a search whether it may be made, and is notified of how each whole run ended.
 pub trait Follower {
     /// Whether one move more may be made. Where it may not, the search is stopped.
     fn may_move(&mut self) -> bool;
 
-    /// A runner's program was run alone, and came to this end. Where that is its last statement, its writes were applied.
-    fn ran(&mut self, runner: u64, end: &End);
+    /// A runner's program was run alone: this is its run. Where it came to its last statement, its writes were applied.
+    fn ran(&mut self, runner: u64, run: &Run);
 
     /// A runner's program was run alone to its last statement, but the store refused its writes.
     fn refused(&mut self, runner: u64, cause: EventRefusal);

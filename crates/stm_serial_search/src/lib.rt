@@ -20,7 +20,7 @@ pub use judging::{Judged, go_through_orders, judge_by_orders};
 pub use replaying::Break;
 pub use stm_events::EventRefusal;
 pub use stm_history::Sequence;
-pub use stm_meaning::End;
+pub use stm_meaning::{End, Run};
 pub use stm_program::Program;
 pub use stm_retry::World;
 pub use stm_schedules::Move;

@@ -104,9 +104,9 @@ fn apply(
 }
 
 /// Notifies of a run that has come to its last statement, by the reply to its writes.
-fn notify<F: Follower>(follower: &mut F, runner: u64, reply: &Result<Reply, Denied>) {
+fn notify<F: Follower>(follower: &mut F, runner: u64, run: &Run, reply: &Result<Reply, Denied>) {
     match reply {
-        Ok(_) => follower.ran(runner, &End::Done),
+        Ok(_) => follower.ran(runner, run),
         Err(denied) => follower.refused(runner, denied.cause),
     }
 }
@@ -124,10 +124,10 @@ fn leave<F: Follower>(
 {
     if is_done(run) {
         let reply = apply(alloc, run.writes.as_slice(), world)?;
-        notify(follower, runner, &reply);
+        notify(follower, runner, run, &reply);
         return Ok(());
     }
-    follower.ran(runner, &run.end);
+    follower.ran(runner, run);
     Ok(())
 }
 

@@ -21,7 +21,7 @@ use stm_txn_json::read_txn;
 pub const MOST_EVENTS: usize = 100000;
 
 /// The highest number of attempts that a start may name.
-const HIGHEST_LIMIT: u64 = 4294967295;
+pub const HIGHEST_LIMIT: u64 = 4294967295;
 
 /// The level of a word.
 #[tactic(auto, unfolding(crate::specs::Reading::level_named))]

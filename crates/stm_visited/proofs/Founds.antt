@@ -1,11 +1,11 @@
 -- What is found first among the things of a list.
-use Rattle.std.proofs.Common.{◌≡◌, ℕ, zero, suc, ◌<◌, Bool, true, false, ◌||◌, List, [], ◌∷◌, ◌++◌, length, get_or, map, Contains, Option, Some, None}
+use Rattle.std.proofs.Common.{◌≡◌, ℕ, zero, suc, ◌+◌, ◌<◌, Bool, true, false, ◌||◌, List, [], ◌∷◌, ◌++◌, length, get_or, map, Contains, Option, Some, None}
 use Rattle.std.proofs.Common.{option_map, flat_map, refl, sym, ◌∙◌, ap, subst, arith}
 use Rattle.std.proofs.lemmas.Grind.{flat_map-append}
 use Rattle.std.proofs.lemmas.List.Elements.{Contains-append_left, Contains-append_right}
 use Rattle.std.specs.List.{list_any}
 use Rattle.std.specs.Option.{option_or}
-use Rattle.stm_visited.specs.Search.{first_of}
+use Rattle.stm_visited.specs.Search.{first_of, total}
 
 or_assoc : {A : Type 0} (a b c : Option A) → option_or (option_or a b) c ≡ option_or a (option_or b c)
 or_assoc None b c = refl
@@ -128,3 +128,25 @@ in_flat_at f (z ∷ xs) x (suc k) within is y c = Contains-append_right (f z) (f
 
 pub in_flat : {A B : Type 0} (f : A → List B) (xs : List A) (x : A) → Contains xs x → (y : B) → Contains (f x) y → Contains (flat_map f xs) y
 in_flat f xs x c y has = in_flat_at f xs x c.0 c.1 c.2 y has
+
+-- ---- totals
+
+pub total_append : {A : Type 0} (f : A → ℕ) (xs ys : List A) → total f (xs ++ ys) ≡ total f xs + total f ys
+total_append f [] ys = omega arith
+total_append f (x ∷ xs) ys = let e : total f (xs ++ ys) ≡ total f xs + total f ys = total_append f xs ys in omega (arith, e)
+
+pub total_same : {A : Type 0} (f g : A → ℕ) (xs : List A) → ((x : A) → f x ≡ g x) → total f xs ≡ total g xs
+total_same f g [] same = refl
+total_same f g (x ∷ xs) same = let one : f x ≡ g x = same x in let e : total f xs ≡ total g xs = total_same f g xs same in omega (arith, one, e)
+
+pub total_through : {A B : Type 0} (g : A → B) (f : B → ℕ) (xs : List A) → total f (map g xs) ≡ total (λ x. f (g x)) xs
+total_through g f [] = refl
+total_through g f (x ∷ xs) = ap (λ n. f (g x) + n) (total_through g f xs)
+
+pub total_flat : {A B : Type 0} (g : A → List B) (f : B → ℕ) (xs : List A) → total f (flat_map g xs) ≡ total (λ x. total f (g x)) xs
+total_flat g f [] = refl
+total_flat g f (x ∷ xs) = total_append f (g x) (flat_map g xs) ∙ ap (λ n. total f (g x) + n) (total_flat g f xs)
+
+pub total_ones : {A : Type 0} (xs : List A) → total (λ x. 1) xs ≡ length xs
+total_ones [] = refl
+total_ones (x ∷ xs) = let e : total (λ y. 1) xs ≡ length xs = total_ones xs in omega (arith, e)

@@ -1,16 +1,17 @@
 -- Alike places, and layers of places.
-use Rattle.std.proofs.Common.{◌≡◌, ◌↔◌, ◌⊎◌, inl, inr, subst, flat_map, ℕ, zero, suc, ◌+◌, Bool, true, false, ◌||◌, cond, List, [], ◌∷◌, ◌++◌, Contains, Option, Some, None}
+use Rattle.std.proofs.Common.{◌≡◌, ◌↔◌, ◌≤◌, inl, inr, subst, flat_map, ℕ, zero, suc, ◌+◌, Bool, true, false, ◌||◌, cond, List, [], ◌∷◌, ◌++◌, Contains, Option, Some, None}
 use Rattle.std.proofs.Common.{option_map, refl, sym, ◌∙◌, ap, arith, append_assoc}
 use Rattle.std.proofs.lemmas.Grind.{flat_map-append}
 use Rattle.std.proofs.lemmas.List.Elements.{Contains-append_left, Contains-append_right, Contains-append_cases}
 use Rattle.std.proofs.lemmas.List.Folds.{flat_map-map}
 use Rattle.std.specs.List.{list_any}
 use Rattle.std.specs.Option.{option_or}
-use Rattle.stm_visited.specs.Search.{Steps, first_of, bad_at, first_bad, goes_on, if_whole, shown_at}
+use Rattle.stm_visited.specs.Search.{Steps, first_of, bad_at, first_bad, goes_on, if_whole, shown_at, count_at}
 use Rattle.stm_visited.specs.Alike.{Respects, AlikeAreSame}
-use Rattle.stm_visited.specs.Layers.{Reached, bad_from, bad_among, on_among, shown_among, StandFor, reached_by, moved_from, moved_from_each, IsLayer, LayersGoOn}
+use Rattle.stm_visited.specs.Layers.{Reached, bad_from, bad_among, on_among, shown_among, count_among, StandFor, reached_by, moved_from, moved_from_each, IsLayer, LayersGoOn}
 use Rattle.stm_visited.proofs.Founds.{first_append, first_one, first_same, first_mapped, first_through, first_flat, none_found}
 use Rattle.stm_visited.proofs.Founds.{or_false, any_append, any_same, any_through, any_flat, none_passes, flat_same, flat_flat, append_nil_here, in_flat}
+use Rattle.stm_visited.proofs.Founds.{total_append, total_same, total_through, total_flat}
 
 -- ---- alike places
 
@@ -81,6 +82,12 @@ each_shown {P} {M} {O} s n rs =
     ∙ flat_same (λ (r : Reached P M). shown_among s n (moved_from s r)) (λ (r : Reached P M). shown_at s (suc n) r.place) rs
     (λ r. flat_map-map (λ (r : Reached P M). shown_at s n r.place) (reached_by s r) (s.moves r.place))
 
+pub each_count : {P M O : Type 0} (s : Steps P M O) (n : ℕ) (rs : List (Reached P M)) → count_among s n (moved_from_each s rs) ≡ count_among s (suc n) rs
+each_count {P} {M} {O} s n rs =
+    total_flat (moved_from s) (λ (r : Reached P M). count_at s n r.place) rs
+    ∙ total_same (λ (r : Reached P M). count_among s n (moved_from s r)) (λ (r : Reached P M). count_at s (suc n) r.place) rs
+    (λ r. total_through (reached_by s r) (λ (r : Reached P M). count_at s n r.place) (s.moves r.place))
+
 -- ---- layers
 
 opened_bad : {P M O : Type 0} (s : Steps P M O) (start : P) (n : ℕ) → bad_among s n (record { place = start; path = [] } ∷ []) ≡ bad_at s (0 + n) start
@@ -95,12 +102,22 @@ opened_on s start n = or_false (goes_on s n start) ∙ (let e : n ≡ 0 + n = om
 opened_shown : {P M O : Type 0} (s : Steps P M O) (start : P) (n : ℕ) → shown_among s n (record { place = start; path = [] } ∷ []) ≡ shown_at s (0 + n) start
 opened_shown s start n = append_nil_here (shown_at s n start) ∙ (let e : n ≡ 0 + n = omega arith in ap (λ k. shown_at s k start) e)
 
+opened_count : {P M O : Type 0} (s : Steps P M O) (start : P) (n : ℕ) → count_among s n (record { place = start; path = [] } ∷ []) ≤ count_at s (0 + n) start
+opened_count s start n = let e : count_at s (0 + n) start ≡ count_at s n start = (let same : 0 + n ≡ n = omega arith in ap (λ k. count_at s k start) same) in omega (arith, e)
+
 -- the same members where the lists are the same
 same_members : {O : Type 0} (xs ys : List O) → xs ≡ ys → (it : O) → Contains xs it ↔ Contains ys it
 same_members xs ys same it = (λ c. subst (λ zs. Contains zs it) same c, λ c. subst (λ zs. Contains zs it) (sym same) c)
 
 through : {A B C : Type 0} → A ↔ B → B ↔ C → A ↔ C
 through one two = (λ a. two.0 (one.0 a), λ c. one.1 (two.1 c))
+
+next_count : {P M O : Type 0} (s : Steps P M O) (start : P) (k n : ℕ) (rs next : List (Reached P M)) → count_among s n next ≤ count_among s n (moved_from_each s rs) →
+    count_among s (suc n) rs ≤ count_at s (k + suc n) start → count_among s n next ≤ count_at s (suc k + n) start
+next_count s start k n rs next one two =
+    let each : count_among s n (moved_from_each s rs) ≡ count_among s (suc n) rs = each_count s n rs in
+    let there : count_at s (k + suc n) start ≡ count_at s (suc k + n) start = (let e : k + suc n ≡ suc k + n = omega arith in ap (λ j. count_at s j start) e) in
+    omega (arith, one, two, each, there)
 
 next_layer : {P M O : Type 0} (s : Steps P M O) (start : P) (k : ℕ) (rs next : List (Reached P M)) → IsLayer P M O s start k rs → StandFor P M O s next (moved_from_each s rs) →
     IsLayer P M O s start (suc k) next
@@ -109,6 +126,7 @@ next_layer s start k rs next layer stand = record {
   on = λ n. stand.on n ∙ each_on s n rs ∙ layer.on (suc n) ∙ (let e : k + suc n ≡ suc k + n = omega arith in ap (λ j. goes_on s j start) e);
   shown = λ n it. through (stand.shown n it) (through (same_members _ _ (each_shown s n rs) it)
       (through (layer.shown (suc n) it) (let e : k + suc n ≡ suc k + n = omega arith in same_members _ _ (ap (λ j. shown_at s j start) e) it)));
+  fewer = λ n. next_count s start k n rs next (stand.fewer n) (layer.fewer (suc n));
 }
 
 -- members of two lists of which the first have the same
@@ -128,6 +146,13 @@ added_shown {P} {M} {O} s rs others more n it same =
       both_members (shown_among s n others) (shown_among s n rs) (shown_among s n more) it (same.1, same.0),
     ) (same_members _ _ (sym two) it))
 
+added_count : {P M O : Type 0} (s : Steps P M O) (n : ℕ) (rs others more : List (Reached P M)) → count_among s n rs ≤ count_among s n others →
+    count_among s n (rs ++ more) ≤ count_among s n (others ++ more)
+added_count {P} {M} {O} s n rs others more fewer =
+    let one : count_among s n (rs ++ more) ≡ count_among s n rs + count_among s n more = total_append (λ (r : Reached P M). count_at s n r.place) rs more in
+    let two : count_among s n (others ++ more) ≡ count_among s n others + count_among s n more = total_append (λ (r : Reached P M). count_at s n r.place) others more in
+    omega (arith, fewer, one, two)
+
 added : {P M O : Type 0} (s : Steps P M O) (rs others more : List (Reached P M)) → StandFor P M O s rs others → StandFor P M O s (rs ++ more) (others ++ more)
 added {P} {M} {O} s rs others more stand = record {
   bad = λ n. first_append (bad_from s n) rs more ∙ ap (λ (o : Option (List M)). option_or o (bad_among s n more)) (stand.bad n)
@@ -135,6 +160,7 @@ added {P} {M} {O} s rs others more stand = record {
   on = λ n. any_append (λ (r : Reached P M). goes_on s n r.place) rs more ∙ ap (λ b. b || on_among s n more) (stand.on n)
       ∙ sym (any_append (λ (r : Reached P M). goes_on s n r.place) others more);
   shown = λ n it. added_shown s rs others more n it (stand.shown n it);
+  fewer = λ n. added_count s n rs others more (stand.fewer n);
 }
 
 -- nothing is found after one that is found, and nothing at one where nothing is found
@@ -173,6 +199,10 @@ skipped_shown {P} {M} {O} s Alike re rs r seen c a n it has =
           (subst (λ (os : List O). Contains os it) (append_nil_here (shown_at s n r.place) ∙ alike_shown s Alike re n r.place seen.place a) second)
     ]
 
+fewer_without : {P M O : Type 0} (s : Steps P M O) (n : ℕ) (rs more : List (Reached P M)) → count_among s n rs ≤ count_among s n (rs ++ more)
+fewer_without {P} {M} {O} s n rs more =
+    let e : count_among s n (rs ++ more) ≡ count_among s n rs + count_among s n more = total_append (λ (r : Reached P M). count_at s n r.place) rs more in omega (arith, e)
+
 -- a place that is alike to one of these adds nothing to them
 alone : {P M O : Type 0} (s : Steps P M O) (Alike : P → P → Type 0) → Respects P M O s Alike → (rs : List (Reached P M)) (r seen : Reached P M) → Contains rs seen →
     Alike r.place seen.place → StandFor P M O s rs (rs ++ r ∷ [])
@@ -185,16 +215,25 @@ alone {P} {M} {O} s Alike re rs r seen c a = record {
         (Contains-append_left (shown_among s n rs) (shown_among s n (r ∷ [])) it has),
     skipped_shown s Alike re rs r seen c a n it,
   );
+  fewer = λ n. fewer_without s n rs (r ∷ []);
 }
 
+no_more : (a b c : ℕ) → a ≤ b → b ≤ c → a ≤ c
+no_more a b c one two = omega (arith, one, two)
+
 joined : {P M O : Type 0} (s : Steps P M O) (rs others third : List (Reached P M)) → StandFor P M O s rs others → StandFor P M O s others third → StandFor P M O s rs third
-joined s rs others third one two = record { bad = λ n. one.bad n ∙ two.bad n; on = λ n. one.on n ∙ two.on n; shown = λ n it. through (one.shown n it) (two.shown n it) }
+joined s rs others third one two = record {
+  bad = λ n. one.bad n ∙ two.bad n;
+  on = λ n. one.on n ∙ two.on n;
+  shown = λ n it. through (one.shown n it) (two.shown n it);
+  fewer = λ n. no_more (count_among s n rs) (count_among s n others) (count_among s n third) (one.fewer n) (two.fewer n);
+}
 
 pub layers_go_on : {P M O : Type 0} (s : Steps P M O) (Alike : P → P → Type 0) → Respects P M O s Alike → LayersGoOn P M O s Alike
 layers_go_on {P} {M} {O} s Alike re = record {
-  opens = λ start. record { bad = opened_bad s start; on = opened_on s start; shown = λ n it. same_members _ _ (opened_shown s start n) it };
+  opens = λ start. record { bad = opened_bad s start; on = opened_on s start; shown = λ n it. same_members _ _ (opened_shown s start n) it; fewer = opened_count s start };
   next = next_layer s;
-  stands = λ rs. record { bad = λ n. refl; on = λ n. refl; shown = λ n it. (λ c. c, λ c. c) };
+  stands = λ rs. record { bad = λ n. refl; on = λ n. refl; shown = λ n it. (λ c. c, λ c. c); fewer = λ n. omega arith };
   added = added s;
   skipped = λ rs others r seen stand c a. joined s rs (rs ++ r ∷ []) (others ++ r ∷ []) (alone s Alike re rs r seen c a) (added s rs others (r ∷ []) stand);
 }

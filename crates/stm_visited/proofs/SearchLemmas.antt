@@ -1,18 +1,18 @@
 -- What each step of the search shows.
-use Rattle.std.proofs.Common.{◌≡◌, ◌⊎◌, ℕ, zero, suc, ◌+◌, ◌<◌, ◌≤◌, Bool, true, false, ◌||◌, cond, List, [], ◌∷◌, ◌++◌, length, get_or, take, drop, map, Contains, Option, Some, None}
-use Rattle.std.proofs.Common.{option_map, flat_map, inl, inr, refl, sym, ◌∙◌, ap, subst, arith, append_assoc}
+use Rattle.std.proofs.Common.{◌≡◌, ℕ, zero, suc, ◌+◌, ◌<◌, ◌≤◌, Bool, true, false, ◌||◌, cond, List, [], ◌∷◌, ◌++◌, length, get_or, take, drop, Contains, Option, Some, None}
+use Rattle.std.proofs.Common.{option_map, flat_map, refl, sym, ◌∙◌, ap, subst, arith, append_assoc}
 use Rattle.std.proofs.Math.Seq.{take-suc, drop-cons}
 use Rattle.std.specs.Prelude.{not, ◌==◌}
 use Rattle.std.specs.Cmp.{unsigned_Decides}
 use Rattle.std.specs.List.{list_any}
 use Rattle.std.specs.Option.{option_or}
 use Rattle.stm_visited.specs.declared.visited.Visited.{Visited}
-use Rattle.stm_visited.specs.declared.visited.Visited.TheVariants.{Always, Broken, Open}
-use Rattle.stm_visited.specs.Search.{Steps, first_of, bad_at, first_bad, goes_on}
+use Rattle.stm_visited.specs.declared.visited.Visited.TheVariants.{Always, Broken}
+use Rattle.stm_visited.specs.Search.{Steps, first_of, bad_at, first_bad, goes_on, total, count_at, count_up_to}
 use Rattle.stm_visited.specs.Alike.{Respects}
-use Rattle.stm_visited.specs.Layers.{Reached, bad_from, bad_among, on_among, StandFor, reached_by, moved_from, moved_from_each, IsLayer, LayersGoOn}
+use Rattle.stm_visited.specs.Layers.{Reached, bad_among, on_among, count_among, StandFor, moved_from, moved_from_each, IsLayer}
 use Rattle.stm_visited.specs.Answers.{IsVisited}
-use Rattle.stm_visited.proofs.Founds.{any_append}
+use Rattle.stm_visited.proofs.Founds.{total_append, total_ones}
 use Rattle.stm_visited.proofs.LayerLemmas.{layers_go_on}
 
 pub some_there : {A : Type 0} (xs : List A) (b : Bool) → b ≡ (length xs == 0) → not b ≡ list_any (λ x. true) xs
@@ -181,3 +181,63 @@ ended {P} {M} {O} s start k rs next come stand kept end =
     let e : suc k ≡ k + 1 = omega arith in
     subst (λ j. IsVisited s start (let answer : Visited M = Always j in answer)) e
     (none_at s start k next later come.none kept, come.on, sym (on_from s start (suc k) next later) ∙ end)
+
+-- ---- how many moves are made
+
+-- one for each that can be made at a place
+pub count_here : {P M O : Type 0} (s : Steps P M O) (r : Reached P M) → count_among s 1 (r ∷ []) ≡ length (s.moves r.place)
+count_here s r = let e : total (λ m. 1) (s.moves r.place) ≡ length (s.moves r.place) = total_ones (s.moves r.place) in omega (arith, e)
+
+take_more : {A : Type 0} (xs : List A) (i : ℕ) (x : A) → i < length xs → x ≡ get_or xs i x → take (i + 1) xs ≡ take i xs ++ x ∷ []
+take_more xs i x within is = let e : i + 1 ≡ suc i = omega arith in rw e (rw (take-suc xs i x within) (ap (λ y. take i xs ++ y ∷ []) (sym is)))
+
+-- those of the places up to one, and of that one
+pub count_more : {P M O : Type 0} (s : Steps P M O) (rs : List (Reached P M)) (i : ℕ) (r : Reached P M) → i < length rs → r ≡ get_or rs i r →
+    count_among s 1 (take (i + 1) rs) ≡ count_among s 1 (take i rs) + count_among s 1 (r ∷ [])
+count_more {P} {M} {O} s rs i r within is =
+    ap (count_among s 1) (take_more rs i r within is) ∙ total_append (λ (r : Reached P M). count_at s 1 r.place) (take i rs) (r ∷ [])
+
+-- they are no more than those of all
+pub count_front : {P M O : Type 0} (s : Steps P M O) (rs : List (Reached P M)) (j : ℕ) → count_among s 1 (take j rs) ≤ count_among s 1 rs
+count_front s [] zero = omega arith
+count_front s [] (suc j) = omega arith
+count_front s (r ∷ rs) zero = omega arith
+count_front s (r ∷ rs) (suc j) = let e : count_among s 1 (take j rs) ≤ count_among s 1 rs = count_front s rs j in omega (arith, e)
+
+-- those of a layer are no more than the schedules of one move more
+pub count_next : {P M O : Type 0} (s : Steps P M O) (start : P) (k : ℕ) (rs : List (Reached P M)) (old left more : ℕ) → IsLayer P M O s start k rs →
+    old ≤ left + count_up_to s k start → left ≤ more + count_among s 1 rs → old ≤ more + count_up_to s (suc k) start
+count_next s start k rs old left more layer before spent =
+    let there : count_among s 1 rs ≤ count_at s (k + 1) start = layer.fewer 1 in
+    let e : count_at s (k + 1) start ≡ count_at s (suc k) start = (let one : k + 1 ≡ suc k = omega arith in ap (λ j. count_at s j start) one) in
+    omega (arith, before, spent, there, e)
+
+-- so many of the moves at a place are made
+pub made_here : {P M O : Type 0} (s : Steps P M O) (r : Reached P M) (choices : List M) (i old left : ℕ) → choices ≡ s.moves r.place → left + i ≡ old → i ≤ length choices →
+    old ≤ left + count_among s 1 (r ∷ [])
+made_here {P} {M} {O} s r choices i old left is made within =
+    let all : count_among s 1 (r ∷ []) ≡ length choices = count_here s r ∙ ap (λ (ms : List M). length ms) (sym is) in omega (arith, made, within, all)
+
+-- one place of a layer more
+pub made_more : {P M O : Type 0} (s : Steps P M O) (rs : List (Reached P M)) (i old left more : ℕ) (r : Reached P M) → i < length rs → r ≡ get_or rs i r →
+    old ≤ left + count_among s 1 (take i rs) → left ≤ more + count_among s 1 (r ∷ []) → old ≤ more + count_among s 1 (take (i + 1) rs)
+made_more s rs i old left more r within is before here =
+    let e : count_among s 1 (take (i + 1) rs) ≡ count_among s 1 (take i rs) + count_among s 1 (r ∷ []) = count_more s rs i r within is in omega (arith, before, here, e)
+
+pub made_of_all : {P M O : Type 0} (s : Steps P M O) (rs : List (Reached P M)) (j old left : ℕ) → old ≤ left + count_among s 1 (take j rs) → old ≤ left + count_among s 1 rs
+made_of_all s rs j old left made = let e : count_among s 1 (take j rs) ≤ count_among s 1 rs = count_front s rs j in omega (arith, made, e)
+
+-- where the search has come to
+pub far_on : {P M O : Type 0} (s : Steps P M O) (start : P) (k : ℕ) (rs : List (Reached P M)) (old left more : ℕ) → HasCome P M O s start k rs →
+    old ≤ left + count_up_to s k start → left ≤ more + count_among s 1 rs → old ≤ more + count_up_to s (k + 1) start
+far_on s start k rs old left more come before spent =
+    let one : suc k ≡ k + 1 = omega arith in
+    subst (λ j. old ≤ more + count_up_to s j start) one (count_next s start k rs old left more come.layer before spent)
+
+pub far_open : {P M O : Type 0} (s : Steps P M O) (start : P) (k : ℕ) (rs : List (Reached P M)) (old left more : ℕ) → HasCome P M O s start k rs →
+    old ≤ left + count_up_to s k start → left ≤ more + count_among s 1 rs → more ≡ 0 → old ≤ count_up_to s (suc k) start
+far_open s start k rs old left more come before spent none =
+    let far : old ≤ more + count_up_to s (suc k) start = count_next s start k rs old left more come.layer before spent in omega (arith, far, none)
+
+pub far_without : {P M O : Type 0} (s : Steps P M O) (start : P) (k old left : ℕ) → old ≤ left + count_up_to s k start → left ≡ 0 → old ≤ count_up_to s (suc k) start
+far_without s start k old left far none = omega (arith, far, none)

@@ -1,8 +1,8 @@
 -- What a search answers.
-use Rattle.std.specs.Prelude.{◌≡◌, ℕ, suc, true, false, length, None, Some}
+use Rattle.std.specs.Prelude.{◌≡◌, ◌≤◌, ℕ, suc, true, false, length, None, Some}
 use Rattle.stm_visited.specs.declared.visited.Visited.{Visited}
 use Rattle.stm_visited.specs.declared.visited.Visited.TheVariants.{Always, Broken, Open}
-use Rattle.stm_visited.specs.Search.{Steps, first_bad, goes_on}
+use Rattle.stm_visited.specs.Search.{Steps, first_bad, goes_on, count_up_to}
 
 -- No schedule of up to the length of the longest breaks the rule; or this is the first one that does; or none of up to this length does, and some
 -- schedule is longer.
@@ -16,3 +16,10 @@ abbrev pub OpenIsSpent : {M : Type 0} → ℕ → Visited M → Type 0
 OpenIsSpent left (Always longest) = Unit {0}
 OpenIsSpent left (Broken moves) = Unit {0}
 OpenIsSpent left (Open kept) = left ≡ 0
+
+-- and it is so far that the schedules of up to one move more are no fewer than the moves that were made: a search that makes these many does not answer a
+-- smaller length
+abbrev pub OpenIsFar : {P M O : Type 0} → Steps P M O → P → ℕ → Visited M → Type 0
+OpenIsFar s p made (Always longest) = Unit {0}
+OpenIsFar s p made (Broken moves) = Unit {0}
+OpenIsFar s p made (Open kept) = made ≤ count_up_to s (suc kept) p

@@ -1,7 +1,7 @@
 -- Layers: the places after k moves, of alike ones the first.
-use Rattle.std.specs.Prelude.{◌≡◌, ◌↔◌, ℕ, suc, ◌+◌, Bool, List, [], ◌∷◌, ◌++◌, map, Option, option_map, Contains}
+use Rattle.std.specs.Prelude.{◌≡◌, ◌↔◌, ◌≤◌, ℕ, suc, ◌+◌, Bool, List, [], ◌∷◌, ◌++◌, map, Option, option_map, Contains}
 use Rattle.std.specs.List.{list_any, flat_map}
-use Rattle.stm_visited.specs.Search.{Steps, first_of, bad_at, goes_on, shown_at}
+use Rattle.stm_visited.specs.Search.{Steps, first_of, bad_at, goes_on, shown_at, total, count_at}
 
 -- a place, and the moves by which it was reached
 pub record Reached (P M : Type 0) : Type 0 where
@@ -24,11 +24,17 @@ on_among {P} {M} {O} s n rs = list_any (λ (r : Reached P M). goes_on s n r.plac
 abbrev pub shown_among : {P M O : Type 0} → Steps P M O → ℕ → List (Reached P M) → List O
 shown_among {P} {M} {O} s n rs = flat_map (λ (r : Reached P M). shown_at s n r.place) rs
 
--- These places stand for those: the same first schedules break the rule, as many moves can be made, and whole schedules come to the same.
+-- how many schedules of n moves begin at these
+abbrev pub count_among : {P M O : Type 0} → Steps P M O → ℕ → List (Reached P M) → ℕ
+count_among {P} {M} {O} s n rs = total (λ (r : Reached P M). count_at s n r.place) rs
+
+-- These places stand for those: the same first schedules break the rule, as many moves can be made, whole schedules come to the same, and they are
+-- no more.
 pub record StandFor (P M O : Type 0) (s : Steps P M O) (rs others : List (Reached P M)) : Type 0 where
   pub bad : (n : ℕ) → bad_among s n rs ≡ bad_among s n others
   pub on : (n : ℕ) → on_among s n rs ≡ on_among s n others
   pub shown : (n : ℕ) (it : O) → Contains (shown_among s n rs) it ↔ Contains (shown_among s n others) it
+  pub fewer : (n : ℕ) → count_among s n rs ≤ count_among s n others
 
 -- where one move leads to
 abbrev pub reached_by : {P M O : Type 0} → Steps P M O → Reached P M → M → Reached P M
@@ -45,11 +51,12 @@ moved_from s r = reached_by_each s r (s.moves r.place)
 abbrev pub moved_from_each : {P M O : Type 0} → Steps P M O → List (Reached P M) → List (Reached P M)
 moved_from_each s rs = flat_map (moved_from s) rs
 
--- The layer of k moves: what its places and n moves more come to is what k + n moves from the start come to.
+-- The layer of k moves: what its places and n moves more come to is what k + n moves from the start come to, and there are no more schedules of these.
 pub record IsLayer (P M O : Type 0) (s : Steps P M O) (start : P) (k : ℕ) (rs : List (Reached P M)) : Type 0 where
   pub bad : (n : ℕ) → bad_among s n rs ≡ bad_at s (k + n) start
   pub on : (n : ℕ) → on_among s n rs ≡ goes_on s (k + n) start
   pub shown : (n : ℕ) (it : O) → Contains (shown_among s n rs) it ↔ Contains (shown_at s (k + n) start) it
+  pub fewer : (n : ℕ) → count_among s n rs ≤ count_at s (k + n) start
 
 -- ---- laws
 

@@ -1,7 +1,7 @@
 -- What a search goes through: places, the moves that can be made at each, where each move leads to, whether a place keeps a rule, and what it shows.
 --
 -- Nothing here knows what a place is.
-use Rattle.std.specs.Prelude.{ℕ, zero, suc, Bool, true, if◌then◌else◌, List, [], ◌∷◌, Option, None, Some, option_map}
+use Rattle.std.specs.Prelude.{ℕ, zero, suc, ◌+◌, Bool, true, if◌then◌else◌, List, [], ◌∷◌, Option, None, Some, option_map}
 use Rattle.std.specs.List.{list_any, flat_map}
 use Rattle.std.specs.Option.{option_or}
 
@@ -41,3 +41,20 @@ if_whole (m ∷ ms) it = []
 abbrev pub shown_at : {P M O : Type 0} → Steps P M O → ℕ → P → List O
 shown_at s zero p = if_whole (s.moves p) (s.shows p)
 shown_at s (suc n) p = flat_map (λ m. shown_at s n (s.after m p)) (s.moves p)
+
+-- ---- how many there are
+
+-- what is counted at these
+abbrev pub total : {A : Type 0} → (A → ℕ) → List A → ℕ
+total f [] = 0
+total f (x ∷ xs) = f x + total f xs
+
+-- how many schedules have exactly n moves
+abbrev pub count_at : {P M O : Type 0} → Steps P M O → ℕ → P → ℕ
+count_at s zero p = 1
+count_at s (suc n) p = total (λ m. count_at s n (s.after m p)) (s.moves p)
+
+-- how many have at least one move, and up to n
+abbrev pub count_up_to : {P M O : Type 0} → Steps P M O → ℕ → P → ℕ
+count_up_to s zero p = 0
+count_up_to s (suc n) p = count_up_to s n p + count_at s (suc n) p

@@ -1,7 +1,7 @@
 //! From one layer to the next.
 ghost use Rattle.std.specs.Prelude.{◌≡◌, ◌⊎◌, ◌++◌, ◌∷◌, [], ◌<◌, ◌+◌, ◌≤◌, List, true, Contains, IfOk, OnOk, IsErrOf};
 ghost use Rattle.std.specs.List.{list_any};
-ghost use Rattle.stm_visited.specs.Layers.{Reached as ReachedValue, StandFor, moved_from, moved_from_each, bad_among, on_among};
+ghost use Rattle.stm_visited.specs.Layers.{Reached as ReachedValue, StandFor, moved_from, moved_from_each, bad_among, on_among, count_among};
 ghost use Rattle.stm_visited.specs.declared.halt.Halt.TheVariants.{Spent};
 
 use crate::budget::{Budget, Observer};
@@ -85,6 +85,7 @@ fn add_moved<S: System, O: Observer>(
     ensures taken { OnOk result ((next.new.items ≡ next.old.items) ⊎ (budget.new.left < budget.old.left)) }
     ensures spent { IsErrOf result Spent → budget.new.left ≡ 0 }
     ensures within { budget.new.left ≤ budget.old.left }
+    ensures made { budget.old.left ≤ budget.new.left + count_among (S.steps system.now) 1 (from.now ∷ []) }
 {
     let all = system.moves(&from.place)?;
     let choices = all.as_slice();
@@ -110,7 +111,8 @@ pub fn opening_layer<P: Drop, M: Copy + Drop>(
 
 /// The layer after this one: of the places that one move leads to the first of those that are alike, in the order of the schedules to them.
 ///
-/// `Halt::Spent` says that the budget was used up, and that some move more can be made; `Halt::OutOfMemory` that an allocation failed.
+/// `Halt::Spent` says that the budget was used up, and that some move more can be made; `Halt::OutOfMemory` that an allocation failed. No more moves are
+/// made than lead from the layer.
 pub fn next_layer<S: System, O: Observer>(
     alloc: Global,
     system: &S,
@@ -121,6 +123,7 @@ pub fn next_layer<S: System, O: Observer>(
     ensures taken { IfOk result (λ next. (next.items ≡ []) ⊎ (budget.new.left < budget.old.left)) }
     ensures spent { IsErrOf result Spent → budget.new.left ≡ 0 }
     ensures within { budget.new.left ≤ budget.old.left }
+    ensures made { budget.old.left ≤ budget.new.left + count_among (S.steps system.now) 1 layer.now }
 {
     let mut next = Vec::new(alloc);
     let mut seen = Seen::new(alloc);

@@ -1,6 +1,6 @@
 //! The search.
 ghost use Rattle.std.specs.Prelude.{◌≡◌, ◌≤◌, IfOk};
-ghost use Rattle.stm_visited.specs.Answers.{IsVisited, OpenIsSpent};
+ghost use Rattle.stm_visited.specs.Answers.{IsVisited, OpenIsSpent, OpenIsFar};
 
 use crate::budget::{Budget, Observer};
 use crate::halt::Halt;
@@ -10,8 +10,8 @@ use crate::visited::Visited;
 use std::alloc::{AllocError, Global};
 
 /// Whether a rule is kept after every schedule from a place: the first schedule that breaks it, or the length of the longest one. At most as
-/// many moves are made as `budget` has left: it keeps those that are not, and the answer is `Open` only where none is left. Its observer is
-/// notified of how far the search is.
+/// many moves are made as `budget` has left: it keeps those that are not, and the answer is `Open` only where none is left, with a length such that
+/// the schedules of up to one move more are no fewer than these moves. Its observer is notified of how far the search is.
 ///
 /// It fails only when out of memory.
 pub fn find_first_bad<S: System, O: Observer>(
@@ -23,6 +23,7 @@ pub fn find_first_bad<S: System, O: Observer>(
     ensures visited { IfOk result (IsVisited (S.steps system.now) start) }
     ensures within { budget.new.left ≤ budget.old.left }
     ensures spent { IfOk result (OpenIsSpent budget.new.left) }
+    ensures far { IfOk result (OpenIsFar (S.steps system.now) start budget.old.left) }
 {
     let mut layer = opening_layer(alloc, start)?;
     if let Some(moves) = first_broken(alloc, system, layer.as_slice())? {

@@ -3,6 +3,7 @@ ghost use Rattle.std.specs.Prelude.{◌≡◌, false};
 
 use crate::files::{Opened, open};
 use crate::noting::Noting;
+use crate::sources::ScenarioFile;
 use crate::terminals::{close, shown_budget};
 use std::io;
 use std::io::Input;
@@ -11,7 +12,7 @@ use stm_commands::{
     Format, KeptSource, Std, check_explained_to, check_whole_explained_to, script_explained_to,
 };
 use stm_explain::is_hidden;
-use stm_exploring::{Level, explore_explained_to, outcomes_explained_to};
+use stm_exploring::{Level, Wait, explore_explained_to, outcomes_explained_to};
 
 /// Whether a path has a character that does something to a terminal.
 fn has_hidden(path: &str) -> bool {
@@ -19,7 +20,7 @@ fn has_hidden(path: &str) -> bool {
 }
 
 /// The name of an input, as people know it: that of its file, if it can be shown on a terminal.
-fn name_of(path: &str) -> &str {
+pub(crate) fn name_of(path: &str) -> &str {
     if path == "-" {
         "standard input"
     } else if has_hidden(path) {
@@ -30,14 +31,25 @@ fn name_of(path: &str) -> &str {
 }
 
 /// The file of a path, or standard input, to be read and kept.
-pub(crate) fn kept<'a, R: Files + Input + AllocGlobal>(
+fn kept<'a, R: Files + Input + AllocGlobal>(
     rt: &R,
     path: &'a str,
-) -> KeptSource<'a, Std<Noting<Opened<R::File, R::Reader>>>>
+) -> KeptSource<'a, Std<Noting<Opened<R::File, R::Reader, &'static [u8]>>>>
     ensures { result.source.failed ≡ false }
 {
     let source = Std::new(Noting::new(open(rt, path)));
     KeptSource::new(rt.alloc(), name_of(path), source)
+}
+
+/// A scenario, to be read and kept.
+pub(crate) fn kept_scenario<'a, R: Files + Input + AllocGlobal>(
+    rt: &R,
+    scenario: &'a ScenarioFile<'_>,
+) -> KeptSource<'a, Std<Noting<Opened<R::File, R::Reader, &'a [u8]>>>>
+    ensures { result.source.failed ≡ false }
+{
+    let source = Std::new(Noting::new(scenario.open(rt)));
+    KeptSource::new(rt.alloc(), scenario.name(), source)
 }
 
 /// Says of an input that could not be read why the system refused it.
@@ -54,9 +66,9 @@ pub(crate) fn say_unwritten(rt: &HostRuntime, failure: Option<io::Error>) {
     }
 }
 
-/// Runs the scenario of a path.
-pub(crate) fn run_script(rt: &HostRuntime, path: &str, format: Format) -> u8 {
-    let mut input = kept(rt, path);
+/// Runs a scenario.
+pub(crate) fn run_script(rt: &HostRuntime, scenario: &ScenarioFile<'_>, format: Format) -> u8 {
+    let mut input = kept_scenario(rt, scenario);
     let mut out = Std::new(Noting::new(rt.stdout()));
     let mut err = Std::new(rt.stderr());
     let status = script_explained_to(rt.alloc(), format, &mut input, &mut out, &mut err);
@@ -65,9 +77,14 @@ pub(crate) fn run_script(rt: &HostRuntime, path: &str, format: Format) -> u8 {
     status
 }
 
-/// Checks the report of a path beside the scenario of another: each line, where it is to be whole.
-pub(crate) fn run_check(rt: &HostRuntime, scenario: &str, report: &str, whole: bool) -> u8 {
-    let mut scenario = kept(rt, scenario);
+/// Checks the report of a path beside a scenario: each line, where it is to be whole.
+pub(crate) fn run_check(
+    rt: &HostRuntime,
+    scenario: &ScenarioFile<'_>,
+    report: &str,
+    whole: bool,
+) -> u8 {
+    let mut scenario = kept_scenario(rt, scenario);
     let mut report = kept(rt, report);
     let mut out = Std::new(Noting::new(rt.stdout()));
     let mut err = Std::new(rt.stderr());
@@ -82,23 +99,25 @@ pub(crate) fn run_check(rt: &HostRuntime, scenario: &str, report: &str, whole: b
     status
 }
 
-/// Looks through the interleavings of a path's scenario for one that breaks the rule of another path.
+/// Looks through the interleavings of a scenario for one that breaks the rule of a path.
 pub(crate) fn run_rule(
     rt: &HostRuntime,
-    scenario: &str,
+    scenario: &ScenarioFile<'_>,
     keeps: &str,
+    waits: &[Wait],
     level: Option<Level>,
     budget: u64,
 ) -> u8 {
-    let mut scenario = kept(rt, scenario);
+    let mut scenario = kept_scenario(rt, scenario);
     let mut keeps = kept(rt, keeps);
     let mut out = Std::new(Noting::new(rt.stdout()));
     let mut err = Std::new(rt.stderr());
-    let mut budget = shown_budget(rt, budget);
+    let mut budget = shown_budget(rt, budget, true);
     let status = explore_explained_to(
         rt.alloc(),
         &mut scenario,
         &mut keeps,
+        waits,
         level,
         &mut budget,
         &mut out,
@@ -111,17 +130,17 @@ pub(crate) fn run_rule(
     status
 }
 
-/// Goes through the interleavings of a path's scenario.
+/// Goes through the interleavings of a scenario.
 pub(crate) fn run_outcomes(
     rt: &HostRuntime,
-    scenario: &str,
+    scenario: &ScenarioFile<'_>,
     level: Option<Level>,
     budget: u64,
 ) -> u8 {
-    let mut scenario = kept(rt, scenario);
+    let mut scenario = kept_scenario(rt, scenario);
     let mut out = Std::new(Noting::new(rt.stdout()));
     let mut err = Std::new(rt.stderr());
-    let mut budget = shown_budget(rt, budget);
+    let mut budget = shown_budget(rt, budget, true);
     let status = outcomes_explained_to(
         rt.alloc(),
         &mut scenario,

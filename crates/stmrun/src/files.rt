@@ -4,19 +4,24 @@ use std::fs;
 use std::io::{self, Input, Read};
 use std::rt::Files;
 
-/// A file, or standard input. A file that could not be opened fails when it is read.
+/// What a command reads. A file that could not be opened fails when it is read.
 #[derive(Drop)]
-pub(crate) enum Opened<F, I> {
+pub(crate) enum Opened<F, I, C> {
     /// An open file.
     File(F),
     /// Standard input.
     Standard(I),
     /// No file could be opened, for this reason.
     Missing(io::Error),
+    /// What a source was compiled to.
+    Compiled(C),
 }
 
-/// The file of a path, or standard input where the path is `-`.
-pub(crate) fn open<R: Files + Input>(rt: &R, path: &str) -> Opened<R::File, R::Reader> {
+/// The file of a path, or standard input where the path is `-`, where a source could stand, too.
+pub(crate) fn open_beside<R: Files + Input, C>(
+    rt: &R,
+    path: &str,
+) -> Opened<R::File, R::Reader, C> {
     if path == "-" {
         return Opened::Standard(rt.reader());
     }
@@ -26,12 +31,21 @@ pub(crate) fn open<R: Files + Input>(rt: &R, path: &str) -> Opened<R::File, R::R
     }
 }
 
-impl<F: Read, I: Read> Read for Opened<F, I> {
+/// The file of a path, or standard input where the path is `-`.
+pub(crate) fn open<R: Files + Input>(
+    rt: &R,
+    path: &str,
+) -> Opened<R::File, R::Reader, &'static [u8]> {
+    open_beside(rt, path)
+}
+
+impl<F: Read, I: Read, C: Read> Read for Opened<F, I, C> {
     fn read(&mut self, buffer: &mut [u8]) -> io::Result<usize> {
         match self {
             Opened::File(file) => file.read(buffer),
             Opened::Standard(input) => input.read(buffer),
             Opened::Missing(error) => Err(*error),
+            Opened::Compiled(line) => line.read(buffer),
         }
     }
 }

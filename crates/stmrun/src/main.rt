@@ -1,5 +1,5 @@
 //! The program: runs scenarios of transactional programs over one store, by itself or by several threads, and reports what happened, checks
-//! reports, looks through the interleavings of a scenario, and prints the programs of recipes.
+//! reports, looks through the interleavings of a scenario, compiles sources, and prints the programs of recipes.
 #![tactic(auto)]
 
 ghost use Rattle.std.specs.Prelude.{◌≡◌, List, ℕ, Some, None, option_map};
@@ -9,22 +9,25 @@ ghost use Rattle.stm_report.specs.Format.{format_named};
 mod explaining;
 mod files;
 mod noting;
+mod sources;
 mod terminals;
 mod threading;
 
 use files::open;
+use sources::{ScenarioFile, run_compile, scenario_at};
 use std::process::ExitCode;
 use std::sync::Wait;
 use std::thread::Threads;
 use stm_arguments::{
-    Asked, PlainWords, asked_of, plain_words, print_topic, read_level, read_words, topic_of,
+    Asked, PlainWords, asked_of, plain_words, print_topic, read_level, read_words, refuse_waits,
+    topic_of,
 };
 use stm_commands::{Format, RecipeWords, Shown, Std, no_format_to};
 pub use stm_commands::{
     check_explained_to, check_to, check_whole_explained_to, check_whole_to, recipe_to,
     script_as_to, script_explained_to, script_to, show_to,
 };
-use stm_exploring::Level;
+use stm_exploring::{Level, Wait as RunnerWait, waits_in};
 pub use stm_exploring::{explore_explained_to, explore_to, outcomes_explained_to, outcomes_to};
 pub use stm_threading::{threads_as_to, threads_to};
 use terminals::{close, is_shown, shown_budget};
@@ -35,9 +38,9 @@ fn path_of(named: Option<&str>) -> &str {
     named.unwrap_or("-")
 }
 
-/// Runs the scenario of a path, or that on standard input.
-fn run_script(rt: &HostRuntime, scenario: Option<&str>, format: Format) -> u8 {
-    let mut input = Std::new(open(rt, path_of(scenario)));
+/// Runs a scenario.
+fn run_script(rt: &HostRuntime, scenario: &ScenarioFile<'_>, format: Format) -> u8 {
+    let mut input = Std::new(scenario.open(rt));
     let mut out = Std::new(rt.stdout());
     let mut err = Std::new(rt.stderr());
     script_as_to(rt.alloc(), format, &mut input, &mut out, &mut err)
@@ -54,31 +57,21 @@ fn format_of(word: Option<&str>) -> Option<Format>
     }
 }
 
-/// Runs a scenario, where the word names a format. A fault is explained, or is not.
-fn run_script_in(
-    rt: &HostRuntime,
-    scenario: Option<&str>,
-    word: Option<&str>,
-    explain: bool,
-) -> u8 {
-    match format_of(word) {
-        Some(format) if explain => explaining::run_script(rt, path_of(scenario), format),
-        Some(format) => run_script(rt, scenario, format),
-        None => no_format_to(&mut Std::new(rt.stderr())),
+/// Runs the scenario of a path, or that on standard input, where the word names a format. A fault is explained, or is not.
+fn run_script_in(rt: &HostRuntime, path: Option<&str>, word: Option<&str>, explain: bool) -> u8 {
+    let Some(format) = format_of(word) else {
+        return no_format_to(&mut Std::new(rt.stderr()));
+    };
+    match scenario_at(rt, path_of(path), explain) {
+        Ok(scenario) if explain => explaining::run_script(rt, &scenario, format),
+        Ok(scenario) => run_script(rt, &scenario, format),
+        Err(status) => status,
     }
 }
 
-/// Checks the report of a path beside the scenario of another: each line, where it is to be whole. A fault is explained, or is not. Only one of
-/// the two can be standard input.
-fn run_check(rt: &HostRuntime, scenario: &str, report: &str, whole: bool, explain: bool) -> u8 {
-    if scenario == "-" && report == "-" {
-        let _ = rt.eprintln("stmrun: standard input can be only one of SCENARIO and REPORT");
-        return 2;
-    }
-    if explain {
-        return explaining::run_check(rt, scenario, report, whole);
-    }
-    let mut scenario = Std::new(open(rt, scenario));
+/// Checks the report of a path beside a scenario: each line, where it is to be whole.
+fn check_report(rt: &HostRuntime, scenario: &ScenarioFile<'_>, report: &str, whole: bool) -> u8 {
+    let mut scenario = Std::new(scenario.open(rt));
     let mut report = Std::new(open(rt, report));
     let mut out = Std::new(rt.stdout());
     let mut err = Std::new(rt.stderr());
@@ -88,32 +81,43 @@ fn run_check(rt: &HostRuntime, scenario: &str, report: &str, whole: bool, explai
     check_to(rt.alloc(), &mut scenario, &mut report, &mut out, &mut err)
 }
 
-/// Looks through the interleavings of a path's scenario for one that breaks the rule of another path. A fault is explained, or is not. Only one
-/// of the two can be standard input.
+/// Checks the report of a path beside the scenario of another: each line, where it is to be whole. A fault is explained, or is not. Only one of
+/// the two can be standard input.
+fn run_check(rt: &HostRuntime, path: &str, report: &str, whole: bool, explain: bool) -> u8 {
+    if path == "-" && report == "-" {
+        let _ = rt.eprintln("stmrun: standard input can be only one of SCENARIO and REPORT");
+        return 2;
+    }
+    match scenario_at(rt, path, explain) {
+        Ok(scenario) if explain => explaining::run_check(rt, &scenario, report, whole),
+        Ok(scenario) => check_report(rt, &scenario, report, whole),
+        Err(status) => status,
+    }
+}
+
+/// Looks through the interleavings of a scenario for one that breaks the rule of a path. A fault is explained, or is not.
 fn run_rule(
     rt: &HostRuntime,
-    scenario: &str,
+    scenario: &ScenarioFile<'_>,
     keeps: &str,
+    waits: &[RunnerWait],
     level: Option<Level>,
     budget: u64,
     explain: bool,
 ) -> u8 {
-    if scenario == "-" && keeps == "-" {
-        let _ = rt.eprintln("stmrun: standard input can be only one of SCENARIO and PROGRAM");
-        return 2;
-    }
     if explain {
-        return explaining::run_rule(rt, scenario, keeps, level, budget);
+        return explaining::run_rule(rt, scenario, keeps, waits, level, budget);
     }
-    let mut scenario = Std::new(open(rt, scenario));
+    let mut scenario = Std::new(scenario.open(rt));
     let mut keeps = Std::new(open(rt, keeps));
     let mut out = Std::new(rt.stdout());
     let mut err = Std::new(rt.stderr());
-    let mut budget = shown_budget(rt, budget);
+    let mut budget = shown_budget(rt, budget, false);
     let status = explore_to(
         rt.alloc(),
         &mut scenario,
         &mut keeps,
+        waits,
         level,
         &mut budget,
         &mut out,
@@ -123,10 +127,10 @@ fn run_rule(
     status
 }
 
-/// Goes through the interleavings of a path's scenario. A fault is explained, or is not.
+/// Goes through the interleavings of a scenario. A fault is explained, or is not.
 fn run_outcomes(
     rt: &HostRuntime,
-    scenario: &str,
+    scenario: &ScenarioFile<'_>,
     level: Option<Level>,
     budget: u64,
     explain: bool,
@@ -134,10 +138,10 @@ fn run_outcomes(
     if explain {
         return explaining::run_outcomes(rt, scenario, level, budget);
     }
-    let mut scenario = Std::new(open(rt, scenario));
+    let mut scenario = Std::new(scenario.open(rt));
     let mut out = Std::new(rt.stdout());
     let mut err = Std::new(rt.stderr());
-    let mut budget = shown_budget(rt, budget);
+    let mut budget = shown_budget(rt, budget, false);
     let status = outcomes_to(
         rt.alloc(),
         &mut scenario,
@@ -150,12 +154,72 @@ fn run_outcomes(
     status
 }
 
-/// Looks through the interleavings of a path's scenario, for one that breaks a rule or for what they come to, where the word names a level.
+/// The waits that are spelled, none where nothing is; or the status where they are spelled wrongly, or there is no rule to look for.
+fn read_waits(
+    rt: &HostRuntime,
+    after: Option<&str>,
+    has_rule: bool,
+) -> Result<Vec<RunnerWait>, u8> {
+    let Some(text) = after else {
+        return Ok(Vec::new(rt.alloc()));
+    };
+    if !has_rule {
+        return Err(refuse_waits(rt));
+    }
+    match waits_in(rt.alloc(), text) {
+        Ok(Some(waits)) => Ok(waits),
+        Ok(None) => Err(refuse_waits(rt)),
+        Err(_) => {
+            let _ = rt.eprintln("stmrun: out of memory");
+            Err(3)
+        }
+    }
+}
+
+/// Looks through the interleavings of a scenario, for one that breaks a rule, where there is one, or for what they come to.
+fn search(
+    rt: &HostRuntime,
+    scenario: &ScenarioFile<'_>,
+    keeps: Option<&str>,
+    waits: &[RunnerWait],
+    level: Option<Level>,
+    budget: u64,
+    explain: bool,
+) -> u8 {
+    match keeps {
+        Some(keeps) => run_rule(rt, scenario, keeps, waits, level, budget, explain),
+        None => run_outcomes(rt, scenario, level, budget, explain),
+    }
+}
+
+/// Looks through the interleavings of a path's scenario, for one that breaks a rule or for what they come to. Only one of the scenario and the rule
+/// can be standard input.
+fn search_file(
+    rt: &HostRuntime,
+    path: &str,
+    keeps: Option<&str>,
+    waits: &[RunnerWait],
+    level: Option<Level>,
+    budget: u64,
+    explain: bool,
+) -> u8 {
+    if path == "-" && keeps == Some("-") {
+        let _ = rt.eprintln("stmrun: standard input can be only one of SCENARIO and PROGRAM");
+        return 2;
+    }
+    match scenario_at(rt, path, explain) {
+        Ok(scenario) => search(rt, &scenario, keeps, waits, level, budget, explain),
+        Err(status) => status,
+    }
+}
+
+/// Looks through the interleavings of a path's scenario, for one that breaks a rule or for what they come to, where the words name a level and waits.
 fn run_explore(
     rt: &HostRuntime,
-    scenario: &str,
+    path: &str,
     keeps: Option<&str>,
     word: Option<&str>,
+    after: Option<&str>,
     budget: u64,
     explain: bool,
 ) -> u8 {
@@ -163,9 +227,9 @@ fn run_explore(
         Ok(level) => level,
         Err(status) => return status,
     };
-    match keeps {
-        Some(keeps) => run_rule(rt, scenario, keeps, level, budget, explain),
-        None => run_outcomes(rt, scenario, level, budget, explain),
+    match read_waits(rt, after, keeps.is_some()) {
+        Ok(waits) => search_file(rt, path, keeps, waits.as_slice(), level, budget, explain),
+        Err(status) => status,
     }
 }
 
@@ -232,12 +296,17 @@ fn answer<T: Threads + Wait + Sync>(rt: &HostRuntime, threads: &T, plain: &Plain
             keeps,
             level,
             budget,
+            after,
             explain,
         } => {
             let explain = is_explained(rt, is_silent, explain);
-            run_explore(rt, scenario, keeps, level, budget, explain)
+            run_explore(rt, scenario, keeps, level, after, budget, explain)
         }
         Asked::Show { input, program } => run_show(rt, input, program),
+        Asked::Compile { source, explain } => {
+            let explain = is_explained(rt, is_silent, explain);
+            run_compile(rt, path_of(source), explain)
+        }
         Asked::Nothing(status) => status,
     }
 }

@@ -1,9 +1,9 @@
-//! What is shown on a terminal.
+//! What is shown on a terminal, and said on standard error, of a search.
 ghost use Rattle.std.specs.Prelude.{◌≡◌};
 
 use std::io::{IsTerminal, Stderr};
 use std::time::Clock;
-use stm_exploring::{Budget, Observer, ProgressLine, ProgressNotes};
+use stm_exploring::{Audience, Budget, Observer, ProgressLine, ProgressNotes};
 
 /// Standard error, if it is a terminal.
 fn terminal(rt: &HostRuntime) -> Option<Stderr> {
@@ -48,23 +48,65 @@ impl<C: Clock> Observer for Progress<'_, C> {
     }
 }
 
-/// The events that a search may take. How far it is, is said on standard error.
-pub(crate) fn shown_budget(rt: &HostRuntime, events: u64) -> Budget<Progress<'_, HostRuntime>>
-    ensures { result.left ≡ events }
-{
-    let observer = match terminal(rt) {
+/// What is said on standard error of a search: how far it is, and at its end how its programs ended.
+#[derive(Drop)]
+pub(crate) struct SearchLines<'a> {
+    rt: &'a HostRuntime,
+    progress: Progress<'a, HostRuntime>,
+    /// Whether it is said of each runner how it ended, and not only of those that never committed.
+    explain: bool,
+}
+
+impl Observer for SearchLines<'_> {
+    fn passed(&mut self, length: u64, left: u64) {
+        self.progress.passed(length, left);
+    }
+
+    fn spent(&mut self, left: u64) {
+        self.progress.spent(left);
+    }
+
+    fn ended(&mut self) {
+        self.progress.ended();
+    }
+}
+
+impl Audience for SearchLines<'_> {
+    fn wants_all(&self) -> bool {
+        self.explain
+    }
+
+    fn hear(&mut self, line: &str) {
+        let _ = eprintln!(self.rt; "stmrun: {line}");
+    }
+}
+
+/// How far a search is, of one that may take this many events.
+fn progress_of(rt: &HostRuntime, events: u64) -> Progress<'_, HostRuntime> {
+    match terminal(rt) {
         Some(err) => Progress::Shown(ProgressLine::new(Some(err), events)),
         None => Progress::Noted(ProgressNotes::new(rt.stderr(), rt, events)),
-    };
+    }
+}
+
+/// The events that a search may take. How far it is, is said on standard error, and at its end which runners never committed; how each runner
+/// ended, where faults are explained.
+pub(crate) fn shown_budget(rt: &HostRuntime, events: u64, explain: bool) -> Budget<SearchLines<'_>>
+    ensures { result.left ≡ events }
+{
     Budget {
         left: events,
-        observer,
+        observer: SearchLines {
+            rt,
+            progress: progress_of(rt, events),
+            explain,
+        },
     }
 }
 
 /// Says on a standard error that is no terminal how much a search looked at, where it took long.
-pub(crate) fn close(budget: &mut Budget<Progress<'_, HostRuntime>>) {
-    if let Progress::Noted(notes) = &mut budget.observer {
+pub(crate) fn close(budget: &mut Budget<SearchLines<'_>>) {
+    if let Progress::Noted(notes) = &mut budget.observer.progress {
         notes.close(budget.left);
     }
 }

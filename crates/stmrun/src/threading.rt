@@ -3,8 +3,9 @@ ghost use Rattle.std.specs.Prelude.{◌≡◌, ◌≤◌, ℕ, Some, None, true,
 ghost use Rattle.stm_threading.specs.declared.shown.Printing.TheVariants.{Values, Ends, Outcomes};
 ghost use Rattle.stm_workers.specs.declared.run.TheConstants.{MOST_WORKERS};
 
-use crate::explaining::{kept, say_unread, say_unwritten};
+use crate::explaining::{kept_scenario, say_unread, say_unwritten};
 use crate::noting::Noting;
+use crate::sources::scenario_at;
 use std::sync::Wait;
 use std::thread::Threads;
 use stm_commands::Std;
@@ -34,12 +35,16 @@ pub(crate) fn run_threads<T: Threads + Wait + Sync>(
 ) -> u8
     requires { (1 ≤ workers) × (workers ≤ MOST_WORKERS) }
 {
+    let scenario = match scenario_at(rt, path, explain) {
+        Ok(scenario) => scenario,
+        Err(status) => return status,
+    };
     let options = ThreadsOptions {
         workers,
         printing,
         explain,
     };
-    let mut input = kept(rt, path);
+    let mut input = kept_scenario(rt, &scenario);
     let mut out = Std::new(Noting::new(rt.stdout()));
     let mut err = Std::new(rt.stderr());
     let status = threads_as_to(threads, rt.alloc(), options, &mut input, &mut out, &mut err);

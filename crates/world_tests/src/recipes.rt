@@ -35,7 +35,7 @@ fn queue_and_reserve(alloc: Global, world: &mut World) -> Result<bool, AllocErro
     Ok(queued && reserved)
 }
 
-fn value_of<'a>(state: &'a State, key: &str) -> &'a str {
+pub(crate) fn value_of<'a>(state: &'a State, key: &str) -> &'a str {
     match state.get(key) {
         Some(entry) => entry.value.as_str(),
         None => "absent",

@@ -31,6 +31,30 @@ func Within(place string, index int) string {
 	return place + "/" + strconv.Itoa(index)
 }
 
+// Steps are the indices of a place.
+func Steps(place string) []int {
+	steps := []int{}
+	for _, step := range strings.Split(place, "/")[1:] {
+		index, _ := strconv.Atoi(step)
+		steps = append(steps, index)
+	}
+	return steps
+}
+
+// Offset is the byte at which the value at a place begins, in a text that is JSON and has arrays on the way there.
+func Offset(text []byte, steps []int) int {
+	decoder := json.NewDecoder(bytes.NewReader(text))
+	for _, step := range steps {
+		decoder.Token()
+		for i := 0; i < step; i++ {
+			var passed json.RawMessage
+			decoder.Decode(&passed)
+		}
+	}
+	rest := text[decoder.InputOffset():]
+	return len(text) - len(bytes.TrimLeft(rest, ", \t\r\n"))
+}
+
 // Value reads a text as one JSON value whose numbers keep their spelling.
 func Value(text []byte) (interface{}, error) {
 	if len(text) > LongestInput {

@@ -1,27 +1,26 @@
-use Rattle.std.proofs.Common.{◌∙◌, Bool, true, false, None, ap, subst}
-use Rattle.stm_schedules.specs.Places.{Place}
-use Rattle.stm_schedules.proofs.BadSchedules.{first_bad_is_first}
-use Rattle.stm_schedules.proofs.FewerLemmas.{fewer_are_enough}
-use Rattle.stm_schedules.proofs.Lengths.{longest_is_all}
-use Rattle.stm_explore.specs.declared.looked.Looked.{Looked}
-use Rattle.stm_explore.specs.declared.looked.Looked.TheVariants.{Kept}
-use Rattle.stm_explore.specs.Seen.{IsSeen}
-use Rattle.stm_explore.proofs.ExploreLemmas.{kept_at_once, more_at_once}
+use Rattle.std.proofs.Common.{subst}
+use Rattle.stm_world.specs.World.{World}
+use Rattle.stm_visited.specs.Answers.{IsVisited, OpenIsFar as VisitedIsFar}
+use Rattle.stm_explore.specs.Explored.{IsExplored, OpenIsFar}
+use Rattle.stm_explore.specs.Spots.{rule_steps}
 use Rattle.stm_explore.proofs.exploring.explore_schedules.Goals as goal
 
-pub look_deeper-requires : goal.look_deeper-requires
-look_deeper-requires g c =
-    let p : Place = record { world = c.args.world.now; others = c.args.others.now } in
-    let seen : IsSeen c.args.rule.now 0 None p (Kept true) =
-    subst (λ (l : Looked). IsSeen c.args.rule.now 0 None p l) (c.in-Kept-true.is ∙ ap (λ (b : Bool). Kept b) c.in-Kept-true.goes_on-test)
-    c.in_ok-look_here.ensures in
-    let both = more_at_once fewer_are_enough c.args.rule.now p seen in
-    record { kept = both.0; more = both.1 }
+pub with_end-requires : goal.with_end-requires
+with_end-requires g c =
+    subst (λ (w : World). IsVisited (rule_steps c.args.rule.now c.args.others.now) (record { world = w; taken = 0 }) c.in_ok-visited.visited) c.in_ok-share.ensures
+    c.in_ok-visited.ensures.visited
 
-pub returns-in-Kept-false-clause-explored : goal.returns-in-Kept-false-clause-explored
-returns-in-Kept-false-clause-explored g c =
-    let p : Place = record { world = c.args.world.now; others = c.args.others.now } in
-    let seen : IsSeen c.args.rule.now 0 None p (Kept false) =
-    subst (λ (l : Looked). IsSeen c.args.rule.now 0 None p l) (c.in-Kept-false.is ∙ ap (λ (b : Bool). Kept b) c.in-Kept-false.goes_on-test)
-    c.in_ok-look_here.ensures in
-    kept_at_once fewer_are_enough first_bad_is_first longest_is_all c.args.rule.now p seen
+pub returns-clause-explored : goal.returns-clause-explored
+returns-clause-explored g c =
+    subst (λ (w : World). IsExplored c.args.rule.now (record { world = w; others = c.args.others.now }) c.in_ok-explored.explored) c.in_ok-world.ensures
+    c.in_ok-explored.ensures.explored
+
+pub returns-clause-spent : goal.returns-clause-spent
+returns-clause-spent g c = c.in_ok-explored.ensures.same _ c.in_ok-visited.ensures.spent
+
+pub returns-clause-far : goal.returns-clause-far
+returns-clause-far g c =
+    subst (λ (w : World). OpenIsFar (record { world = w; others = c.args.others.now }) c.args.budget.now.left c.in_ok-explored.explored) c.in_ok-world.ensures
+    (c.in_ok-explored.ensures.far c.args.budget.now.left
+    (subst (λ (w : World). VisitedIsFar (rule_steps c.args.rule.now c.args.others.now) (record { world = w; taken = 0 }) c.args.budget.now.left c.in_ok-visited.visited)
+    c.in_ok-share.ensures c.in_ok-visited.ensures.far))

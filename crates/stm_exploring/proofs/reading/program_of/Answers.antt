@@ -1,7 +1,7 @@
 use Rattle.std.proofs.Common.{◌∙◌, Ok, Err, sym, ap, subst}
 use Rattle.stm_json.specs.declared.read_error.ReadError.{ReadError}
 use Rattle.stm_json.specs.Returns.{ReturnsFault}
-use Rattle.stm_exploring.specs.Exploring.{program_in}
+use Rattle.stm_program_texts.specs.Reading.{program_in}
 use Rattle.stm_exploring.proofs.ReadingLemmas.{program_reported}
 use Rattle.stm_exploring.proofs.reading.program_of.Goals as goal
 

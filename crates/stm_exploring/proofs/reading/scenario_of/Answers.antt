@@ -10,7 +10,6 @@ returns-in-Ok-clause-scenario g c = (
   c.in_ok-bytes.ensures.bytes.0,
   scenario_reported c.args.level c.in_ok-bytes.bytes.items (g.S.Source.left c.args.source.now) (Ok c.in-Ok.scenario) c.in_ok-bytes.ensures.bytes.1
       (ap (asked_in c.args.level) (sym c.as_slice.ensures.value) ∙ c.in-Ok.ensures.scenario),
-  c.in-Ok.ensures.opening,
 )
 
 pub returns-clause-scenario : goal.returns-clause-scenario

@@ -1,4 +1,4 @@
-use Rattle.std.proofs.Common.{◌≡◌, ◌≤◌, List, ℕ, Some, Ok, sym, ◌∙◌, ap, subst}
+use Rattle.std.proofs.Common.{◌≡◌, ◌≤◌, List, ℕ, Some, Ok, refl, sym, ◌∙◌, ap, subst}
 use Rattle.stm_history.specs.History.{now}
 use Rattle.stm_outcome.specs.Commits.{AreNamed as KeysAreNamed}
 use Rattle.stm_txn.specs.Standing.{Standing}
@@ -55,10 +55,9 @@ returns-in_ok-reported-in-Fetch c =
     let key : List ℕ = c.in-Fetch.key in
     let at : ℕ = c.in-Fetch.at in
     let reported : next_for r ≡ Fetch key at = sym c.in_ok-next.ensures.next ∙ c.in-Fetch.is in
-    fetch_leaves c.args.id r c.fetch.new.runner.runner c.args.journal.now c.fetch.new.journal key at c.in_ok-reported-in-Fetch.reported
+    fetch_leaves c.args.id r c.fetch.new.runner.runner c.args.journal.now c.args.journal.now key at c.in_ok-reported-in-Fetch.reported
     (is_wanting r key at reported) c.in_ok-reported-in-Fetch.ensures.reported
-    (c.in_ok-reported-in-Fetch.ensures.ok ∙ ap (after_reported_fetch (fetch_reported s key at)) c.in_ok-next.ensures.same)
-    c.in_ok-reported-in-Fetch.ensures.journal
+    (c.in_ok-reported-in-Fetch.ensures.ok ∙ ap (after_reported_fetch (fetch_reported s key at)) c.in_ok-next.ensures.same) refl
 
 pub returns-in_ok-reported-in-Ready : goal.returns-in_ok-reported-in-Ready
 returns-in_ok-reported-in-Ready c =

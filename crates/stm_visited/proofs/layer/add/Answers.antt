@@ -1,4 +1,4 @@
-use Rattle.std.proofs.Common.{sym, ap, ◌∙◌, subst, ◌++◌, ◌∷◌, [], List, Contains}
+use Rattle.std.proofs.Common.{sym, subst, ◌++◌, ◌∷◌, [], List, Contains}
 use Rattle.stm_visited.specs.Layers.{Reached, StandFor}
 use Rattle.stm_visited.proofs.SearchLemmas.{appended, left_out}
 use Rattle.stm_visited.proofs.layer.add.Goals as goal

@@ -1,4 +1,4 @@
-use Rattle.std.proofs.Common.{◌≡◌, ◌⊎◌, ◌<◌, ◌≤◌, ◌++◌, List, take}
+use Rattle.std.proofs.Common.{◌≡◌, ◌⊎◌, ◌+◌, ◌<◌, ◌≤◌, ◌++◌, List, take}
 use Rattle.stm_visited.specs.Layers.{Reached, StandFor, reached_by_each}
 use Rattle.stm_visited.proofs.layer.add_moved.Given as goal
 
@@ -10,4 +10,5 @@ invariant-loop-chosen g l = record {
       (others ++ reached_by_each (g.S.System.steps l.system) l.from (take l.chosen-index l.choices));
   taken : (l.next.items ≡ l.fn.next.items) ⊎ (l.budget.left < l.fn.budget.left);
   within : l.budget.left ≤ l.fn.budget.left;
+  made : l.budget.left + l.chosen-index ≡ l.fn.budget.left;
 }

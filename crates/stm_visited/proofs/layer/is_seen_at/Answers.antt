@@ -1,4 +1,4 @@
-use Rattle.std.proofs.Common.{sym, ap, ◌∙◌, subst}
+use Rattle.std.proofs.Common.{sym, ap, subst}
 use Rattle.stm_visited.specs.Layers.{Reached}
 use Rattle.stm_visited.proofs.layer.is_seen_at.Goals as goal
 

@@ -1,5 +1,5 @@
-use Rattle.std.proofs.Common.{◌≡◌, ◌⊎◌, ◌<◌, ◌≤◌, [], take}
-use Rattle.stm_visited.specs.Layers.{StandFor, moved_from_each}
+use Rattle.std.proofs.Common.{◌≡◌, ◌⊎◌, ◌+◌, ◌<◌, ◌≤◌, [], take}
+use Rattle.stm_visited.specs.Layers.{StandFor, moved_from_each, count_among}
 use Rattle.stm_visited.proofs.layer.next_layer.Given as goal
 
 abbrev pub invariant-loop-from : goal.invariant-loop-from
@@ -8,4 +8,5 @@ invariant-loop-from g l = record {
       (moved_from_each (g.S.System.steps l.system) (take l.from-index l.layer));
   taken : (l.next.items ≡ []) ⊎ (l.budget.left < l.fn.budget.left);
   within : l.budget.left ≤ l.fn.budget.left;
+  made : l.fn.budget.left ≤ l.budget.left + count_among (g.S.System.steps l.system) 1 (take l.from-index l.layer);
 }

@@ -1,0 +1,3 @@
+pub mod OneBase
+pub mod Commits
+pub mod HallCommits

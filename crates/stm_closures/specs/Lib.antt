@@ -1,0 +1,5 @@
+pub mod TransactionState
+pub mod Transactions
+pub mod Outcomes
+pub mod Committing
+pub mod Staying

@@ -1,0 +1,72 @@
+-- What is too long by a byte is too long however it goes on, so who reads no further answers the same.
+use Rattle.std.proofs.Common.{◌≡◌, ◌∙◌, ℕ, ◌<◌, ◌≤◌, List, [], ◌∷◌, length, take, Bool, true, false, nat_lt, Option, Ok, Err, refl, sym, ap, subst, arith, take_all}
+use Rattle.std.proofs.lemmas.Bool.{ltb-true, ltb-false}
+use Rattle.std.proofs.lemmas.Bool.Decides.{nat_tests}
+use Rattle.std.proofs.lemmas.List.{length-take-le}
+use Rattle.stm_devices.specs.declared.transfer.TheConstants.{MOST_READ}
+use Rattle.stm_json.specs.declared.limits.TheConstants.{MOST_BYTES}
+use Rattle.stm_terms.specs.declared.faults.BadSource.{BadSource}
+use Rattle.stm_terms.specs.declared.faults.SourceCause.TheVariants.{TooLong}
+use Rattle.stm_terms.specs.Outcome.{Outcome}
+use Rattle.stm_source.specs.Sources.{scenario_in}
+use Rattle.stm_tokens.specs.Positions.{place_after}
+use Rattle.stm_compiling.specs.Lines.{line_in}
+use Rattle.stm_compiling.specs.Faults.{SaysAt, SaysFault, SaysWrong, place_of}
+
+abbrev too_long : BadSource
+too_long = record { at = 0; cause = TooLong }
+
+scenario_in-long : (bytes : List ℕ) → MOST_BYTES < length bytes → scenario_in bytes ≡ Err too_long
+unfolding scenario_in
+scenario_in-long bytes long = grind (arith, nat_tests)
+
+line_in-long : (bytes : List ℕ) → MOST_BYTES < length bytes → line_in bytes ≡ Err too_long
+line_in-long bytes long = rw (scenario_in-long bytes long) refl
+
+-- what is read of a source that is too long is too long, too
+front-long : (all : List ℕ) → MOST_BYTES < length all → MOST_BYTES < length (take MOST_READ all)
+front-long all long =
+    let front : length (take MOST_READ all) ≡ MOST_READ = length-take-le MOST_READ all (omega arith) in
+    omega arith
+
+-- the fault of an answer
+abbrev fault_or : BadSource → Outcome (List ℕ) → BadSource
+fault_or other (Ok line) = other
+fault_or other (Err bad) = bad
+
+-- nothing stands before the first byte
+no_length : (bytes : List ℕ) → length bytes ≡ 0 → bytes ≡ []
+no_length [] none = refl
+no_length (b ∷ bs) none = absurd (omega (arith, none))
+
+first_place : (source : List ℕ) → place_of source 0 ≡ place_after []
+first_place source = ap place_after (no_length (take 0 source) (length-take-le 0 source (omega arith)))
+
+same_place : (name : Option (List ℕ)) (said front all : List ℕ) → SaysFault name front too_long said → SaysFault name all too_long said
+same_place name said front all =
+    subst (λ (place : ℕ × ℕ). SaysAt name place TooLong said) (first_place front ∙ sym (first_place all))
+
+same_saying : (name : Option (List ℕ)) (said front all : List ℕ) → line_in front ≡ Err too_long → line_in all ≡ Err too_long → SaysWrong name front said
+    → SaysWrong name all said
+same_saying name said front all short whole (bad, e, says) =
+    let is : bad ≡ too_long = ap (fault_or too_long) (sym e ∙ short) in
+    (too_long, whole, same_place name said front all (subst (λ (b : BadSource). SaysFault name front b said) is says))
+
+front_by_length : (P : List ℕ → Type 0) → ((all : List ℕ) → MOST_BYTES < length all → P (take MOST_READ all) → P all) → (long : Bool) (all : List ℕ)
+    → nat_lt MOST_BYTES (length all) ≡ long → P (take MOST_READ all) → P all
+front_by_length P when_long true all is holds = when_long all (ltb-true MOST_BYTES (length all) is) holds
+front_by_length P when_long false all is holds =
+    let short : length all ≤ MOST_BYTES = ltb-false MOST_BYTES (length all) is in
+    subst P (take_all MOST_READ all (omega arith)) holds
+
+pub line_in-front : (line all : List ℕ) → line_in (take MOST_READ all) ≡ Ok line → line_in all ≡ Ok line
+line_in-front line all =
+    front_by_length (λ (s : List ℕ). line_in s ≡ Ok line)
+    (λ whole long holds. line_in-long whole long ∙ sym (line_in-long (take MOST_READ whole) (front-long whole long)) ∙ holds)
+    (nat_lt MOST_BYTES (length all)) all refl
+
+pub SaysWrong-front : (name : Option (List ℕ)) (said all : List ℕ) → SaysWrong name (take MOST_READ all) said → SaysWrong name all said
+SaysWrong-front name said all =
+    front_by_length (λ (s : List ℕ). SaysWrong name s said)
+    (λ whole long holds. same_saying name said (take MOST_READ whole) whole (line_in-long (take MOST_READ whole) (front-long whole long)) (line_in-long whole long) holds)
+    (nat_lt MOST_BYTES (length all)) all refl

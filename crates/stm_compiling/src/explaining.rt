@@ -1,0 +1,311 @@
+//! What explains the fault of a source to people: what was found, and what is wanted there.
+ghost use Rattle.std.specs.Prelude.{◌≡◌, ℕ, List, Some, IfOk, option_map, string_bytes};
+ghost use Rattle.stm_explain.specs.Explaining.{explanation};
+ghost use Rattle.stm_compiling.specs.Faults.{IsExplanation, place_of};
+
+use crate::fault::position_in;
+use crate::spots::{Event, Place, Spot, spot_at};
+use crate::wanted::{Wanted, allowed, is_behind_condition_word, numbers_at, wanted_at};
+use serde_json::Value as Json;
+use std::alloc::{AllocError, Global};
+use stm_explain::shown;
+use stm_source::{BadSource, SourceCause};
+use stm_tokens::{Position, Symbol, TokenKind, Word, tokens_of};
+
+/// At most this many bytes of a token are shown.
+const MOST_SHOWN: usize = 60;
+
+/// A line of explanation.
+fn line_at(alloc: Global, name: &str, position: Position, words: &str) -> Result<String, AllocError>
+    ensures { IfOk result (λ line. string_bytes line ≡ explanation name.now position.line position.column words.now) }
+{
+    let line = position.line;
+    let column = position.column;
+    format!(in alloc; "{name}:{line}:{column}: {words}\n")
+}
+
+/// A text in quotes, with an escape in the place of each character that does something to a terminal.
+fn quoted(alloc: Global, text: &str) -> Result<String, AllocError> {
+    let text = String::from_str(alloc, text)?;
+    shown(alloc, &Json::String(text))
+}
+
+/// The bytes from one place to another, as text; nothing where they are none.
+fn between(source: &[u8], from: usize, to: usize) -> &str {
+    if from > to || to > source.len() {
+        return "";
+    }
+    match str::from_utf8(&source[from..to]) {
+        Ok(text) => text,
+        Err(_) => "",
+    }
+}
+
+/// Whether a character stands between tokens.
+fn is_blank(character: char) -> bool {
+    matches!(character, ' ' | '\t' | '\n' | '\r')
+}
+
+/// The first word of what stands from a place on.
+fn word_from<'a>(source: &'a [u8], spot: Spot<'_>, at: usize) -> &'a str {
+    let to = match spot.from.get(1) {
+        Some(next) => next.at,
+        None => source.len(),
+    };
+    let text = between(source, at, to.min(at.saturating_add(MOST_SHOWN)));
+    match text.split_once(is_blank) {
+        Some((word, _)) => word,
+        None => text,
+    }
+}
+
+/// What was found in a place.
+fn found_at(alloc: Global, source: &[u8], spot: Spot<'_>, at: usize) -> Result<String, AllocError> {
+    match spot.kind() {
+        Some(TokenKind::End) | None => String::from_str(alloc, "the end"),
+        Some(TokenKind::Text(text)) => {
+            let text = quoted(alloc, text.as_str())?;
+            format!(in alloc; "the text {text}")
+        }
+        Some(_) => quoted(alloc, word_from(source, spot, at)),
+    }
+}
+
+/// What is said of words that have no place in a source, which people know from elsewhere; nothing of others.
+fn said_of_word(word: &str) -> &'static str {
+    match word {
+        "var" | "const" => "a new variable is let NAME = VALUE",
+        "func" | "fn" | "def" => "a program is program NAME(PARAMETER, ..) { .. }",
+        "switch" | "case" | "match" => "choices are if, else if and else",
+        "while" | "loop" => "a loop is for NAME in 0..COUNT { .. }",
+        "nil" | "null" | "none" | "None" => "an absent key has the value \"\"",
+        "true" | "false" => "no value is true or false: a condition compares two values",
+        "delete" => "a key is deleted by del(KEY)",
+        "print" | "println" => "a value is put out by emit(VALUE)",
+        "panic" | "error" | "throw" => "a run is broken off by abort(TEXT)",
+        _ => "",
+    }
+}
+
+/// The name in a place; an empty one where none stands there.
+fn name_in(spot: Spot<'_>) -> &str {
+    match spot.kind() {
+        Some(TokenKind::Name(name)) => name.as_str(),
+        _ => "",
+    }
+}
+
+/// What is said of a name behind which `++` or `:=` stands; nothing of others.
+fn said_of_sign(spot: Spot<'_>) -> &'static str {
+    if name_in(spot).is_empty() {
+        return "";
+    }
+    match spot.next() {
+        Some(TokenKind::Symbol(Symbol::Concatenate)) => "one is added by NAME += 1",
+        Some(TokenKind::Wrong) => "a new variable is let NAME = VALUE",
+        _ => "",
+    }
+}
+
+/// Whether a symbol compares two values.
+fn is_comparison(symbol: Symbol) -> bool {
+    matches!(
+        symbol,
+        Symbol::Equal
+            | Symbol::NotEqual
+            | Symbol::Less
+            | Symbol::LessOrEqual
+            | Symbol::Greater
+            | Symbol::GreaterOrEqual
+    )
+}
+
+/// What is said of a symbol or a word that has its place elsewhere; nothing of others.
+fn said_of_symbol(spot: Spot<'_>) -> &'static str {
+    if spot.is_before_a_block() {
+        return "";
+    }
+    match (spot.kind(), spot.place()) {
+        (Some(TokenKind::Symbol(Symbol::Semicolon)), Place::Events) => {
+            "events stand one behind another, without it"
+        }
+        (Some(TokenKind::Symbol(symbol)), Place::Statements) if is_comparison(*symbol) => {
+            "no value is true or false, and a comparison stands in an if"
+        }
+        (Some(TokenKind::Word(Word::Get | Word::Rev)), Place::Statements) => {
+            "what is looked up is given a name: let NAME = get(KEY)"
+        }
+        (Some(TokenKind::Word(Word::Else)), Place::Statements) => {
+            "it stands behind the block of an if"
+        }
+        (Some(TokenKind::Word(Word::Prefetch)), Place::Statements) => {
+            "the list of keys stands before all statements"
+        }
+        _ => "",
+    }
+}
+
+/// What is said of a token that people know from elsewhere, or that has its place elsewhere; nothing of others.
+fn said_of(spot: Spot<'_>) -> &'static str {
+    let said = said_of_word(name_in(spot));
+    if said.is_empty() {
+        said_of_symbol(spot)
+    } else {
+        said
+    }
+}
+
+/// What is said of a token in whose place another one is wanted.
+fn syntax_words(alloc: Global, found: &str, spot: Spot<'_>) -> Result<String, AllocError> {
+    let said = said_of_sign(spot);
+    if !said.is_empty() {
+        return format!(in alloc; "{found} is no statement: {said}");
+    }
+    let said = said_of(spot);
+    if !said.is_empty() {
+        return format!(in alloc; "{found} has no meaning here: {said}");
+    }
+    match wanted_at(spot) {
+        Wanted::Words(noun, words, beside) => {
+            let list = allowed(alloc, words, beside, name_in(spot))?;
+            format!(in alloc; "{found} is no {noun}: {list}")
+        }
+        Wanted::Said(wanted) => format!(in alloc; "found {found}, where {wanted} is wanted"),
+    }
+}
+
+/// What is said of a value in the place of a condition, or the reverse.
+fn sort_words(alloc: Global, found: &str, spot: Spot<'_>) -> Result<String, AllocError> {
+    if is_behind_condition_word(spot) {
+        return format!(in alloc;
+            "{found} begins a value, where a condition is wanted: two values with ==, !=, <, <=, > or >= between them"
+        );
+    }
+    format!(in alloc; "{found} begins a condition, where a value is wanted")
+}
+
+/// What is said of a name that cannot stand in its place.
+fn name_words(alloc: Global, found: &str, spot: Spot<'_>) -> Result<String, AllocError> {
+    let said = said_of_word(name_in(spot));
+    if !said.is_empty() {
+        return format!(in alloc; "{found} is no name of anything here: {said}");
+    }
+    if spot.place() == Place::Events && spot.event() == Some(Event::Step) {
+        return format!(in alloc; "no runner before has the name {found}, and a number");
+    }
+    if spot.is_behind_word(0, Word::Let) || spot.is_behind_word(0, Word::For) {
+        return format!(in alloc;
+            "{found} cannot be given here: it is the name of something in sight, or one of v0 to v15, which are never let"
+        );
+    }
+    format!(in alloc; "{found} is the name of nothing that can stand here")
+}
+
+/// What is said of a number that is out of range.
+fn range_words(alloc: Global, found: &str, spot: Spot<'_>) -> Result<String, AllocError> {
+    let numbers = numbers_at(spot);
+    format!(in alloc; "the number {found} is out of range here: {numbers}")
+}
+
+/// What is said where no token begins, but this character stands.
+fn token_words(alloc: Global, character: &str) -> Result<String, AllocError> {
+    let found = quoted(alloc, character)?;
+    match character {
+        "\"" => String::from_str(
+            alloc,
+            "a text that is not closed in its line, or with an escape that JSON does not have",
+        ),
+        ":" => format!(in alloc; "{found} begins nothing: a new variable is let NAME = VALUE"),
+        "'" | "`" => format!(in alloc; "{found} begins nothing: texts stand in double quotes"),
+        "[" => format!(in alloc;
+            "{found} begins nothing: there are no arrays, and a scenario that is JSON needs no compile"
+        ),
+        "#" => format!(in alloc; "{found} begins nothing: a comment begins with //"),
+        _ => format!(in alloc; "{found} begins nothing that a source has"),
+    }
+}
+
+/// The first character of a text.
+fn first_character(text: &str) -> &str {
+    match text.chars().next() {
+        Some(character) => match text.get(..character.len_utf8()) {
+            Some(front) => front,
+            None => text,
+        },
+        None => text,
+    }
+}
+
+/// What is said of a token that is wrong.
+fn words_at(
+    alloc: Global,
+    source: &[u8],
+    spot: Spot<'_>,
+    bad: BadSource,
+) -> Result<String, AllocError> {
+    let found = found_at(alloc, source, spot, bad.at)?;
+    let found = found.as_str();
+    match bad.cause {
+        SourceCause::NotUtf8 => String::from_str(alloc, "what begins here is not UTF-8"),
+        SourceCause::TooLong => String::from_str(
+            alloc,
+            "a source has at most 16777216 bytes, and a text of a program at most 65536",
+        ),
+        SourceCause::Token => {
+            let character = first_character(word_from(source, spot, bad.at));
+            token_words(alloc, character)
+        }
+        SourceCause::Syntax => syntax_words(alloc, found, spot),
+        SourceCause::Sort => sort_words(alloc, found, spot),
+        SourceCause::Name => name_words(alloc, found, spot),
+        SourceCause::Range => range_words(alloc, found, spot),
+        SourceCause::Key => format!(in alloc;
+            "{found} is an empty key, or one that stands in the list already"
+        ),
+        SourceCause::Arguments => format!(in alloc; "{found} has another number of parameters"),
+        SourceCause::Kind => format!(in alloc;
+            "{found} is of the other kind: a text where a number is wanted, or a number where a text is"
+        ),
+        SourceCause::TooMany => format!(in alloc;
+            "{found} is one too many: a program has 16 variables, a list 128 keys, a scenario 100000 events"
+        ),
+        SourceCause::TooDeep => String::from_str(alloc, "the program is nested deeper than 32"),
+        SourceCause::TooManyNodes => {
+            String::from_str(alloc, "the program has more than 4096 nodes")
+        }
+    }
+}
+
+/// The explanation of the first fault of a source, as a line.
+fn explained(alloc: Global, name: &str, source: &[u8], bad: BadSource) -> Result<String, AllocError>
+    ensures { IfOk result (λ line. (words : List ℕ) × (string_bytes line ≡ explanation name.now (place_of source.now bad.at).0 (place_of source.now bad.at).1 words)) }
+{
+    let tokens = tokens_of(alloc, source)?;
+    let words = words_at(alloc, source, spot_at(tokens.as_slice(), bad.at), bad)?;
+    line_at(alloc, name, position_in(source, bad.at), words.as_str())
+}
+
+/// The explanation of the first fault of a source, as a line under its name; nothing where an allocation failed.
+fn explanation_of(alloc: Global, name: &str, source: &[u8], bad: BadSource) -> String
+    ensures { IsExplanation (Some name.now) (place_of source.now bad.at) (string_bytes result) }
+{
+    match explained(alloc, name, source, bad) {
+        Ok(line) => line,
+        Err(_) => String::new(alloc),
+    }
+}
+
+/// The explanation of the first fault of a source, where that has a name; nothing where it has none, or where an allocation failed.
+pub(crate) fn explanation_under(
+    alloc: Global,
+    name: Option<&str>,
+    source: &[u8],
+    bad: BadSource,
+) -> String
+    ensures { IsExplanation (option_map (λ n. n.now) name.entry) (place_of source.now bad.at) (string_bytes result) }
+{
+    match name {
+        Some(name) => explanation_of(alloc, name, source, bad),
+        None => String::new(alloc),
+    }
+}

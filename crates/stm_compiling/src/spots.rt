@@ -1,0 +1,233 @@
+//! Where in a source a token stands: between which brackets, and behind which words.
+
+use stm_tokens::{Symbol, Token, TokenKind, Word};
+
+/// What the brackets that are open before a token belong to.
+#[derive(Clone, Copy, Debug, PartialEq, Eq)]
+pub(crate) enum Place {
+    /// None is open: it stands in an event, or begins one.
+    Events,
+    /// The braces of a program: it stands in a statement, or begins one.
+    Statements,
+    /// The braces of a transaction.
+    Operations,
+    /// Parentheses.
+    Parentheses,
+}
+
+/// The events that have more than one or two parts.
+#[derive(Clone, Copy, Debug, PartialEq, Eq)]
+pub(crate) enum Event {
+    /// `begin`
+    Begin,
+    /// `start`
+    Start,
+    /// `step`
+    Step,
+    /// `txn`
+    Transaction,
+}
+
+/// A token of a source, and those before it.
+#[derive(Clone, Copy)]
+pub(crate) struct Spot<'a> {
+    /// The tokens before it.
+    pub(crate) before: &'a [Token],
+    /// It and those behind it.
+    pub(crate) from: &'a [Token],
+}
+
+/// How many of these tokens begin before a byte.
+fn count_before(tokens: &[Token], at: usize) -> usize {
+    for (index, token) in tokens.iter().enumerate() {
+        if token.at >= at {
+            return index;
+        }
+    }
+    tokens.len()
+}
+
+/// The token that begins at a byte of a source, or the first one behind that.
+pub(crate) fn spot_at(tokens: &[Token], at: usize) -> Spot<'_> {
+    let count = count_before(tokens, at);
+    if count > tokens.len() {
+        return Spot {
+            before: tokens,
+            from: &[],
+        };
+    }
+    let (before, from) = tokens.split_at(count);
+    Spot { before, from }
+}
+
+/// Whether a bracket is opened, closed, or neither.
+fn turn(kind: &TokenKind) -> (bool, bool) {
+    let opens = kind.is_symbol(Symbol::LeftBrace) || kind.is_symbol(Symbol::LeftParenthesis);
+    let closes = kind.is_symbol(Symbol::RightBrace) || kind.is_symbol(Symbol::RightParenthesis);
+    (opens, closes)
+}
+
+/// Whether a token ends a statement, or begins a block.
+fn is_end_of_statement(kind: &TokenKind) -> bool {
+    kind.is_symbol(Symbol::LeftBrace)
+        || kind.is_symbol(Symbol::RightBrace)
+        || kind.is_symbol(Symbol::Semicolon)
+}
+
+/// The place of the last bracket among these tokens that is open behind them.
+fn last_open(tokens: &[Token]) -> Option<usize> {
+    let mut closed = 0usize;
+    for (index, token) in tokens.iter().enumerate().rev() {
+        let (opens, closes) = turn(&token.kind);
+        if closes && closed < tokens.len() {
+            closed += 1;
+        }
+        if opens && closed == 0 {
+            return Some(index);
+        }
+        if opens && closed > 0 {
+            closed -= 1;
+        }
+    }
+    None
+}
+
+/// The place of the first bracket among these tokens that is open behind them.
+fn first_open(tokens: &[Token]) -> Option<usize> {
+    let mut found = None;
+    let mut depth = 0usize;
+    for (index, token) in tokens.iter().enumerate() {
+        let (opens, closes) = turn(&token.kind);
+        if opens && depth == 0 {
+            found = Some(index);
+        }
+        if opens && depth < tokens.len() {
+            depth += 1;
+        }
+        if closes && depth > 0 {
+            depth -= 1;
+        }
+    }
+    if depth == 0 { None } else { found }
+}
+
+/// The event whose word stands last among these tokens.
+fn last_event(tokens: &[Token]) -> Option<Event> {
+    for token in tokens.iter().rev() {
+        if token.kind.is_named("txn") {
+            return Some(Event::Transaction);
+        }
+        if token.kind.is_named("start") {
+            return Some(Event::Start);
+        }
+        if token.kind.is_named("step") {
+            return Some(Event::Step);
+        }
+        if token.kind.is_named("begin") {
+            return Some(Event::Begin);
+        }
+    }
+    None
+}
+
+impl<'a> Spot<'a> {
+    /// What the token is.
+    pub(crate) fn kind(self) -> Option<&'a TokenKind> {
+        match self.from.first() {
+            Some(token) => Some(&token.kind),
+            None => None,
+        }
+    }
+
+    /// What stands behind it.
+    pub(crate) fn next(self) -> Option<&'a TokenKind> {
+        match self.from.get(1) {
+            Some(token) => Some(&token.kind),
+            None => None,
+        }
+    }
+
+    /// What stands before it: the last token, or one of those before that, counted from 0.
+    pub(crate) fn back(self, count: usize) -> Option<&'a TokenKind> {
+        match self.before.iter().rev().nth(count) {
+            Some(token) => Some(&token.kind),
+            None => None,
+        }
+    }
+
+    /// Whether this name stands so many tokens before it.
+    pub(crate) fn is_behind(self, count: usize, name: &str) -> bool {
+        match self.back(count) {
+            Some(kind) => kind.is_named(name),
+            None => false,
+        }
+    }
+
+    /// Whether this word stands so many tokens before it.
+    pub(crate) fn is_behind_word(self, count: usize, word: Word) -> bool {
+        match self.back(count) {
+            Some(kind) => kind.is_word(word),
+            None => false,
+        }
+    }
+
+    /// Whether this symbol stands so many tokens before it.
+    pub(crate) fn is_behind_symbol(self, count: usize, symbol: Symbol) -> bool {
+        match self.back(count) {
+            Some(kind) => kind.is_symbol(symbol),
+            None => false,
+        }
+    }
+
+    /// What the brackets that are open there belong to.
+    pub(crate) fn place(self) -> Place {
+        let Some(last) = last_open(self.before) else {
+            return Place::Events;
+        };
+        if self.is_parenthesis(last) {
+            return Place::Parentheses;
+        }
+        let Some(first) = first_open(self.before) else {
+            return Place::Events;
+        };
+        match last_event(front(self.before, first)) {
+            Some(Event::Transaction) => Place::Operations,
+            _ => Place::Statements,
+        }
+    }
+
+    /// The event that it stands in, of those that have several parts, or behind.
+    pub(crate) fn event(self) -> Option<Event> {
+        last_event(self.before)
+    }
+
+    /// Whether it stands between an `if` or a `for` and the brace that opens the block of that.
+    pub(crate) fn is_before_a_block(self) -> bool {
+        for token in self.before.iter().rev() {
+            if token.kind.is_word(Word::If) || token.kind.is_word(Word::For) {
+                return true;
+            }
+            if is_end_of_statement(&token.kind) {
+                return false;
+            }
+        }
+        false
+    }
+
+    /// Whether the token at an index before it is a parenthesis.
+    fn is_parenthesis(self, index: usize) -> bool {
+        match self.before.get(index) {
+            Some(token) => token.kind.is_symbol(Symbol::LeftParenthesis),
+            None => false,
+        }
+    }
+}
+
+/// The first of these tokens.
+fn front(tokens: &[Token], count: usize) -> &[Token] {
+    if count <= tokens.len() {
+        &tokens[..count]
+    } else {
+        tokens
+    }
+}

@@ -1,0 +1,307 @@
+//! What is wanted in a place of a source.
+
+use crate::spots::{Event, Place, Spot};
+use std::alloc::{AllocError, Global};
+use stm_tokens::{Symbol, TokenKind, Word};
+use strsim::levenshtein;
+
+/// A word of more bytes than this has no near miss.
+const MOST_NEAR: usize = 60;
+
+/// The words that begin an event, or what stands beside events.
+const EVENTS: [&str; 13] = [
+    "program", "start", "step", "txn", "grant", "keep", "revoke", "advance", "watch", "poll",
+    "cancel", "compact", "begin",
+];
+
+/// What may stand behind the program of a start.
+const OPTIONS: [&str; 15] = [
+    "as", "at", "limit", "start", "step", "txn", "grant", "keep", "revoke", "advance", "watch",
+    "poll", "cancel", "compact", "begin",
+];
+
+const ORDERS: [&str; 4] = ["==", "!=", "<", ">"];
+
+const STATEMENTS: [&str; 7] = ["put", "del", "emit", "abort", "let", "if", "for"];
+
+const OPERATIONS: [&str; 3] = ["put", "get", "del"];
+
+const COMPARES: [&str; 5] = ["mod", "create", "version", "lease", "value"];
+
+const LEVELS: [&str; 4] = [
+    "ReadCommitted",
+    "RepeatableReads",
+    "Serializable",
+    "SerializableSnapshot",
+];
+
+/// What is wanted in a place.
+#[derive(Clone, Copy)]
+pub(crate) enum Wanted {
+    /// One of these words, which begin such a thing; with others beside them, where that text is not empty.
+    Words(&'static str, &'static [&'static str], &'static str),
+    /// Something that this text says.
+    Said(&'static str),
+}
+
+/// What is wanted behind a name that has a meaning in an event.
+fn behind_name(spot: Spot<'_>) -> Option<Wanted> {
+    if spot.is_behind(0, "start") {
+        return Some(Wanted::Said("the body of a program, { .. }, or a program by its name,"));
+    }
+    if spot.is_behind(0, "step") || spot.is_behind(0, "after") {
+        return Some(Wanted::Said("a runner, by its number or its name,"));
+    }
+    if spot.is_behind(0, "as") {
+        return Some(Wanted::Said("a name"));
+    }
+    if spot.is_behind(0, "at") {
+        return Some(Wanted::Words("level", &LEVELS, ""));
+    }
+    if spot.is_behind(0, "advance") {
+        return Some(Wanted::Said("to NUMBER"));
+    }
+    if spot.is_behind(0, "watch") {
+        return Some(Wanted::Said("a key, which is a text"));
+    }
+    None
+}
+
+/// Whether what stands before a place is a name behind which a number stands.
+fn is_behind_number_name(spot: Spot<'_>) -> bool {
+    for name in [
+        "begin", "limit", "grant", "ttl", "keep", "revoke", "to", "poll", "max", "cancel",
+        "compact", "from",
+    ] {
+        if spot.is_behind(0, name) {
+            return true;
+        }
+    }
+    false
+}
+
+/// What is wanted in an event, outside of all brackets.
+fn in_event(spot: Spot<'_>) -> Wanted {
+    if let Some(wanted) = behind_name(spot) {
+        return wanted;
+    }
+    if is_behind_number_name(spot) {
+        return Wanted::Said("a whole number");
+    }
+    if spot.is_behind(1, "grant") {
+        return Wanted::Said("ttl NUMBER");
+    }
+    if spot.is_behind(1, "poll") {
+        return Wanted::Said("max NUMBER");
+    }
+    if spot.is_behind(0, "txn") {
+        return Wanted::Said("if COMPARE, or { .. } with its operations");
+    }
+    if spot.is_behind_word(0, Word::If) || spot.is_behind_symbol(0, Symbol::And) {
+        return Wanted::Words("compare", &COMPARES, "");
+    }
+    match spot.event() {
+        Some(Event::Transaction) if spot.is_behind_symbol(0, Symbol::RightParenthesis) => {
+            Wanted::Words("order", &ORDERS, "")
+        }
+        Some(Event::Start) => Wanted::Words("event, and nothing of a start", &OPTIONS, ""),
+        _ => Wanted::Words("event", &EVENTS, ""),
+    }
+}
+
+/// Whether a value is wanted behind what stands before a place: an operator, a comma, an opened parenthesis or a sign of assignment.
+fn is_behind_operator(spot: Spot<'_>) -> bool {
+    match spot.back(0) {
+        Some(TokenKind::Symbol(symbol)) => matches!(
+            symbol,
+            Symbol::LeftParenthesis
+                | Symbol::Comma
+                | Symbol::Dots
+                | Symbol::Assign
+                | Symbol::AddAssign
+                | Symbol::SubtractAssign
+                | Symbol::ConcatenateAssign
+                | Symbol::Equal
+                | Symbol::NotEqual
+                | Symbol::Less
+                | Symbol::LessOrEqual
+                | Symbol::Greater
+                | Symbol::GreaterOrEqual
+                | Symbol::Add
+                | Symbol::Subtract
+                | Symbol::Multiply
+                | Symbol::Divide
+                | Symbol::Remainder
+                | Symbol::Concatenate
+        ),
+        _ => false,
+    }
+}
+
+/// Whether a condition is wanted behind what stands before a place: `if`, `!`, `&&` or `||`, with opened parentheses or without.
+pub(crate) fn is_behind_condition_word(spot: Spot<'_>) -> bool {
+    for token in spot.before.iter().rev() {
+        if token.kind.is_symbol(Symbol::LeftParenthesis) {
+            continue;
+        }
+        return token.kind.is_word(Word::If)
+            || token.kind.is_symbol(Symbol::Not)
+            || token.kind.is_symbol(Symbol::And)
+            || token.kind.is_symbol(Symbol::Or);
+    }
+    false
+}
+
+/// Whether what stands before a place is a word behind which an opened parenthesis stands.
+fn is_behind_call(spot: Spot<'_>) -> bool {
+    match spot.back(0) {
+        Some(TokenKind::Word(word)) => matches!(
+            word,
+            Word::Put
+                | Word::Del
+                | Word::Emit
+                | Word::Abort
+                | Word::Prefetch
+                | Word::Get
+                | Word::Rev
+                | Word::NumOf
+                | Word::TextOf
+        ),
+        _ => false,
+    }
+}
+
+/// Whether a token is a name or a word.
+fn is_worded(kind: Option<&TokenKind>) -> bool {
+    matches!(kind, Some(TokenKind::Name(_) | TokenKind::Word(_)))
+}
+
+/// What is wanted in a program, where a new statement may begin.
+fn statement_or_more(spot: Spot<'_>) -> Wanted {
+    if spot.is_before_a_block() {
+        return Wanted::Said("an operator, or the { of the block,");
+    }
+    if is_worded(spot.kind()) {
+        return Wanted::Words("statement", &STATEMENTS, ", or a variable and =");
+    }
+    Wanted::Said("an operator, a statement, or the } that ends the block")
+}
+
+/// What is wanted in a program, outside of parentheses.
+fn in_program(spot: Spot<'_>) -> Wanted {
+    if spot.is_behind_word(0, Word::Let) || spot.is_behind_word(0, Word::For) {
+        return Wanted::Said("a name");
+    }
+    if spot.is_behind_word(1, Word::Let) {
+        return Wanted::Said("=");
+    }
+    if spot.is_behind_word(1, Word::For) {
+        return Wanted::Said("in");
+    }
+    if spot.is_behind_word(0, Word::In) {
+        return Wanted::Said("0..COUNT");
+    }
+    if is_behind_call(spot) {
+        return Wanted::Said("(");
+    }
+    if is_behind_condition_word(spot) {
+        return Wanted::Said("a condition, which compares two values");
+    }
+    if is_behind_operator(spot) {
+        return Wanted::Said("a value");
+    }
+    statement_or_more(spot)
+}
+
+/// What is wanted in parentheses.
+fn in_parentheses(spot: Spot<'_>) -> Wanted {
+    if is_behind_call(spot) {
+        return Wanted::Said("(");
+    }
+    if is_behind_operator(spot) {
+        return Wanted::Said("a value");
+    }
+    Wanted::Said("an operator, a comma, or the ) that ends the list")
+}
+
+/// What is wanted in a place.
+pub(crate) fn wanted_at(spot: Spot<'_>) -> Wanted {
+    match spot.place() {
+        Place::Events => in_event(spot),
+        Place::Statements => in_program(spot),
+        Place::Operations if is_behind_call(spot) => Wanted::Said("("),
+        Place::Operations => Wanted::Words("operation", &OPERATIONS, ""),
+        Place::Parentheses => in_parentheses(spot),
+    }
+}
+
+/// Which numbers may stand in a place.
+pub(crate) fn numbers_at(spot: Spot<'_>) -> &'static str {
+    if spot.is_behind(0, "max") || spot.is_behind_symbol(0, Symbol::Dots) {
+        return match spot.place() {
+            Place::Statements => "0 to 1000",
+            _ => "0 to 9223372036854775807",
+        };
+    }
+    if spot.is_behind(0, "begin") {
+        return "1 to 9223372036854775806";
+    }
+    if spot.is_behind(0, "limit") {
+        return match spot.event() {
+            Some(Event::Begin) => "1 to 128",
+            _ => "0 to 4294967295",
+        };
+    }
+    match spot.place() {
+        Place::Events | Place::Operations => "0 to 9223372036854775807",
+        _ => "-9223372036854775808 to 9223372036854775807, and as a lease from 0 on",
+    }
+}
+
+/// The word of these that is nearest to one, by edits of characters: an empty one, where each is further than half of the word.
+pub(crate) fn nearest<'a>(
+    alloc: Global,
+    words: &[&'a str],
+    word: &str,
+) -> Result<&'a str, AllocError> {
+    let mut found = "";
+    if word.len() > MOST_NEAR {
+        return Ok(found);
+    }
+    let mut least = word.chars().count() / 2 + 1;
+    for known in words {
+        let distance = levenshtein(alloc, word, known)?;
+        if distance < least {
+            least = distance;
+            found = *known;
+        }
+    }
+    Ok(found)
+}
+
+/// These words, with commas between them.
+fn listed(alloc: Global, words: &[&str]) -> Result<String, AllocError> {
+    let mut text = String::new(alloc);
+    for (index, word) in words.iter().enumerate() {
+        if index > 0 {
+            text.push_str(", ")?;
+        }
+        text.push_str(word)?;
+    }
+    Ok(text)
+}
+
+/// The words of a table, what stands beside them, and that of them which is nearest to one that is not among them.
+pub(crate) fn allowed(
+    alloc: Global,
+    words: &[&str],
+    beside: &str,
+    word: &str,
+) -> Result<String, AllocError> {
+    let list = listed(alloc, words)?;
+    let near = nearest(alloc, words, word)?;
+    if near.is_empty() {
+        return format!(in alloc; "one of {list}{beside}");
+    }
+    format!(in alloc; "one of {list}{beside}; the nearest is {near}")
+}

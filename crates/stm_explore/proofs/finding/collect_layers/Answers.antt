@@ -1,0 +1,98 @@
+use Rattle.std.proofs.Common.{◌≡◌, ◌+◌, ◌≤◌, ℕ, suc, sym, ap, ◌∙◌, subst, true, List, inl, inr, arith}
+use Rattle.stm_schedules.specs.declared.moves.Move.{Move}
+use Rattle.stm_schedules.specs.Keeping.{goes_on}
+use Rattle.stm_schedules.specs.declared.outcome.Outcome.{Outcome}
+use Rattle.stm_visited.specs.Layers.{Reached, StandFor, on_among, moved_from_each, shown_among, count_among}
+use Rattle.stm_explore.specs.declared.places.ReportedPlace.{ReportedPlace}
+use Rattle.stm_explore.specs.Gathering.{Gathers}
+use Rattle.stm_explore.specs.Explored.{count_up_to}
+use Rattle.stm_explore.specs.Spots.{place_of, outcome_steps}
+use Rattle.stm_explore.proofs.LayerOutcomes.{first_layer, first_end, next_gathered, next_end, none_on, far_gathered, far_open, far_without}
+use Rattle.stm_explore.proofs.finding.collect_layers.Goals as goal
+
+pub returns-then-not-branch-clause-collected : goal.returns-then-not-branch-clause-collected
+returns-then-not-branch-clause-collected g c =
+    let others = c.args.gathered.now.others.now in
+    first_end others c.args.start c.in_ok-layer.layer.items c.args.found.now.items c.collect_whole.new.found.items c.in_ok-layer.ensures c.requires
+    (subst (λ (rs : List (Reached ReportedPlace Move)). Gathers (shown_among (outcome_steps others) 0 rs) c.args.found.now.items c.collect_whole.new.found.items)
+    c.as_slice.ensures.value c.in_ok-collect_whole.ensures)
+    (ap (on_among (outcome_steps others) 1) (sym c.as_slice-2.ensures.value) ∙ sym c.in_ok-can_go_on.ensures ∙ c.if-not-branch.true)
+
+pub loop-gone_through-init : goal.loop-gone_through-init
+loop-gone_through-init g c =
+    let others = c.args.gathered.now.others.now in
+    record {
+      come = first_layer others c.args.start c.in_ok-layer.layer.items c.args.found.now.items c.collect_whole.new.found.items c.in_ok-layer.ensures c.requires
+          (subst (λ (rs : List (Reached ReportedPlace Move)). Gathers (shown_among (outcome_steps others) 0 rs) c.args.found.now.items c.collect_whole.new.found.items)
+          c.as_slice.ensures.value c.in_ok-collect_whole.ensures)
+          (ap (on_among (outcome_steps others) 1) (sym c.as_slice-2.ensures.value) ∙ sym c.in_ok-can_go_on.ensures ∙ c.if-not-branch.false);
+      within = omega arith;
+      made = omega arith;
+    }
+
+pub returns-then-not-branch-2-clause-collected : goal.returns-then-not-branch-2-clause-collected
+returns-then-not-branch-2-clause-collected g c =
+    let others = c.args.gathered.now.others.now in
+    let stand : StandFor ReportedPlace Move Outcome (outcome_steps others) c.in-Ok.next.items (moved_from_each (outcome_steps others) c.loop-gone_through.layer.items) =
+    subst (λ (rs : List (Reached ReportedPlace Move)). StandFor ReportedPlace Move Outcome (outcome_steps others) c.in-Ok.next.items (moved_from_each (outcome_steps others) rs))
+    c.as_slice-in-loop-gone_through.ensures.value c.in-Ok.ensures.stand in
+    next_end others c.args.start c.loop-gone_through.gone_through c.loop-gone_through.layer.items c.in-Ok.next.items c.loop-gone_through.found.items
+    c.collect_whole-in-Ok.new.found.items c.loop-gone_through.invariant.come stand
+    (subst (λ (rs : List (Reached ReportedPlace Move)). Gathers (shown_among (outcome_steps others) 0 rs) c.loop-gone_through.found.items c.collect_whole-in-Ok.new.found.items)
+    c.as_slice-in-Ok.ensures.value c.in_ok-collect_whole-in-Ok.ensures)
+    (ap (on_among (outcome_steps others) 1) (sym c.as_slice-in-Ok-2.ensures.value) ∙ sym c.in_ok-can_go_on-in-Ok.ensures ∙ c.if-not-branch-2.true)
+
+pub loop-gone_through-preserved : goal.loop-gone_through-preserved
+loop-gone_through-preserved g c =
+    let others = c.args.gathered.now.others.now in
+    let stand : StandFor ReportedPlace Move Outcome (outcome_steps others) c.in-Ok.next.items (moved_from_each (outcome_steps others) c.loop-gone_through.layer.items) =
+    subst (λ (rs : List (Reached ReportedPlace Move)). StandFor ReportedPlace Move Outcome (outcome_steps others) c.in-Ok.next.items (moved_from_each (outcome_steps others) rs))
+    c.as_slice-in-loop-gone_through.ensures.value c.in-Ok.ensures.stand in
+    let on : on_among (outcome_steps others) 1 c.in-Ok.next.items ≡ true =
+    ap (on_among (outcome_steps others) 1) (sym c.as_slice-in-Ok-2.ensures.value) ∙ sym c.in_ok-can_go_on-in-Ok.ensures ∙ c.if-not-branch-2.false in
+    record {
+      come = next_gathered others c.args.start c.loop-gone_through.gone_through c.loop-gone_through.layer.items c.in-Ok.next.items c.loop-gone_through.found.items
+          c.collect_whole-in-Ok.new.found.items c.loop-gone_through.invariant.come stand
+          (subst (λ (rs : List (Reached ReportedPlace Move)). Gathers (shown_among (outcome_steps others) 0 rs) c.loop-gone_through.found.items c.collect_whole-in-Ok.new.found.items)
+          c.as_slice-in-Ok.ensures.value c.in_ok-collect_whole-in-Ok.ensures) on;
+      within = elim c.in-Ok.ensures.taken [
+        | inl nothing ↦ absurd (let none = none_on others c.in-Ok.next.items nothing in cc)
+        | inr less ↦ omega (arith, c.loop-gone_through.invariant.within)
+      ];
+      made = far_gathered others c.args.start c.loop-gone_through.gone_through c.loop-gone_through.layer.items
+          c.loop-gone_through.found.items _ _ _ c.loop-gone_through.invariant.come c.loop-gone_through.invariant.made
+          (subst (λ (rs : List (Reached ReportedPlace Move)). c.loop-gone_through.budget.left ≤ c.next_layer.new.budget.left + count_among (outcome_steps others) 1 rs)
+          c.as_slice-in-loop-gone_through.ensures.value c.next_layer.ensures.made);
+    }
+
+pub returns-in-Err-Spent-clause-collected : goal.returns-in-Err-Spent-clause-collected
+returns-in-Err-Spent-clause-collected g c = c.loop-gone_through.invariant.come.more
+
+pub returns-clause-collected : goal.returns-clause-collected
+returns-clause-collected g c =
+    let all : c.loop-gone_through.gone_through ≡ c.args.budget.now.left = omega arith in
+    subst (λ (n : ℕ). goes_on (suc n) (place_of c.args.gathered.now.others.now c.args.start.at) ≡ true) all c.loop-gone_through.invariant.come.more
+
+-- ---- the budget
+
+pub returns-in-Err-Spent-clause-spent : goal.returns-in-Err-Spent-clause-spent
+returns-in-Err-Spent-clause-spent g c = c.in-Err-Spent.ensures.spent (cc)
+
+pub returns-clause-spent : goal.returns-clause-spent
+returns-clause-spent g c = omega (arith, c.loop-gone_through.invariant.within)
+
+pub returns-in-Err-Spent-clause-far : goal.returns-in-Err-Spent-clause-far
+returns-in-Err-Spent-clause-far g c =
+    let others = c.args.gathered.now.others.now in
+    far_open others c.args.start c.loop-gone_through.gone_through c.loop-gone_through.layer.items c.loop-gone_through.found.items _ _ _
+    c.loop-gone_through.invariant.come c.loop-gone_through.invariant.made
+    (subst (λ (rs : List (Reached ReportedPlace Move)). c.loop-gone_through.budget.left ≤ c.next_layer.new.budget.left + count_among (outcome_steps others) 1 rs)
+    c.as_slice-in-loop-gone_through.ensures.value c.next_layer.ensures.made)
+    (c.in-Err-Spent.ensures.spent (cc))
+
+pub returns-clause-far : goal.returns-clause-far
+returns-clause-far g c =
+    let all : c.loop-gone_through.gone_through ≡ c.args.budget.now.left = omega arith in
+    let none : c.loop-gone_through.budget.left ≡ 0 = omega (arith, c.loop-gone_through.invariant.within) in
+    subst (λ (n : ℕ). c.args.budget.now.left ≤ count_up_to (suc n) (place_of c.args.gathered.now.others.now c.args.start.at)) all
+    (far_without _ _ _ _ c.loop-gone_through.invariant.made none)

@@ -1,0 +1,85 @@
+//! The places of a scenario, where a rule is kept or is not.
+ghost use Rattle.std.specs.Prelude.{◌≡◌, true, IfOk};
+ghost use Rattle.stm_schedules.specs.Keeping.{keeps};
+ghost use Rattle.stm_explore.specs.Spots.{rule_steps, AreSame};
+ghost use Rattle.stm_explore.specs.AlikeSpots.{rules_respected};
+
+use crate::alike::{hint_of, is_alike};
+use crate::keeping::end_alone;
+use crate::moving::{moved, moves_at, rest_of, taken_after};
+use crate::places::WorldPlace;
+use std::alloc::{AllocError, Global};
+use stm_meaning::End;
+use stm_program::Program;
+use stm_retry::SharedWorld;
+use stm_schedules::Move;
+use stm_visited::System;
+use stm_world::WorldEvent;
+
+/// What the others bring, and a rule.
+#[derive(Drop)]
+pub(crate) struct Judged<'a> {
+    pub(crate) alloc: Global,
+    pub(crate) others: &'a [WorldEvent],
+    pub(crate) rule: &'a Program,
+}
+
+/// Whether a rule is kept in a world.
+pub(crate) fn is_kept(
+    alloc: Global,
+    rule: &Program,
+    world: &SharedWorld,
+) -> Result<bool, AllocError>
+    ensures { IfOk result (λ kept. kept ≡ keeps rule.now world.now) }
+{
+    match end_alone(alloc, rule, world)? {
+        End::Done => Ok(true),
+        _ => Ok(false),
+    }
+}
+
+impl<'a> System for Judged<'a> {
+    type Place = WorldPlace;
+
+    type Move = Move;
+
+    type Shown = ();
+
+    ghost steps = { λ s. rule_steps s.rule.now s.others.now };
+
+    ghost Alike = { λ s. AreSame s.others.now };
+
+    fn moves(&self, place: &WorldPlace) -> Result<Vec<Move>, AllocError> {
+        moves_at(self.alloc, &place.world, rest_of(self.others, place.taken))
+    }
+
+    fn moved(&self, place: &WorldPlace, chosen: Move) -> Result<WorldPlace, AllocError> {
+        let world = moved(
+            self.alloc,
+            &place.world,
+            rest_of(self.others, place.taken),
+            chosen,
+        )?;
+        Ok(WorldPlace {
+            world,
+            taken: taken_after(self.others, place.taken, chosen),
+        })
+    }
+
+    fn is_kept(&self, place: &WorldPlace) -> Result<bool, AllocError> {
+        is_kept(self.alloc, self.rule, &place.world)
+    }
+
+    fn is_alike(&self, one: &WorldPlace, other: &WorldPlace) -> bool {
+        if one.taken != other.taken {
+            return false;
+        }
+        is_alike(&one.world, &other.world)
+    }
+
+    fn hint(&self, place: &WorldPlace) -> u64 {
+        hint_of(&place.world).rotate_left(7) ^ place.taken as u64
+    }
+
+    ghost respects = { λ s. rules_respected s.rule.now s.others.now };
+}

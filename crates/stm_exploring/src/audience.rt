@@ -1,0 +1,78 @@
+//! Who is told of a search.
+
+use std::alloc::{AllocError, Global};
+use stm_explore::{Nobody, Observer, Wait};
+
+/// Who is notified of how far a search is, and told what is said of it.
+pub trait Audience: Observer {
+    /// Whether all is to be said: of every runner how its runs ended, and not only of those that never committed, and which events are the others'.
+    fn wants_all(&self) -> bool;
+
+    /// This is said, without a line feed at its end.
+    fn hear(&mut self, line: &str);
+}
+
+impl Audience for Nobody {
+    fn wants_all(&self) -> bool {
+        false
+    }
+
+    fn hear(&mut self, _line: &str) {}
+}
+
+/// Says how many steps of a scenario are left out, where there are any. Nothing is said where an allocation fails for it.
+pub(crate) fn tell_left_out<O: Audience>(alloc: Global, steps: usize, audience: &mut O) {
+    if steps == 0 {
+        return;
+    }
+    if let Ok(line) = format!(in alloc; "steps left out, since a search makes its own: {steps}") {
+        audience.hear(line.as_str());
+    }
+}
+
+/// The line that says which events are what.
+fn parts_line(alloc: Global, setup: usize, others: usize) -> Result<String, AllocError> {
+    format!(in alloc;
+        "events of the set-up, up to the last start: {setup}; of the others, each at any moment, in their order: {others}"
+    )
+}
+
+/// Says how many events are taken as set-up and how many as the others', where all is to be said. Nothing is said where an allocation fails for it.
+pub(crate) fn tell_parts<O: Audience>(
+    alloc: Global,
+    setup: usize,
+    others: usize,
+    audience: &mut O,
+) {
+    if !audience.wants_all() {
+        return;
+    }
+    if let Ok(line) = parts_line(alloc, setup, others) {
+        audience.hear(line.as_str());
+    }
+}
+
+/// Says of each wait for a runner that there is none such. Nothing is said where an allocation fails for it.
+pub(crate) fn tell_strangers<O: Audience>(
+    alloc: Global,
+    waits: &[Wait],
+    count: usize,
+    audience: &mut O,
+) {
+    for wait in waits {
+        if wait.first > count as u64 {
+            tell_stranger(alloc, wait, count, audience);
+        }
+    }
+}
+
+/// Says that the runner is not there for which this one waits.
+fn tell_stranger<O: Audience>(alloc: Global, wait: &Wait, count: usize, audience: &mut O) {
+    let runner = wait.runner;
+    let first = wait.first;
+    if let Ok(line) = format!(in alloc;
+        "runner {runner} waits for runner {first}, and there are {count}"
+    ) {
+        audience.hear(line.as_str());
+    }
+}

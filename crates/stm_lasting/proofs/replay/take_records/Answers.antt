@@ -1,0 +1,15 @@
+use Rattle.std.proofs.Common.{refl, arith}
+use Rattle.stm_lasting.proofs.Leading.{taken_on, all_taken}
+use Rattle.stm_lasting.proofs.replay.take_records.Goals as goal
+
+pub loop-place-init : goal.loop-place-init
+loop-place-init c = refl
+
+pub loop-place-preserved : goal.loop-place-preserved
+loop-place-preserved c =
+    taken_on c.args.bytes.now c.args.places.now c.loop-place.place-index _ c.loop-place.world c.take_record.new.world c.args.world.now (omega arith)
+    c.in_ok-take_record.ensures c.loop-place.invariant
+
+pub returns : goal.returns
+returns c =
+    all_taken c.args.bytes.now c.args.places.now c.loop-place.place-index c.loop-place.world c.args.world.now (omega arith) c.loop-place.invariant

@@ -1,0 +1,4 @@
+pub mod Disk
+pub mod RecordFiles
+pub mod Head
+pub mod Laws

@@ -1,0 +1,14 @@
+use Rattle.std.proofs.Common.{◌∙◌, sym, ap, subst}
+use Rattle.stm_world.specs.World.{World}
+use Rattle.stm_retry.specs.Kept.{whole_world, IsKeptBy}
+use Rattle.stm_retry.specs.WorldOf.{with_places}
+use Rattle.stm_retry.proofs.SharingLemmas.{kept_with}
+use Rattle.stm_retry.proofs.world.World.copy_with.Goals as goal
+
+pub invariant_of-result : goal.invariant_of-result
+invariant_of-result c =
+    subst (λ (m : World). IsKeptBy m.standing (whole_world c.self.inside.opened m)) (sym c.in_ok-kept.ensures)
+    (kept_with c.self.inside.opened c.self.inside.kept c.args.self.now c.args.runners.now.items c.self.view_is c.self.invariant c.requires)
+
+pub returns : goal.returns
+returns c = ap (whole_world c.self.inside.opened) c.in_ok-kept.ensures ∙ ap (with_places c.args.runners.now.items) c.self.view_is

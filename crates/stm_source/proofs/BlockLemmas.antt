@@ -1,0 +1,113 @@
+-- Reading statements one after the other, as a loop does.
+use Rattle.std.proofs.Common.{◌≡◌, ℕ, suc, ◌-◌, ◌+◌, ◌<◌, List, [], ◌∷◌, ◌++◌, Option, Some, None, Ok, Err, refl, sym, ap, ◌∙◌, arith}
+use Rattle.stm_tokens.specs.declared.token.Token.{Token}
+use Rattle.stm_tokens.specs.declared.token.Symbol.TheVariants.{RightBrace}
+use Rattle.stm_program.specs.Syntax.{Statement, Block, End, Then}
+use Rattle.stm_program.specs.BlockView.{block_of}
+use Rattle.stm_terms.specs.declared.scope.Scope.{Scope}
+use Rattle.stm_terms.specs.declared.faults.BadSource.{BadSource}
+use Rattle.stm_terms.specs.declared.faults.SourceCause.TheVariants.{TooDeep}
+use Rattle.stm_terms.specs.Cursor.{after_symbol, skip_semicolon, unexpected}
+use Rattle.stm_terms.specs.declared.faults.SourceError.{SourceError}
+use Rattle.stm_terms.specs.declared.faults.SourceError.TheVariants.{OutOfMemory, Bad}
+use Rattle.stm_terms.specs.Outcome.{Read, ReturnsFault, bad, ◌>>=◌}
+use Rattle.stm_source.specs.Statements.{ReadStatement, Blocks, statements_from, closed_or, statement_by, block_by, block_at, choice_by, choice_at}
+
+-- a block after statements
+abbrev pub block_after : List Statement → Block → Block
+block_after [] b = b
+block_after (s ∷ ss) b = Then s (block_after ss b)
+
+pub block_after-end : (ss : List Statement) → block_after ss End ≡ block_of ss
+block_after-end [] = refl
+block_after-end (s ∷ ss) = ap (Then s) (block_after-end ss)
+
+pub block_after-snoc : (ss : List Statement) (s : Statement) (b : Block) → block_after (ss ++ s ∷ []) b ≡ block_after ss (Then s b)
+block_after-snoc [] s b = refl
+block_after-snoc (t ∷ ss) s b = ap (Then t) (block_after-snoc ss s b)
+
+-- what was read before, and what is still read
+abbrev pub with_front : List Statement → Read Block → Read Block
+with_front front reading = reading >>= λ b. Ok (block_after front b.0, b.1)
+
+pub nothing_before : (reading : Read Block) → with_front [] reading ≡ reading
+nothing_before (Ok b) = refl
+nothing_before (Err f) = refl
+
+regroup : (front : List Statement) (s : Statement) (reading : Read Block)
+    → with_front front (reading >>= λ b. Ok (Then s b.0, b.1)) ≡ with_front (front ++ s ∷ []) reading
+regroup front s (Ok b) = ap (λ (c : Block). Ok (c, b.1)) (sym (block_after-snoc front s b.0))
+regroup front s (Err f) = refl
+
+-- a statement more
+pub goes_on : (statement : Scope → List Token → ReadStatement) (front : List Statement) (fuel more : ℕ) (scope behind : Scope) (tokens rest : List Token)
+    (s : Statement) (total : Read Block) → fuel ≡ suc more → after_symbol RightBrace tokens ≡ None → statement scope tokens ≡ Ok (s, behind, rest)
+    → with_front front (statements_from statement fuel scope tokens) ≡ total
+    → with_front (front ++ s ∷ []) (statements_from statement more behind (skip_semicolon rest)) ≡ total
+unfolding statements_from
+goes_on statement front fuel more scope behind tokens rest s total some unclosed is so_far =
+    let one : with_front front (statements_from statement fuel scope tokens)
+    ≡ with_front (front ++ s ∷ []) (statements_from statement more behind (skip_semicolon rest)) =
+    rw (some, unclosed, is) (regroup front s (statements_from statement more behind (skip_semicolon rest))) in
+    sym one ∙ so_far
+
+-- a statement that is faulty
+pub fails : (statement : Scope → List Token → ReadStatement) (front : List Statement) (fuel more : ℕ) (scope : Scope) (tokens : List Token) (f : BadSource)
+    (total : Read Block) → fuel ≡ suc more → after_symbol RightBrace tokens ≡ None → statement scope tokens ≡ Err f
+    → with_front front (statements_from statement fuel scope tokens) ≡ total → total ≡ Err f
+unfolding statements_from
+fails statement front fuel more scope tokens f total some unclosed is so_far =
+    let one : with_front front (statements_from statement fuel scope tokens) ≡ Err f = rw (some, unclosed, is) refl in
+    sym so_far ∙ one
+
+-- the brace that closes the block
+pub closes : (statement : Scope → List Token → ReadStatement) (front : List Statement) (fuel more : ℕ) (scope : Scope) (tokens rest : List Token)
+    (total : Read Block) → fuel ≡ suc more → after_symbol RightBrace tokens ≡ Some rest
+    → with_front front (statements_from statement fuel scope tokens) ≡ total → total ≡ Ok (block_of front, rest)
+unfolding statements_from
+closes statement front fuel more scope tokens rest total some closed so_far =
+    let one : with_front front (statements_from statement fuel scope tokens) ≡ Ok (block_of front, rest) =
+    rw (some, closed) (ap (λ (b : Block). Ok (b, rest)) (block_after-end front)) in
+    sym so_far ∙ one
+
+-- no token is left
+pub runs_out : (statement : Scope → List Token → ReadStatement) (front : List Statement) (fuel : ℕ) (scope : Scope) (tokens : List Token) (total : Read Block)
+    → fuel ≡ 0 → with_front front (statements_from statement fuel scope tokens) ≡ total → total ≡ Err (unexpected tokens)
+unfolding statements_from
+runs_out statement front fuel scope tokens total none so_far =
+    let one : with_front front (statements_from statement fuel scope tokens) ≡ Err (unexpected tokens) = rw none refl in
+    sym so_far ∙ one
+
+-- ---- one bracket, or one choice, less
+
+pub block_none : (levels : ℕ) (scope : Scope) (tokens : List Token) (e : SourceError) → levels ≡ 0 → e ≡ Bad (unexpected tokens)
+    → ReturnsFault e (block_at levels scope tokens)
+unfolding block_at
+block_none levels scope tokens e none is = rw (is, none) refl
+
+pub block_some : (levels : ℕ) (scope : Scope) (tokens : List Token) → 0 < levels
+    → block_at levels scope tokens ≡ block_by (statement_by (block_at (levels - 1)) (levels - 1)) scope tokens
+unfolding block_at
+block_some levels scope tokens some =
+    let e : levels ≡ suc (levels - 1) = omega arith in
+    ap (λ (n : ℕ). block_at n scope tokens) e
+
+pub choice_none : (block : Blocks) (levels : ℕ) (scope : Scope) (more : ℕ) (tokens : List Token) (e : SourceError) → more ≡ 0
+    → e ≡ Bad (record { at = scope.program; cause = TooDeep }) → ReturnsFault e (choice_at block levels scope more tokens)
+unfolding choice_at
+choice_none block levels scope more tokens e none is = rw (is, none) refl
+
+pub choice_some : (block : Blocks) (levels : ℕ) (scope : Scope) (more : ℕ) (tokens : List Token) → 0 < more
+    → choice_at block levels scope more tokens ≡ choice_by (choice_at block levels scope (more - 1)) block levels scope tokens
+unfolding choice_at
+choice_some block levels scope more tokens some =
+    let e : more ≡ suc (more - 1) = omega arith in
+    ap (λ (n : ℕ). choice_at block levels scope n tokens) e
+
+-- what a statement's error is of the statements
+pub faults : (e : SourceError) (statement : Scope → List Token → ReadStatement) (front : List Statement) (fuel more : ℕ) (scope : Scope) (tokens : List Token)
+    (total : Read Block) → fuel ≡ suc more → after_symbol RightBrace tokens ≡ None → ReturnsFault e (statement scope tokens)
+    → with_front front (statements_from statement fuel scope tokens) ≡ total → ReturnsFault e total
+faults OutOfMemory statement front fuel more scope tokens total some unclosed is so_far = tt
+faults (Bad f) statement front fuel more scope tokens total some unclosed is so_far =
+    fails statement front fuel more scope tokens f total some unclosed is so_far

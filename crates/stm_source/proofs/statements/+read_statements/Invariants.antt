@@ -1,0 +1,46 @@
+use Rattle.std.proofs.Common.{◌≡◌, ◌+◌, ◌-◌, ◌*◌, length}
+use Rattle.stm_source.specs.Statements.{statements_from, statement_by, statements_at, block_at}
+use Rattle.stm_source.proofs.BlockLemmas.{with_front}
+use Rattle.stm_source.proofs.statements.+read_statements.Given as goal
+
+abbrev pub decreases-block : goal.decreases-block
+decreases-block l = 500 * l.levels
+
+abbrev pub decreases-counted_loop : goal.decreases-counted_loop
+decreases-counted_loop l = 500 * l.levels + 1
+
+abbrev pub decreases-repetition_behind : goal.decreases-repetition_behind
+decreases-repetition_behind l = 500 * l.levels + 2
+
+abbrev pub decreases-repetition : goal.decreases-repetition
+decreases-repetition l = 500 * l.levels + 3
+
+abbrev pub decreases-choice : goal.decreases-choice
+decreases-choice l = 500 * l.levels + 1 + 3 * l.more
+
+abbrev pub decreases-otherwise : goal.decreases-otherwise
+decreases-otherwise l = 500 * l.levels + 2 + 3 * l.more
+
+abbrev pub decreases-choice_between : goal.decreases-choice_between
+decreases-choice_between l = 500 * l.levels + 3 + 3 * l.more
+
+abbrev pub decreases-block_between : goal.decreases-block_between
+decreases-block_between l = 500 * l.levels + 499
+
+abbrev pub decreases-plain_statement : goal.decreases-plain_statement
+decreases-plain_statement l = 500 * l.levels + 400
+
+abbrev pub decreases-worded_statement : goal.decreases-worded_statement
+decreases-worded_statement l = 500 * l.levels + 401
+
+abbrev pub decreases-statement : goal.decreases-statement
+decreases-statement l = 500 * l.levels + 402
+
+abbrev pub decreases-statements : goal.decreases-statements
+decreases-statements l = 500 * l.levels + 403
+
+-- the statements so far, and then what is read of the rest
+abbrev pub invariant-statements-loop-turn : goal.invariant-statements-loop-turn
+invariant-statements-loop-turn l =
+    with_front l.statements.items (statements_from (statement_by (block_at l.fn.levels) l.fn.levels) (length l.fn.tokens - l._turn) l.scope l.rest)
+    ≡ statements_at l.fn.levels l.fn.outer l.fn.tokens

@@ -1,0 +1,9 @@
+pub mod Definitions
+pub mod Events
+pub mod Programs
+pub mod Sources
+pub mod Statements
+pub mod Txns
+pub mod Words
+pub use Rattle.stm_terms.specs.CauseNames
+pub use Rattle.stm_terms.specs.Outcome

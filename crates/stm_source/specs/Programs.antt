@@ -1,0 +1,92 @@
+-- A program in braces: the list of keys that it may begin with, and its statements.
+use Rattle.std.specs.Prelude.{ℕ, zero, suc, ◌-◌, List, [], ◌∷◌, ◌++◌, length, ◌||◌, bytes_eq, nat_eq, nat_le, nat_lt, if◌then◌else◌, Option, Some, None, Result, Ok, Err}
+use Rattle.std.specs.List.{list_any}
+use Rattle.stm_tokens.specs.declared.token.Token.{Token}
+use Rattle.stm_tokens.specs.declared.token.Symbol.TheVariants as symbol
+use Rattle.stm_tokens.specs.declared.token.Word.TheVariants as word
+use Rattle.stm_program.specs.declared.limits.TheConstants.{MAX_DEPTH, MAX_NODES, MAX_PREFETCH, MAX_TEXT}
+use Rattle.stm_program.specs.Limits.{list_fits}
+use Rattle.stm_program.specs.Syntax.{Block, ProgramTree}
+use Rattle.stm_terms.specs.declared.faults.SourceCause.{SourceCause}
+use Rattle.stm_terms.specs.declared.faults.SourceCause.TheVariants as cause
+use Rattle.stm_terms.specs.declared.limits.TheConstants.{MOST_BRACKETS}
+use Rattle.stm_terms.specs.declared.scope.Scope.{Scope}
+use Rattle.stm_terms.specs.Outcome.{Outcome, Read, bad, ◌>>=◌}
+use Rattle.stm_terms.specs.Cursor.{place, unexpected, after_symbol, after_word, expect_symbol, skip_semicolon}
+use Rattle.stm_terms.specs.declared.arguments.Arguments.{Arguments}
+use Rattle.stm_terms.specs.declared.arguments.GivenText.{GivenText}
+use Rattle.stm_terms.specs.Arguments.{text_given}
+use Rattle.stm_terms.specs.Room.{block_room}
+use Rattle.stm_terms.specs.Scope.{numbered_from}
+use Rattle.stm_source.specs.Statements.{statements_at}
+
+-- ---- the list
+
+-- that a key may come after these; it begins at a byte
+abbrev pub known_key : List (List ℕ) → ℕ → List ℕ → Outcome (Unit {0})
+known_key keys at key =
+    if nat_lt MAX_TEXT (length key) then bad at cause.TooLong
+    else (if nat_eq (length key) 0 || list_any (bytes_eq key) keys then bad at cause.Key
+    else Ok tt)
+
+-- the same of a key that is not known where a parameter stands for it that may be either
+abbrev pub new_key : List (List ℕ) → ℕ → Option (List ℕ) → Outcome (Unit {0})
+new_key keys at None = Ok tt
+new_key keys at (Some key) = known_key keys at key
+
+abbrev pub key_behind : List (List ℕ) → ℕ → GivenText → List Token → Read (Option (List ℕ))
+key_behind keys at key rest =
+    if nat_le MAX_PREFETCH (length keys) then bad at cause.TooMany
+    else (new_key keys key.at key.text >>= λ u. Ok (key.text, rest))
+
+abbrev pub key_at : Arguments → List (List ℕ) → List Token → Read (Option (List ℕ))
+key_at arguments keys tokens = text_given arguments tokens >>= λ x. key_behind keys (place tokens) x.0 x.1
+
+abbrev pub with_key : List (List ℕ) → Option (List ℕ) → List (List ℕ)
+with_key keys None = keys
+with_key keys (Some key) = keys ++ key ∷ []
+
+abbrev pub keys_behind : (List (List ℕ) → List Token → Read (List (List ℕ))) → List (List ℕ) → List Token → Option (List Token) → Read (List (List ℕ))
+keys_behind more keys tokens (Some rest) = more keys rest
+keys_behind more keys tokens None = expect_symbol symbol.RightParenthesis tokens >>= λ rest. Ok (keys, rest)
+
+-- keys after these, at most so many
+unfoldable pub keys_from : Arguments → ℕ → List (List ℕ) → List Token → Read (List (List ℕ))
+keys_from arguments zero keys tokens = Err (unexpected tokens)
+keys_from arguments (suc more) keys tokens =
+    key_at arguments keys tokens >>= λ x. keys_behind (keys_from arguments more) (with_key keys x.0) x.1 (after_symbol symbol.Comma x.1)
+
+abbrev pub list_behind : Arguments → List Token → Option (List Token) → Read (List (List ℕ))
+list_behind arguments tokens None = Ok ([], tokens)
+list_behind arguments tokens (Some rest) =
+    expect_symbol symbol.LeftParenthesis rest >>= λ inner. keys_from arguments (length inner) [] inner >>= λ x. Ok (x.0, skip_semicolon x.1)
+
+-- the keys of the list, none where there is no list
+abbrev pub list_at : Arguments → List Token → Read (List (List ℕ))
+list_at arguments tokens = list_behind arguments tokens (after_word word.Prefetch tokens)
+
+-- ---- the program
+
+abbrev pub program_by : ℕ → List (List ℕ) → Block → Result ℕ SourceCause → Outcome ProgramTree
+program_by at keys statements (Err c) = bad at c
+program_by at keys statements (Ok left) =
+    if list_fits keys then Ok (record { statements = statements; prefetch = keys }) else bad at cause.Key
+
+-- the program of a list and of statements, if these are not too deep and not too many; it begins at a byte
+abbrev pub program_of : ℕ → List (List ℕ) → Block → Outcome ProgramTree
+program_of at keys statements = program_by at keys statements (block_room MAX_DEPTH MAX_NODES statements)
+
+-- no name of a variable is in sight at its beginning
+abbrev pub first_scope : Arguments → ℕ → List Token → Scope
+first_scope arguments at tokens = record { numbered = numbered_from 0 tokens; names = []; program = at; arguments = arguments }
+
+-- behind the list
+abbrev pub statements_behind : Arguments → ℕ → List (List ℕ) → List Token → Read ProgramTree
+statements_behind arguments at keys tokens =
+    statements_at (MOST_BRACKETS - 1) (first_scope arguments at tokens) tokens >>= λ b. program_of at keys b.0 >>= λ p. Ok (p, b.1)
+
+-- a program in braces, of which the first begins at its place
+abbrev pub program_at : Arguments → List Token → Read ProgramTree
+program_at arguments tokens =
+    expect_symbol symbol.LeftBrace tokens >>= λ inner.
+    list_at arguments inner >>= λ keys. statements_behind arguments (place tokens) keys.0 keys.1

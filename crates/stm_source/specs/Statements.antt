@@ -1,0 +1,284 @@
+-- Statements and blocks: what tokens spell, or the first fault.
+use Rattle.std.specs.Prelude.{ℕ, zero, suc, ◌-◌, ℤ, pos, negsuc, List, [], ◌∷◌, length, not, ◌||◌, Option, Some, None, is_some, Ok, Err}
+use Rattle.std.specs.Prelude.{nat_eq, nat_le, if◌then◌else◌, codes}
+use Rattle.stm_tokens.specs.declared.token.Token.{Token}
+use Rattle.stm_tokens.specs.declared.token.TokenKind.{TokenKind}
+use Rattle.stm_tokens.specs.declared.token.TokenKind.TheVariants as kind
+use Rattle.stm_tokens.specs.declared.token.Symbol.{Symbol}
+use Rattle.stm_tokens.specs.declared.token.Symbol.TheVariants as symbol
+use Rattle.stm_tokens.specs.declared.token.Word.{Word}
+use Rattle.stm_tokens.specs.declared.token.Word.TheVariants as word
+use Rattle.stm_tokens.specs.Same.{same_symbol, same_word}
+use Rattle.stm_program.specs.declared.limits.TheConstants.{MAX_TURNS, MAX_LEASE}
+use Rattle.stm_program.specs.declared.operator.Operator.TheVariants.{Add, Sub}
+use Rattle.stm_program.specs.Syntax.{Expression, Text, Number, Variable, Get, Rev, Arithmetic, Cat, TextOf, NumOf, Condition}
+use Rattle.stm_program.specs.Syntax.{Statement, Set, Put, Del, If, For, Emit, Abort, Block, End, Then}
+use Rattle.stm_terms.specs.declared.faults.SourceCause.TheVariants as cause
+use Rattle.stm_terms.specs.declared.scope.Scope.{Scope}
+use Rattle.stm_terms.specs.declared.values.Join.{Join}
+use Rattle.stm_terms.specs.declared.values.Join.TheVariants as join
+use Rattle.stm_source.specs.declared.statements.Simple.{Simple}
+use Rattle.stm_source.specs.declared.statements.Simple.TheVariants as simple
+use Rattle.stm_terms.specs.declared.limits.TheConstants.{MOST_BRACKETS}
+use Rattle.stm_terms.specs.Outcome.{Outcome, Read, bad, ◌>>=◌}
+use Rattle.stm_terms.specs.Cursor.{place, unexpected, after_symbol, after_word, after_name, expect_symbol, expect_word, skip_semicolon}
+use Rattle.stm_terms.specs.Cursor.{next_name, next_number, open_bracket}
+use Rattle.stm_terms.specs.declared.arguments.Arguments.{Arguments}
+use Rattle.stm_terms.specs.declared.arguments.Given.{Given}
+use Rattle.stm_terms.specs.Arguments.{given_named, argument_number, number_given}
+use Rattle.stm_terms.specs.Scope.{index_of, numbered_variable, variable_of, with_name, next_of, may_give}
+use Rattle.stm_terms.specs.Values.{joined, bracketed_at, value_at}
+use Rattle.stm_terms.specs.Conditions.{condition_at}
+
+-- ---- statements of values
+
+abbrev pub simple_of : Simple → Expression → Statement
+simple_of simple.Del e = Del e
+simple_of simple.Emit e = Emit e
+simple_of simple.Abort e = Abort e
+
+-- behind its word
+abbrev pub simple_at : ℕ → Scope → Simple → List Token → Read Statement
+simple_at levels scope s tokens = bracketed_at levels scope tokens >>= λ x. Ok (simple_of s x.0, x.1)
+
+abbrev pub lease_behind : Arguments → List Token → Option (List Token) → Read ℕ
+lease_behind arguments tokens None = Ok (0, tokens)
+lease_behind arguments tokens (Some rest) = number_given MAX_LEASE arguments rest
+
+-- the lease of a put: 0 where it does not say one
+abbrev pub lease_at : Scope → List Token → Read ℕ
+lease_at scope tokens = lease_behind scope.arguments tokens (after_symbol symbol.Comma tokens)
+
+abbrev pub put_at : ℕ → Scope → List Token → Read Statement
+put_at levels scope tokens =
+    open_bracket levels tokens >>= λ inner.
+    value_at (levels - 1) scope inner >>= λ key.
+    expect_symbol symbol.Comma key.1 >>= λ behind.
+    value_at (levels - 1) scope behind >>= λ value.
+    lease_at scope value.1 >>= λ lease.
+    expect_symbol symbol.RightParenthesis lease.1 >>= λ rest. Ok (Put key.0 value.0 lease.0, rest)
+
+-- ---- assignments
+
+-- `=`, and what an assignment with an operator joins
+abbrev pub sign_of : Symbol → Option (Option Join)
+sign_of s =
+    if same_symbol s symbol.Assign then Some None
+    else (if same_symbol s symbol.AddAssign then Some (Some (join.Arithmetic Add))
+    else (if same_symbol s symbol.SubtractAssign then Some (Some (join.Arithmetic Sub))
+    else (if same_symbol s symbol.ConcatenateAssign then Some (Some join.Concatenate)
+    else None)))
+
+abbrev pub sign_in : TokenKind → Option (Option Join)
+sign_in (kind.Symbol s) = sign_of s
+sign_in _ = None
+
+abbrev pub sign_then : List Token → Option (Option Join) → Option (Option Join × List Token)
+sign_then rest None = None
+sign_then rest (Some j) = Some (j, rest)
+
+unfoldable pub next_sign : List Token → Option (Option Join × List Token)
+next_sign [] = None
+next_sign (t ∷ ts) = sign_then ts (sign_in t.kind)
+
+abbrev pub assigned : Option Join → ℕ → Expression → Expression
+assigned None v e = e
+assigned (Some j) v e = joined j (Variable v) e
+
+-- behind its sign
+abbrev pub set_at : ℕ → Scope → ℕ → Option Join → List Token → Read Statement
+set_at levels scope v j rest = value_at levels scope rest >>= λ x. Ok (Set v (assigned j v x.0), x.1)
+
+abbrev pub set_by : ℕ → Scope → ℕ → Option ℕ → Option Join → List Token → Read Statement
+set_by levels scope at None j rest = bad at cause.Name
+set_by levels scope at (Some v) j rest = set_at levels scope v j rest
+
+-- a name with which a statement begins is wrong itself where nothing is assigned to it
+abbrev pub assigned_by : ℕ → Scope → List ℕ → List Token → Option (Option Join × List Token) → Read Statement
+assigned_by levels scope name tokens None = Err (unexpected tokens)
+assigned_by levels scope name tokens (Some p) = set_by levels scope (place tokens) (variable_of scope name) p.0 p.1
+
+abbrev pub assignment_at : ℕ → Scope → List ℕ → List Token → List Token → Read Statement
+assignment_at levels scope name tokens behind = assigned_by levels scope name tokens (next_sign behind)
+
+-- ---- new names
+
+-- a statement, the names behind it, and the tokens behind it
+abbrev pub ReadStatement : Type 0
+ReadStatement = Outcome (Statement × Scope × List Token)
+
+-- behind its name
+abbrev pub new_variable : ℕ → Scope → ℕ → List ℕ → List Token → ReadStatement
+new_variable levels scope v name tokens =
+    expect_symbol symbol.Assign tokens >>= λ behind.
+    value_at levels scope behind >>= λ x. Ok (Set v x.0, with_name scope name, x.1)
+
+abbrev pub named_by : ℕ → Scope → ℕ → List Token → Option (List ℕ × List Token) → ReadStatement
+named_by levels scope v tokens None = Err (unexpected tokens)
+named_by levels scope v tokens (Some p) =
+    if may_give scope p.0 then new_variable levels scope v p.0 p.1 else bad (place tokens) cause.Name
+
+-- behind a `let`, which begins at a byte
+abbrev pub let_by : ℕ → Scope → ℕ → List Token → Option ℕ → ReadStatement
+let_by levels scope at tokens None = bad at cause.TooMany
+let_by levels scope at tokens (Some v) = named_by levels scope v tokens (next_name tokens)
+
+abbrev pub let_at : ℕ → Scope → ℕ → List Token → ReadStatement
+let_at levels scope at tokens = let_by levels scope at tokens (next_of scope)
+
+-- ---- choices
+
+abbrev pub Blocks : Type 0
+Blocks = Scope → List Token → Read Block
+
+-- a block alone, or another choice
+abbrev pub otherwise_by : (List Token → Read Statement) → Blocks → Scope → List Token → Option (List Token) → Read Block
+otherwise_by choice block scope tokens (Some rest) = choice rest >>= λ s. Ok (Then s.0 End, s.1)
+otherwise_by choice block scope tokens None = block scope tokens
+
+abbrev pub else_by : (List Token → Read Statement) → Blocks → Scope → List Token → Option (List Token) → Read Block
+else_by choice block scope tokens None = Ok (End, tokens)
+else_by choice block scope tokens (Some rest) = otherwise_by choice block scope rest (after_word word.If rest)
+
+-- condition, block and else
+abbrev pub choice_by : (List Token → Read Statement) → Blocks → ℕ → Scope → List Token → Read Statement
+choice_by choice block levels scope tokens =
+    condition_at levels scope tokens >>= λ c.
+    block scope c.1 >>= λ t.
+    else_by choice block scope t.1 (after_word word.Else t.1) >>= λ e.
+    Ok (If c.0 t.0 e.0, e.1)
+
+-- behind an `if`, with so many choices that may follow in its else: one more is too deep, whatever it is
+unfoldable pub choice_at : Blocks → ℕ → Scope → ℕ → List Token → Read Statement
+choice_at block levels scope zero tokens = bad scope.program cause.TooDeep
+choice_at block levels scope (suc more) tokens = choice_by (choice_at block levels scope more) block levels scope tokens
+
+-- ---- loops
+
+abbrev pub counted_by_number : Scope → ℕ → Option ℕ → Outcome (ℕ × Scope)
+counted_by_number scope at None = bad at cause.Name
+counted_by_number scope at (Some v) = Ok (v, scope)
+
+abbrev pub counted_anew : Scope → List ℕ → ℕ → Option ℕ → Outcome (ℕ × Scope)
+counted_anew scope name at None = bad at cause.TooMany
+counted_anew scope name at (Some v) = Ok (v, with_name scope name)
+
+abbrev pub counted_by_name : Scope → List ℕ → ℕ → Outcome (ℕ × Scope)
+counted_by_name scope name at = if may_give scope name then counted_anew scope name at (next_of scope) else bad at cause.Name
+
+-- the variable that is counted, and the names in its block
+abbrev pub counted_in : Scope → List ℕ → ℕ → Outcome (ℕ × Scope)
+counted_in scope name at = if scope.numbered then counted_by_number scope at (numbered_variable name) else counted_by_name scope name at
+
+-- a count that is a number is its own limit
+abbrev pub own_limit : Expression → ℕ → List Token → Read ℕ
+own_limit (Number (pos n)) at rest = if nat_le n MAX_TURNS then Ok (n, rest) else bad at cause.Range
+own_limit (Number (negsuc n)) at rest = bad at cause.Range
+own_limit _ at rest = Err (unexpected rest)
+
+abbrev pub sole_by : Scope → List Token → Option (List ℕ × List Token) → Option Given
+sole_by scope rest None = None
+sole_by scope rest (Some p) =
+    if not (nat_eq (length p.1) (length rest)) || is_some (variable_of scope p.0) then None else given_named scope.arguments p.0
+
+-- what a count stands for, where it is a parameter alone, behind which the rest comes
+abbrev pub sole_parameter : Scope → List Token → List Token → Option Given
+sole_parameter scope tokens rest = sole_by scope rest (next_name tokens)
+
+abbrev pub count_limit : Expression → ℕ → List Token → Option Given → Read ℕ
+count_limit count at rest (Some g) = argument_number MAX_TURNS g.at g.argument rest
+count_limit count at rest None = own_limit count at rest
+
+abbrev pub limit_by : Scope → Expression → List Token → List Token → Option (List Token) → Read ℕ
+limit_by scope count tokens rest None = count_limit count (place tokens) rest (sole_parameter scope tokens rest)
+limit_by scope count tokens rest (Some behind) = number_given MAX_TURNS scope.arguments behind
+
+abbrev pub limit_at : Scope → Expression → List Token → List Token → Read ℕ
+limit_at scope count tokens rest = limit_by scope count tokens rest (after_name (codes "max") rest)
+
+abbrev pub zero_behind : List Token → Option (ℕ × List Token) → Outcome (List Token)
+zero_behind tokens None = Err (unexpected tokens)
+zero_behind tokens (Some p) = if nat_eq p.0 0 then Ok p.1 else Err (unexpected tokens)
+
+-- behind the counted name
+abbrev pub counted_by : Blocks → ℕ → Scope → ℕ → Scope → List Token → Read Statement
+counted_by block levels scope v inner tokens =
+    value_at levels scope tokens >>= λ count.
+    limit_at scope count.0 tokens count.1 >>= λ limit.
+    block inner limit.1 >>= λ body. Ok (For v count.0 limit.0 body.0, body.1)
+
+-- behind its name, which begins at a byte
+abbrev pub loop_behind : Blocks → ℕ → Scope → ℕ → List ℕ → List Token → Read Statement
+loop_behind block levels scope at name tokens =
+    expect_word word.In tokens >>= λ from.
+    zero_behind from (next_number from) >>= λ dots.
+    expect_symbol symbol.Dots dots >>= λ bound.
+    counted_in scope name at >>= λ counted.
+    counted_by block levels scope counted.0 counted.1 bound
+
+abbrev pub loop_by : Blocks → ℕ → Scope → List Token → Option (List ℕ × List Token) → Read Statement
+loop_by block levels scope tokens None = Err (unexpected tokens)
+loop_by block levels scope tokens (Some p) =
+    if is_some (index_of p.0 scope.names) then bad (place tokens) cause.Name else loop_behind block levels scope (place tokens) p.0 p.1
+
+-- behind a `for`
+abbrev pub loop_at : Blocks → ℕ → Scope → List Token → Read Statement
+loop_at block levels scope tokens = loop_by block levels scope tokens (next_name tokens)
+
+-- ---- a statement, and blocks
+
+abbrev pub simple_word : Word → Option Simple
+simple_word w =
+    if same_word w word.Del then Some simple.Del
+    else (if same_word w word.Emit then Some simple.Emit
+    else (if same_word w word.Abort then Some simple.Abort
+    else None))
+
+abbrev pub simple_by : ℕ → Scope → List Token → List Token → Option Simple → Read Statement
+simple_by levels scope tokens rest None = Err (unexpected tokens)
+simple_by levels scope tokens rest (Some s) = simple_at levels scope s rest
+
+abbrev pub plain_at : Blocks → ℕ → Scope → Word → List Token → List Token → Read Statement
+plain_at block levels scope w tokens rest =
+    if same_word w word.If then choice_at block levels scope MOST_BRACKETS rest
+    else (if same_word w word.For then loop_at block levels scope rest
+    else (if same_word w word.Put then put_at levels scope rest
+    else simple_by levels scope tokens rest (simple_word w)))
+
+abbrev pub in_scope : Scope → Read Statement → ReadStatement
+in_scope scope read = read >>= λ x. Ok (x.0, scope, x.1)
+
+abbrev pub worded_at : Blocks → ℕ → Scope → Word → List Token → List Token → ReadStatement
+worded_at block levels scope w tokens rest =
+    if same_word w word.Let then let_at levels scope (place tokens) rest else in_scope scope (plain_at block levels scope w tokens rest)
+
+abbrev pub statement_kind : Blocks → ℕ → Scope → TokenKind → List Token → List Token → ReadStatement
+statement_kind block levels scope (kind.Word w) tokens rest = worded_at block levels scope w tokens rest
+statement_kind block levels scope (kind.Name n) tokens rest = in_scope scope (assignment_at levels scope n tokens rest)
+statement_kind block levels scope _ tokens rest = Err (unexpected tokens)
+
+unfoldable pub statement_by : Blocks → ℕ → Scope → List Token → ReadStatement
+statement_by block levels scope [] = Err (unexpected [])
+statement_by block levels scope (t ∷ ts) = statement_kind block levels scope t.kind (t ∷ ts) ts
+
+abbrev pub closed_or : (List Token → ReadStatement) → (Statement × Scope × List Token → Read Block) → List Token → Option (List Token) → Read Block
+closed_or statement more tokens (Some rest) = Ok (End, rest)
+closed_or statement more tokens None = statement tokens >>= λ s. more s >>= λ b. Ok (Then s.0 b.0, b.1)
+
+-- the statements up to the brace that closes their block, at most so many
+unfoldable pub statements_from : (Scope → List Token → ReadStatement) → ℕ → Scope → List Token → Read Block
+statements_from statement zero scope tokens = Err (unexpected tokens)
+statements_from statement (suc more) scope tokens =
+    closed_or (statement scope) (λ s. statements_from statement more s.1 (skip_semicolon s.2)) tokens (after_symbol symbol.RightBrace tokens)
+
+-- statements between braces
+abbrev pub block_by : (Scope → List Token → ReadStatement) → Scope → List Token → Read Block
+block_by statement scope tokens = expect_symbol symbol.LeftBrace tokens >>= λ inner. statements_from statement (length inner) scope inner
+
+-- where so many brackets may still be opened
+unfoldable pub block_at : ℕ → Scope → List Token → Read Block
+block_at zero scope tokens = Err (unexpected tokens)
+block_at (suc levels) scope tokens = block_by (statement_by (block_at levels) levels) scope tokens
+
+abbrev pub statements_at : ℕ → Scope → List Token → Read Block
+statements_at levels scope tokens = statements_from (statement_by (block_at levels) levels) (length tokens) scope tokens

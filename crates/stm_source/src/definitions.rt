@@ -1,0 +1,225 @@
+//! Reading programs that have a name and parameters.
+ghost use Rattle.std.specs.Prelude.{◌≡◌, [], length, bytes_eq, false, option_copied, IfOk};
+ghost use Rattle.std.specs.List.{list_any};
+ghost use Rattle.stm_terms.specs.Outcome.{Returns};
+ghost use Rattle.stm_source.specs.Definitions as spec;
+
+use crate::arguments::arguments;
+use crate::programs::program;
+use std::alloc::{AllocError, Global};
+use stm_history::Sequence;
+use stm_program::Program;
+use stm_terms::{
+    Argument, Arguments, Given, Names, Shared, SourceCause, SourceError, after_symbol,
+    expect_symbol, fault, next_name, numbered_variable, place, unexpected,
+};
+use stm_tokens::{Symbol, Token};
+
+/// A program that a source defines.
+#[derive(Debug, Drop)]
+pub(crate) struct Definition {
+    /// The names of its parameters.
+    pub parameters: Shared<Names>,
+    /// How many tokens of the source there are from its body on.
+    pub left: usize,
+    /// The program, where its parameters may be either texts or numbers.
+    pub program: Program,
+}
+
+/// The programs that a source defines.
+#[derive(Debug, Drop)]
+pub(crate) struct Definitions {
+    /// Their names.
+    pub names: Names,
+    /// The programs, in the same order.
+    pub programs: Sequence<Definition>,
+}
+
+impl Definitions {
+    /// The program of a name.
+    fn named(&self, name: &str) -> Option<&Definition>
+        ensures { option_copied result ≡ spec.definition_named self.now name.now }
+    {
+        let place = self.names.place(name)?;
+        let programs = self.programs.as_slice();
+        if place < programs.len() {
+            Some(&programs[place])
+        } else {
+            None
+        }
+    }
+}
+
+/// The name of a new parameter, behind these.
+fn parameter<'a>(
+    programs: &Names,
+    names: &Names,
+    tokens: &'a [Token],
+) -> Result<(&'a str, &'a [Token]), SourceError>
+    ensures is { Returns (λ x. (x.0.now, x.1.now)) result (spec.parameter_at programs.now names.now tokens.now) }
+    ensures new { IfOk result (λ x. list_any (bytes_eq x.0.now) names.now ≡ false) }
+{
+    let Some((name, rest)) = next_name(tokens) else {
+        return Err(unexpected(tokens));
+    };
+    if names.contains(name) || programs.contains(name) || numbered_variable(name).is_some() {
+        return Err(fault(place(tokens), SourceCause::Name));
+    }
+    Ok((name, rest))
+}
+
+/// Parameters up to the bracket that closes them, one at least.
+fn some_parameters<'a>(
+    alloc: Global,
+    programs: &Names,
+    tokens: &'a [Token],
+) -> Result<(Names, &'a [Token]), SourceError>
+    ensures { Returns (λ x. (x.0, x.1.now)) result (spec.parameters_from programs.now (length tokens.now) [] tokens.now) }
+{
+    let mut names = Names::new(alloc);
+    let mut rest = tokens;
+    for _turn in 0..tokens.len() {
+        let (name, behind) = parameter(programs, &names, rest)?;
+        names.push(alloc, name)?;
+        let Some(next) = after_symbol(behind, Symbol::Comma) else {
+            let rest = expect_symbol(behind, Symbol::RightParenthesis)?;
+            return Ok((names, rest));
+        };
+        rest = next;
+    }
+    Err(unexpected(rest))
+}
+
+/// The parameters of a program, in their brackets.
+fn parameters<'a>(
+    alloc: Global,
+    programs: &Names,
+    tokens: &'a [Token],
+) -> Result<(Names, &'a [Token]), SourceError>
+    ensures { Returns (λ x. (x.0, x.1.now)) result (spec.parameters_at programs.now tokens.now) }
+{
+    let inner = expect_symbol(tokens, Symbol::LeftParenthesis)?;
+    match after_symbol(inner, Symbol::RightParenthesis) {
+        Some(rest) => Ok((Names::new(alloc), rest)),
+        None => some_parameters(alloc, programs, inner),
+    }
+}
+
+/// So many parameters of which each may be either.
+#[tactic(auto, using(crate::proofs::StepLemmas::open_more, crate::proofs::StepLemmas::open_out))]
+fn open_arguments(alloc: Global, times: usize) -> Result<Sequence<Given>, AllocError>
+    ensures { IfOk result (λ given. given ≡ spec.open_given times) }
+{
+    let mut given = Sequence::new(alloc);
+    for _done in 0..times {
+        let argument = Argument::Either;
+        given.push(Given { argument, at: 0 })?;
+    }
+    Ok(given)
+}
+
+/// The program whose body these tokens begin with, where its parameters stand for what is given.
+fn bound_program<'a>(
+    alloc: Global,
+    parameters: &Shared<Names>,
+    given: Sequence<Given>,
+    body: &'a [Token],
+) -> Result<(Program, &'a [Token]), SourceError>
+    ensures { Returns (λ x. (x.0, x.1.now)) result (spec.bound_program parameters.now given body.now) }
+{
+    let names = parameters.clone()?;
+    let arguments = Shared::new(alloc, Arguments { names, given })?;
+    program(alloc, arguments, body)
+}
+
+/// A program in braces that has no parameters.
+pub(crate) fn program_in_place<'a>(
+    alloc: Global,
+    tokens: &'a [Token],
+) -> Result<(Program, &'a [Token]), SourceError>
+    ensures { Returns (λ x. (x.0, x.1.now)) result (spec.bound_program [] [] tokens.now) }
+{
+    let none = Shared::new(alloc, Names::new(alloc))?;
+    bound_program(alloc, &none, Sequence::new(alloc), tokens)
+}
+
+/// A definition whose body these tokens begin with.
+fn defined<'a>(
+    alloc: Global,
+    parameters: Names,
+    body: &'a [Token],
+) -> Result<(Definition, &'a [Token]), SourceError>
+    ensures { Returns (λ x. (x.0, x.1.now)) result (spec.definition_at parameters body.now) }
+{
+    let given = open_arguments(alloc, parameters.len())?;
+    let parameters = Shared::new(alloc, parameters)?;
+    let (program, rest) = bound_program(alloc, &parameters, given, body)?;
+    let definition = Definition {
+        parameters,
+        left: body.len(),
+        program,
+    };
+    Ok((definition, rest))
+}
+
+/// Adds the program that is defined behind its word.
+pub(crate) fn define<'a>(
+    alloc: Global,
+    definitions: &mut Definitions,
+    tokens: &'a [Token],
+) -> Result<&'a [Token], SourceError>
+    ensures { Returns (λ rest. (definitions.new, rest.now)) result (spec.define_at definitions.old tokens.now) }
+{
+    let Some((name, rest)) = next_name(tokens) else {
+        return Err(unexpected(tokens));
+    };
+    if definitions.names.contains(name) {
+        return Err(fault(place(tokens), SourceCause::Name));
+    }
+    let (parameters, body) = parameters(alloc, &definitions.names, rest)?;
+    let (definition, rest) = defined(alloc, parameters, body)?;
+    definitions.names.push(alloc, name)?;
+    definitions.programs.push(definition)?;
+    Ok(rest)
+}
+
+/// The program of a definition with these arguments, where its name in the start begins at a byte. `all` are the tokens of the source.
+fn with_arguments(
+    alloc: Global,
+    all: &[Token],
+    at: usize,
+    definition: &Definition,
+    given: Sequence<Given>,
+) -> Result<Program, SourceError>
+    ensures { Returns (λ p. p) result (spec.with_arguments all.now at definition.now given) }
+{
+    if given.len() != definition.parameters.get().len() {
+        return Err(fault(at, SourceCause::Arguments));
+    }
+    if given.len() == 0 {
+        let program = definition.program.clone()?;
+        return Ok(program);
+    }
+    let (_, body) = all.split_at(all.len().saturating_sub(definition.left));
+    let (program, _) = bound_program(alloc, &definition.parameters, given, body)?;
+    Ok(program)
+}
+
+/// The program that a start names, behind its word, with its arguments.
+pub(crate) fn named_program<'a>(
+    alloc: Global,
+    all: &[Token],
+    definitions: &Definitions,
+    name: &str,
+    at: usize,
+    tokens: &'a [Token],
+) -> Result<(Program, &'a [Token]), SourceError>
+    ensures { Returns (λ x. (x.0, x.1.now)) result (spec.named_program all.now at tokens.now (spec.definition_named definitions.now name.now)) }
+{
+    let Some(definition) = definitions.named(name) else {
+        return Err(fault(at, SourceCause::Name));
+    };
+    let (given, rest) = arguments(alloc, tokens)?;
+    let program = with_arguments(alloc, all, at, definition, given)?;
+    Ok((program, rest))
+}

@@ -1,0 +1,152 @@
+//! Reading events of one line.
+ghost use Rattle.std.specs.Prelude.{◌≡◌, ◌≤◌, codes, IfOk};
+ghost use Rattle.stm_terms.specs.Cursor as cursor;
+ghost use Rattle.stm_terms.specs.Outcome.{Returns};
+ghost use Rattle.stm_source.specs.Events as spec;
+ghost use Rattle.stm_tokens.specs.declared.token.Symbol.TheVariants.{Dots};
+
+use crate::txns::{number, text, txn};
+use crate::words::EventWord;
+use std::alloc::Global;
+use stm_events::WorldEvent;
+use stm_history::Text;
+use stm_terms::{
+    SourceCause, SourceError, after_name, after_symbol, expect_name, fault, next_number, place,
+    unexpected,
+};
+use stm_tokens::{Symbol, Token};
+
+/// A number that no name can stand for.
+pub(crate) fn plain_number(most: u64, tokens: &[Token]) -> Result<(u64, &[Token]), SourceError>
+    ensures is { Returns (λ x. (x.0, x.1.now)) result (spec.plain_number most tokens.now) }
+    ensures bounded { IfOk result (λ x. x.0 ≤ most) }
+{
+    let Some((number, rest)) = next_number(tokens) else {
+        return Err(unexpected(tokens));
+    };
+    if number <= most {
+        Ok((number, rest))
+    } else {
+        Err(fault(place(tokens), SourceCause::Range))
+    }
+}
+
+fn grant(tokens: &[Token]) -> Result<(WorldEvent, &[Token]), SourceError>
+    ensures { Returns (λ x. (x.0, x.1.now)) result (spec.grant_at tokens.now) }
+{
+    let (id, rest) = number(tokens)?;
+    let rest = expect_name(rest, "ttl")?;
+    let (ttl, rest) = number(rest)?;
+    Ok((WorldEvent::Grant { id, ttl }, rest))
+}
+
+fn keep(tokens: &[Token]) -> Result<(WorldEvent, &[Token]), SourceError>
+    ensures { Returns (λ x. (x.0, x.1.now)) result (spec.keep_at tokens.now) }
+{
+    let (id, rest) = number(tokens)?;
+    Ok((WorldEvent::Keep { id }, rest))
+}
+
+fn revoke(tokens: &[Token]) -> Result<(WorldEvent, &[Token]), SourceError>
+    ensures { Returns (λ x. (x.0, x.1.now)) result (spec.revoke_at tokens.now) }
+{
+    let (id, rest) = number(tokens)?;
+    Ok((WorldEvent::Revoke { id }, rest))
+}
+
+fn advance(tokens: &[Token]) -> Result<(WorldEvent, &[Token]), SourceError>
+    ensures { Returns (λ x. (x.0, x.1.now)) result (spec.advance_at tokens.now) }
+{
+    let rest = expect_name(tokens, "to")?;
+    let (now, rest) = number(rest)?;
+    Ok((WorldEvent::Advance { now }, rest))
+}
+
+/// The revision that a watcher begins at: 0 where it is not said.
+fn from(tokens: &[Token]) -> Result<(u64, &[Token]), SourceError>
+    ensures { Returns (λ x. (x.0, x.1.now)) result (spec.from_at tokens.now) }
+{
+    match after_name(tokens, "from") {
+        Some(rest) => number(rest),
+        None => Ok((0, tokens)),
+    }
+}
+
+/// A watcher of what begins with a key.
+fn watch_behind<'a>(
+    alloc: Global,
+    first: Text,
+    tokens: &'a [Token],
+) -> Result<(WorldEvent, &'a [Token]), SourceError>
+    ensures { Returns (λ x. (x.0, x.1.now)) result (spec.watch_by first tokens.now (cursor.after_symbol Dots tokens.now)) }
+{
+    let Some(rest) = after_symbol(tokens, Symbol::Dots) else {
+        let (from, rest) = from(tokens)?;
+        return Ok((WorldEvent::WatchKey { key: first, from }, rest));
+    };
+    let (end, rest) = text(alloc, rest)?;
+    let (from, rest) = from(rest)?;
+    Ok((WorldEvent::WatchRange { first, end, from }, rest))
+}
+
+fn watch<'a>(alloc: Global, tokens: &'a [Token]) -> Result<(WorldEvent, &'a [Token]), SourceError>
+    ensures { Returns (λ x. (x.0, x.1.now)) result (spec.watch_at tokens.now) }
+{
+    let (first, rest) = text(alloc, tokens)?;
+    watch_behind(alloc, first, rest)
+}
+
+fn poll(tokens: &[Token]) -> Result<(WorldEvent, &[Token]), SourceError>
+    ensures { Returns (λ x. (x.0, x.1.now)) result (spec.poll_at tokens.now) }
+{
+    let (watcher, rest) = number(tokens)?;
+    let rest = expect_name(rest, "max")?;
+    let (most, rest) = number(rest)?;
+    Ok((WorldEvent::Poll { watcher, most }, rest))
+}
+
+fn cancel(tokens: &[Token]) -> Result<(WorldEvent, &[Token]), SourceError>
+    ensures { Returns (λ x. (x.0, x.1.now)) result (spec.cancel_at tokens.now) }
+{
+    let (watcher, rest) = number(tokens)?;
+    Ok((WorldEvent::Cancel { watcher }, rest))
+}
+
+fn compact(tokens: &[Token]) -> Result<(WorldEvent, &[Token]), SourceError>
+    ensures { Returns (λ x. (x.0, x.1.now)) result (spec.compact_at tokens.now) }
+{
+    let (revision, rest) = number(tokens)?;
+    Ok((WorldEvent::Compact { revision }, rest))
+}
+
+fn txn_event<'a>(
+    alloc: Global,
+    tokens: &'a [Token],
+) -> Result<(WorldEvent, &'a [Token]), SourceError>
+    ensures { Returns (λ x. (x.0, x.1.now)) result (spec.txn_event_at tokens.now) }
+{
+    let (txn, rest) = txn(alloc, tokens)?;
+    Ok((WorldEvent::Txn { txn }, rest))
+}
+
+/// An event of the store, behind its word; of another word a fault that never comes.
+pub(crate) fn store_event<'a>(
+    alloc: Global,
+    word: EventWord,
+    tokens: &'a [Token],
+) -> Result<(WorldEvent, &'a [Token]), SourceError>
+    ensures { Returns (λ x. (x.0, x.1.now)) result (spec.store_event_at word tokens.now) }
+{
+    match word {
+        EventWord::Txn => txn_event(alloc, tokens),
+        EventWord::Grant => grant(tokens),
+        EventWord::Keep => keep(tokens),
+        EventWord::Revoke => revoke(tokens),
+        EventWord::Advance => advance(tokens),
+        EventWord::Watch => watch(alloc, tokens),
+        EventWord::Poll => poll(tokens),
+        EventWord::Cancel => cancel(tokens),
+        EventWord::Compact => compact(tokens),
+        EventWord::Begin | EventWord::Start | EventWord::Step => Err(unexpected(tokens)),
+    }
+}

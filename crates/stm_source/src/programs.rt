@@ -1,0 +1,169 @@
+//! Reading programs.
+ghost use Rattle.std.specs.Prelude.{◌≡◌, ◌∷◌, ◌++◌, [], length, map, string_bytes, OnOk};
+ghost use Rattle.stm_program.specs.BlockView.{block_of};
+ghost use Rattle.stm_terms.specs.Outcome.{Returns};
+ghost use Rattle.stm_source.specs.Programs as spec;
+
+use crate::statements::statements;
+use std::alloc::{AllocError, Global};
+use stm_history::{Sequence, Text};
+use stm_program::{
+    MAX_DEPTH, MAX_NODES, MAX_PREFETCH, MAX_TEXT, Program, Stmt, is_listed, list_fits,
+};
+use stm_terms::{
+    Arguments, GivenText, MOST_BRACKETS, Scope, Shared, SourceCause, SourceError, after_symbol,
+    after_word, are_numbered, expect_symbol, fault, place, skip_semicolon, statements_room,
+    unexpected,
+};
+use stm_tokens::{Symbol, Token, Word};
+
+/// That a key may come after these. It begins at a byte.
+fn known_key(keys: &[String], at: usize, key: &str) -> Result<(), SourceError>
+    ensures { Returns (λ u. u) result (spec.known_key (map string_bytes keys.now) at key.now) }
+{
+    if key.len() > MAX_TEXT {
+        return Err(fault(at, SourceCause::TooLong));
+    }
+    if key.is_empty() || is_listed(key, keys) {
+        return Err(fault(at, SourceCause::Key));
+    }
+    Ok(())
+}
+
+/// The same of a key that is not known where a parameter stands for it that may be either.
+fn new_key(keys: &[String], key: &GivenText) -> Result<(), SourceError>
+    ensures { Returns (λ u. u) result (spec.new_key (map string_bytes keys.now) key.now.at key.now.text) }
+{
+    match &key.text {
+        Some(text) => known_key(keys, key.at, text.as_str()),
+        None => Ok(()),
+    }
+}
+
+/// A key of a list, that comes after these: none where a parameter stands that is not known yet.
+fn key<'a>(
+    alloc: Global,
+    arguments: &Arguments,
+    keys: &[String],
+    tokens: &'a [Token],
+) -> Result<(Option<Text>, &'a [Token]), SourceError>
+    ensures { Returns (λ x. (x.0, x.1.now)) result (spec.key_at arguments.now (map string_bytes keys.now) tokens.now) }
+{
+    let (key, rest) = arguments.text(alloc, tokens)?;
+    if keys.len() >= MAX_PREFETCH {
+        return Err(fault(place(tokens), SourceCause::TooMany));
+    }
+    new_key(keys, &key)?;
+    let GivenText { text, .. } = key;
+    Ok((text, rest))
+}
+
+/// Adds a key. It fails only when out of memory.
+fn add_key(alloc: Global, keys: &mut Vec<String>, key: &str) -> Result<(), AllocError>
+    ensures { OnOk result (map string_bytes keys.new.items ≡ map string_bytes keys.old.items ++ key.now ∷ []) }
+{
+    let key = String::from_str(alloc, key)?;
+    keys.push(key)?;
+    Ok(())
+}
+
+/// Adds a key, if it is known. It fails only when out of memory.
+fn add_known_key(alloc: Global, keys: &mut Vec<String>, key: Option<Text>) -> Result<(), AllocError>
+    ensures { OnOk result (map string_bytes keys.new.items ≡ spec.with_key (map string_bytes keys.old.items) key) }
+{
+    match key {
+        Some(key) => add_key(alloc, keys, key.as_str()),
+        None => Ok(()),
+    }
+}
+
+/// The keys of a list, behind its bracket.
+fn keys<'a>(
+    alloc: Global,
+    arguments: &Arguments,
+    tokens: &'a [Token],
+) -> Result<(Vec<String>, &'a [Token]), SourceError>
+    ensures { Returns (λ x. (map string_bytes x.0.items, x.1.now)) result (spec.keys_from arguments.now (length tokens.now) [] tokens.now) }
+{
+    let mut keys = Vec::new(alloc);
+    let mut rest = tokens;
+    for _turn in 0..tokens.len() {
+        let (key, behind) = key(alloc, arguments, keys.as_slice(), rest)?;
+        add_known_key(alloc, &mut keys, key)?;
+        let Some(next) = after_symbol(behind, Symbol::Comma) else {
+            let rest = expect_symbol(behind, Symbol::RightParenthesis)?;
+            return Ok((keys, rest));
+        };
+        rest = next;
+    }
+    Err(unexpected(rest))
+}
+
+/// The keys of the list that a program may begin with.
+fn list<'a>(
+    alloc: Global,
+    arguments: &Arguments,
+    tokens: &'a [Token],
+) -> Result<(Vec<String>, &'a [Token]), SourceError>
+    ensures { Returns (λ x. (map string_bytes x.0.items, x.1.now)) result (spec.list_at arguments.now tokens.now) }
+{
+    let Some(rest) = after_word(tokens, Word::Prefetch) else {
+        return Ok((Vec::new(alloc), tokens));
+    };
+    let inner = expect_symbol(rest, Symbol::LeftParenthesis)?;
+    let (keys, rest) = keys(alloc, arguments, inner)?;
+    Ok((keys, skip_semicolon(rest)))
+}
+
+/// The program of a list and of statements, which begins at a byte. Its copies share it.
+fn program_of(
+    alloc: Global,
+    at: usize,
+    keys: Vec<String>,
+    statements: Vec<Stmt>,
+) -> Result<Program, SourceError>
+    ensures { Returns (λ p. p) result (spec.program_of at (map string_bytes keys.items) (block_of statements.items)) }
+{
+    if let Err(cause) = statements_room(statements.as_slice(), MAX_DEPTH, MAX_NODES) {
+        return Err(fault(at, cause));
+    }
+    if !list_fits(keys.as_slice()) {
+        return Err(fault(at, SourceCause::Key));
+    }
+    let program = Program::with_list(keys, statements).share(alloc)?;
+    Ok(program)
+}
+
+/// The statements of a program that begins at a byte, behind its list.
+fn program_behind<'a>(
+    alloc: Global,
+    arguments: Shared<Arguments>,
+    at: usize,
+    keys: Vec<String>,
+    tokens: &'a [Token],
+) -> Result<(Program, &'a [Token]), SourceError>
+    ensures { Returns (λ x. (x.0, x.1.now)) result (spec.statements_behind arguments at (map string_bytes keys.items) tokens.now) }
+{
+    let scope = Scope {
+        numbered: are_numbered(tokens),
+        names: Sequence::new(alloc),
+        program: at,
+        arguments,
+    };
+    let (statements, rest) = statements(alloc, &scope, MOST_BRACKETS - 1, tokens)?;
+    let program = program_of(alloc, at, keys, statements)?;
+    Ok((program, rest))
+}
+
+/// A program in braces, whose parameters stand for these arguments.
+pub(crate) fn program<'a>(
+    alloc: Global,
+    arguments: Shared<Arguments>,
+    tokens: &'a [Token],
+) -> Result<(Program, &'a [Token]), SourceError>
+    ensures { Returns (λ x. (x.0, x.1.now)) result (spec.program_at arguments tokens.now) }
+{
+    let inner = expect_symbol(tokens, Symbol::LeftBrace)?;
+    let (keys, rest) = list(alloc, arguments.get(), inner)?;
+    program_behind(alloc, arguments, place(tokens), keys, rest)
+}

@@ -1,0 +1,173 @@
+//! Reading sources.
+ghost use Rattle.std.specs.Prelude.{◌≡◌, length};
+ghost use Rattle.stm_terms.specs.Outcome.{Returns};
+ghost use Rattle.stm_terms.specs.Cursor as cursor;
+ghost use Rattle.stm_source.specs.Events as events;
+ghost use Rattle.stm_source.specs.Sources as spec;
+
+use crate::definitions::{Definitions, define};
+use crate::events::store_event;
+use crate::openings::begin;
+use crate::starts::start;
+use crate::steps::steps;
+use crate::story::Story;
+use crate::words::{EventWord, event_word};
+use std::alloc::Global;
+use stm_history::Sequence;
+use stm_json::MOST_BYTES;
+use stm_terms::{Names, SourceCause, SourceError, after_word, fault, next_name, place, unexpected};
+use stm_texts::Scenario;
+use stm_tokens::{Token, TokenKind, Word, tokens_of};
+
+/// Adds what an event comes to, of which the first word begins these tokens. `all` are the tokens of the source.
+fn event<'a>(
+    alloc: Global,
+    all: &[Token],
+    definitions: &Definitions,
+    story: &mut Story,
+    word: EventWord,
+    tokens: &'a [Token],
+    rest: &'a [Token],
+) -> Result<&'a [Token], SourceError>
+    ensures { Returns (λ rest. (story.new, rest.now)) result
+        (events.event_at all.now definitions.now story.old word tokens.now rest.now) }
+{
+    match word {
+        EventWord::Begin => begin(story, tokens, rest),
+        EventWord::Start => start(alloc, all, definitions, story, place(tokens), rest),
+        EventWord::Step => steps(story, rest),
+        _ => one_event(alloc, story, word, tokens, rest),
+    }
+}
+
+/// Adds an event of the store.
+fn one_event<'a>(
+    alloc: Global,
+    story: &mut Story,
+    word: EventWord,
+    tokens: &'a [Token],
+    rest: &'a [Token],
+) -> Result<&'a [Token], SourceError>
+    ensures { Returns (λ rest. (story.new, rest.now)) result (events.one_event story.old (cursor.place tokens.now) (events.store_event_at word rest.now)) }
+{
+    if !story.has_room(1) {
+        return Err(fault(place(tokens), SourceCause::TooMany));
+    }
+    let (event, behind) = store_event(alloc, word, rest)?;
+    story.events.push(event)?;
+    story.has_events = true;
+    Ok(behind)
+}
+
+/// Adds what the next item comes to, which is an event.
+fn event_item<'a>(
+    alloc: Global,
+    all: &[Token],
+    definitions: &Definitions,
+    story: &mut Story,
+    tokens: &'a [Token],
+) -> Result<&'a [Token], SourceError>
+    ensures { Returns (λ rest. (story.new, rest.now)) result (spec.event_item_at all.now definitions.now story.old tokens.now) }
+{
+    let Some((name, rest)) = next_name(tokens) else {
+        return Err(unexpected(tokens));
+    };
+    match event_word(name) {
+        Some(word) => event(alloc, all, definitions, story, word, tokens, rest),
+        None => Err(unexpected(tokens)),
+    }
+}
+
+/// Adds what the next item comes to.
+fn item<'a>(
+    alloc: Global,
+    all: &[Token],
+    definitions: &mut Definitions,
+    story: &mut Story,
+    tokens: &'a [Token],
+) -> Result<&'a [Token], SourceError>
+    ensures { Returns (λ rest. (definitions.new, story.new, rest.now)) result
+        (spec.item_at all.now definitions.old story.old tokens.now) }
+{
+    match after_word(tokens, Word::Program) {
+        Some(rest) => define(alloc, definitions, rest),
+        None => event_item(alloc, all, definitions, story, tokens),
+    }
+}
+
+/// Whether the source ends here.
+fn at_end(tokens: &[Token]) -> bool
+    ensures { result ≡ spec.at_end tokens.now }
+{
+    match tokens.first() {
+        Some(token) => matches!(token.kind, TokenKind::End),
+        None => false,
+    }
+}
+
+/// Adds all that a source has.
+fn items(
+    alloc: Global,
+    definitions: &mut Definitions,
+    story: &mut Story,
+    tokens: &[Token],
+) -> Result<(), SourceError>
+    ensures { Returns (λ _. story.new) result (spec.items_from tokens.now (length tokens.now) definitions.old story.old tokens.now) }
+{
+    let mut rest = tokens;
+    for _turn in 0..tokens.len() {
+        if at_end(rest) {
+            return Ok(());
+        }
+        let behind = item(alloc, tokens, definitions, story, rest)?;
+        rest = behind;
+    }
+    Err(unexpected(rest))
+}
+
+/// The scenario that tokens spell.
+#[tactic(auto, unfolding(crate::specs::Sources::scenario_at))]
+fn scenario(alloc: Global, tokens: &[Token]) -> Result<Scenario, SourceError>
+    ensures { Returns (λ s. s) result (spec.scenario_at tokens.now) }
+{
+    let mut definitions = Definitions {
+        names: Names::new(alloc),
+        programs: Sequence::new(alloc),
+    };
+    let mut story = Story {
+        opening: None,
+        has_events: false,
+        events: Sequence::new(alloc),
+        runners: 0,
+        names: Names::new(alloc),
+        numbers: Sequence::new(alloc),
+    };
+    items(alloc, &mut definitions, &mut story, tokens)?;
+    drop(definitions);
+    let Story {
+        opening,
+        events,
+        ..
+    } = story;
+    Ok(Scenario { opening, events })
+}
+
+/// The scenario that a source spells, or its first fault.
+///
+/// A source is a text in UTF-8 of at most 16777216 bytes: programs that have names, and events, one after another. `specs/Sources.antt` says what
+/// each spells, and which fault comes first; its place is a byte of the source. `OutOfMemory` may come in place of any other answer, where an allocation failed.
+#[tactic(auto, unfolding(crate::specs::Sources::scenario_in))]
+pub fn read_source(alloc: Global, source: &[u8]) -> Result<Scenario, SourceError>
+    ensures { Returns (λ s. s) result (spec.scenario_in source.now) }
+{
+    if source.len() > MOST_BYTES {
+        return Err(fault(0, SourceCause::TooLong));
+    }
+    match str::from_utf8(source) {
+        Ok(_) => {
+            let tokens = tokens_of(alloc, source)?;
+            scenario(alloc, tokens.as_slice())
+        }
+        Err(error) => Err(fault(error.valid_up_to(), SourceCause::NotUtf8)),
+    }
+}

@@ -1,0 +1,263 @@
+//! Reading starts of runners.
+ghost use Rattle.std.specs.Prelude.{◌≡◌, ◌<◌, length, bytes_eq, false, option_map, IfOk, OnOk};
+ghost use Rattle.std.specs.List.{list_any};
+ghost use Rattle.stm_terms.specs.Cursor as cursor;
+ghost use Rattle.stm_terms.specs.Outcome.{Returns};
+ghost use Rattle.stm_source.specs.Events as spec;
+ghost use Rattle.stm_texts.specs.declared.events.TheConstants.{MOST_EVENTS};
+
+use crate::definitions::{Definitions, named_program, program_in_place};
+use crate::events::plain_number;
+use crate::steps::next_runner_name;
+use crate::story::Story;
+use crate::words::level_word;
+use std::alloc::{AllocError, Global};
+use stm_events::WorldEvent;
+use stm_program::{Level, Program};
+use stm_terms::{
+    Names, SourceCause, SourceError, after_name, after_symbol, fault, next_name, place, unexpected,
+};
+use stm_texts::{HIGHEST_LIMIT, MOST_EVENTS};
+use stm_tokens::{Symbol, Token};
+
+/// How many commits a start may send where it does not say it.
+pub(crate) const USUAL_LIMIT: u32 = 2;
+
+/// What a start says besides its program and its names.
+#[derive(Clone, Copy, Debug)]
+pub(crate) struct Options {
+    /// How many names it gives: so many starts it is, one where it gives none.
+    pub named: usize,
+    /// Its level.
+    pub level: Option<Level>,
+    /// How many commits it may send.
+    pub limit: Option<u32>,
+}
+
+/// A name of a runner that is none of these.
+fn new_name<'a>(names: &Names, tokens: &'a [Token]) -> Result<(&'a str, &'a [Token]), SourceError>
+    ensures is { Returns (λ x. (x.0.now, x.1.now)) result (spec.new_name_at names.now tokens.now) }
+    ensures new { IfOk result (λ x. list_any (bytes_eq x.0.now) names.now ≡ false) }
+{
+    let Some((name, rest)) = next_runner_name(tokens) else {
+        return Err(unexpected(tokens));
+    };
+    if names.contains(name) {
+        return Err(fault(place(tokens), SourceCause::Name));
+    }
+    Ok((name, rest))
+}
+
+/// Adds the names of a start, behind their word, and answers how many they are.
+fn new_names<'a>(
+    alloc: Global,
+    names: &mut Names,
+    tokens: &'a [Token],
+) -> Result<(usize, &'a [Token]), SourceError>
+    ensures { Returns (λ x. (x.0, names.new, x.1.now)) result (spec.names_from (length tokens.now) 0 names.old tokens.now) }
+{
+    let mut rest = tokens;
+    for done in 0..tokens.len() {
+        let (name, behind) = new_name(names, rest)?;
+        names.push(alloc, name)?;
+        let Some(next) = after_symbol(behind, Symbol::Comma) else {
+            return Ok((done + 1, behind));
+        };
+        rest = next;
+    }
+    Err(unexpected(rest))
+}
+
+/// The level of a start, behind its word.
+fn level(tokens: &[Token]) -> Result<(Level, &[Token]), SourceError>
+    ensures { Returns (λ x. (x.0, x.1.now)) result (spec.level_at tokens.now) }
+{
+    let Some((name, rest)) = next_name(tokens) else {
+        return Err(unexpected(tokens));
+    };
+    match level_word(name) {
+        Some(level) => Ok((level, rest)),
+        None => Err(unexpected(tokens)),
+    }
+}
+
+/// What is behind a word, where it was not seen before.
+fn if_new<'a>(seen: bool, tokens: &'a [Token], word: &str) -> Option<&'a [Token]>
+    ensures { option_map (λ rest. rest.now) result ≡ spec.if_new seen (cursor.after_name word.now tokens.now) }
+{
+    if seen {
+        return None;
+    }
+    after_name(tokens, word)
+}
+
+/// The options of a start behind these, in any order, at most so many. Its names are added to these.
+#[cycle(read_options)]
+fn more_options<'a>(
+    alloc: Global,
+    names: &mut Names,
+    more: usize,
+    options: Options,
+    tokens: &'a [Token],
+) -> Result<(Options, &'a [Token]), SourceError>
+    ensures { Returns (λ x. (x.0, names.new, x.1.now)) result (spec.options_from more options names.old tokens.now) }
+{
+    if more == 0 {
+        return Ok((options, tokens));
+    }
+    next_option(alloc, names, more - 1, options, tokens)
+}
+
+/// The next option, if there is one, and at most so many behind it.
+#[cycle(read_options)]
+fn next_option<'a>(
+    alloc: Global,
+    names: &mut Names,
+    more: usize,
+    options: Options,
+    tokens: &'a [Token],
+) -> Result<(Options, &'a [Token]), SourceError>
+    ensures { Returns (λ x. (x.0, names.new, x.1.now)) result (spec.next_option (spec.options_from more) options names.old tokens.now) }
+{
+    if let Some(rest) = if_new(options.named > 0, tokens, "as") {
+        let (named, rest) = new_names(alloc, names, rest)?;
+        return more_options(alloc, names, more, Options { named, ..options }, rest);
+    }
+    if let Some(rest) = if_new(options.level.is_some(), tokens, "at") {
+        let (level, rest) = level(rest)?;
+        let level = Some(level);
+        return more_options(alloc, names, more, Options { level, ..options }, rest);
+    }
+    if let Some(rest) = if_new(options.limit.is_some(), tokens, "limit") {
+        let (limit, rest) = plain_number(HIGHEST_LIMIT, rest)?;
+        let limit = Some(limit as u32);
+        return more_options(alloc, names, more, Options { limit, ..options }, rest);
+    }
+    Ok((options, tokens))
+}
+
+/// One more start, whose runner has the next name, or none.
+fn push_start(
+    story: &mut Story,
+    program: Program,
+    level: Level,
+    limit: u32,
+    is_named: bool,
+) -> Result<(), AllocError>
+    requires { story.old.runners < MOST_EVENTS }
+    ensures { OnOk result (story.new ≡ spec.with_start program level limit is_named story.old) }
+{
+    let number = if limit == 0 {
+        None
+    } else {
+        Some(story.runners + 1)
+    };
+    let start = WorldEvent::Start {
+        program,
+        level,
+        limit,
+    };
+    story.events.push(start)?;
+    story.has_events = true;
+    if is_named {
+        story.numbers.push(number)?;
+    }
+    if limit != 0 {
+        story.runners += 1;
+    }
+    Ok(())
+}
+
+/// The same, where the scenario has room for it. The first word of the start begins at a byte.
+fn start_one(
+    story: &mut Story,
+    at: usize,
+    program: Program,
+    level: Level,
+    limit: u32,
+    is_named: bool,
+) -> Result<(), SourceError>
+    ensures { Returns (λ _. story.new) result (spec.start_one at program level limit is_named story.old) }
+{
+    if !story.has_room(1) || story.runners >= MOST_EVENTS as u64 {
+        drop(program);
+        return Err(fault(at, SourceCause::TooMany));
+    }
+    push_start(story, program, level, limit, is_named)?;
+    Ok(())
+}
+
+/// So many starts, whose runners have the next names.
+fn start_named(
+    story: &mut Story,
+    at: usize,
+    program: &Program,
+    level: Level,
+    limit: u32,
+    times: usize,
+) -> Result<(), SourceError>
+    ensures { Returns (λ _. story.new) result (spec.start_named at program.now level limit times story.old) }
+{
+    for _done in 0..times {
+        let program = program.clone()?;
+        start_one(story, at, program, level, limit, true)?;
+    }
+    Ok(())
+}
+
+/// The starts that options ask for.
+fn start_all(
+    story: &mut Story,
+    at: usize,
+    program: Program,
+    options: Options,
+) -> Result<(), SourceError>
+    ensures { Returns (λ _. story.new) result (spec.started_with story.old at program options) }
+{
+    let level = options.level.unwrap_or(Level::SerializableSnapshot);
+    let limit = options.limit.unwrap_or(USUAL_LIMIT);
+    if options.named == 0 {
+        return start_one(story, at, program, level, limit, false);
+    }
+    start_named(story, at, &program, level, limit, options.named)
+}
+
+/// The program of a start, behind its word: one that it names, or its own in braces. `all` are the tokens of the source.
+fn started_program<'a>(
+    alloc: Global,
+    all: &[Token],
+    definitions: &Definitions,
+    tokens: &'a [Token],
+) -> Result<(Program, &'a [Token]), SourceError>
+    ensures { Returns (λ x. (x.0, x.1.now)) result (spec.started_program all.now definitions.now tokens.now) }
+{
+    if let Some((name, rest)) = next_name(tokens) {
+        return named_program(alloc, all, definitions, name, place(tokens), rest);
+    }
+    program_in_place(alloc, tokens)
+}
+
+/// Starts, behind their word, which begins at a byte. `all` are the tokens of the source.
+pub(crate) fn start<'a>(
+    alloc: Global,
+    all: &[Token],
+    definitions: &Definitions,
+    story: &mut Story,
+    at: usize,
+    tokens: &'a [Token],
+) -> Result<&'a [Token], SourceError>
+    ensures { Returns (λ rest. (story.new, rest.now)) result (spec.start_at all.now definitions.now story.old at tokens.now) }
+{
+    if !story.has_room(1) {
+        return Err(fault(at, SourceCause::TooMany));
+    }
+    let (program, rest) = started_program(alloc, all, definitions, tokens)?;
+    let none = Options {
+        named: 0,
+        level: None,
+        limit: None,
+    };
+    let (options, rest) = more_options(alloc, &mut story.names, 3, none, rest)?;
+    start_all(story, at, program, options)?;
+    Ok(rest)
+}

@@ -1,0 +1,607 @@
+//! Reading statements and blocks.
+ghost use Rattle.std.specs.Prelude.{◌≡◌, ◌≤◌, option_copied, option_map, Some, IfOk};
+ghost use Rattle.stm_program.specs.BlockView.{block_of};
+ghost use Rattle.stm_program.specs.Syntax.{Set, Then, End};
+ghost use Rattle.stm_program.specs.declared.limits.TheConstants.{MAX_VARIABLE};
+ghost use Rattle.stm_tokens.specs.declared.token.Word.TheVariants.{Else};
+ghost use Rattle.stm_terms.specs.Cursor as cursor;
+ghost use Rattle.stm_terms.specs.Outcome.{Returns};
+ghost use Rattle.stm_terms.specs.Scope.{variable_of};
+ghost use Rattle.stm_source.specs.Statements as spec;
+
+use std::alloc::{AllocError, Global};
+use std::sync::Arc;
+use stm_program::{
+    Block, Expr, ExprNode, MAX_LEASE, MAX_TURNS, Operator, Stmt, StmtNode, Variable,
+};
+use stm_terms::{
+    Given, Join, MOST_BRACKETS, Scope, SourceCause, SourceError, after_name, after_symbol,
+    after_word, argument_number, bracketed, condition, expect_symbol, expect_word, fault,
+    join_node, next_name, next_number, numbered_variable, open_bracket, place, skip_semicolon,
+    unexpected, value,
+};
+use stm_tokens::{Symbol, Token, TokenKind, Word};
+
+/// A statement of one value.
+#[derive(Clone, Copy, Debug, PartialEq, Eq)]
+pub(crate) enum Simple {
+    /// `del`
+    Del,
+    /// `emit`
+    Emit,
+    /// `abort`
+    Abort,
+}
+
+fn simple_statement<'a>(
+    alloc: Global,
+    scope: &Scope,
+    levels: usize,
+    simple: Simple,
+    tokens: &'a [Token],
+) -> Result<(Stmt, &'a [Token]), SourceError>
+    ensures { Returns (λ x. (x.0, x.1.now)) result (spec.simple_at levels scope.now simple tokens.now) }
+{
+    let (value, rest) = bracketed(alloc, scope, levels, tokens)?;
+    let value = Arc::new(alloc, value)?;
+    let node = match simple {
+        Simple::Del => StmtNode::Del(value),
+        Simple::Emit => StmtNode::Emit(value),
+        Simple::Abort => StmtNode::Abort(value),
+    };
+    Ok((Stmt { node }, rest))
+}
+
+/// The lease of a put: 0 where it does not say one.
+fn lease<'a>(scope: &Scope, tokens: &'a [Token]) -> Result<(u64, &'a [Token]), SourceError>
+    ensures { Returns (λ x. (x.0, x.1.now)) result (spec.lease_at scope.now tokens.now) }
+{
+    match after_symbol(tokens, Symbol::Comma) {
+        Some(rest) => scope.arguments.get().number_up_to(MAX_LEASE, rest),
+        None => Ok((0, tokens)),
+    }
+}
+
+/// A put, behind its word.
+fn put<'a>(
+    alloc: Global,
+    scope: &Scope,
+    levels: usize,
+    tokens: &'a [Token],
+) -> Result<(Stmt, &'a [Token]), SourceError>
+    ensures { Returns (λ x. (x.0, x.1.now)) result (spec.put_at levels scope.now tokens.now) }
+{
+    let inner = open_bracket(levels, tokens)?;
+    let (key, rest) = value(alloc, scope, levels - 1, inner)?;
+    let rest = expect_symbol(rest, Symbol::Comma)?;
+    let (value, rest) = value(alloc, scope, levels - 1, rest)?;
+    let (lease, rest) = lease(scope, rest)?;
+    let rest = expect_symbol(rest, Symbol::RightParenthesis)?;
+    let key = Arc::new(alloc, key)?;
+    let value = Arc::new(alloc, value)?;
+    let node = StmtNode::Put(key, value, lease);
+    Ok((Stmt { node }, rest))
+}
+
+/// What an assignment joins to the variable, if anything; none, where the symbol assigns nothing.
+fn sign_of(symbol: Symbol) -> Option<Option<Join>>
+    ensures { result ≡ spec.sign_of symbol }
+{
+    if symbol.is(Symbol::Assign) {
+        Some(None)
+    } else if symbol.is(Symbol::AddAssign) {
+        Some(Some(Join::Arithmetic(Operator::Add)))
+    } else if symbol.is(Symbol::SubtractAssign) {
+        Some(Some(Join::Arithmetic(Operator::Sub)))
+    } else if symbol.is(Symbol::ConcatenateAssign) {
+        Some(Some(Join::Concatenate))
+    } else {
+        None
+    }
+}
+
+/// The sign of an assignment that is the next token.
+#[tactic(auto, unfolding(crate::specs::Statements::next_sign))]
+fn next_sign(tokens: &[Token]) -> Option<(Option<Join>, &[Token])>
+    ensures { option_map (λ p. (p.0, p.1.now)) result ≡ spec.next_sign tokens.now }
+{
+    let (first, rest) = tokens.split_first()?;
+    match &first.kind {
+        TokenKind::Symbol(symbol) => {
+            let join = sign_of(*symbol)?;
+            Some((join, rest))
+        }
+        _ => None,
+    }
+}
+
+/// The value that is assigned to a variable.
+fn assigned(
+    alloc: Global,
+    join: Option<Join>,
+    variable: Variable,
+    value: Expr,
+) -> Result<Expr, AllocError>
+    ensures { IfOk result (λ e. e ≡ spec.assigned join variable value) }
+{
+    let Some(join) = join else {
+        return Ok(value);
+    };
+    let left = Arc::new(
+        alloc,
+        Expr {
+            node: ExprNode::Variable(variable),
+        },
+    )?;
+    let right = Arc::new(alloc, value)?;
+    Ok(join_node(join, left, right))
+}
+
+/// That a variable becomes a value.
+fn set(alloc: Global, variable: Variable, value: Expr) -> Result<Stmt, AllocError>
+    ensures { IfOk result (λ s. s ≡ Set variable value) }
+{
+    let value = Arc::new(alloc, value)?;
+    Ok(Stmt {
+        node: StmtNode::Set(variable, value),
+    })
+}
+
+/// An assignment to a variable, behind its sign.
+fn set_to<'a>(
+    alloc: Global,
+    scope: &Scope,
+    levels: usize,
+    number: u64,
+    join: Option<Join>,
+    rest: &'a [Token],
+) -> Result<(Stmt, &'a [Token]), SourceError>
+    requires { number ≤ MAX_VARIABLE }
+    ensures { Returns (λ x. (x.0, x.1.now)) result (spec.set_at levels scope.now number join rest.now) }
+{
+    let variable = Variable::new(number as u8);
+    let (value, rest) = value(alloc, scope, levels, rest)?;
+    let value = assigned(alloc, join, variable, value)?;
+    let statement = set(alloc, variable, value)?;
+    Ok((statement, rest))
+}
+
+/// An assignment, whose name begins these tokens and stands before the others.
+fn assignment<'a>(
+    alloc: Global,
+    scope: &Scope,
+    levels: usize,
+    name: &str,
+    tokens: &'a [Token],
+    behind: &'a [Token],
+) -> Result<(Stmt, &'a [Token]), SourceError>
+    ensures { Returns (λ x. (x.0, x.1.now)) result (spec.assignment_at levels scope.now name.now tokens.now behind.now) }
+{
+    let Some((join, rest)) = next_sign(behind) else {
+        return Err(unexpected(tokens));
+    };
+    match scope.variable(name) {
+        Some(number) => set_to(alloc, scope, levels, number, join, rest),
+        None => Err(fault(place(tokens), SourceCause::Name)),
+    }
+}
+
+/// A new variable, behind its name.
+fn new_variable<'a>(
+    alloc: Global,
+    scope: &mut Scope,
+    levels: usize,
+    variable: Variable,
+    name: &str,
+    rest: &'a [Token],
+) -> Result<(Stmt, &'a [Token]), SourceError>
+    ensures { Returns (λ x. (x.0, scope.new, x.1.now)) result (spec.new_variable levels scope.old variable name.now rest.now) }
+{
+    let rest = expect_symbol(rest, Symbol::Assign)?;
+    let (value, rest) = value(alloc, scope, levels, rest)?;
+    let statement = set(alloc, variable, value)?;
+    scope.give(alloc, name)?;
+    Ok((statement, rest))
+}
+
+/// A `let` that begins at a byte, behind its word.
+fn let_statement<'a>(
+    alloc: Global,
+    scope: &mut Scope,
+    levels: usize,
+    at: usize,
+    tokens: &'a [Token],
+) -> Result<(Stmt, &'a [Token]), SourceError>
+    ensures { Returns (λ x. (x.0, scope.new, x.1.now)) result (spec.let_at levels scope.old at tokens.now) }
+{
+    let Some(variable) = scope.next_variable() else {
+        return Err(fault(at, SourceCause::TooMany));
+    };
+    let Some((name, rest)) = next_name(tokens) else {
+        return Err(unexpected(tokens));
+    };
+    if scope.may_give(name) {
+        new_variable(alloc, scope, levels, variable, name, rest)
+    } else {
+        Err(fault(place(tokens), SourceCause::Name))
+    }
+}
+
+/// The variable that a loop counts with, and the names in its block.
+fn counted(
+    alloc: Global,
+    scope: &Scope,
+    name: &str,
+    at: usize,
+) -> Result<(Variable, Scope), SourceError>
+    ensures { Returns (λ x. x) result (spec.counted_in scope.now name.now at) }
+{
+    let mut inner = scope.copy(alloc)?;
+    if scope.numbered {
+        let Some(number) = numbered_variable(name) else {
+            return Err(fault(at, SourceCause::Name));
+        };
+        return Ok((Variable::new(number as u8), inner));
+    }
+    if !scope.may_give(name) {
+        return Err(fault(at, SourceCause::Name));
+    }
+    let Some(variable) = scope.next_variable() else {
+        return Err(fault(at, SourceCause::TooMany));
+    };
+    inner.give(alloc, name)?;
+    Ok((variable, inner))
+}
+
+/// The limit of a loop whose count says none: a count that is a number is its own.
+fn own_limit<'a>(
+    count: &Expr,
+    at: usize,
+    rest: &'a [Token],
+) -> Result<(u64, &'a [Token]), SourceError>
+    ensures { Returns (λ x. (x.0, x.1.now)) result (spec.own_limit count.now at rest.now) }
+{
+    match &count.node {
+        ExprNode::Number(number) => {
+            let number = *number;
+            if number < 0 || number as u64 > MAX_TURNS {
+                return Err(fault(at, SourceCause::Range));
+            }
+            Ok((number as u64, rest))
+        }
+        _ => Err(unexpected(rest)),
+    }
+}
+
+/// What a count stands for, where it is a parameter alone, behind which the rest comes.
+fn sole_parameter<'a>(scope: &'a Scope, tokens: &[Token], rest: &[Token]) -> Option<&'a Given>
+    ensures { option_copied result ≡ spec.sole_parameter scope.now tokens.now rest.now }
+{
+    let (name, behind) = next_name(tokens)?;
+    if behind.len() != rest.len() || scope.variable(name).is_some() {
+        return None;
+    }
+    scope.arguments.get().named(name)
+}
+
+/// The limit of a loop that says none.
+fn count_limit<'a>(
+    scope: &Scope,
+    count: &Expr,
+    tokens: &[Token],
+    rest: &'a [Token],
+) -> Result<(u64, &'a [Token]), SourceError>
+    ensures { Returns (λ x. (x.0, x.1.now)) result
+        (spec.count_limit count.now (cursor.place tokens.now) rest.now (spec.sole_parameter scope.now tokens.now rest.now)) }
+{
+    match sole_parameter(scope, tokens, rest) {
+        Some(given) => argument_number(MAX_TURNS, given, rest),
+        None => own_limit(count, place(tokens), rest),
+    }
+}
+
+/// The limit of a loop, of whose count these are the tokens, and the rest is behind it.
+fn limit<'a>(
+    scope: &Scope,
+    count: &Expr,
+    tokens: &[Token],
+    rest: &'a [Token],
+) -> Result<(u64, &'a [Token]), SourceError>
+    ensures { Returns (λ x. (x.0, x.1.now)) result (spec.limit_at scope.now count.now tokens.now rest.now) }
+{
+    match after_name(rest, "max") {
+        Some(behind) => scope.arguments.get().number_up_to(MAX_TURNS, behind),
+        None => count_limit(scope, count, tokens, rest),
+    }
+}
+
+/// The tokens behind a 0, which has to be the next token.
+fn expect_zero(tokens: &[Token]) -> Result<&[Token], SourceError>
+    ensures { Returns (λ rest. rest.now) result (spec.zero_behind tokens.now (cursor.next_number tokens.now)) }
+{
+    match next_number(tokens) {
+        Some((0, rest)) => Ok(rest),
+        _ => Err(unexpected(tokens)),
+    }
+}
+
+fn simple_word(word: Word) -> Option<Simple>
+    ensures { result ≡ spec.simple_word word }
+{
+    if word.is(Word::Del) {
+        Some(Simple::Del)
+    } else if word.is(Word::Emit) {
+        Some(Simple::Emit)
+    } else if word.is(Word::Abort) {
+        Some(Simple::Abort)
+    } else {
+        None
+    }
+}
+
+/// The block of one statement.
+fn block_of_one(alloc: Global, statement: Stmt) -> Result<Block, AllocError>
+    ensures { IfOk result (λ b. b ≡ Then statement End) }
+{
+    let mut statements = Vec::new(alloc);
+    statements.push(statement)?;
+    let statements = Arc::new(alloc, statements)?;
+    Ok(Block { statements })
+}
+
+/// The block of no statements.
+fn empty_block(alloc: Global) -> Result<Block, AllocError>
+    ensures { IfOk result (λ b. b ≡ End) }
+{
+    let statements = Arc::new(alloc, Vec::new(alloc))?;
+    Ok(Block { statements })
+}
+
+/// What runs where the condition of a choice does not hold.
+#[cycle(read_statements)]
+fn otherwise<'a>(
+    alloc: Global,
+    scope: &Scope,
+    levels: usize,
+    more: usize,
+    tokens: &'a [Token],
+) -> Result<(Block, &'a [Token]), SourceError>
+    requires { more ≤ 127 }
+    ensures { Returns (λ x. (x.0, x.1.now)) result (spec.else_by (spec.choice_at (spec.block_at levels) levels scope.now more) (spec.block_at levels) scope.now tokens.now (cursor.after_word Else tokens.now)) }
+{
+    let Some(rest) = after_word(tokens, Word::Else) else {
+        let block = empty_block(alloc)?;
+        return Ok((block, tokens));
+    };
+    match after_word(rest, Word::If) {
+        Some(rest) => {
+            let (statement, rest) = choice(alloc, scope, levels, more, rest)?;
+            let block = block_of_one(alloc, statement)?;
+            Ok((block, rest))
+        }
+        None => block(alloc, scope, levels, rest),
+    }
+}
+
+/// A choice, behind its `if`, in whose else so many may follow.
+#[cycle(read_statements)]
+fn choice<'a>(
+    alloc: Global,
+    scope: &Scope,
+    levels: usize,
+    more: usize,
+    tokens: &'a [Token],
+) -> Result<(Stmt, &'a [Token]), SourceError>
+    requires { more ≤ 127 }
+    ensures { Returns (λ x. (x.0, x.1.now)) result (spec.choice_at (spec.block_at levels) levels scope.now more tokens.now) }
+{
+    if more == 0 {
+        return Err(fault(scope.program, SourceCause::TooDeep));
+    }
+    choice_between(alloc, scope, levels, more - 1, tokens)
+}
+
+/// Condition, block and else of a choice, in which so many choices may follow.
+#[cycle(read_statements)]
+fn choice_between<'a>(
+    alloc: Global,
+    scope: &Scope,
+    levels: usize,
+    more: usize,
+    tokens: &'a [Token],
+) -> Result<(Stmt, &'a [Token]), SourceError>
+    requires { more ≤ 127 }
+    ensures { Returns (λ x. (x.0, x.1.now)) result (spec.choice_by (spec.choice_at (spec.block_at levels) levels scope.now more) (spec.block_at levels) levels scope.now tokens.now) }
+{
+    let (condition, rest) = condition(alloc, scope, levels, tokens)?;
+    let (yes, rest) = block(alloc, scope, levels, rest)?;
+    let (no, rest) = otherwise(alloc, scope, levels, more, rest)?;
+    let condition = Arc::new(alloc, condition)?;
+    let node = StmtNode::If(condition, yes, no);
+    Ok((Stmt { node }, rest))
+}
+
+/// A counted loop, behind `0 ..`.
+#[cycle(read_statements)]
+fn counted_loop<'a>(
+    alloc: Global,
+    scope: &Scope,
+    levels: usize,
+    variable: Variable,
+    inner: &Scope,
+    tokens: &'a [Token],
+) -> Result<(Stmt, &'a [Token]), SourceError>
+    ensures { Returns (λ x. (x.0, x.1.now)) result (spec.counted_by (spec.block_at levels) levels scope.now variable inner.now tokens.now) }
+{
+    let (count, rest) = value(alloc, scope, levels, tokens)?;
+    let (limit, rest) = limit(scope, &count, tokens, rest)?;
+    let (body, rest) = block(alloc, inner, levels, rest)?;
+    let count = Arc::new(alloc, count)?;
+    let node = StmtNode::For(variable, count, limit, body);
+    Ok((Stmt { node }, rest))
+}
+
+/// A loop, behind its `for`.
+#[cycle(read_statements)]
+fn repetition<'a>(
+    alloc: Global,
+    scope: &Scope,
+    levels: usize,
+    tokens: &'a [Token],
+) -> Result<(Stmt, &'a [Token]), SourceError>
+    ensures { Returns (λ x. (x.0, x.1.now)) result (spec.loop_at (spec.block_at levels) levels scope.now tokens.now) }
+{
+    let Some((name, rest)) = next_name(tokens) else {
+        return Err(unexpected(tokens));
+    };
+    if scope.knows(name) {
+        return Err(fault(place(tokens), SourceCause::Name));
+    }
+    let at = place(tokens);
+    repetition_behind(alloc, scope, levels, at, name, rest)
+}
+
+/// A loop, behind its name, which begins at a byte.
+#[cycle(read_statements)]
+fn repetition_behind<'a>(
+    alloc: Global,
+    scope: &Scope,
+    levels: usize,
+    at: usize,
+    name: &str,
+    tokens: &'a [Token],
+) -> Result<(Stmt, &'a [Token]), SourceError>
+    ensures { Returns (λ x. (x.0, x.1.now)) result (spec.loop_behind (spec.block_at levels) levels scope.now at name.now tokens.now) }
+{
+    let rest = expect_word(tokens, Word::In)?;
+    let rest = expect_zero(rest)?;
+    let rest = expect_symbol(rest, Symbol::Dots)?;
+    let (variable, inner) = counted(alloc, scope, name, at)?;
+    counted_loop(alloc, scope, levels, variable, &inner, rest)
+}
+
+/// A statement that gives no name, behind the word that begins it.
+#[cycle(read_statements)]
+fn plain_statement<'a>(
+    alloc: Global,
+    scope: &Scope,
+    levels: usize,
+    word: Word,
+    tokens: &'a [Token],
+    rest: &'a [Token],
+) -> Result<(Stmt, &'a [Token]), SourceError>
+    ensures { Returns (λ x. (x.0, x.1.now)) result (spec.plain_at (spec.block_at levels) levels scope.now word tokens.now rest.now) }
+{
+    if word.is(Word::If) {
+        return choice(alloc, scope, levels, MOST_BRACKETS, rest);
+    }
+    if word.is(Word::For) {
+        return repetition(alloc, scope, levels, rest);
+    }
+    if word.is(Word::Put) {
+        return put(alloc, scope, levels, rest);
+    }
+    match simple_word(word) {
+        Some(simple) => simple_statement(alloc, scope, levels, simple, rest),
+        None => Err(unexpected(tokens)),
+    }
+}
+
+/// A statement that begins with a word.
+#[cycle(read_statements)]
+fn worded_statement<'a>(
+    alloc: Global,
+    scope: &mut Scope,
+    levels: usize,
+    word: Word,
+    tokens: &'a [Token],
+    rest: &'a [Token],
+) -> Result<(Stmt, &'a [Token]), SourceError>
+    ensures { Returns (λ x. (x.0, scope.new, x.1.now)) result (spec.worded_at (spec.block_at levels) levels scope.old word tokens.now rest.now) }
+{
+    if word.is(Word::Let) {
+        return let_statement(alloc, scope, levels, place(tokens), rest);
+    }
+    let (statement, rest) = plain_statement(alloc, scope, levels, word, tokens, rest)?;
+    Ok((statement, rest))
+}
+
+/// A statement.
+#[cycle(read_statements)]
+#[tactic(auto, unfolding(crate::specs::Statements::statement_by))]
+fn statement<'a>(
+    alloc: Global,
+    scope: &mut Scope,
+    levels: usize,
+    tokens: &'a [Token],
+) -> Result<(Stmt, &'a [Token]), SourceError>
+    ensures { Returns (λ x. (x.0, scope.new, x.1.now)) result (spec.statement_by (spec.block_at levels) levels scope.old tokens.now) }
+{
+    let Some((first, rest)) = tokens.split_first() else {
+        return Err(unexpected(tokens));
+    };
+    match &first.kind {
+        TokenKind::Word(word) => { worded_statement(alloc, scope, levels, *word, tokens, rest) }
+        TokenKind::Name(name) => {
+            let (statement, rest) = assignment(alloc, scope, levels, name.as_str(), tokens, rest)?;
+            Ok((statement, rest))
+        }
+        _ => Err(unexpected(tokens)),
+    }
+}
+
+/// The statements up to the brace that closes their block, with these names in sight before the first.
+#[cycle(read_statements)]
+pub(crate) fn statements<'a>(
+    alloc: Global,
+    outer: &Scope,
+    levels: usize,
+    tokens: &'a [Token],
+) -> Result<(Vec<Stmt>, &'a [Token]), SourceError>
+    ensures { Returns (λ x. (block_of x.0.items, x.1.now)) result (spec.statements_at levels outer.now tokens.now) }
+{
+    let mut scope = outer.copy(alloc)?;
+    let mut statements = Vec::new(alloc);
+    let mut rest = tokens;
+    for _turn in 0..tokens.len() {
+        if let Some(behind) = after_symbol(rest, Symbol::RightBrace) {
+            return Ok((statements, behind));
+        }
+        let (statement, behind) = statement(alloc, &mut scope, levels, rest)?;
+        statements.push(statement)?;
+        rest = skip_semicolon(behind);
+    }
+    Err(unexpected(rest))
+}
+
+/// A block, where so many brackets may still be opened.
+#[cycle(read_statements)]
+fn block<'a>(
+    alloc: Global,
+    scope: &Scope,
+    levels: usize,
+    tokens: &'a [Token],
+) -> Result<(Block, &'a [Token]), SourceError>
+    ensures { Returns (λ x. (x.0, x.1.now)) result (spec.block_at levels scope.now tokens.now) }
+{
+    if levels == 0 {
+        return Err(unexpected(tokens));
+    }
+    block_between(alloc, scope, levels - 1, tokens)
+}
+
+/// Statements between braces, within which so many brackets may still be opened.
+#[cycle(read_statements)]
+fn block_between<'a>(
+    alloc: Global,
+    scope: &Scope,
+    levels: usize,
+    tokens: &'a [Token],
+) -> Result<(Block, &'a [Token]), SourceError>
+    ensures { Returns (λ x. (x.0, x.1.now)) result (spec.block_by (spec.statement_by (spec.block_at levels) levels) scope.now tokens.now) }
+{
+    let inner = expect_symbol(tokens, Symbol::LeftBrace)?;
+    let (statements, rest) = statements(alloc, scope, levels, inner)?;
+    let statements = Arc::new(alloc, statements)?;
+    Ok((Block { statements }, rest))
+}

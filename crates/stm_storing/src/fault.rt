@@ -1,0 +1,92 @@
+//! Why the program could not do what it was asked for with a world that lasts.
+ghost use Rattle.std.specs.Prelude.{◌≡◌};
+ghost use Rattle.stm_storing.specs.Faults.{opening_fault, keeping_fault};
+
+use std::alloc::AllocError;
+use std::fmt;
+use stm_devices::DeviceFault;
+use stm_lasting::{KeepFault, KeptFault};
+
+/// Why a command over a file failed. `Display` says it of the file.
+#[derive(Clone, Copy, Debug, PartialEq, Eq)]
+pub enum StoreFault {
+    /// An allocation failed.
+    OutOfMemory,
+    /// The disk failed.
+    Disk,
+    /// The file would be longer than 2^60 bytes.
+    Full,
+    /// The record at this offset is not as it was written.
+    Damaged(usize),
+    /// The record at this offset spells no scenario.
+    NoScenario(usize),
+    /// The scenario says what its store opens with, and the file has a store already.
+    OpenAlready,
+    /// The report could not be written.
+    Output,
+}
+
+impl StoreFault {
+    /// Why a file could not be opened.
+    pub fn of_opening(fault: KeptFault) -> StoreFault
+        ensures { result ≡ opening_fault fault }
+    {
+        match fault {
+            KeptFault::OutOfMemory => StoreFault::OutOfMemory,
+            KeptFault::Failed => StoreFault::Disk,
+            KeptFault::Damaged(at) => StoreFault::Damaged(at),
+            KeptFault::NoScenario(at) => StoreFault::NoScenario(at),
+        }
+    }
+
+    /// Why a world could not be kept.
+    pub fn of_keeping(fault: KeepFault) -> StoreFault
+        ensures { result ≡ keeping_fault fault }
+    {
+        match fault {
+            KeepFault::OutOfMemory => StoreFault::OutOfMemory,
+            KeepFault::Failed => StoreFault::Disk,
+            KeepFault::Full => StoreFault::Full,
+        }
+    }
+}
+
+impl From<AllocError> for StoreFault {
+    ghost use Rattle.std.specs.Prelude.{◌≡◌};
+    ghost use Rattle.stm_storing.specs.declared.fault.StoreFault.TheVariants.{OutOfMemory};
+
+    ghost from_gives = { λ _ e. e ≡ OutOfMemory };
+
+    fn from(_error: AllocError) -> StoreFault {
+        StoreFault::OutOfMemory
+    }
+}
+
+impl From<DeviceFault> for StoreFault {
+    ghost use Rattle.std.specs.Prelude.{◌≡◌};
+    ghost use Rattle.stm_storing.specs.declared.fault.StoreFault.TheVariants.{Output};
+
+    ghost from_gives = { λ _ e. e ≡ Output };
+
+    fn from(_fault: DeviceFault) -> StoreFault {
+        StoreFault::Output
+    }
+}
+
+impl fmt::Display for StoreFault {
+    fn fmt<W: fmt::Write>(&self, f: &mut fmt::Formatter<W>) -> fmt::Result {
+        match self {
+            StoreFault::OutOfMemory => f.write_str("out of memory"),
+            StoreFault::Disk => f.write_str("the disk failed"),
+            StoreFault::Full => f.write_str("the file would be too long"),
+            StoreFault::Damaged(at) => write!(f, "damaged at byte {at}: nothing was changed"),
+            StoreFault::NoScenario(at) => write!(f, "the record at byte {at} is no scenario"),
+            StoreFault::OpenAlready => {
+                f.write_str(
+                    "the store is there already: only its first scenario may begin with [\"begin\",..]",
+                )
+            }
+            StoreFault::Output => f.write_str("the report could not be written"),
+        }
+    }
+}

@@ -1,0 +1,4 @@
+pub mod ConditionLemmas
+pub mod NameLemmas
+pub mod RoomLemmas
+pub mod ValueLemmas

@@ -1,0 +1,154 @@
+-- Conditions: the condition that tokens spell, or the first fault.
+use Rattle.std.specs.Prelude.{ℕ, zero, suc, ◌+◌, List, [], ◌∷◌, drop, length, Option, Some, None, Ok, Err, nat_eq, nat_lt, if◌then◌else◌}
+use Rattle.stm_tokens.specs.declared.token.Token.{Token}
+use Rattle.stm_tokens.specs.declared.token.Symbol.{Symbol}
+use Rattle.stm_tokens.specs.declared.token.Symbol.TheVariants as symbol
+use Rattle.stm_tokens.specs.Same.{is_symbol}
+use Rattle.stm_program.specs.Syntax.{Expression, Condition, Not, And, Or}
+use Rattle.stm_terms.specs.declared.faults.SourceCause.TheVariants as cause
+use Rattle.stm_terms.specs.declared.scope.Scope.{Scope}
+use Rattle.stm_terms.specs.declared.comparisons.Comparison.{Comparison}
+use Rattle.stm_terms.specs.declared.conditions.ValueOrCondition.{ValueOrCondition}
+use Rattle.stm_terms.specs.declared.conditions.ValueOrCondition.TheVariants as found
+use Rattle.stm_terms.specs.declared.conditions.Connective.{Connective}
+use Rattle.stm_terms.specs.declared.conditions.Connective.TheVariants as connective
+use Rattle.stm_terms.specs.declared.limits.TheConstants.{MOST_JOINS}
+use Rattle.stm_terms.specs.Outcome.{Outcome, Read, bad, ◌>>=◌}
+use Rattle.stm_terms.specs.Comparisons.{compared, next_comparison}
+use Rattle.stm_terms.specs.Cursor.{place, unexpected, after_symbol, expect_symbol}
+use Rattle.stm_terms.specs.Values.{operand_at, value_at, value_behind}
+
+-- ---- what begins in a condition is a value or a condition, as it turns out
+
+-- a condition is wanted, which begins at a byte
+abbrev pub wanted : ℕ → ValueOrCondition → Outcome Condition
+wanted at (found.Condition c) = Ok c
+wanted at (found.Value e) = bad at cause.Sort
+
+abbrev pub condition_by : (List Token → Read ValueOrCondition) → List Token → Read Condition
+condition_by read tokens = read tokens >>= λ x. wanted (place tokens) x.0 >>= λ c. Ok (c, x.1)
+
+-- behind a value: the left side of a comparison, if one follows
+abbrev pub compared_with : (List Token → Read Expression) → Expression → List Token → Option (Comparison × List Token) → Read ValueOrCondition
+compared_with value left rest None = Ok (found.Value left, rest)
+compared_with value left rest (Some p) = value p.1 >>= λ x. Ok (found.Condition (compared p.0 left x.0), x.1)
+
+-- behind the first operand of a value
+abbrev pub behind_operand : ℕ → Scope → Expression → List Token → Read ValueOrCondition
+behind_operand levels scope first tokens =
+    value_behind levels scope first tokens >>= λ left. compared_with (value_at levels scope) left.0 left.1 (next_comparison left.1)
+
+-- behind a bracket: a condition ends there, a value may go on
+abbrev pub behind_bracket : ℕ → Scope → ValueOrCondition → List Token → Read ValueOrCondition
+behind_bracket levels scope (found.Condition c) tokens = Ok (found.Condition c, tokens)
+behind_bracket levels scope (found.Value e) tokens = behind_operand levels scope e tokens
+
+-- ---- `!`
+
+-- how many `!` stand next
+abbrev pub negations : List Token → ℕ
+negations [] = 0
+negations (t ∷ ts) = if is_symbol symbol.Not t.kind then suc (negations ts) else 0
+
+-- with more of them than this a condition is too deep, whatever it is
+abbrev pub negated : ℕ → Condition → Condition
+negated zero c = c
+negated (suc n) c = negated n (Not c)
+
+abbrev pub kept : ℕ → ℕ
+kept n = if nat_lt MOST_JOINS n then MOST_JOINS else n
+
+-- a condition in brackets behind so many `!`
+abbrev pub negation_by : (List Token → Read Condition) → ℕ → List Token → Read ValueOrCondition
+negation_by bracket n tokens = bracket (drop n tokens) >>= λ x. Ok (found.Condition (negated (kept n) x.0), x.1)
+
+-- ---- what has no connective: `!` and a bracket, a bracket, or a first operand
+
+abbrev pub bracket_or_operand : (List Token → Read ValueOrCondition) → ℕ → Scope → List Token → Option (List Token) → Read ValueOrCondition
+bracket_or_operand bracket levels scope tokens (Some inner) = bracket tokens >>= λ x. behind_bracket levels scope x.0 x.1
+bracket_or_operand bracket levels scope tokens None = operand_at levels scope tokens >>= λ x. behind_operand levels scope x.0 x.1
+
+-- with so many `!` before it
+abbrev pub primary_by : (List Token → Read ValueOrCondition) → (List Token → Read Condition) → ℕ → Scope → ℕ → List Token → Read ValueOrCondition
+primary_by bracket condition_bracket levels scope n tokens =
+    if nat_lt 0 n then negation_by condition_bracket n tokens
+    else bracket_or_operand bracket levels scope tokens (after_symbol symbol.LeftParenthesis tokens)
+
+-- ---- connectives, `&&` of tier 1 and `||` of tier 2
+
+abbrev pub connected : Connective → Condition → Condition → Condition
+connected connective.And c d = And c d
+connected connective.Or c d = Or c d
+
+abbrev pub connected_up : ℕ → Connective → Condition → Condition → Condition
+connected_up done j c d = if nat_lt done MOST_JOINS then connected j c d else c
+
+abbrev pub tier_symbol : ℕ → Symbol
+tier_symbol tier = if nat_eq tier 1 then symbol.And else symbol.Or
+
+abbrev pub tier_connective : ℕ → Connective
+tier_connective tier = if nat_eq tier 1 then connective.And else connective.Or
+
+abbrev pub connected_with : (List Token → Read Condition) → (Condition × List Token → Read Condition) → Condition → List Token
+    → Option (List Token) → Read Condition
+connected_with part more left tokens None = Ok (left, tokens)
+connected_with part more left tokens (Some behind) = part behind >>= λ x. more x
+
+-- the connectives of a tier, from left to right, behind a condition, at most so many
+unfoldable pub connection : (List Token → Read Condition) → ℕ → ℕ → ℕ → Condition → List Token → Read Condition
+connection part tier zero done left tokens = Ok (left, tokens)
+connection part tier (suc more) done left tokens =
+    connected_with part (λ x. connection part tier more (done + 1) (connected_up done (tier_connective tier) left x.0) x.1) left tokens
+    (after_symbol (tier_symbol tier) tokens)
+
+-- behind a part, which begins at a byte
+abbrev pub joined_from : (List Token → Read ValueOrCondition) → ℕ → ℕ → ValueOrCondition → List Token → Option (List Token) → Read ValueOrCondition
+joined_from part tier at left rest None = Ok (left, rest)
+joined_from part tier at left rest (Some behind) =
+    wanted at left >>= λ c. connection (condition_by part) (tier + 1) (length rest) 0 c rest >>= λ x. Ok (found.Condition x.0, x.1)
+
+-- parts of the tier below, and the connectives of this one
+abbrev pub connections_above : (List Token → Read ValueOrCondition) → ℕ → List Token → Read ValueOrCondition
+connections_above part tier tokens =
+    part tokens >>= λ x. joined_from part tier (place tokens) x.0 x.1 (after_symbol (tier_symbol (tier + 1)) x.1)
+
+unfoldable pub connections_by : (List Token → Read ValueOrCondition) → ℕ → List Token → Read ValueOrCondition
+connections_by primary zero tokens = primary tokens
+connections_by primary (suc tier) tokens = connections_above (connections_by primary tier) tier tokens
+
+-- ---- brackets
+
+abbrev pub between : {A : Type 0} → (List Token → Read A) → List Token → Read A
+between inside tokens =
+    expect_symbol symbol.LeftParenthesis tokens >>= λ inner.
+    inside inner >>= λ x.
+    expect_symbol symbol.RightParenthesis x.1 >>= λ rest. Ok (x.0, rest)
+
+abbrev pub no_bracket : {A : Type 0} → List Token → Read A
+no_bracket tokens = Err (unexpected tokens)
+
+-- a value or a condition, where so many brackets may still be opened
+unfoldable pub found_at : ℕ → Scope → List Token → Read ValueOrCondition
+found_at zero scope tokens = connections_by (λ ts. primary_by no_bracket no_bracket zero scope (negations ts) ts) 2 tokens
+found_at (suc levels) scope tokens =
+    connections_by
+    (λ ts. primary_by (between (found_at levels scope)) (between (condition_by (found_at levels scope))) (suc levels) scope (negations ts) ts) 2 tokens
+
+-- in brackets, of which so many may still be opened
+abbrev pub bracket_at : ℕ → Scope → List Token → Read ValueOrCondition
+bracket_at zero scope tokens = no_bracket tokens
+bracket_at (suc levels) scope tokens = between (found_at levels scope) tokens
+
+abbrev pub condition_bracket_at : ℕ → Scope → List Token → Read Condition
+condition_bracket_at zero scope tokens = no_bracket tokens
+condition_bracket_at (suc levels) scope tokens = between (condition_by (found_at levels scope)) tokens
+
+abbrev pub primary_at : ℕ → Scope → List Token → Read ValueOrCondition
+primary_at levels scope tokens = primary_by (bracket_at levels scope) (condition_bracket_at levels scope) levels scope (negations tokens) tokens
+
+abbrev pub connections_at : ℕ → Scope → ℕ → List Token → Read ValueOrCondition
+connections_at levels scope tier = connections_by (primary_at levels scope) tier
+
+-- a condition
+abbrev pub condition_at : ℕ → Scope → List Token → Read Condition
+condition_at levels scope tokens = condition_by (found_at levels scope) tokens

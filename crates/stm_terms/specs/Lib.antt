@@ -1,0 +1,9 @@
+pub mod Arguments
+pub mod CauseNames
+pub mod Comparisons
+pub mod Conditions
+pub mod Cursor
+pub mod Outcome
+pub mod Room
+pub mod Scope
+pub mod Values

@@ -1,0 +1,35 @@
+//! Values and conditions of sources, scenarios as people write them: how tokens are read as what a statement is made of.
+//!
+//! `specs/Values.antt` and `specs/Conditions.antt` say what tokens spell, or which fault comes first; `specs/Scope.antt` says which variable a name is,
+//! and `specs/Room.antt` which program is too deep or too large.
+#![tactic(auto)]
+
+mod arguments;
+mod comparisons;
+mod conditions;
+mod cursor;
+mod faults;
+mod limits;
+mod names;
+mod room;
+mod scope;
+mod shared;
+mod values;
+
+pub use arguments::{Argument, Arguments, Given, GivenText, argument_number};
+pub use conditions::condition;
+pub use cursor::{
+    after_name, after_symbol, after_word, expect_name, expect_symbol, expect_text, expect_word,
+    next_name, next_number, next_text, number_up_to, open_bracket, place, skip_semicolon,
+    unexpected,
+};
+pub use faults::{BadSource, SourceCause, SourceError, fault};
+pub use limits::MOST_BRACKETS;
+pub use names::Names;
+pub use room::statements_room;
+pub use scope::{Scope, are_numbered, index_of, numbered_variable};
+pub use shared::Shared;
+pub use stm_history::{Sequence, Text};
+pub use stm_program::{Cond, Expr, Stmt, Variable};
+pub use stm_tokens::{Symbol, Token, TokenKind, Word};
+pub use values::{Join, bracketed, join_node, value};

@@ -1,0 +1,239 @@
+//! The names of a program's variables.
+ghost use Rattle.std.specs.Prelude.{◌≡◌, ◌<◌, ◌≤◌, ◌^◌, ◌+◌, length, true, false, is_some, IfOk, IfSome, OnOk};
+ghost use Rattle.stm_program.specs.declared.limits.TheConstants.{MAX_VARIABLE};
+ghost use Rattle.stm_terms.specs.Scope as spec;
+
+use crate::arguments::Arguments;
+use crate::shared::Shared;
+use std::alloc::{AllocError, Global};
+use stm_history::{Sequence, Text};
+use stm_keys::SharedText;
+use stm_program::{MAX_VARIABLE, Variable};
+use stm_tokens::{Symbol, Token, TokenKind, Word, number_length, number_of};
+
+/// What the variables of a program are called where it is read.
+#[derive(Debug, Drop)]
+pub struct Scope {
+    /// Whether the program calls them `v0` to `v15`. Else it gives them names.
+    pub numbered: bool,
+    /// The names in sight. Each is at the place of its variable's number.
+    pub names: Sequence<SharedText>,
+    /// Where the program begins: the place of what is wrong with it as a whole.
+    pub program: usize,
+    /// Its parameters.
+    pub arguments: Shared<Arguments>,
+}
+
+/// The place of a name among names.
+pub fn index_of(name: &str, names: &[Text]) -> Option<usize>
+    ensures is { result ≡ spec.index_of name.now names.now }
+    ensures within { IfSome result (λ n. n < length names.now) }
+{
+    for (index, other) in names.iter().enumerate() {
+        if other.as_str() == name {
+            return Some(index);
+        }
+    }
+    None
+}
+
+/// The place of a name among names that are shared.
+fn shared_index_of(name: &str, names: &[SharedText]) -> Option<usize>
+    ensures is { result ≡ spec.index_of name.now names.now }
+    ensures within { IfSome result (λ n. n < length names.now) }
+{
+    for (index, other) in names.iter().enumerate() {
+        if other.as_str() == name {
+            return Some(index);
+        }
+    }
+    None
+}
+
+/// The number of a variable that is called by it.
+#[tactic(auto, unfolding(crate::specs::Scope::numbered_variable))]
+pub fn numbered_variable(name: &str) -> Option<u64>
+    ensures is { result ≡ spec.numbered_variable name.now }
+    ensures within { IfSome result (λ n. n ≤ MAX_VARIABLE) }
+{
+    let (first, digits) = name.as_bytes().split_first()?;
+    if *first != b'v' {
+        return None;
+    }
+    if digits.is_empty() || number_length(digits) != digits.len() {
+        return None;
+    }
+    let number = number_of(digits);
+    if number <= MAX_VARIABLE {
+        Some(number)
+    } else {
+        None
+    }
+}
+
+impl Scope {
+    /// The number of the variable of a name that is in sight.
+    #[tactic(auto, unfolding(crate::specs::Scope::variable_of))]
+    pub fn variable(&self, name: &str) -> Option<u64>
+        ensures is { result ≡ spec.variable_of self.now name.now }
+        ensures within { IfSome result (λ n. n ≤ MAX_VARIABLE) }
+    {
+        let number = if self.numbered {
+            numbered_variable(name)?
+        } else {
+            shared_index_of(name, self.names.as_slice())? as u64
+        };
+        if number <= MAX_VARIABLE {
+            Some(number)
+        } else {
+            None
+        }
+    }
+
+    /// A copy. It fails only when out of memory.
+    pub fn copy(&self, alloc: Global) -> Result<Scope, AllocError>
+        ensures { IfOk result (λ scope. scope ≡ self.now) }
+    {
+        let mut names = Sequence::new(alloc);
+        for name in self.names.as_slice() {
+            names.push(name.clone()?)?;
+        }
+        Ok(Scope {
+            numbered: self.numbered,
+            names,
+            program: self.program,
+            arguments: self.arguments.clone()?,
+        })
+    }
+
+    /// The first variable that has no name.
+    pub fn next_variable(&self) -> Option<Variable>
+        ensures { result ≡ spec.next_of self.now }
+    {
+        let number = self.names.len();
+        if number as u64 > MAX_VARIABLE {
+            return None;
+        }
+        Some(Variable::new(number as u8))
+    }
+
+    /// Whether a name is in sight.
+    pub fn knows(&self, name: &str) -> bool
+        ensures { result ≡ is_some (spec.index_of name.now self.now.names) }
+    {
+        shared_index_of(name, self.names.as_slice()).is_some()
+    }
+
+    /// Whether a name may be given to a new variable.
+    pub fn may_give(&self, name: &str) -> bool
+        ensures { result ≡ spec.may_give self.now name.now }
+    {
+        !self.numbered
+            && numbered_variable(name).is_none()
+            && !self.knows(name)
+            && !self.arguments.get().contains(name)
+    }
+
+    /// Gives a name to the next variable. It fails only when out of memory.
+    pub fn give(&mut self, alloc: Global, name: &str) -> Result<(), AllocError>
+        ensures { OnOk result (self.new ≡ spec.with_name self.old name.now) }
+    {
+        let name = Text::copy_of(alloc, name)?;
+        let name = SharedText::new(alloc, name)?;
+        self.names.push(name)?;
+        Ok(())
+    }
+}
+
+/// Whether a token is the number 0.
+fn is_zero(kind: &TokenKind) -> bool
+    ensures { result ≡ spec.is_zero kind.now }
+{
+    match kind {
+        TokenKind::Number(number) => *number == 0,
+        _ => false,
+    }
+}
+
+/// Whether the name after a `for`, the first of these tokens, is counted.
+fn counts(tokens: &[Token]) -> bool
+    ensures { result ≡ spec.counts tokens.now }
+{
+    match tokens {
+        [_, second, third, fourth, ..] => {
+            second.kind.is_word(Word::In)
+                && is_zero(&third.kind)
+                && fourth.kind.is_symbol(Symbol::Dots)
+        }
+        _ => false,
+    }
+}
+
+/// Whether a token is a variable that is called by its number.
+fn is_numbered(kind: &TokenKind) -> bool
+    ensures { result ≡ spec.is_numbered kind.now }
+{
+    match kind {
+        TokenKind::Name(name) => numbered_variable(name.as_str()).is_some(),
+        _ => false,
+    }
+}
+
+/// Whether a token is given, and is no variable that is called by its number.
+fn is_not_numbered(tokens: &[Token]) -> bool
+    ensures { result ≡ spec.not_numbered tokens.now }
+{
+    match tokens.first() {
+        Some(token) => !is_numbered(&token.kind),
+        None => false,
+    }
+}
+
+/// What a token says of the program that it stands in, by the tokens behind it: that its variables are numbered, or that they are not, or nothing.
+fn says(token: &Token, rest: &[Token]) -> Option<bool>
+    ensures { result ≡ spec.says token.now rest.now }
+{
+    if is_numbered(&token.kind) {
+        return Some(true);
+    }
+    if token.kind.is_word(Word::Let) {
+        return Some(false);
+    }
+    if token.kind.is_word(Word::For) && counts(rest) && is_not_numbered(rest) {
+        return Some(false);
+    }
+    None
+}
+
+/// How many braces are open behind a token, besides the body's own; none, where that is closed.
+fn braces_behind(kind: &TokenKind, depth: usize) -> Option<usize>
+    requires { depth < 2 ^ 63 }
+    ensures is { result ≡ spec.braces_behind kind.now depth }
+    ensures bounded { IfSome result (λ n. n ≤ depth + 1) }
+{
+    if kind.is_symbol(Symbol::LeftBrace) {
+        return Some(depth + 1);
+    }
+    if kind.is_symbol(Symbol::RightBrace) {
+        return depth.checked_sub(1);
+    }
+    Some(depth)
+}
+
+/// Whether the variables of a body, of which these tokens are left, are numbered.
+pub fn are_numbered(tokens: &[Token]) -> bool
+    ensures { result ≡ spec.numbered_from 0 tokens.now }
+{
+    let mut depth = 0;
+    for (index, token) in tokens.iter().enumerate() {
+        let (_, behind) = tokens.split_at(index + 1);
+        if let Some(numbered) = says(token, behind) {
+            return numbered;
+        }
+        let Some(open) = braces_behind(&token.kind, depth) else {
+            return false;
+        };
+        depth = open;
+    }
+    false
+}

@@ -1,0 +1,474 @@
+//! Reading values.
+ghost use Rattle.std.specs.Prelude.{◌≡◌, ◌≤◌, ◌+◌, length, option_map, IfOk};
+ghost use Rattle.stm_terms.specs.Cursor as cursor;
+ghost use Rattle.stm_terms.specs.Outcome.{Returns};
+ghost use Rattle.stm_terms.specs.Arguments.{given_named};
+ghost use Rattle.stm_terms.specs.Scope.{variable_of};
+ghost use Rattle.stm_terms.specs.Values as spec;
+
+use crate::arguments::{Argument, Given};
+use crate::cursor::{expect_symbol, next_number, place, unexpected};
+use crate::faults::{SourceCause, SourceError, fault};
+use crate::limits::MOST_JOINS;
+use crate::scope::Scope;
+use std::alloc::{AllocError, Global};
+use std::sync::Arc;
+use stm_history::Text;
+use stm_program::{Expr, ExprNode, MAX_TEXT, Operator, Variable};
+use stm_tokens::{Symbol, Token, TokenKind, Word};
+
+/// What is computed of one value.
+#[derive(Clone, Copy, Debug, PartialEq, Eq)]
+pub enum Call {
+    /// `get`
+    Get,
+    /// `rev`
+    Rev,
+    /// `num_of`
+    NumOf,
+    /// `text_of`
+    TextOf,
+}
+
+/// What is computed of two values.
+#[derive(Clone, Copy, Debug, PartialEq, Eq)]
+pub enum Join {
+    /// An operator on two numbers.
+    Arithmetic(Operator),
+    /// `++`
+    Concatenate,
+}
+
+fn literal<'a>(
+    alloc: Global,
+    at: usize,
+    text: &str,
+    rest: &'a [Token],
+) -> Result<(Expr, &'a [Token]), SourceError>
+    ensures { Returns (λ x. (x.0, x.1.now)) result (spec.literal at text.now rest.now) }
+{
+    if text.len() <= MAX_TEXT {
+        let text = Text::copy_of(alloc, text)?;
+        let node = ExprNode::Text(text);
+        Ok((Expr { node }, rest))
+    } else {
+        Err(fault(at, SourceCause::TooLong))
+    }
+}
+
+fn positive(at: usize, number: u64, rest: &[Token]) -> Result<(Expr, &[Token]), SourceError>
+    ensures { Returns (λ x. (x.0, x.1.now)) result (spec.positive at number rest.now) }
+{
+    if number < 1 << 63 {
+        let node = ExprNode::Number(number as i64);
+        Ok((Expr { node }, rest))
+    } else {
+        Err(fault(at, SourceCause::Range))
+    }
+}
+
+/// The number behind a minus sign.
+fn negative(at: usize, number: u64, rest: &[Token]) -> Result<(Expr, &[Token]), SourceError>
+    ensures { Returns (λ x. (x.0, x.1.now)) result (spec.negative at number rest.now) }
+{
+    if number < 1 << 63 {
+        let node = ExprNode::Number(-(number as i64));
+        Ok((Expr { node }, rest))
+    } else if number == 1 << 63 {
+        let node = ExprNode::Number(i64::MIN);
+        Ok((Expr { node }, rest))
+    } else {
+        Err(fault(at, SourceCause::Range))
+    }
+}
+
+/// What follows a minus sign: a number.
+fn negation(tokens: &[Token]) -> Result<(Expr, &[Token]), SourceError>
+    ensures { Returns (λ x. (x.0, x.1.now)) result (spec.negation tokens.now (cursor.next_number tokens.now)) }
+{
+    match next_number(tokens) {
+        Some((number, rest)) => negative(place(tokens), number, rest),
+        None => Err(unexpected(tokens)),
+    }
+}
+
+/// The value of an argument.
+fn argument_value<'a>(
+    alloc: Global,
+    given: &Given,
+    rest: &'a [Token],
+) -> Result<(Expr, &'a [Token]), SourceError>
+    ensures { Returns (λ x. (x.0, x.1.now)) result (spec.argument_value given.now.at given.now.argument rest.now) }
+{
+    match &given.argument {
+        Argument::Either => literal(alloc, given.at, "", rest),
+        Argument::Text(text) => literal(alloc, given.at, text.as_str(), rest),
+        Argument::Number(number) => {
+            let node = ExprNode::Number(*number);
+            Ok((Expr { node }, rest))
+        }
+    }
+}
+
+/// The variable or the argument that a name stands for.
+fn named<'a>(
+    alloc: Global,
+    scope: &Scope,
+    at: usize,
+    name: &str,
+    rest: &'a [Token],
+) -> Result<(Expr, &'a [Token]), SourceError>
+    ensures { Returns (λ x. (x.0, x.1.now)) result
+        (spec.named at (variable_of scope.now name.now) (given_named scope.now.arguments name.now) rest.now) }
+{
+    if let Some(number) = scope.variable(name) {
+        let node = ExprNode::Variable(Variable::new(number as u8));
+        return Ok((Expr { node }, rest));
+    }
+    match scope.arguments.get().named(name) {
+        Some(given) => argument_value(alloc, given, rest),
+        None => Err(fault(at, SourceCause::Name)),
+    }
+}
+
+/// What a word computes of one value.
+fn call_of(word: Word) -> Option<Call>
+    ensures { result ≡ spec.call_of word }
+{
+    if word.is(Word::Get) {
+        Some(Call::Get)
+    } else if word.is(Word::Rev) {
+        Some(Call::Rev)
+    } else if word.is(Word::NumOf) {
+        Some(Call::NumOf)
+    } else if word.is(Word::TextOf) {
+        Some(Call::TextOf)
+    } else {
+        None
+    }
+}
+
+fn call_node(call: Call, part: Arc<Expr>) -> Expr
+    ensures { result ≡ spec.called call part.value }
+{
+    let node = match call {
+        Call::Get => ExprNode::Get(part),
+        Call::Rev => ExprNode::Rev(part),
+        Call::NumOf => ExprNode::NumOf(part),
+        Call::TextOf => ExprNode::TextOf(part),
+    };
+    Expr { node }
+}
+
+/// Two values with an operator between them.
+pub fn join_node(join: Join, left: Arc<Expr>, right: Arc<Expr>) -> Expr
+    ensures { result ≡ spec.joined join left.value right.value }
+{
+    let node = match join {
+        Join::Arithmetic(operator) => ExprNode::Arithmetic(operator, left, right),
+        Join::Concatenate => ExprNode::Cat(left, right),
+    };
+    Expr { node }
+}
+
+/// Two values with an operator between them, which is the last one of a chain with so many before it.
+fn joined_up(
+    alloc: Global,
+    done: usize,
+    join: Join,
+    left: Expr,
+    right: Expr,
+) -> Result<Expr, AllocError>
+    ensures { IfOk result (λ e. e ≡ spec.joined_up done join left right) }
+{
+    if done < MOST_JOINS {
+        let left = Arc::new(alloc, left)?;
+        let right = Arc::new(alloc, right)?;
+        Ok(join_node(join, left, right))
+    } else {
+        Ok(left)
+    }
+}
+
+/// The operator of a symbol among those of a tier.
+fn join_of(tier: usize, symbol: Symbol) -> Option<Join>
+    ensures { result ≡ spec.join_of tier symbol }
+{
+    match tier {
+        1 => strong_join(symbol),
+        2 => sum_join(symbol),
+        _ => text_join(symbol),
+    }
+}
+
+fn strong_join(symbol: Symbol) -> Option<Join>
+    ensures { result ≡ spec.strong_join symbol }
+{
+    if symbol.is(Symbol::Multiply) {
+        Some(Join::Arithmetic(Operator::Mul))
+    } else if symbol.is(Symbol::Divide) {
+        Some(Join::Arithmetic(Operator::Div))
+    } else if symbol.is(Symbol::Remainder) {
+        Some(Join::Arithmetic(Operator::Rem))
+    } else {
+        None
+    }
+}
+
+fn sum_join(symbol: Symbol) -> Option<Join>
+    ensures { result ≡ spec.sum_join symbol }
+{
+    if symbol.is(Symbol::Add) {
+        Some(Join::Arithmetic(Operator::Add))
+    } else if symbol.is(Symbol::Subtract) {
+        Some(Join::Arithmetic(Operator::Sub))
+    } else {
+        None
+    }
+}
+
+fn text_join(symbol: Symbol) -> Option<Join>
+    ensures { result ≡ spec.text_join symbol }
+{
+    if symbol.is(Symbol::Concatenate) {
+        Some(Join::Concatenate)
+    } else {
+        None
+    }
+}
+
+/// The operator of a tier that is the next token.
+#[tactic(auto, unfolding(crate::specs::Values::next_join))]
+fn next_join(tier: usize, tokens: &[Token]) -> Option<(Join, &[Token])>
+    ensures { option_map (λ p. (p.0, p.1.now)) result ≡ spec.next_join tier tokens.now }
+{
+    let (first, rest) = tokens.split_first()?;
+    match &first.kind {
+        TokenKind::Symbol(symbol) => {
+            let join = join_of(tier, *symbol)?;
+            Some((join, rest))
+        }
+        _ => None,
+    }
+}
+
+/// An operand.
+#[cycle(read_values)]
+#[tactic(auto, unfolding(crate::specs::Values::operand_by))]
+fn operand<'a>(
+    alloc: Global,
+    scope: &Scope,
+    levels: usize,
+    tokens: &'a [Token],
+) -> Result<(Expr, &'a [Token]), SourceError>
+    ensures { Returns (λ x. (x.0, x.1.now)) result (spec.operand_at levels scope.now tokens.now) }
+{
+    let Some((first, rest)) = tokens.split_first() else {
+        return Err(unexpected(tokens));
+    };
+    match &first.kind {
+        TokenKind::Text(text) => literal(alloc, first.at, text.as_str(), rest),
+        TokenKind::Number(number) => positive(first.at, *number, rest),
+        TokenKind::Name(name) => named(alloc, scope, first.at, name.as_str(), rest),
+        TokenKind::Word(word) => computed(alloc, scope, levels, *word, tokens, rest),
+        TokenKind::Symbol(symbol) => signed(alloc, scope, levels, *symbol, tokens, rest),
+        TokenKind::Wrong => Err(unexpected(tokens)),
+        TokenKind::End => Err(unexpected(tokens)),
+    }
+}
+
+/// What a word computes of the value behind it.
+#[cycle(read_values)]
+fn computed<'a>(
+    alloc: Global,
+    scope: &Scope,
+    levels: usize,
+    word: Word,
+    tokens: &'a [Token],
+    rest: &'a [Token],
+) -> Result<(Expr, &'a [Token]), SourceError>
+    ensures { Returns (λ x. (x.0, x.1.now)) result (spec.call_by (spec.bracketed_at levels scope.now) tokens.now rest.now (spec.call_of word)) }
+{
+    let Some(call) = call_of(word) else {
+        return Err(unexpected(tokens));
+    };
+    let (part, rest) = bracketed(alloc, scope, levels, rest)?;
+    let part = Arc::new(alloc, part)?;
+    Ok((call_node(call, part), rest))
+}
+
+/// What begins with a symbol.
+#[cycle(read_values)]
+fn signed<'a>(
+    alloc: Global,
+    scope: &Scope,
+    levels: usize,
+    symbol: Symbol,
+    tokens: &'a [Token],
+    rest: &'a [Token],
+) -> Result<(Expr, &'a [Token]), SourceError>
+    ensures { Returns (λ x. (x.0, x.1.now)) result (spec.signed (spec.bracketed_at levels scope.now) symbol tokens.now rest.now) }
+{
+    if symbol.is(Symbol::LeftParenthesis) {
+        bracketed(alloc, scope, levels, tokens)
+    } else if symbol.is(Symbol::Subtract) {
+        negation(rest)
+    } else if symbol.is(Symbol::Not) {
+        Err(fault(place(tokens), SourceCause::Sort))
+    } else {
+        Err(unexpected(tokens))
+    }
+}
+
+/// The operators of a tier, from left to right, with their right operands, behind a left one.
+#[cycle(read_values)]
+fn chain<'a>(
+    alloc: Global,
+    scope: &Scope,
+    levels: usize,
+    tier: usize,
+    left: Expr,
+    tokens: &'a [Token],
+) -> Result<(Expr, &'a [Token]), SourceError>
+    requires { tier ≤ 3 }
+    ensures { Returns (λ x. (x.0, x.1.now)) result (spec.chain (spec.tier_at levels scope.now tier) (tier + 1) (length tokens.now) 0 left tokens.now) }
+{
+    let mut left = left;
+    let mut rest = tokens;
+    for done in 0..tokens.len() {
+        let Some((join, behind)) = next_join(tier + 1, rest) else {
+            return Ok((left, rest));
+        };
+        let (right, behind) = operands(alloc, scope, levels, tier, behind)?;
+        left = joined_up(alloc, done, join, left, right)?;
+        rest = behind;
+    }
+    Ok((left, rest))
+}
+
+/// What the operators of a tier and of the stronger ones join.
+#[cycle(read_values)]
+fn operands<'a>(
+    alloc: Global,
+    scope: &Scope,
+    levels: usize,
+    tier: usize,
+    tokens: &'a [Token],
+) -> Result<(Expr, &'a [Token]), SourceError>
+    requires { tier ≤ 3 }
+    ensures { Returns (λ x. (x.0, x.1.now)) result (spec.tier_at levels scope.now tier tokens.now) }
+{
+    let (first, rest) = operand(alloc, scope, levels, tokens)?;
+    joined_behind(alloc, scope, levels, tier, first, rest)
+}
+
+/// The operators of a tier and of the stronger ones, behind a first operand.
+#[cycle(read_values)]
+fn joined_behind<'a>(
+    alloc: Global,
+    scope: &Scope,
+    levels: usize,
+    tier: usize,
+    first: Expr,
+    tokens: &'a [Token],
+) -> Result<(Expr, &'a [Token]), SourceError>
+    requires { tier ≤ 3 }
+    ensures { Returns (λ x. (x.0, x.1.now)) result (spec.behind_by (spec.operand_at levels scope.now) tier first tokens.now) }
+{
+    if tier == 0 {
+        return Ok((first, tokens));
+    }
+    next_tier(alloc, scope, levels, tier - 1, first, tokens)
+}
+
+/// The operators of a tier and of the stronger ones, and then those of the one above it.
+#[cycle(read_values)]
+fn next_tier<'a>(
+    alloc: Global,
+    scope: &Scope,
+    levels: usize,
+    tier: usize,
+    first: Expr,
+    tokens: &'a [Token],
+) -> Result<(Expr, &'a [Token]), SourceError>
+    requires { tier ≤ 3 }
+    ensures { Returns (λ x. (x.0, x.1.now)) result (spec.tier_behind (spec.operand_at levels scope.now) tier first tokens.now) }
+{
+    let (left, rest) = joined_behind(alloc, scope, levels, tier, first, tokens)?;
+    chain(alloc, scope, levels, tier, left, rest)
+}
+
+/// A value in brackets, of which so many may still be opened.
+///
+/// Where another token than an opened bracket begins it, or no bracket may be opened, the fault is `Syntax` there.
+#[cycle(read_values)]
+pub fn bracketed<'a>(
+    alloc: Global,
+    scope: &Scope,
+    levels: usize,
+    tokens: &'a [Token],
+) -> Result<(Expr, &'a [Token]), SourceError>
+    ensures { Returns (λ x. (x.0, x.1.now)) result (spec.bracketed_at levels scope.now tokens.now) }
+{
+    if levels == 0 {
+        return Err(unexpected(tokens));
+    }
+    value_between(alloc, scope, levels - 1, tokens)
+}
+
+/// A value between brackets, within which so many may still be opened.
+#[cycle(read_values)]
+fn value_between<'a>(
+    alloc: Global,
+    scope: &Scope,
+    levels: usize,
+    tokens: &'a [Token],
+) -> Result<(Expr, &'a [Token]), SourceError>
+    ensures { Returns (λ x. (x.0, x.1.now)) result (spec.bracketed_by (spec.tier_at levels scope.now 3) tokens.now) }
+{
+    let inner = expect_symbol(tokens, Symbol::LeftParenthesis)?;
+    let (value, rest) = operands(alloc, scope, levels, 3, inner)?;
+    let rest = expect_symbol(rest, Symbol::RightParenthesis)?;
+    Ok((value, rest))
+}
+
+/// A value, within which so many brackets may still be opened.
+///
+/// Operators of one strength go from left to right, `++` before `+` and `-` before `*`, `/` and `%`. The first fault is answered: `TooLong` at a text
+/// of more than 65536 bytes, `Range` at a number beyond 64 bits, `Name` at a name that is no variable in sight, `Sort` at a `!`, and `Syntax` at a
+/// token that no value goes on with. A chain that is too deep for a program is kept too deep, and no longer.
+pub fn value<'a>(
+    alloc: Global,
+    scope: &Scope,
+    levels: usize,
+    tokens: &'a [Token],
+) -> Result<(Expr, &'a [Token]), SourceError>
+    ensures { Returns (λ x. (x.0, x.1.now)) result (spec.value_at levels scope.now tokens.now) }
+{
+    operands(alloc, scope, levels, 3, tokens)
+}
+
+/// The first operand of a value.
+pub(crate) fn first_operand<'a>(
+    alloc: Global,
+    scope: &Scope,
+    levels: usize,
+    tokens: &'a [Token],
+) -> Result<(Expr, &'a [Token]), SourceError>
+    ensures { Returns (λ x. (x.0, x.1.now)) result (spec.operand_at levels scope.now tokens.now) }
+{
+    operand(alloc, scope, levels, tokens)
+}
+
+/// The rest of a value behind its first operand.
+pub(crate) fn value_behind<'a>(
+    alloc: Global,
+    scope: &Scope,
+    levels: usize,
+    first: Expr,
+    tokens: &'a [Token],
+) -> Result<(Expr, &'a [Token]), SourceError>
+    ensures { Returns (λ x. (x.0, x.1.now)) result (spec.value_behind levels scope.now first tokens.now) }
+{
+    joined_behind(alloc, scope, levels, 3, first, tokens)
+}

@@ -1,5 +1,5 @@
 -- Rules and finals: programs that are asked of states.
-use Rattle.std.specs.Prelude.{ℕ, ◌-◌, List, [], ◌∷◌, ◌++◌, Bool, Option, Some, None, Ok, Err, nat_eq, if◌then◌else◌, codes}
+use Rattle.std.specs.Prelude.{ℕ, ◌-◌, List, [], ◌∷◌, ◌++◌, Bool, true, Option, Some, None, Ok, Err, nat_eq, if◌then◌else◌, codes}
 use Rattle.stm_tokens.specs.declared.token.Token.{Token}
 use Rattle.stm_tokens.specs.declared.token.Symbol.TheVariants as symbol
 use Rattle.stm_program.specs.declared.level.Level.{Level}
@@ -11,7 +11,7 @@ use Rattle.stm_source.specs.declared.definitions.Meaning.TheVariants as meaning
 use Rattle.stm_source.specs.declared.story.Story.{Story}
 use Rattle.stm_source.specs.declared.story.Rule.{Rule}
 use Rattle.stm_source.specs.Bulk.{program_bulk}
-use Rattle.stm_source.specs.Definitions.{ReadProgram, free_name_at, bound_program, definition_named, named_program, with_meaning}
+use Rattle.stm_source.specs.Definitions.{ReadProgram, free_name_at, look_of, bound_program, definition_named, named_program, with_meaning}
 use Rattle.stm_source.specs.Events.{level_at}
 
 abbrev pub level_behind : List Token → Option (List Token) → Read (Option Level)
@@ -28,7 +28,7 @@ asked_by_name all definitions tokens (Some p) = named_program all (place tokens)
 
 abbrev pub asked_by : List Token → Definitions → ℕ → List Token → Option (List Token) → ReadProgram
 asked_by all definitions at tokens (Some rest) = asked_by_name all definitions rest (next_name rest)
-asked_by all definitions at tokens None = bound_program at [] [] tokens >>= λ p. Ok (p.0, 0, p.1)
+asked_by all definitions at tokens None = bound_program (look_of at true) [] [] tokens >>= λ p. Ok (p.0, 0, p.1)
 
 -- the program that is asked: one that is named, with its arguments, or its own in braces
 abbrev pub asked_at : List Token → Definitions → ℕ → List Token → ReadProgram

@@ -28,7 +28,10 @@ use Rattle.stm_terms.specs.declared.arguments.Arguments.{Arguments}
 use Rattle.stm_terms.specs.declared.arguments.Given.{Given}
 use Rattle.stm_terms.specs.Arguments.{given_named, argument_number, number_given}
 use Rattle.stm_terms.specs.Scope.{index_of, numbered_variable, variable_of, with_name, next_of, may_give}
-use Rattle.stm_terms.specs.Values.{joined, bracketed_at, value_at}
+use Rattle.stm_terms.specs.declared.kinds.Kind.{Kind}
+use Rattle.stm_terms.specs.declared.kinds.Kind.TheVariants as value_kind
+use Rattle.stm_terms.specs.Kinds.{kind_of, want}
+use Rattle.stm_terms.specs.Values.{joined, join_kind, bracketed_at, value_at, value_of}
 use Rattle.stm_terms.specs.Conditions.{condition_at}
 
 -- ---- statements of values
@@ -38,9 +41,15 @@ simple_of simple.Del e = Del e
 simple_of simple.Emit e = Emit e
 simple_of simple.Abort e = Abort e
 
+-- a value of either kind is put out
+abbrev pub simple_kind : Simple → Kind
+simple_kind simple.Del = value_kind.Text
+simple_kind simple.Emit = value_kind.Either
+simple_kind simple.Abort = value_kind.Text
+
 -- behind its word
 abbrev pub simple_at : ℕ → Scope → Simple → List Token → Read Statement
-simple_at levels scope s tokens = bracketed_at levels scope tokens >>= λ x. Ok (simple_of s x.0, x.1)
+simple_at levels scope s tokens = bracketed_at levels scope (simple_kind s) tokens >>= λ x. Ok (simple_of s x.0.expression, x.1)
 
 abbrev pub lease_behind : Arguments → List Token → Option (List Token) → Read ℕ
 lease_behind arguments tokens None = Ok (0, tokens)
@@ -53,9 +62,9 @@ lease_at scope tokens = lease_behind scope.arguments tokens (after_symbol symbol
 abbrev pub put_at : ℕ → Scope → List Token → Read Statement
 put_at levels scope tokens =
     open_bracket levels tokens >>= λ inner.
-    value_at (levels - 1) scope inner >>= λ key.
+    value_of (levels - 1) scope value_kind.Text inner >>= λ key.
     expect_symbol symbol.Comma key.1 >>= λ behind.
-    value_at (levels - 1) scope behind >>= λ value.
+    value_of (levels - 1) scope value_kind.Text behind >>= λ value.
     lease_at scope value.1 >>= λ lease.
     expect_symbol symbol.RightParenthesis lease.1 >>= λ rest. Ok (Put key.0 value.0 lease.0, rest)
 
@@ -86,13 +95,19 @@ abbrev pub assigned : Option Join → ℕ → Expression → Expression
 assigned None v e = e
 assigned (Some j) v e = joined j (Variable v) e
 
+-- what is assigned to a variable of a kind, and which kind that has to be of
+abbrev pub assigned_kind : Option Join → Kind → Kind
+assigned_kind None k = k
+assigned_kind (Some j) k = join_kind j
+
 -- behind its sign
 abbrev pub set_at : ℕ → Scope → ℕ → Option Join → List Token → Read Statement
-set_at levels scope v j rest = value_at levels scope rest >>= λ x. Ok (Set v (assigned j v x.0), x.1)
+set_at levels scope v j rest = value_of levels scope (assigned_kind j (kind_of scope v)) rest >>= λ x. Ok (Set v (assigned j v x.0), x.1)
 
 abbrev pub set_by : ℕ → Scope → ℕ → Option ℕ → Option Join → List Token → Read Statement
 set_by levels scope at None j rest = bad at cause.Name
-set_by levels scope at (Some v) j rest = set_at levels scope v j rest
+set_by levels scope at (Some v) j rest =
+    want scope (assigned_kind j (kind_of scope v)) (kind_of scope v) at >>= λ u. set_at levels scope v j rest
 
 -- a name with which a statement begins is wrong itself where nothing is assigned to it
 abbrev pub assigned_by : ℕ → Scope → List ℕ → List Token → Option (Option Join × List Token) → Read Statement
@@ -112,7 +127,7 @@ ReadStatement = Outcome (Statement × Scope × List Token)
 abbrev pub new_variable : ℕ → Scope → ℕ → List ℕ → List Token → ReadStatement
 new_variable levels scope v name tokens =
     expect_symbol symbol.Assign tokens >>= λ behind.
-    value_at levels scope behind >>= λ x. Ok (Set v x.0, with_name scope name, x.1)
+    value_at levels scope behind >>= λ x. Ok (Set v x.0.expression, with_name scope name x.0.kind, x.1)
 
 abbrev pub named_by : ℕ → Scope → ℕ → List Token → Option (List ℕ × List Token) → ReadStatement
 named_by levels scope v tokens None = Err (unexpected tokens)
@@ -162,7 +177,7 @@ counted_by_number scope at (Some v) = Ok (v, scope)
 
 abbrev pub counted_anew : Scope → List ℕ → ℕ → Option ℕ → Outcome (ℕ × Scope)
 counted_anew scope name at None = bad at cause.TooMany
-counted_anew scope name at (Some v) = Ok (v, with_name scope name)
+counted_anew scope name at (Some v) = Ok (v, with_name scope name (if scope.looks_at_kinds then value_kind.Number else value_kind.Either))
 
 abbrev pub counted_by_name : Scope → List ℕ → ℕ → Outcome (ℕ × Scope)
 counted_by_name scope name at = if may_give scope name then counted_anew scope name at (next_of scope) else bad at cause.Name
@@ -204,7 +219,7 @@ zero_behind tokens (Some p) = if nat_eq p.0 0 then Ok p.1 else Err (unexpected t
 -- behind the counted name
 abbrev pub counted_by : Blocks → ℕ → Scope → ℕ → Scope → List Token → Read Statement
 counted_by block levels scope v inner tokens =
-    value_at levels scope tokens >>= λ count.
+    value_of levels scope value_kind.Number tokens >>= λ count.
     limit_at scope count.0 tokens count.1 >>= λ limit.
     block inner limit.1 >>= λ body. Ok (For v count.0 limit.0 body.0, body.1)
 

@@ -40,7 +40,7 @@ fn asked<'a>(
     ensures { Returns (λ x. (x.0, x.1, x.2.now)) result (spec.asked_at all.now definitions.now at tokens.now) }
 {
     let Some(rest) = after_symbol(tokens, Symbol::Assign) else {
-        let (program, rest) = program_in_place(alloc, at, tokens)?;
+        let (program, rest) = program_in_place(alloc, at, true, tokens)?;
         return Ok((program, 0, rest));
     };
     match next_name(rest) {

@@ -318,7 +318,7 @@ fn started_program<'a>(
     if let Some((name, rest)) = next_name(tokens) {
         return named_program(alloc, all, definitions, name, place(tokens), rest);
     }
-    let (program, rest) = program_in_place(alloc, place(tokens), tokens)?;
+    let (program, rest) = program_in_place(alloc, place(tokens), false, tokens)?;
     Ok((program, 0, rest))
 }
 

@@ -16,10 +16,10 @@ use stm_program::{
     Block, Expr, ExprNode, MAX_LEASE, MAX_NODES, MAX_TURNS, Operator, Stmt, StmtNode, Variable,
 };
 use stm_terms::{
-    Given, Join, MOST_BRACKETS, Scope, SourceCause, SourceError, after_name, after_symbol,
+    Given, Join, Kind, MOST_BRACKETS, Scope, SourceCause, SourceError, after_name, after_symbol,
     after_word, argument_number, bracketed, condition, expect_symbol, expect_word, fault,
-    join_node, next_name, next_number, numbered_variable, open_bracket, place, skip_semicolon,
-    unexpected, value,
+    join_kind, join_node, next_name, next_number, numbered_variable, open_bracket, place,
+    skip_semicolon, unexpected, value, value_of,
 };
 use stm_tokens::{Symbol, Token, TokenKind, Word};
 
@@ -37,6 +37,16 @@ pub(crate) enum Simple {
     Abort,
 }
 
+/// What a statement of one value is of: `emit` puts out a value of either kind.
+fn simple_kind(simple: Simple) -> Kind
+    ensures { result ≡ spec.simple_kind simple }
+{
+    match simple {
+        Simple::Del | Simple::Abort => Kind::Text,
+        Simple::Emit => Kind::Either,
+    }
+}
+
 fn simple_statement<'a>(
     alloc: Global,
     scope: &Scope,
@@ -46,8 +56,8 @@ fn simple_statement<'a>(
 ) -> Result<(Stmt, &'a [Token]), SourceError>
     ensures { Returns (λ x. (x.0, x.1.now)) result (spec.simple_at levels scope.now simple tokens.now) }
 {
-    let (value, rest) = bracketed(alloc, scope, levels, tokens)?;
-    let value = Arc::new(alloc, value)?;
+    let (value, rest) = bracketed(alloc, scope, levels, simple_kind(simple), tokens)?;
+    let value = Arc::new(alloc, value.expression)?;
     let node = match simple {
         Simple::Del => StmtNode::Del(value),
         Simple::Emit => StmtNode::Emit(value),
@@ -76,9 +86,9 @@ fn put<'a>(
     ensures { Returns (λ x. (x.0, x.1.now)) result (spec.put_at levels scope.now tokens.now) }
 {
     let inner = open_bracket(levels, tokens)?;
-    let (key, rest) = value(alloc, scope, levels - 1, inner)?;
+    let (key, rest) = value_of(alloc, scope, levels - 1, Kind::Text, inner)?;
     let rest = expect_symbol(rest, Symbol::Comma)?;
-    let (value, rest) = value(alloc, scope, levels - 1, rest)?;
+    let (value, rest) = value_of(alloc, scope, levels - 1, Kind::Text, rest)?;
     let (lease, rest) = lease(scope, rest)?;
     let rest = expect_symbol(rest, Symbol::RightParenthesis)?;
     let key = Arc::new(alloc, key)?;
@@ -151,6 +161,16 @@ fn set(alloc: Global, variable: Variable, value: Expr) -> Result<Stmt, AllocErro
     })
 }
 
+/// What has to be assigned to a variable of a kind.
+fn assigned_kind(join: Option<Join>, kind: Kind) -> Kind
+    ensures { result ≡ spec.assigned_kind join kind }
+{
+    match join {
+        Some(join) => join_kind(join),
+        None => kind,
+    }
+}
+
 /// An assignment to a variable, behind its sign.
 fn set_to<'a>(
     alloc: Global,
@@ -164,7 +184,8 @@ fn set_to<'a>(
     ensures { Returns (λ x. (x.0, x.1.now)) result (spec.set_at levels scope.now number join rest.now) }
 {
     let variable = Variable::new(number as u8);
-    let (value, rest) = value(alloc, scope, levels, rest)?;
+    let wanted = assigned_kind(join, scope.kind_of(number));
+    let (value, rest) = value_of(alloc, scope, levels, wanted, rest)?;
     let value = assigned(alloc, join, variable, value)?;
     let statement = set(alloc, variable, value)?;
     Ok((statement, rest))
@@ -184,10 +205,12 @@ fn assignment<'a>(
     let Some((join, rest)) = next_sign(behind) else {
         return Err(unexpected(tokens));
     };
-    match scope.variable(name) {
-        Some(number) => set_to(alloc, scope, levels, number, join, rest),
-        None => Err(fault(place(tokens), SourceCause::Name)),
-    }
+    let Some(number) = scope.variable(name) else {
+        return Err(fault(place(tokens), SourceCause::Name));
+    };
+    let kind = scope.kind_of(number);
+    scope.want(assigned_kind(join, kind), kind, place(tokens))?;
+    set_to(alloc, scope, levels, number, join, rest)
 }
 
 /// A new variable, behind its name.
@@ -203,8 +226,8 @@ fn new_variable<'a>(
 {
     let rest = expect_symbol(rest, Symbol::Assign)?;
     let (value, rest) = value(alloc, scope, levels, rest)?;
-    let statement = set(alloc, variable, value)?;
-    scope.give(alloc, name)?;
+    let statement = set(alloc, variable, value.expression)?;
+    scope.give(alloc, name, value.kind)?;
     Ok((statement, rest))
 }
 
@@ -253,7 +276,12 @@ fn counted(
     let Some(variable) = scope.next_variable() else {
         return Err(fault(at, SourceCause::TooMany));
     };
-    inner.give(alloc, name)?;
+    let kind = if scope.looks_at_kinds {
+        Kind::Number
+    } else {
+        Kind::Either
+    };
+    inner.give(alloc, name, kind)?;
     Ok((variable, inner))
 }
 
@@ -437,7 +465,7 @@ fn counted_loop<'a>(
 ) -> Result<(Stmt, &'a [Token]), SourceError>
     ensures { Returns (λ x. (x.0, x.1.now)) result (spec.counted_by (spec.block_at levels) levels scope.now variable inner.now tokens.now) }
 {
-    let (count, rest) = value(alloc, scope, levels, tokens)?;
+    let (count, rest) = value_of(alloc, scope, levels, Kind::Number, tokens)?;
     let (limit, rest) = limit(scope, &count, tokens, rest)?;
     let (body, rest) = block(alloc, inner, levels, rest)?;
     let count = Arc::new(alloc, count)?;

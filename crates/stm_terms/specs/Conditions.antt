@@ -4,9 +4,10 @@ use Rattle.stm_tokens.specs.declared.token.Token.{Token}
 use Rattle.stm_tokens.specs.declared.token.Symbol.{Symbol}
 use Rattle.stm_tokens.specs.declared.token.Symbol.TheVariants as symbol
 use Rattle.stm_tokens.specs.Same.{is_symbol}
-use Rattle.stm_program.specs.Syntax.{Expression, Condition, Not, And, Or}
+use Rattle.stm_program.specs.Syntax.{Condition, Not, And, Or}
 use Rattle.stm_terms.specs.declared.faults.SourceCause.TheVariants as cause
 use Rattle.stm_terms.specs.declared.scope.Scope.{Scope}
+use Rattle.stm_terms.specs.declared.kinds.Valued.{Valued}
 use Rattle.stm_terms.specs.declared.comparisons.Comparison.{Comparison}
 use Rattle.stm_terms.specs.declared.conditions.ValueOrCondition.{ValueOrCondition}
 use Rattle.stm_terms.specs.declared.conditions.ValueOrCondition.TheVariants as found
@@ -16,7 +17,7 @@ use Rattle.stm_terms.specs.declared.limits.TheConstants.{MOST_JOINS}
 use Rattle.stm_terms.specs.Outcome.{Outcome, Read, bad, ◌>>=◌}
 use Rattle.stm_terms.specs.Comparisons.{compared, next_comparison}
 use Rattle.stm_terms.specs.Cursor.{place, unexpected, after_symbol, expect_symbol}
-use Rattle.stm_terms.specs.Values.{operand_at, value_at, value_behind}
+use Rattle.stm_terms.specs.Values.{operand_at, value_of, value_behind}
 
 -- ---- what begins in a condition is a value or a condition, as it turns out
 
@@ -29,19 +30,20 @@ abbrev pub condition_by : (List Token → Read ValueOrCondition) → List Token 
 condition_by read tokens = read tokens >>= λ x. wanted (place tokens) x.0 >>= λ c. Ok (c, x.1)
 
 -- behind a value: the left side of a comparison, if one follows
-abbrev pub compared_with : (List Token → Read Expression) → Expression → List Token → Option (Comparison × List Token) → Read ValueOrCondition
-compared_with value left rest None = Ok (found.Value left, rest)
-compared_with value left rest (Some p) = value p.1 >>= λ x. Ok (found.Condition (compared p.0 left x.0), x.1)
+abbrev pub compared_with : ℕ → Scope → Valued → List Token → Option (Comparison × List Token) → Read ValueOrCondition
+compared_with levels scope left rest None = Ok (found.Value left, rest)
+compared_with levels scope left rest (Some p) =
+    value_of levels scope left.kind p.1 >>= λ x. Ok (found.Condition (compared p.0 left.expression x.0), x.1)
 
--- behind the first operand of a value
-abbrev pub behind_operand : ℕ → Scope → Expression → List Token → Read ValueOrCondition
-behind_operand levels scope first tokens =
-    value_behind levels scope first tokens >>= λ left. compared_with (value_at levels scope) left.0 left.1 (next_comparison left.1)
+-- behind the first operand of a value, which begins at a byte
+abbrev pub behind_operand : ℕ → Scope → ℕ → Valued → List Token → Read ValueOrCondition
+behind_operand levels scope at first tokens =
+    value_behind levels scope at first tokens >>= λ left. compared_with levels scope left.0 left.1 (next_comparison left.1)
 
--- behind a bracket: a condition ends there, a value may go on
-abbrev pub behind_bracket : ℕ → Scope → ValueOrCondition → List Token → Read ValueOrCondition
-behind_bracket levels scope (found.Condition c) tokens = Ok (found.Condition c, tokens)
-behind_bracket levels scope (found.Value e) tokens = behind_operand levels scope e tokens
+-- behind a bracket, which begins at a byte: a condition ends there, a value may go on
+abbrev pub behind_bracket : ℕ → Scope → ℕ → ValueOrCondition → List Token → Read ValueOrCondition
+behind_bracket levels scope at (found.Condition c) tokens = Ok (found.Condition c, tokens)
+behind_bracket levels scope at (found.Value x) tokens = behind_operand levels scope at x tokens
 
 -- ---- `!`
 
@@ -65,8 +67,8 @@ negation_by bracket n tokens = bracket (drop n tokens) >>= λ x. Ok (found.Condi
 -- ---- what has no connective: `!` and a bracket, a bracket, or a first operand
 
 abbrev pub bracket_or_operand : (List Token → Read ValueOrCondition) → ℕ → Scope → List Token → Option (List Token) → Read ValueOrCondition
-bracket_or_operand bracket levels scope tokens (Some inner) = bracket tokens >>= λ x. behind_bracket levels scope x.0 x.1
-bracket_or_operand bracket levels scope tokens None = operand_at levels scope tokens >>= λ x. behind_operand levels scope x.0 x.1
+bracket_or_operand bracket levels scope tokens (Some inner) = bracket tokens >>= λ x. behind_bracket levels scope (place tokens) x.0 x.1
+bracket_or_operand bracket levels scope tokens None = operand_at levels scope tokens >>= λ x. behind_operand levels scope (place tokens) x.0 x.1
 
 -- with so many `!` before it
 abbrev pub primary_by : (List Token → Read ValueOrCondition) → (List Token → Read Condition) → ℕ → Scope → ℕ → List Token → Read ValueOrCondition

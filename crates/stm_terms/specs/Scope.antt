@@ -11,6 +11,7 @@ use Rattle.stm_tokens.specs.declared.token.Symbol.TheVariants as symbol
 use Rattle.stm_tokens.specs.Numbers.{number_length, value_from}
 use Rattle.stm_tokens.specs.Same.{is_symbol, is_word}
 use Rattle.stm_program.specs.declared.limits.TheConstants.{MAX_VARIABLE}
+use Rattle.stm_terms.specs.declared.kinds.Kind.{Kind}
 use Rattle.stm_terms.specs.declared.scope.Scope.{Scope}
 
 -- the place of a name among names, of which so many stand before these
@@ -43,9 +44,8 @@ variable_of scope name = bounded (if scope.numbered then numbered_variable name 
 
 -- ---- new names
 
-abbrev pub with_name : Scope → List ℕ → Scope
-with_name scope name =
-    record { numbered = scope.numbered; names = scope.names ++ name ∷ []; program = scope.program; arguments = scope.arguments }
+abbrev pub with_name : Scope → List ℕ → Kind → Scope
+with_name scope name k = record scope { names = scope.names ++ name ∷ []; kinds = scope.kinds ++ k ∷ [] }
 
 -- the first variable that has no name
 abbrev pub next_of : Scope → Option ℕ

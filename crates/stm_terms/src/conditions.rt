@@ -5,24 +5,24 @@ ghost use Rattle.stm_terms.specs.Cursor as cursor;
 ghost use Rattle.stm_terms.specs.Outcome.{Returns};
 ghost use Rattle.stm_terms.specs.Comparisons as comparisons;
 ghost use Rattle.stm_terms.specs.Conditions as spec;
-ghost use Rattle.stm_terms.specs.Values.{value_at};
 
 use crate::comparisons::{compared, next_comparison, not};
 use crate::cursor::{after_symbol, expect_symbol, place, unexpected};
 use crate::faults::{SourceCause, SourceError, fault};
+use crate::kinds::Valued;
 use crate::limits::MOST_JOINS;
 use crate::scope::Scope;
-use crate::values::{first_operand, value, value_behind};
+use crate::values::{first_operand, value_behind, value_of};
 use std::alloc::{AllocError, Global};
 use std::sync::Arc;
-use stm_program::{Cond, CondNode, Expr};
+use stm_program::{Cond, CondNode};
 use stm_tokens::{Symbol, Token};
 
 /// What begins where a condition is wanted, as it turns out.
 #[derive(Debug, Drop)]
 pub enum ValueOrCondition {
     /// A value.
-    Value(Expr),
+    Value(Valued),
     /// A condition.
     Condition(Cond),
 }
@@ -51,48 +51,50 @@ fn compared_with<'a>(
     alloc: Global,
     scope: &Scope,
     levels: usize,
-    left: Expr,
+    left: Valued,
     tokens: &'a [Token],
 ) -> Result<(ValueOrCondition, &'a [Token]), SourceError>
-    ensures { Returns (λ x. (x.0, x.1.now)) result (spec.compared_with (value_at levels scope.now) left tokens.now (comparisons.next_comparison tokens.now)) }
+    ensures { Returns (λ x. (x.0, x.1.now)) result (spec.compared_with levels scope.now left tokens.now (comparisons.next_comparison tokens.now)) }
 {
     let Some((comparison, rest)) = next_comparison(tokens) else {
         return Ok((ValueOrCondition::Value(left), tokens));
     };
-    let (right, rest) = value(alloc, scope, levels, rest)?;
-    let condition = compared(alloc, comparison, left, right)?;
+    let (right, rest) = value_of(alloc, scope, levels, left.kind, rest)?;
+    let condition = compared(alloc, comparison, left.expression, right)?;
     Ok((ValueOrCondition::Condition(condition), rest))
 }
 
-/// What begins with a first operand.
+/// What begins with a first operand, which begins at a byte.
 fn behind_operand<'a>(
     alloc: Global,
     scope: &Scope,
     levels: usize,
-    first: Expr,
+    at: usize,
+    first: Valued,
     tokens: &'a [Token],
 ) -> Result<(ValueOrCondition, &'a [Token]), SourceError>
-    ensures { Returns (λ x. (x.0, x.1.now)) result (spec.behind_operand levels scope.now first tokens.now) }
+    ensures { Returns (λ x. (x.0, x.1.now)) result (spec.behind_operand levels scope.now at first tokens.now) }
 {
-    let (left, rest) = value_behind(alloc, scope, levels, first, tokens)?;
+    let (left, rest) = value_behind(alloc, scope, levels, at, first, tokens)?;
     compared_with(alloc, scope, levels, left, rest)
 }
 
-/// What begins with a bracket in which this was found: a condition ends with it, a value may go on.
+/// What begins with a bracket at a byte, in which this was found: a condition ends with it, a value may go on.
 fn behind_bracket<'a>(
     alloc: Global,
     scope: &Scope,
     levels: usize,
+    at: usize,
     found: ValueOrCondition,
     tokens: &'a [Token],
 ) -> Result<(ValueOrCondition, &'a [Token]), SourceError>
-    ensures { Returns (λ x. (x.0, x.1.now)) result (spec.behind_bracket levels scope.now found tokens.now) }
+    ensures { Returns (λ x. (x.0, x.1.now)) result (spec.behind_bracket levels scope.now at found tokens.now) }
 {
     match found {
         ValueOrCondition::Condition(condition) => {
             Ok((ValueOrCondition::Condition(condition), tokens))
         }
-        ValueOrCondition::Value(first) => behind_operand(alloc, scope, levels, first, tokens),
+        ValueOrCondition::Value(first) => behind_operand(alloc, scope, levels, at, first, tokens),
     }
 }
 
@@ -203,11 +205,11 @@ fn bracket_or_operand<'a>(
     match after_symbol(tokens, Symbol::LeftParenthesis) {
         Some(_) => {
             let (found, rest) = bracket(alloc, scope, levels, tokens)?;
-            behind_bracket(alloc, scope, levels, found, rest)
+            behind_bracket(alloc, scope, levels, place(tokens), found, rest)
         }
         None => {
             let (first, rest) = first_operand(alloc, scope, levels, tokens)?;
-            behind_operand(alloc, scope, levels, first, rest)
+            behind_operand(alloc, scope, levels, place(tokens), first, rest)
         }
     }
 }

@@ -9,6 +9,7 @@ mod comparisons;
 mod conditions;
 mod cursor;
 mod faults;
+mod kinds;
 mod limits;
 mod names;
 mod room;
@@ -24,6 +25,7 @@ pub use cursor::{
     unexpected,
 };
 pub use faults::{BadSource, SourceCause, SourceError, fault};
+pub use kinds::{Kind, Valued};
 pub use limits::MOST_BRACKETS;
 pub use names::Names;
 pub use room::statements_room;
@@ -32,4 +34,4 @@ pub use shared::Shared;
 pub use stm_history::{Sequence, Text};
 pub use stm_program::{Cond, Expr, Stmt, Variable};
 pub use stm_tokens::{Symbol, Token, TokenKind, Word};
-pub use values::{Join, bracketed, join_node, value};
+pub use values::{Join, bracketed, join_kind, join_node, value, value_of};

@@ -4,6 +4,7 @@ ghost use Rattle.stm_program.specs.declared.limits.TheConstants.{MAX_VARIABLE};
 ghost use Rattle.stm_terms.specs.Scope as spec;
 
 use crate::arguments::Arguments;
+use crate::kinds::Kind;
 use crate::shared::Shared;
 use std::alloc::{AllocError, Global};
 use stm_history::{Sequence, Text};
@@ -18,6 +19,12 @@ pub struct Scope {
     pub numbered: bool,
     /// The names in sight. Each is at the place of its variable's number.
     pub names: Sequence<SharedText>,
+    /// What the variables of these names are.
+    pub kinds: Sequence<Kind>,
+    /// Whether kinds are looked at.
+    pub looks_at_kinds: bool,
+    /// Where a value of another kind than is wanted is blamed, if not where it stands.
+    pub kinds_at: Option<usize>,
     /// Where the program begins: the place of what is wrong with it as a whole.
     pub program: usize,
     /// Its parameters.
@@ -101,6 +108,9 @@ impl Scope {
         Ok(Scope {
             numbered: self.numbered,
             names,
+            kinds: self.kinds.clone()?,
+            looks_at_kinds: self.looks_at_kinds,
+            kinds_at: self.kinds_at,
             program: self.program,
             arguments: self.arguments.clone()?,
         })
@@ -134,13 +144,14 @@ impl Scope {
             && !self.arguments.get().contains(name)
     }
 
-    /// Gives a name to the next variable. It fails only when out of memory.
-    pub fn give(&mut self, alloc: Global, name: &str) -> Result<(), AllocError>
-        ensures { OnOk result (self.new ≡ spec.with_name self.old name.now) }
+    /// Gives a name to the next variable, which is of a kind. It fails only when out of memory.
+    pub fn give(&mut self, alloc: Global, name: &str, kind: Kind) -> Result<(), AllocError>
+        ensures { OnOk result (self.new ≡ spec.with_name self.old name.now kind) }
     {
         let name = Text::copy_of(alloc, name)?;
         let name = SharedText::new(alloc, name)?;
         self.names.push(name)?;
+        self.kinds.push(kind)?;
         Ok(())
     }
 }

@@ -100,7 +100,7 @@ open_given (suc n) = given_as Either 0 ∷ open_given n
 
 -- `at` is the place of what is wrong with a program as a whole
 abbrev pub look_of : ℕ → Bool → Look
-look_of at kinds = record { program = at; at_kinds = kinds; kinds_at = None }
+look_of at kinds = record { program = at; at_kinds = kinds; kinds_at = None; runners = None }
 
 -- the program of a body where its parameters stand for what is given
 abbrev pub bound_program : Look → List (List ℕ) → List Given → List Token → Read ProgramTree
@@ -138,7 +138,7 @@ definition_named definitions name = defined_by (meaning_in definitions.meanings 
 
 -- kinds are looked at where arguments are right but for their kinds, and blamed on the name of the start
 abbrev pub look_for_arguments : ℕ → Look
-look_for_arguments at = record { program = at; at_kinds = true; kinds_at = Some at }
+look_for_arguments at = record { program = at; at_kinds = true; kinds_at = Some at; runners = None }
 
 -- a body with these arguments, whose name in the start begins at a byte
 abbrev pub program_with : ℕ → Arguments → List Token → Outcome ProgramTree

@@ -87,6 +87,7 @@ first_scope arguments look tokens = record {
   kinds_at = look.kinds_at;
   program = look.program;
   arguments = arguments;
+  runners = look.runners;
 }
 
 -- the list and the statements of a program in braces, and the tokens behind it

@@ -137,13 +137,14 @@ fn open_arguments(alloc: Global, times: usize) -> Result<Sequence<Given>, AllocE
 }
 
 /// How a program is looked at that is read for the first time: `at` is the place of what is wrong with it as a whole.
-fn look_of(at: usize, kinds: bool) -> Look
+pub(crate) fn look_of(at: usize, kinds: bool) -> Look
     ensures { result ≡ spec.look_of at kinds }
 {
     Look {
         program: at,
         at_kinds: kinds,
         kinds_at: None,
+        runners: None,
     }
 }
 
@@ -162,17 +163,16 @@ fn bound_program<'a>(
     program(alloc, arguments, look, body)
 }
 
-/// A program in braces that has no parameters. `at` is the place of what is wrong with it as a whole.
+/// A program in braces that has no parameters.
 pub(crate) fn program_in_place<'a>(
     alloc: Global,
-    at: usize,
-    kinds: bool,
+    look: Look,
     tokens: &'a [Token],
 ) -> Result<(Program, &'a [Token]), SourceError>
-    ensures { Returns (λ x. (x.0, x.1.now)) result (spec.bound_program (spec.look_of at kinds) [] [] tokens.now) }
+    ensures { Returns (λ x. (x.0, x.1.now)) result (spec.bound_program look [] [] tokens.now) }
 {
     let none = Shared::new(alloc, Names::new(alloc))?;
-    bound_program(alloc, look_of(at, kinds), &none, Sequence::new(alloc), tokens)
+    bound_program(alloc, look, &none, Sequence::new(alloc), tokens)
 }
 
 /// A definition whose body these tokens begin with. `at` is where its name stands.
@@ -226,6 +226,7 @@ fn program_with(
         program: at,
         at_kinds: true,
         kinds_at: Some(at),
+        runners: None,
     };
     let (again, once_more, _) = parts(alloc, arguments, look, body)?;
     drop(again);

@@ -11,14 +11,14 @@ use stm_program::{
     MAX_DEPTH, MAX_NODES, MAX_PREFETCH, MAX_TEXT, Program, Stmt, is_listed, list_fits,
 };
 use stm_terms::{
-    Arguments, GivenText, MOST_BRACKETS, Scope, Shared, SourceCause, SourceError, after_symbol,
+    Arguments, GivenText, MOST_BRACKETS, Runners, Scope, Shared, SourceCause, SourceError, after_symbol,
     after_word, are_numbered, expect_symbol, fault, place, skip_semicolon, statements_room,
     unexpected,
 };
 use stm_tokens::{Symbol, Token, Word};
 
 /// How a program is looked at while it is read.
-#[derive(Clone, Copy, Debug)]
+#[derive(Debug, Drop)]
 pub(crate) struct Look {
     /// The place of what is wrong with it as a whole.
     pub program: usize,
@@ -26,6 +26,8 @@ pub(crate) struct Look {
     pub at_kinds: bool,
     /// Where a value of another kind than is wanted is blamed, if not where it stands.
     pub kinds_at: Option<usize>,
+    /// In a final, the runners that it names.
+    pub runners: Option<Shared<Runners>>,
 }
 
 /// That a key may come after these. It begins at a byte.
@@ -149,14 +151,21 @@ pub(crate) fn program_of(
 fn first_scope(alloc: Global, arguments: Shared<Arguments>, look: Look, tokens: &[Token]) -> Scope
     ensures { result ≡ spec.first_scope arguments look tokens.now }
 {
+    let Look {
+        program,
+        at_kinds,
+        kinds_at,
+        runners,
+    } = look;
     Scope {
         numbered: are_numbered(tokens),
         names: Sequence::new(alloc),
         kinds: Sequence::new(alloc),
-        looks_at_kinds: look.at_kinds,
-        kinds_at: look.kinds_at,
-        program: look.program,
+        looks_at_kinds: at_kinds,
+        kinds_at,
+        program,
         arguments,
+        runners,
     }
 }
 
@@ -185,7 +194,8 @@ pub(crate) fn program<'a>(
 ) -> Result<(Program, &'a [Token]), SourceError>
     ensures { Returns (λ x. (x.0, x.1.now)) result (spec.program_at look arguments tokens.now) }
 {
+    let at = look.program;
     let (keys, statements, rest) = parts(alloc, arguments, look, tokens)?;
-    let program = program_of(alloc, look.program, keys, statements)?;
+    let program = program_of(alloc, at, keys, statements)?;
     Ok((program, rest))
 }

@@ -70,7 +70,7 @@ bracketed_none levels scope wanted tokens e none is = rw (is, none) refl
 
 pub bracketed_some : (levels : ℕ) (scope : Scope) (wanted : Kind) (tokens : List Token) → 0 < levels
     → bracketed_at levels scope wanted tokens
-    ≡ bracketed_by scope (tier_by (operand_by (bracketed_at (levels - 1) scope) scope) scope 3) wanted tokens
+    ≡ bracketed_by scope (tier_by (operand_by (levels - 1) (bracketed_at (levels - 1) scope) scope) scope 3) wanted tokens
 unfolding bracketed_at
 bracketed_some levels scope wanted tokens some =
     let e : levels ≡ suc (levels - 1) = omega arith in

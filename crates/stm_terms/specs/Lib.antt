@@ -3,6 +3,7 @@ pub mod CauseNames
 pub mod Comparisons
 pub mod Conditions
 pub mod Cursor
+pub mod Endings
 pub mod Kinds
 pub mod Outcome
 pub mod Room

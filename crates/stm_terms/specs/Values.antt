@@ -17,6 +17,7 @@ use Rattle.stm_terms.specs.declared.kinds.Kind.{Kind}
 use Rattle.stm_terms.specs.declared.kinds.Kind.TheVariants as value_kind
 use Rattle.stm_terms.specs.declared.kinds.Valued.{Valued}
 use Rattle.stm_terms.specs.Kinds.{valued, kind_of, want}
+use Rattle.stm_terms.specs.Endings.{asked_of}
 use Rattle.stm_terms.specs.declared.values.Call.{Call}
 use Rattle.stm_terms.specs.declared.values.Call.TheVariants as call
 use Rattle.stm_terms.specs.declared.values.Join.{Join}
@@ -103,18 +104,19 @@ signed bracketed scope s tokens rest =
     else (if same_symbol s symbol.Not then bad (place tokens) cause.Sort
     else Err (unexpected tokens)))
 
-abbrev pub operand_kind : Bracketed → Scope → TokenKind → List Token → List Token → Read Valued
-operand_kind bracketed scope (kind.Text s) tokens rest = literal scope (place tokens) s rest
-operand_kind bracketed scope (kind.Number n) tokens rest = positive scope (place tokens) n rest
-operand_kind bracketed scope (kind.Name n) tokens rest = named scope (place tokens) (variable_of scope n) (given_named scope.arguments n) rest
-operand_kind bracketed scope (kind.Word w) tokens rest = call_by bracketed scope tokens rest (call_of w)
-operand_kind bracketed scope (kind.Symbol s) tokens rest = signed bracketed scope s tokens rest
-operand_kind bracketed scope kind.Wrong tokens rest = Err (unexpected tokens)
-operand_kind bracketed scope kind.End tokens rest = Err (unexpected tokens)
+abbrev pub operand_kind : ℕ → Bracketed → Scope → TokenKind → List Token → List Token → Read Valued
+operand_kind levels bracketed scope (kind.Text s) tokens rest = literal scope (place tokens) s rest
+operand_kind levels bracketed scope (kind.Number n) tokens rest = positive scope (place tokens) n rest
+operand_kind levels bracketed scope (kind.Name n) tokens rest =
+    asked_of levels scope n (named scope (place tokens) (variable_of scope n) (given_named scope.arguments n) rest) rest scope.runners
+operand_kind levels bracketed scope (kind.Word w) tokens rest = call_by bracketed scope tokens rest (call_of w)
+operand_kind levels bracketed scope (kind.Symbol s) tokens rest = signed bracketed scope s tokens rest
+operand_kind levels bracketed scope kind.Wrong tokens rest = Err (unexpected tokens)
+operand_kind levels bracketed scope kind.End tokens rest = Err (unexpected tokens)
 
-unfoldable pub operand_by : Bracketed → Scope → List Token → Read Valued
-operand_by bracketed scope [] = Err (unexpected [])
-operand_by bracketed scope (t ∷ ts) = operand_kind bracketed scope t.kind (t ∷ ts) ts
+unfoldable pub operand_by : ℕ → Bracketed → Scope → List Token → Read Valued
+operand_by levels bracketed scope [] = Err (unexpected [])
+operand_by levels bracketed scope (t ∷ ts) = operand_kind levels bracketed scope t.kind (t ∷ ts) ts
 
 -- ---- operators, the strongest of tier 1
 
@@ -210,10 +212,10 @@ bracketed_by scope value wanted tokens =
 -- where so many brackets may still be opened
 unfoldable pub bracketed_at : ℕ → Scope → Bracketed
 bracketed_at zero scope wanted tokens = Err (unexpected tokens)
-bracketed_at (suc levels) scope wanted tokens = bracketed_by scope (tier_by (operand_by (bracketed_at levels scope) scope) scope 3) wanted tokens
+bracketed_at (suc levels) scope wanted tokens = bracketed_by scope (tier_by (operand_by levels (bracketed_at levels scope) scope) scope 3) wanted tokens
 
 abbrev pub operand_at : ℕ → Scope → List Token → Read Valued
-operand_at levels scope = operand_by (bracketed_at levels scope) scope
+operand_at levels scope = operand_by levels (bracketed_at levels scope) scope
 
 abbrev pub tier_at : ℕ → Scope → ℕ → List Token → Read Valued
 tier_at levels scope tier = tier_by (operand_at levels scope) scope tier

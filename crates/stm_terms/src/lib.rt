@@ -8,6 +8,7 @@ mod arguments;
 mod comparisons;
 mod conditions;
 mod cursor;
+mod endings;
 mod faults;
 mod kinds;
 mod limits;
@@ -24,12 +25,13 @@ pub use cursor::{
     next_name, next_number, next_text, number_up_to, open_bracket, place, skip_semicolon,
     unexpected,
 };
+pub use endings::{Ending, Runners};
 pub use faults::{BadSource, SourceCause, SourceError, fault};
 pub use kinds::{Kind, Valued};
 pub use limits::MOST_BRACKETS;
 pub use names::Names;
 pub use room::statements_room;
-pub use scope::{Scope, are_numbered, index_of, numbered_variable};
+pub use scope::{Scope, are_numbered, braces_behind, numbered_variable};
 pub use shared::Shared;
 pub use stm_history::{Sequence, Text};
 pub use stm_program::{Cond, Expr, Stmt, Variable};

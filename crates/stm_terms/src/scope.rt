@@ -4,6 +4,7 @@ ghost use Rattle.stm_program.specs.declared.limits.TheConstants.{MAX_VARIABLE};
 ghost use Rattle.stm_terms.specs.Scope as spec;
 
 use crate::arguments::Arguments;
+use crate::endings::Runners;
 use crate::kinds::Kind;
 use crate::shared::Shared;
 use std::alloc::{AllocError, Global};
@@ -29,19 +30,8 @@ pub struct Scope {
     pub program: usize,
     /// Its parameters.
     pub arguments: Shared<Arguments>,
-}
-
-/// The place of a name among names.
-pub fn index_of(name: &str, names: &[Text]) -> Option<usize>
-    ensures is { result ≡ spec.index_of name.now names.now }
-    ensures within { IfSome result (λ n. n < length names.now) }
-{
-    for (index, other) in names.iter().enumerate() {
-        if other.as_str() == name {
-            return Some(index);
-        }
-    }
-    None
+    /// In a final, the runners that it names.
+    pub runners: Option<Shared<Runners>>,
 }
 
 /// The place of a name among names that are shared.
@@ -113,6 +103,7 @@ impl Scope {
             kinds_at: self.kinds_at,
             program: self.program,
             arguments: self.arguments.clone()?,
+            runners: self.runners.clone()?,
         })
     }
 
@@ -217,7 +208,7 @@ fn says(token: &Token, rest: &[Token]) -> Option<bool>
 }
 
 /// How many braces are open behind a token, besides the body's own; none, where that is closed.
-fn braces_behind(kind: &TokenKind, depth: usize) -> Option<usize>
+pub fn braces_behind(kind: &TokenKind, depth: usize) -> Option<usize>
     requires { depth < 2 ^ 63 }
     ensures is { result ≡ spec.braces_behind kind.now depth }
     ensures bounded { IfSome result (λ n. n ≤ depth + 1) }

@@ -1,6 +1,7 @@
 //! Reading values.
 ghost use Rattle.std.specs.Prelude.{◌≡◌, ◌≤◌, ◌+◌, [], length, option_map, IfOk};
 ghost use Rattle.stm_program.specs.Syntax as tree;
+ghost use Rattle.stm_terms.specs.Endings.{asked_of};
 ghost use Rattle.stm_terms.specs.Kinds.{valued};
 ghost use Rattle.stm_terms.specs.declared.kinds.Kind.TheVariants as kinds;
 ghost use Rattle.stm_terms.specs.Cursor as cursor;
@@ -10,7 +11,8 @@ ghost use Rattle.stm_terms.specs.Scope.{variable_of};
 ghost use Rattle.stm_terms.specs.Values as spec;
 
 use crate::arguments::{Argument, Given};
-use crate::cursor::{expect_symbol, next_number, place, unexpected};
+use crate::cursor::{after_symbol, expect_symbol, next_number, place, unexpected};
+use crate::endings::{ending, ending_of};
 use crate::faults::{SourceCause, SourceError, fault};
 use crate::kinds::{Kind, Valued};
 use crate::limits::MOST_JOINS;
@@ -162,6 +164,31 @@ fn named<'a>(
     match scope.arguments.get().named(name) {
         Some(given) => argument_value(alloc, scope, given, rest),
         None => Err(fault(at, SourceCause::Name)),
+    }
+}
+
+/// What a name stands for, or asks of the end of a runner.
+fn named_operand<'a>(
+    alloc: Global,
+    scope: &Scope,
+    levels: usize,
+    at: usize,
+    name: &str,
+    rest: &'a [Token],
+) -> Result<(Valued, &'a [Token]), SourceError>
+    ensures { Returns (λ x. (x.0, x.1.now)) result
+        (asked_of levels scope.now name.now (spec.named scope.now at (variable_of scope.now name.now) (given_named scope.now.arguments name.now) rest.now)
+        rest.now scope.now.runners) }
+{
+    let Some(runners) = &scope.runners else {
+        return named(alloc, scope, at, name, rest);
+    };
+    let Some(asked) = ending_of(name) else {
+        return named(alloc, scope, at, name, rest);
+    };
+    match after_symbol(rest, Symbol::LeftParenthesis) {
+        Some(_) => ending(alloc, scope, levels, runners.get(), asked, rest),
+        None => named(alloc, scope, at, name, rest),
     }
 }
 
@@ -334,7 +361,9 @@ fn operand<'a>(
     match &first.kind {
         TokenKind::Text(text) => literal(alloc, scope, first.at, text.as_str(), rest),
         TokenKind::Number(number) => positive(scope, first.at, *number, rest),
-        TokenKind::Name(name) => named(alloc, scope, first.at, name.as_str(), rest),
+        TokenKind::Name(name) => {
+            named_operand(alloc, scope, levels, first.at, name.as_str(), rest)
+        }
         TokenKind::Word(word) => computed(alloc, scope, levels, *word, tokens, rest),
         TokenKind::Symbol(symbol) => signed(alloc, scope, levels, *symbol, tokens, rest),
         TokenKind::Wrong => Err(unexpected(tokens)),

@@ -16,7 +16,7 @@ use stm_program::{
     Block, Expr, ExprNode, MAX_LEASE, MAX_NODES, MAX_TURNS, Operator, Stmt, StmtNode, Variable,
 };
 use stm_terms::{
-    Given, Join, Kind, MOST_BRACKETS, Scope, SourceCause, SourceError, after_name, after_symbol,
+    Given, Join, Kind, MOST_BRACKETS, Scope, SourceCause, SourceError, Valued, after_name, after_symbol,
     after_word, argument_number, bracketed, condition, expect_symbol, expect_word, fault,
     join_kind, join_node, next_name, next_number, numbered_variable, open_bracket, place,
     skip_semicolon, unexpected, value, value_of,
@@ -57,7 +57,8 @@ fn simple_statement<'a>(
     ensures { Returns (λ x. (x.0, x.1.now)) result (spec.simple_at levels scope.now simple tokens.now) }
 {
     let (value, rest) = bracketed(alloc, scope, levels, simple_kind(simple), tokens)?;
-    let value = Arc::new(alloc, value.expression)?;
+    let Valued { expression, .. } = value;
+    let value = Arc::new(alloc, expression)?;
     let node = match simple {
         Simple::Del => StmtNode::Del(value),
         Simple::Emit => StmtNode::Emit(value),
@@ -226,8 +227,9 @@ fn new_variable<'a>(
 {
     let rest = expect_symbol(rest, Symbol::Assign)?;
     let (value, rest) = value(alloc, scope, levels, rest)?;
-    let statement = set(alloc, variable, value.expression)?;
-    scope.give(alloc, name, value.kind)?;
+    let Valued { expression, kind } = value;
+    let statement = set(alloc, variable, expression)?;
+    scope.give(alloc, name, kind)?;
     Ok((statement, rest))
 }
 

@@ -59,8 +59,9 @@ fn compared_with<'a>(
     let Some((comparison, rest)) = next_comparison(tokens) else {
         return Ok((ValueOrCondition::Value(left), tokens));
     };
-    let (right, rest) = value_of(alloc, scope, levels, left.kind, rest)?;
-    let condition = compared(alloc, comparison, left.expression, right)?;
+    let Valued { expression, kind } = left;
+    let (right, rest) = value_of(alloc, scope, levels, kind, rest)?;
+    let condition = compared(alloc, comparison, expression, right)?;
     Ok((ValueOrCondition::Condition(condition), rest))
 }
 

@@ -68,6 +68,32 @@ pub fn numbered_variable(name: &str) -> Option<u64>
     }
 }
 
+/// A copy of kinds. It fails only when out of memory.
+fn copy_of_kinds(alloc: Global, kinds: &[Kind]) -> Result<Sequence<Kind>, AllocError>
+    ensures { IfOk result (λ copy. copy ≡ kinds.now) }
+{
+    let mut copy = Sequence::new(alloc);
+    for kind in kinds {
+        copy.push(*kind)?;
+    }
+    Ok(copy)
+}
+
+/// One more owner of the runners of a final. It fails only when out of memory.
+fn copy_of_runners(
+    runners: &Option<Shared<Runners>>,
+) -> Result<Option<Shared<Runners>>, AllocError>
+    ensures { IfOk result (λ copy. copy ≡ runners.now) }
+{
+    match runners {
+        Some(runners) => {
+            let runners = runners.clone()?;
+            Ok(Some(runners))
+        }
+        None => Ok(None),
+    }
+}
+
 impl Scope {
     /// The number of the variable of a name that is in sight.
     #[tactic(auto, unfolding(crate::specs::Scope::variable_of))]
@@ -98,12 +124,12 @@ impl Scope {
         Ok(Scope {
             numbered: self.numbered,
             names,
-            kinds: self.kinds.clone()?,
+            kinds: copy_of_kinds(alloc, self.kinds.as_slice())?,
             looks_at_kinds: self.looks_at_kinds,
             kinds_at: self.kinds_at,
             program: self.program,
             arguments: self.arguments.clone()?,
-            runners: self.runners.clone()?,
+            runners: copy_of_runners(&self.runners)?,
         })
     }
 

@@ -274,8 +274,14 @@ fn joined_up(
     ensures { IfOk result (λ e. e ≡ spec.joined_up scope.now done join left right) }
 {
     if done < MOST_JOINS {
-        let left = Arc::new(alloc, left.expression)?;
-        let right = Arc::new(alloc, right.expression)?;
+        let Valued {
+            expression: left, ..
+        } = left;
+        let Valued {
+            expression: right, ..
+        } = right;
+        let left = Arc::new(alloc, left)?;
+        let right = Arc::new(alloc, right)?;
         Ok(scope.valued(join_node(join, left, right), join_kind(join)))
     } else {
         Ok(left)
@@ -387,7 +393,10 @@ fn computed<'a>(
         return Err(unexpected(tokens));
     };
     let (part, rest) = bracketed(alloc, scope, levels, argument_kind(call), rest)?;
-    let part = Arc::new(alloc, part.expression)?;
+    let Valued {
+        expression: part, ..
+    } = part;
+    let part = Arc::new(alloc, part)?;
     Ok((scope.valued(call_node(call, part), call_kind(call)), rest))
 }
 
@@ -584,8 +593,9 @@ pub fn value_of<'a>(
     ensures { Returns (λ x. (x.0, x.1.now)) result (spec.value_of levels scope.now wanted tokens.now) }
 {
     let (value, rest) = value(alloc, scope, levels, tokens)?;
-    scope.want(wanted, value.kind, place(tokens))?;
-    Ok((value.expression, rest))
+    let Valued { expression, kind } = value;
+    scope.want(wanted, kind, place(tokens))?;
+    Ok((expression, rest))
 }
 
 /// The first operand of a value.

@@ -110,10 +110,7 @@ fn some_parameters<'a>(
 }
 
 /// The parameters of a program, in their brackets.
-fn parameters<'a>(
-    alloc: Global,
-    tokens: &'a [Token],
-) -> Result<(Names, &'a [Token]), SourceError>
+fn parameters<'a>(alloc: Global, tokens: &'a [Token]) -> Result<(Names, &'a [Token]), SourceError>
     ensures { Returns (λ x. (x.0, x.1.now)) result (spec.parameters_at tokens.now) }
 {
     let inner = expect_symbol(tokens, Symbol::LeftParenthesis)?;

@@ -7,7 +7,7 @@ ghost use Rattle.stm_source.specs.Definitions as definitions;
 ghost use Rattle.stm_source.specs.Rules as spec;
 
 use crate::bulk::program_room;
-use crate::definitions::{Definitions, Meaning, named_program, free_name, program_in_place};
+use crate::definitions::{Definitions, Meaning, free_name, named_program, program_in_place};
 use crate::programs::Look;
 use crate::runners::runners_in;
 use crate::starts::level;
@@ -130,7 +130,15 @@ pub(crate) fn rule<'a>(
 {
     let (name, rest) = free_name(&definitions.names, tokens)?;
     let (level, rest) = weakest_level(rest)?;
-    let (program, again, rest) = asked(alloc, all, definitions, story, is_final, place(tokens), rest)?;
+    let (program, again, rest) = asked(
+        alloc,
+        all,
+        definitions,
+        story,
+        is_final,
+        place(tokens),
+        rest,
+    )?;
     let rule = Rule {
         name: Text::copy_of(alloc, name)?,
         is_final,

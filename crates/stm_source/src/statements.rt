@@ -16,9 +16,9 @@ use stm_program::{
     Block, Expr, ExprNode, MAX_LEASE, MAX_NODES, MAX_TURNS, Operator, Stmt, StmtNode, Variable,
 };
 use stm_terms::{
-    Given, Join, Kind, MOST_BRACKETS, Scope, SourceCause, SourceError, Valued, after_name, after_symbol,
-    after_word, argument_number, bracketed, condition, expect_symbol, expect_word, fault,
-    join_kind, join_node, next_name, next_number, numbered_variable, open_bracket, place,
+    Given, Join, Kind, MOST_BRACKETS, Scope, SourceCause, SourceError, Valued, after_name,
+    after_symbol, after_word, argument_number, bracketed, condition, expect_symbol, expect_word,
+    fault, join_kind, join_node, next_name, next_number, numbered_variable, open_bracket, place,
     skip_semicolon, unexpected, value, value_of,
 };
 use stm_tokens::{Symbol, Token, TokenKind, Word};

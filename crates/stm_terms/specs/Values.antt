@@ -202,7 +202,7 @@ tier_behind operand scope tier at first tokens =
     chain (joined_right scope at (tier_by operand scope tier)) (tier + 1) (length left.1) 0 left.0 left.1
 
 -- a value of a kind between brackets
-abbrev pub bracketed_by : Scope → (List Token → Read Valued) → Bracketed
+abbrev pub bracketed_by : Scope → (List Token → Read Valued) → Kind → List Token → Read Valued
 bracketed_by scope value wanted tokens =
     expect_symbol symbol.LeftParenthesis tokens >>= λ inner.
     value inner >>= λ x.
@@ -210,7 +210,7 @@ bracketed_by scope value wanted tokens =
     expect_symbol symbol.RightParenthesis x.1 >>= λ rest. Ok (x.0, rest)
 
 -- where so many brackets may still be opened
-unfoldable pub bracketed_at : ℕ → Scope → Bracketed
+unfoldable pub bracketed_at : ℕ → Scope → Kind → List Token → Read Valued
 bracketed_at zero scope wanted tokens = Err (unexpected tokens)
 bracketed_at (suc levels) scope wanted tokens = bracketed_by scope (tier_by (operand_by levels (bracketed_at levels scope) scope) scope 3) wanted tokens
 

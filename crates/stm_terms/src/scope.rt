@@ -80,9 +80,7 @@ fn copy_of_kinds(alloc: Global, kinds: &[Kind]) -> Result<Sequence<Kind>, AllocE
 }
 
 /// One more owner of the runners of a final. It fails only when out of memory.
-fn copy_of_runners(
-    runners: &Option<Shared<Runners>>,
-) -> Result<Option<Shared<Runners>>, AllocError>
+fn copy_of_runners(runners: &Option<Shared<Runners>>) -> Result<Option<Shared<Runners>>, AllocError>
     ensures { IfOk result (λ copy. copy ≡ runners.now) }
 {
     match runners {

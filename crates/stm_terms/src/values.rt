@@ -105,10 +105,7 @@ fn negative<'a>(
 }
 
 /// What follows a minus sign: a number.
-fn negation<'a>(
-    scope: &Scope,
-    tokens: &'a [Token],
-) -> Result<(Valued, &'a [Token]), SourceError>
+fn negation<'a>(scope: &Scope, tokens: &'a [Token]) -> Result<(Valued, &'a [Token]), SourceError>
     ensures { Returns (λ x. (x.0, x.1.now)) result (spec.negation scope.now tokens.now (cursor.next_number tokens.now)) }
 {
     match next_number(tokens) {
@@ -275,10 +272,12 @@ fn joined_up(
 {
     if done < MOST_JOINS {
         let Valued {
-            expression: left, ..
+            expression: left,
+            ..
         } = left;
         let Valued {
-            expression: right, ..
+            expression: right,
+            ..
         } = right;
         let left = Arc::new(alloc, left)?;
         let right = Arc::new(alloc, right)?;
@@ -394,7 +393,8 @@ fn computed<'a>(
     };
     let (part, rest) = bracketed(alloc, scope, levels, argument_kind(call), rest)?;
     let Valued {
-        expression: part, ..
+        expression: part,
+        ..
     } = part;
     let part = Arc::new(alloc, part)?;
     Ok((scope.valued(call_node(call, part), call_kind(call)), rest))
@@ -466,8 +466,9 @@ fn chain<'a>(
         let Some((join, behind)) = next_join(tier + 1, rest) else {
             return Ok((left, rest));
         };
-        let (joined, behind) =
-            joined_right(alloc, scope, levels, tier, at, done, join, left, behind)?;
+        let (joined, behind) = joined_right(
+            alloc, scope, levels, tier, at, done, join, left, behind,
+        )?;
         left = joined;
         rest = behind;
     }

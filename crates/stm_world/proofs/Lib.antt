@@ -1,4 +1,3 @@
-pub mod Wrong
 pub mod Wants
 pub mod NeverOutOfMemory
 pub mod Polling
@@ -14,7 +13,6 @@ pub mod Untouched
 pub mod Bases
 pub mod Following
 pub mod Carried
-pub mod Causes
 pub mod CommitCases
 pub mod CommitEntries
 pub mod RunnerSteps
@@ -31,12 +29,4 @@ pub mod OneReply
 pub mod GoingOn
 pub mod Joined
 pub mod Lines
-pub mod Doomed
-pub mod LowRevisions
 pub mod Served
-pub mod MovingOn
-pub mod Failures
-pub mod Notifying
-pub mod WrongFailures
-pub mod WorkedExamples
-pub mod ListExamples

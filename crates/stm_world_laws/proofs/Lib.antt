@@ -1,0 +1,10 @@
+pub mod Wrong
+pub mod Causes
+pub mod Doomed
+pub mod LowRevisions
+pub mod MovingOn
+pub mod Failures
+pub mod Notifying
+pub mod WrongFailures
+pub mod WorkedExamples
+pub mod ListExamples

@@ -1,0 +1,4 @@
+pub mod WrongLogs
+pub mod Causes
+pub mod Notifying
+pub mod WrongFailures

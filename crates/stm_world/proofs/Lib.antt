@@ -13,6 +13,7 @@ pub mod Untouched
 pub mod Bases
 pub mod Following
 pub mod Carried
+pub mod Causes
 pub mod CommitCases
 pub mod CommitEntries
 pub mod RunnerSteps

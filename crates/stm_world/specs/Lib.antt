@@ -11,3 +11,4 @@ pub mod Joined
 pub mod OneReply
 pub mod Doomed
 pub mod NeverOutOfMemory
+pub mod Causes

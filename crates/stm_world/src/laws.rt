@@ -1,6 +1,7 @@
 //! The laws of worlds. Each function does nothing: its contract is the law.
 ghost use Rattle.stm_world.specs.Appended.{EventsAppend};
 ghost use Rattle.stm_world.specs.Asked.{AnswersAreTheReads};
+ghost use Rattle.stm_world.specs.Causes.{CausesOfWorlds};
 ghost use Rattle.stm_world.specs.Headline.{Headline, HeadlineGoesOn, OneState, ReadOnce};
 ghost use Rattle.stm_world.specs.Joined.{RunsGoOn};
 ghost use Rattle.stm_world.specs.NeverOutOfMemory.{NeverOutOfMemory};
@@ -54,6 +55,12 @@ pub fn keys_are_read_once()
 /// as out of memory, or ends a run by it. Only code runs out of memory, and its contracts say what is left then.
 pub fn out_of_memory_is_never_right()
     ensures { NeverOutOfMemory }
+{}
+
+/// Where a right reply refuses an event, the cause is `BadLimit` for a start, `NoRunner` for a step, and a cause of the store for any other
+/// event; where it ends a run by a refusal, the cause is one of the store. A world gives no other.
+pub fn causes_are_of_the_event()
+    ensures { CausesOfWorlds }
 {}
 
 /// A world opens sound, and every step keeps it so: its entries replay to its store, each legal at its point,

@@ -1,5 +1,4 @@
 pub mod Wrong
-pub mod Causes
 pub mod Doomed
 pub mod LowRevisions
 pub mod MovingOn

@@ -1,4 +1,3 @@
 pub mod WrongLogs
-pub mod Causes
 pub mod Notifying
 pub mod WrongFailures

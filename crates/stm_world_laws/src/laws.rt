@@ -1,5 +1,4 @@
 //! The laws. Each function does nothing: its contract is the law.
-ghost use Rattle.stm_world_laws.specs.Causes.{CausesOfWorlds};
 ghost use Rattle.stm_world.specs.Doomed.{FailuresAreConflicts, FailuresMoveOn, StopsAreOfOneState};
 ghost use Rattle.stm_world_laws.specs.Notifying.{WatchersAreNotified};
 ghost use Rattle.stm_world_laws.specs.WrongFailures.{WrongFailures, WrongRuns};
@@ -37,12 +36,6 @@ pub fn stops_are_of_one_state()
 /// floor is taken.
 pub fn wrong_logs_are_none()
     ensures { WrongLogs }
-{}
-
-/// Where a right reply refuses an event, the cause is `BadLimit` for a start, `NoRunner` for a step, and a cause of the store for any other
-/// event; where it ends a run by a refusal, the cause is one of the store. A world gives no other.
-pub fn causes_are_of_the_event()
-    ensures { CausesOfWorlds }
 {}
 
 /// These wrong failures and ends are rejected: a failed commit of a runner that does not run, of a program that is not done, at ReadCommitted,

@@ -18,7 +18,7 @@ use Rattle.stm_events.specs.Replies.{txn_reply, reply_to, advance_reply, poll_re
 use Rattle.stm_world.specs.Task.{Task}
 use Rattle.stm_world.specs.Log.{Line, running, store}
 use Rattle.stm_world.specs.Right.{RunnerIsRight, IsRight}
-use Rattle.stm_world_laws.specs.Causes.{IsOfStore, IsCauseAt, CausesOfWorlds}
+use Rattle.stm_world.specs.Causes.{IsOfStore, IsCauseAt, CausesOfWorlds}
 use Rattle.stm_world.proofs.WatchCalls.{poll_reported}
 
 -- the cause of a refusal; a reply has none

@@ -48,7 +48,7 @@ pub(crate) struct Definitions {
 
 impl Definitions {
     /// What a name stands for.
-    fn meaning(&self, name: &str) -> Option<&Meaning>
+    fn meaning_of(&self, name: &str) -> Option<&Meaning>
         ensures { option_copied result ≡ spec.meaning_in self.now.meanings (position (bytes_eq name.now) self.now.names) }
     {
         let place = self.names.place(name)?;
@@ -64,7 +64,7 @@ impl Definitions {
     fn named(&self, name: &str) -> Option<&Definition>
         ensures { option_copied result ≡ spec.definition_named self.now name.now }
     {
-        match self.meaning(name) {
+        match self.meaning_of(name) {
             Some(Meaning::Program(definition)) => Some(definition),
             _ => None,
         }

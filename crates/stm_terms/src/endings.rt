@@ -140,7 +140,7 @@ fn look_up(alloc: Global, scope: &Scope, key: String) -> Result<Valued, AllocErr
 }
 
 /// What is asked of the end of a runner, behind its word.
-pub(crate) fn ending<'a>(
+pub(crate) fn ending_at<'a>(
     alloc: Global,
     scope: &Scope,
     levels: usize,

@@ -12,7 +12,7 @@ ghost use Rattle.stm_terms.specs.Values as spec;
 
 use crate::arguments::{Argument, Given};
 use crate::cursor::{after_symbol, expect_symbol, next_number, place, unexpected};
-use crate::endings::{ending, ending_of};
+use crate::endings::{ending_at, ending_of};
 use crate::faults::{SourceCause, SourceError, fault};
 use crate::kinds::{Kind, Valued};
 use crate::limits::MOST_JOINS;
@@ -184,7 +184,7 @@ fn named_operand<'a>(
         return named(alloc, scope, at, name, rest);
     };
     match after_symbol(rest, Symbol::LeftParenthesis) {
-        Some(_) => ending(alloc, scope, levels, runners.get(), asked, rest),
+        Some(_) => ending_at(alloc, scope, levels, runners.get(), asked, rest),
         None => named(alloc, scope, at, name, rest),
     }
 }

@@ -39,10 +39,10 @@ abbrev pub with_rule : Story → Rule → ℕ → Story
 with_rule story rule again = record story { rules = story.rules ++ rule ∷ []; room = (story.room - again) - program_bulk rule.program }
 
 -- one more rule, whose name begins at a byte
-abbrev pub ruled : Definitions → Story → ℕ → Rule → ℕ → List Token → Outcome (Definitions × Story × List Token)
-ruled definitions story at rule again tokens =
+abbrev pub ruled : Definitions → Story → ℕ → Rule → ℕ → Outcome (Definitions × Story)
+ruled definitions story at rule again =
     if nat_eq ((story.room - again) - program_bulk rule.program) 0 then bad at cause.TooManyNodes
-    else Ok (with_meaning definitions rule.name meaning.Rule, with_rule story rule again, tokens)
+    else Ok (with_meaning definitions rule.name meaning.Rule, with_rule story rule again)
 
 -- behind its word
 abbrev pub rule_at : List Token → Definitions → Story → Bool → List Token → Outcome (Definitions × Story × List Token)
@@ -50,4 +50,5 @@ rule_at all definitions story is_final tokens =
     free_name_at definitions.names tokens >>= λ name.
     weakest_level name.1 >>= λ level.
     asked_at all definitions (place tokens) level.1 >>= λ p.
-    ruled definitions story (place tokens) (record { name = name.0; is_final = is_final; level = level.0; program = p.0 }) p.1 p.2
+    ruled definitions story (place tokens) (record { name = name.0; is_final = is_final; level = level.0; program = p.0 }) p.1 >>= λ r.
+    Ok (r.0, r.1, p.2)

@@ -48,7 +48,7 @@ pub(crate) struct Definitions {
 
 impl Definitions {
     /// What a name stands for.
-    fn meaning(&self, name: &str) -> Option<&Meaning>
+    fn meaning_of(&self, name: &str) -> Option<&Meaning>
         ensures { option_copied result ≡ spec.meaning_in self.now.meanings (position (bytes_eq name.now) self.now.names) }
     {
         let place = self.names.place(name)?;
@@ -64,7 +64,7 @@ impl Definitions {
     fn named(&self, name: &str) -> Option<&Definition>
         ensures { option_copied result ≡ spec.definition_named self.now name.now }
     {
-        match self.meaning(name) {
+        match self.meaning_of(name) {
             Some(Meaning::Program(definition)) => Some(definition),
             _ => None,
         }
@@ -110,10 +110,7 @@ fn some_parameters<'a>(
 }
 
 /// The parameters of a program, in their brackets.
-fn parameters<'a>(
-    alloc: Global,
-    tokens: &'a [Token],
-) -> Result<(Names, &'a [Token]), SourceError>
+fn parameters<'a>(alloc: Global, tokens: &'a [Token]) -> Result<(Names, &'a [Token]), SourceError>
     ensures { Returns (λ x. (x.0, x.1.now)) result (spec.parameters_at tokens.now) }
 {
     let inner = expect_symbol(tokens, Symbol::LeftParenthesis)?;

@@ -7,7 +7,7 @@ ghost use Rattle.stm_source.specs.Definitions as definitions;
 ghost use Rattle.stm_source.specs.Rules as spec;
 
 use crate::bulk::program_room;
-use crate::definitions::{Definitions, Meaning, named_program, free_name, program_in_place};
+use crate::definitions::{Definitions, Meaning, free_name, named_program, program_in_place};
 use crate::starts::level;
 use crate::story::{Rule, Story};
 use std::alloc::Global;

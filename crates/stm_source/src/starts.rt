@@ -119,7 +119,7 @@ fn started<'a>(story: &Story, tokens: &'a [Token]) -> Result<(u64, &'a [Token]),
 }
 
 /// Behind whose end a runner begins, behind the word.
-fn after<'a>(story: &Story, tokens: &'a [Token]) -> Result<(After, &'a [Token]), SourceError>
+fn behind_end<'a>(story: &Story, tokens: &'a [Token]) -> Result<(After, &'a [Token]), SourceError>
     ensures { Returns (λ x. (x.0, x.1.now)) result (spec.after_at story.now tokens.now) }
 {
     let (runner, rest) = started(story, tokens)?;
@@ -178,7 +178,7 @@ fn next_option<'a>(
         return more_options(alloc, story, more, Options { limit, ..options }, rest);
     }
     if let Some(rest) = if_new(options.after.is_some(), tokens, "after") {
-        let (after, rest) = after(story, rest)?;
+        let (after, rest) = behind_end(story, rest)?;
         let after = Some(after);
         return more_options(alloc, story, more, Options { after, ..options }, rest);
     }

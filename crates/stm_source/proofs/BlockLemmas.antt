@@ -1,5 +1,5 @@
 -- Reading statements one after the other, as a loop does.
-use Rattle.std.proofs.Common.{◌≡◌, ℕ, Bool, true, false, nat_lt, if◌then◌else◌, suc, ◌-◌, ◌+◌, ◌<◌, List, [], ◌∷◌, ◌++◌, Option, Some, None, Ok, Err, refl, sym, ap, ◌∙◌, arith}
+use Rattle.std.proofs.Common.{◌≡◌, ℕ, Bool, true, false, nat_lt, if◌then◌else◌, suc, ◌-◌, ◌+◌, ◌<◌, List, [], ◌∷◌, ◌++◌, Some, None, Ok, Err, refl, sym, ap, ◌∙◌, arith}
 use Rattle.stm_tokens.specs.declared.token.Token.{Token}
 use Rattle.stm_tokens.specs.declared.token.Symbol.TheVariants.{RightBrace}
 use Rattle.stm_program.specs.Syntax.{Statement, Block, End, Then}
@@ -10,10 +10,10 @@ use Rattle.stm_terms.specs.declared.faults.SourceCause.TheVariants.{TooDeep}
 use Rattle.stm_terms.specs.Cursor.{after_symbol, skip_semicolon, unexpected}
 use Rattle.stm_terms.specs.declared.faults.SourceError.{SourceError}
 use Rattle.stm_terms.specs.declared.faults.SourceError.TheVariants.{OutOfMemory, Bad}
-use Rattle.stm_terms.specs.Outcome.{Read, ReturnsFault, bad, ◌>>=◌}
+use Rattle.stm_terms.specs.Outcome.{Read, ReturnsFault, ◌>>=◌}
 use Rattle.stm_source.specs.declared.statements.TheConstants.{MOST_STATEMENTS}
 use Rattle.stm_source.specs.Kept.{pushed_up}
-use Rattle.stm_source.specs.Statements.{ReadStatement, Blocks, statements_from, then_up, closed_or, statement_by, block_by, block_at, choice_by, choice_at}
+use Rattle.stm_source.specs.Statements.{ReadStatement, Blocks, statements_from, then_up, statement_by, block_by, block_at, choice_by, choice_at}
 
 -- a block after statements
 abbrev pub block_after : List Statement → Block → Block

@@ -8,7 +8,6 @@ use Rattle.stm_program.specs.Syntax.{ProgramTree}
 use Rattle.stm_terms.specs.declared.arguments.Argument.{Argument}
 use Rattle.stm_terms.specs.declared.arguments.Argument.TheVariants.{Either, Text, Number}
 use Rattle.stm_terms.specs.declared.arguments.Given.{Given}
-use Rattle.stm_terms.specs.declared.arguments.Arguments.{Arguments}
 use Rattle.stm_terms.specs.declared.faults.SourceCause.TheVariants as cause
 use Rattle.stm_terms.specs.Outcome.{Outcome, Read, bad, ◌>>=◌}
 use Rattle.stm_terms.specs.Cursor.{place, unexpected, after_symbol, expect_symbol, next_name, next_number, next_text}

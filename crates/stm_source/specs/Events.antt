@@ -22,7 +22,7 @@ use Rattle.stm_source.specs.declared.story.Wait.{Wait}
 use Rattle.stm_source.specs.declared.starts.Options.{Options}
 use Rattle.stm_source.specs.declared.starts.After.{After}
 use Rattle.stm_terms.specs.Outcome.{Outcome, Read, bad, ◌>>=◌}
-use Rattle.stm_terms.specs.Cursor.{place, unexpected, after_symbol, after_name, expect_symbol, expect_name, next_name, next_number, text_at}
+use Rattle.stm_terms.specs.Cursor.{place, unexpected, after_symbol, after_name, expect_name, next_name, next_number, text_at}
 use Rattle.stm_source.specs.declared.definitions.Definitions.{Definitions}
 use Rattle.stm_source.specs.Bulk.{program_bulk}
 use Rattle.stm_source.specs.Definitions.{ReadProgram, look_of, bound_program, named_program, definition_named}

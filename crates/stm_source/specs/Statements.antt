@@ -1,5 +1,5 @@
 -- Statements and blocks: what tokens spell, or the first fault.
-use Rattle.std.specs.Prelude.{ℕ, zero, suc, ◌+◌, ◌-◌, ℤ, pos, negsuc, List, [], ◌∷◌, length, not, ◌||◌, Option, Some, None, is_some, Ok, Err}
+use Rattle.std.specs.Prelude.{ℕ, zero, suc, ◌+◌, ◌-◌, pos, negsuc, List, [], ◌∷◌, length, not, ◌||◌, Option, Some, None, is_some, Ok, Err}
 use Rattle.std.specs.Prelude.{nat_eq, nat_le, nat_lt, if◌then◌else◌, codes}
 use Rattle.stm_tokens.specs.declared.token.Token.{Token}
 use Rattle.stm_tokens.specs.declared.token.TokenKind.{TokenKind}
@@ -11,7 +11,7 @@ use Rattle.stm_tokens.specs.declared.token.Word.TheVariants as word
 use Rattle.stm_tokens.specs.Same.{same_symbol, same_word}
 use Rattle.stm_program.specs.declared.limits.TheConstants.{MAX_TURNS, MAX_LEASE}
 use Rattle.stm_program.specs.declared.operator.Operator.TheVariants.{Add, Sub}
-use Rattle.stm_program.specs.Syntax.{Expression, Text, Number, Variable, Get, Rev, Arithmetic, Cat, TextOf, NumOf, Condition}
+use Rattle.stm_program.specs.Syntax.{Expression, Number, Variable}
 use Rattle.stm_program.specs.Syntax.{Statement, Set, Put, Del, If, For, Emit, Abort, Block, End, Then}
 use Rattle.stm_terms.specs.declared.faults.SourceCause.TheVariants as cause
 use Rattle.stm_terms.specs.declared.scope.Scope.{Scope}

@@ -3,4 +3,4 @@ use Rattle.stm_terms.proofs.scope.copy_of_kinds.Given as goal
 
 -- the kinds so far are copied
 abbrev pub invariant-loop-kind : goal.invariant-loop-kind
-invariant-loop-kind l = l.copy ≡ take l.kind-index l.kind-items
+invariant-loop-kind l = l.copy ≡ take l.kind-index l.kinds

@@ -3,7 +3,7 @@
 use Rattle.std.specs.Prelude.{◌≡◌, ◌==◌, ℕ, List, Bool, false, Option, Result, Ok, Err}
 use Rattle.std.specs.List.{after_first}
 use Rattle.std.specs.Io.KnownBytes.{Keeps}
-use Rattle.stm_explain.specs.Saying.{Says, ReportsMore}
+use Rattle.stm_explain.specs.Saying.{IsExplained, Says, ReportsMore}
 use Rattle.stm_texts.specs.Reading.{scenario_in}
 use Rattle.stm_faulted_runs.specs.Lines.{OrNothing}
 use Rattle.stm_faulted_runs.specs.Rules.{ExplainsRule}
@@ -18,7 +18,7 @@ use Rattle.stm_exploring.specs.Command.{Sunk, Writes, verdict_status, fault_stat
 
 -- what is said and answered of a fault: its own message with what explains it, and its status
 abbrev pub SaysMoreOf : Option (List ℕ) → Option (List ℕ) → Bool → ExploreFault → ℕ → Type 0
-SaysMoreOf before after failed fault status = ReportsMore (fault_status fault) (fault_message fault) before after failed status
+SaysMoreOf before after failed fault status = ReportsMore IsExplained (fault_status fault) (fault_message fault) before after failed status
 
 -- the schedule, which is printed of a rule that is broken after the first line
 abbrev pub schedule_in : List ℕ → List ℕ

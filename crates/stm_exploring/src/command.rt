@@ -1,9 +1,8 @@
 //! The command `explore` over devices.
-ghost use Rattle.std.specs.Prelude.{◌≡◌, ◌≤◌, ◌+◌, false};
+ghost use Rattle.std.specs.Prelude.{◌≡◌, ◌≤◌, ◌+◌, ◌++◌, false};
 ghost use Rattle.stm_devices.specs.declared.transfer.TheConstants.{MOST_READ};
-ghost use Rattle.stm_explain.specs.Saying.{status_of as code_of, text_of, IsExplained};
+ghost use Rattle.stm_explain.specs.Saying.{status_of as code_of, text_of, Reports};
 ghost use Rattle.stm_exploring.specs.Command.{verdict_status, fault_status, fault_message, SaysOf, Writes, Finishes, Explores, GoesThrough};
-ghost use Rattle.stm_exploring.specs.Explaining.{SaysMoreOf};
 
 use crate::audience::Audience;
 use crate::exploring::explore_sources;
@@ -69,11 +68,10 @@ fn report_fault<E: Sink>(err: &mut E, fault: &ExploreFault) -> u8
     message(fault).report(err)
 }
 
-/// Says what went wrong and its explanation, and returns the status.
-pub(crate) fn report_explained<E: Sink>(err: &mut E, fault: &ExploreFault, more: &str) -> u8
-    requires works { E.failed err.old ≡ false }
-    requires explains { IsExplained more.now }
-    ensures { SaysMoreOf (E.held err.old) (E.held err.new) (E.failed err.new) fault.now result }
+/// Says what went wrong and more after it, and returns the status.
+pub(crate) fn report_with<E: Sink>(err: &mut E, fault: &ExploreFault, more: &str) -> u8
+    requires { E.failed err.old ≡ false }
+    ensures { Reports (fault_status fault.now) (fault_message fault.now ++ more.now) (E.held err.old) (E.held err.new) (E.failed err.new) result }
 {
     message(fault).report_with(err, more)
 }

@@ -1,5 +1,6 @@
 //! Sources that keep what was read of them.
-ghost use Rattle.std.specs.Prelude.{◌≡◌, ◌++◌, [], false, IfSome, string_bytes};
+ghost use Rattle.std.specs.Prelude.{◌≡◌, ◌≤◌, ◌+◌, ◌++◌, [], take, false, IfOk, IfSome, string_bytes};
+ghost use Rattle.stm_devices.specs.Devices.{Reads};
 ghost use Rattle.stm_explain.specs.Explaining.{ExplainsOrNothing};
 
 use crate::explaining::explain;
@@ -85,7 +86,12 @@ impl<'a, S: Source> Source for KeptSource<'a, S> {
 
     ghost reads = { λ k. S.reads k.source };
 
-    fn read(&mut self, buffer: &mut [u8]) -> Result<usize, DeviceFault> {
+    fn read(&mut self, buffer: &mut [u8]) -> Result<usize, DeviceFault>
+        requires { S.failed self.old.source ≡ false }
+        ensures bytes { Reads (S.left self.old.source) (S.left self.new.source) (S.failed self.new.source) result buffer.new }
+        ensures counted { S.reads self.new.source ≤ S.reads self.old.source + 1 }
+        ensures kept { self.new.is_cut ≡ false → (self.old.is_cut ≡ false) × IfOk result (λ n. self.new.bytes.items ≡ self.old.bytes.items ++ take n buffer.new) }
+    {
         let count = self.source.read(buffer)?;
         self.keep(&buffer[..count]);
         Ok(count)

@@ -78,8 +78,11 @@ pub(crate) fn said_of_place(spot: Spot<'_>) -> &'static str {
     }
 }
 
-/// Whether parentheses stand behind a name.
+/// Whether a name stands in the place of a function: in a program, with parentheses behind it.
 pub(crate) fn is_called(spot: Spot<'_>) -> bool {
+    if spot.place() == Place::Events {
+        return false;
+    }
     match spot.next() {
         Some(kind) => kind.is_symbol(Symbol::LeftParenthesis),
         None => false,

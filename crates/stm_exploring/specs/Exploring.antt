@@ -72,8 +72,8 @@ pub record Sources : Type 0 where
 abbrev pub NoneFailed : Sources → Type 0
 NoneFailed d = (d.scenario_failed ≡ false) × (d.keeps_failed ≡ false)
 
--- What a search of two sources did, by its answer. The scenario is read and judged before the program. A failed source is
--- answered exactly where one has failed.
+-- What a search of two sources did, by its answer. The scenario is read and judged before the program, so that a program which cannot be
+-- read is answered only beside a good scenario. A failed source is answered exactly where one has failed.
 abbrev pub Searches : List Wait → Option Level → Sources → Result Printed ExploreFault → Type 0
 Searches waits level d (Ok p) =
     NoneFailed d × (s : Scenario) × (rule : ProgramTree) × IfSome d.scenario (λ all. asked_in level all ≡ Ok s)
@@ -82,7 +82,9 @@ Searches waits level d (Err OutOfMemory) = NoneFailed d
 Searches waits level d (Err (BadScenario fault)) = NoneFailed d × IfSome d.scenario (λ all. asked_in level all ≡ Err fault)
 Searches waits level d (Err (BadProgram fault)) =
     NoneFailed d × (s : Scenario) × IfSome d.scenario (λ all. asked_in level all ≡ Ok s) × IfSome d.keeps (λ all. program_in all ≡ Err fault)
-Searches waits level d (Err Device) = (d.scenario_failed ≡ true) ⊎ ((d.scenario_failed ≡ false) × (d.keeps_failed ≡ true))
+Searches waits level d (Err Device) =
+    (d.scenario_failed ≡ true)
+    ⊎ ((d.scenario_failed ≡ false) × (d.keeps_failed ≡ true) × (s : Scenario) × IfSome d.scenario (λ all. asked_in level all ≡ Ok s))
 
 -- ---- what whole schedules come to
 

@@ -3,10 +3,12 @@
 //! `specs/Lines.antt` says which line a source has, `specs/Command.antt` what the command does to its devices.
 #![tactic(auto)]
 
+mod calls;
 mod command;
 mod explaining;
 mod fault;
 mod line;
+mod naming;
 mod spots;
 mod wanted;
 

@@ -13,9 +13,7 @@ mod sources;
 mod terminals;
 mod threading;
 
-use explaining::{name_of, say_unread, say_unwritten};
 use files::open;
-use noting::Noting;
 use sources::{ScenarioFile, run_compile, scenario_at};
 use std::process::ExitCode;
 use std::sync::Wait;
@@ -242,22 +240,17 @@ fn run_recipe(rt: &HostRuntime, words: &RecipeWords<'_>) -> u8 {
     recipe_to(rt.alloc(), words, &mut out, &mut err)
 }
 
-/// Prints the source of a path's scenario or program, or of that on standard input. Why a file fails is said, or is not.
-fn run_show(rt: &HostRuntime, path: &str, program: bool, explain: bool) -> u8 {
+/// Prints the source of a path's scenario or program, or of that on standard input.
+fn run_show(rt: &HostRuntime, input: Option<&str>, program: bool) -> u8 {
     let shown = if program {
         Shown::Program
     } else {
         Shown::Scenario
     };
-    let mut input = Std::new(Noting::new(open(rt, path)));
-    let mut out = Std::new(Noting::new(rt.stdout()));
+    let mut input = Std::new(open(rt, path_of(input)));
+    let mut out = Std::new(rt.stdout());
     let mut err = Std::new(rt.stderr());
-    let status = show_to(rt.alloc(), shown, &mut input, &mut out, &mut err);
-    if explain {
-        say_unread(rt, name_of(path), input.device.failure);
-        say_unwritten(rt, out.device.failure);
-    }
-    status
+    show_to(rt.alloc(), shown, &mut input, &mut out, &mut err)
 }
 
 /// Whether faults are explained: where they are to be, or where standard error is a terminal, unless they are not to be.
@@ -309,10 +302,7 @@ fn answer<T: Threads + Wait + Sync>(rt: &HostRuntime, threads: &T, plain: &Plain
             let explain = is_explained(rt, is_silent, explain);
             run_explore(rt, scenario, keeps, level, after, budget, explain)
         }
-        Asked::Show { input, program } => {
-            let explain = is_explained(rt, is_silent, false);
-            run_show(rt, path_of(input), program, explain)
-        }
+        Asked::Show { input, program } => run_show(rt, input, program),
         Asked::Compile { source, explain } => {
             let explain = is_explained(rt, is_silent, explain);
             run_compile(rt, path_of(source), explain)

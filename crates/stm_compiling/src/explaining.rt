@@ -193,6 +193,9 @@ fn name_words(alloc: Global, found: &str, spot: Spot<'_>) -> Result<String, Allo
     if spot.place() == Place::Events && spot.event() == Some(Event::Step) {
         return format!(in alloc; "no runner before has the name {found}, and a number");
     }
+    if spot.is_behind(0, "start") {
+        return format!(in alloc; "no program above has the name {found}");
+    }
     if spot.is_behind_word(0, Word::Let) || spot.is_behind_word(0, Word::For) {
         return format!(in alloc;
             "{found} cannot be given here: it is the name of something in sight, or one of v0 to v15, which are never let"

@@ -1,5 +1,5 @@
 -- A program of a source, by its name and its arguments: what the source has with one more line behind it, which starts the program.
-use Rattle.std.specs.Prelude.{ℕ, suc, ◌+◌, ◌-◌, List, [], ◌∷◌, ◌++◌, length, map, take, drop, Bool, true, false, not, ◌&&◌, nat_eq, nat_lt, bytes_eq, if◌then◌else◌, Option, Some, None, Ok, Err, codes, slice_get}
+use Rattle.std.specs.Prelude.{ℕ, suc, ◌+◌, ◌-◌, List, [], ◌∷◌, ◌++◌, length, map, take, drop, Bool, true, false, ◌&&◌, nat_eq, nat_le, nat_lt, bytes_eq, if◌then◌else◌, Option, Some, None, Ok, Err, codes, slice_get}
 use Rattle.json.specs.Print.{quoted}
 use Rattle.stm_events.specs.declared.event.WorldEvent.{WorldEvent}
 use Rattle.stm_events.specs.declared.event.WorldEvent.TheVariants.{Start}
@@ -18,14 +18,16 @@ use Rattle.stm_tokens.specs.declared.token.TokenKind.TheVariants as kind
 
 -- ---- arguments, as they stand in a source
 
--- the digits are a number as a source has it, at most this one
-abbrev pub is_number_up_to : ℕ → List ℕ → Bool
-is_number_up_to most digits = nat_lt 0 (length digits) && (nat_eq (number_length digits) (length digits) && not (nat_lt most (value_from 0 digits)))
+-- the digits are a number as a source has it, from one to another
+abbrev pub is_number_in : ℕ → ℕ → List ℕ → Bool
+is_number_in least most digits =
+    nat_lt 0 (length digits)
+    && (nat_eq (number_length digits) (length digits) && (nat_le least (value_from 0 digits) && nat_le (value_from 0 digits) most))
 
 -- a whole number of 64 bits, by its spelling (45: `-`)
 abbrev pub is_whole : List ℕ → Bool
 is_whole [] = false
-is_whole (b ∷ bs) = if nat_eq b 45 then is_number_up_to 9223372036854775808 bs else is_number_up_to 9223372036854775807 (b ∷ bs)
+is_whole (b ∷ bs) = if nat_eq b 45 then is_number_in 1 9223372036854775808 bs else is_number_in 0 9223372036854775807 (b ∷ bs)
 
 -- a number where it is spelled as one, else a text
 abbrev pub argument : List ℕ → List ℕ

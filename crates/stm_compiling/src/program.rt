@@ -25,11 +25,13 @@ const MARK: &str = "--text";
 /// How many bytes of the line that starts a program stand before its name.
 const BEFORE_NAME: usize = 6;
 
-/// Whether digits are a number as a source has it, at most this one.
-fn is_number_up_to(most: u64, digits: &[u8]) -> bool
-    ensures { result ≡ spec.is_number_up_to most digits.now }
+/// Whether digits are a number as a source has it, from one to another.
+fn is_number_in(least: u64, most: u64, digits: &[u8]) -> bool
+    ensures { result ≡ spec.is_number_in least most digits.now }
 {
-    !digits.is_empty() && number_length(digits) == digits.len() && number_of(digits) <= most
+    let number = number_of(digits);
+    let is_one = number_length(digits) == digits.len();
+    !digits.is_empty() && is_one && least <= number && number <= most
 }
 
 /// Whether a word is a whole number of 64 bits, by its spelling.
@@ -38,8 +40,8 @@ fn is_whole(word: &[u8]) -> bool
 {
     match word {
         [] => false,
-        [b'-', digits @ ..] => is_number_up_to(9223372036854775808, digits),
-        _ => is_number_up_to(9223372036854775807, word),
+        [b'-', digits @ ..] => is_number_in(1, 9223372036854775808, digits),
+        _ => is_number_in(0, 9223372036854775807, word),
     }
 }
 

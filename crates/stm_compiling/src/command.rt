@@ -97,6 +97,7 @@ fn behind(
 }
 
 /// The line of the program of a name, or why there is none.
+#[tactic(auto, using(crate::proofs::Answering::when_read, crate::proofs::Answering::when_bad))]
 fn program_of(
     alloc: Global,
     name: Option<&str>,
@@ -124,7 +125,7 @@ fn line_of(
     name: Option<&str>,
     source: &[u8],
 ) -> Result<Text, CompileFault>
-    ensures { Answers (option_map (λ n. n.now) name.entry) (text_by part source.now) (line_by part source.now) result }
+    ensures { Answers (option_map (λ n. n.now) name.entry) (text_by part.entry source.now) (line_by part.entry source.now) result }
 {
     match part {
         Part::Scenario => scenario_of(alloc, name, source),
@@ -143,7 +144,7 @@ fn line_from<S: Source>(
     input: &mut S,
 ) -> Result<Text, CompileFault>
     requires { S.failed input.old ≡ false }
-    ensures given { Gives part (option_map (λ n. n.now) name.entry) (S.left input.old) (S.failed input.new) result }
+    ensures given { Gives part.entry (option_map (λ n. n.now) name.entry) (S.left input.old) (S.failed input.new) result }
     ensures bounded { S.reads input.new ≤ S.reads input.old + MOST_READ }
 {
     match read_all(alloc, input) {
@@ -168,7 +169,7 @@ pub fn compiled<S: Source, E: Sink>(
 ) -> Result<Text, u8>
     requires input_works { S.failed input.old ≡ false }
     requires err_works { E.failed err.old ≡ false }
-    ensures compiles { Compiles part (option_map (λ n. n.now) name.entry) (S.left input.old) (S.failed input.new) (E.held err.old) (E.held err.new) (E.failed err.new) result }
+    ensures compiles { Compiles part.entry (option_map (λ n. n.now) name.entry) (S.left input.old) (S.failed input.new) (E.held err.old) (E.held err.new) (E.failed err.new) result }
     ensures bounded { S.reads input.new ≤ S.reads input.old + MOST_READ }
 {
     match line_from(alloc, part, name, input) {
@@ -204,7 +205,7 @@ pub fn compile_to<S: Source, W: Sink, E: Sink>(
     requires input_works { S.failed input.old ≡ false }
     requires out_works { W.failed out.old ≡ false }
     requires err_works { E.failed err.old ≡ false }
-    ensures ends { Ends part (option_map (λ n. n.now) name.entry) (record {
+    ensures ends { Ends part.entry (option_map (λ n. n.now) name.entry) (record {
       input = S.left input.old;
       before = W.held out.old;
       after = W.held out.new;

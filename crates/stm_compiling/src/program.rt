@@ -1,5 +1,5 @@
 //! The line of a program of a source: it with its arguments, as JSON.
-ghost use Rattle.std.specs.Prelude.{◌≡◌, ◌≤◌, ◌+◌, ◌++◌, codes, length, map, IfOk, OnOk, option_copied, string_bytes};
+ghost use Rattle.std.specs.Prelude.{◌≡◌, ◌≤◌, ◌+◌, ◌++◌, codes, drop, if◌then◌else◌, length, map, IfOk, OnOk, option_copied, string_bytes};
 ghost use Rattle.json.specs.Print.{quoted};
 ghost use Rattle.stm_program_json.specs.Writing.{written_program};
 ghost use Rattle.stm_program_source.specs.Texts.{joined, separated};
@@ -104,16 +104,26 @@ fn push_texts(alloc: Global, tokens: &mut Vec<String>, words: &[String]) -> Resu
     Ok(())
 }
 
+/// The words behind a mark, which has a place among them, or is behind all of them.
+fn behind_mark(words: &[String], mark: usize) -> &[String]
+    ensures { result.now ≡ drop (mark + 1) words.now }
+{
+    if mark < words.len() {
+        &words[mark + 1..]
+    } else {
+        &[]
+    }
+}
+
 /// The arguments that words are, as a source has them.
+#[tactic(auto, using(crate::proofs::Arguments::marked))]
 fn arguments(alloc: Global, words: &[String]) -> Result<Vec<String>, AllocError>
     ensures { IfOk result (λ tokens. map string_bytes tokens.items ≡ spec.arguments (map string_bytes words.now)) }
 {
     let mark = before_mark(words);
     let mut tokens = Vec::new(alloc);
     push_arguments(alloc, &mut tokens, &words[..mark])?;
-    if mark < words.len() {
-        push_texts(alloc, &mut tokens, &words[mark + 1..])?;
-    }
+    push_texts(alloc, &mut tokens, behind_mark(words, mark))?;
     Ok(tokens)
 }
 

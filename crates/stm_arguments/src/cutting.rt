@@ -37,6 +37,7 @@ fn up_to_place(words: &[String]) -> usize
 }
 
 /// How many words there are up to the second one in a place, and with it.
+#[tactic(auto, using(crate::proofs::CuttingLemmas::named))]
 fn up_to_name(words: &[String]) -> usize
     ensures is { result ≡ spec.up_to_name (map string_bytes words.now) }
     ensures within { result ≤ length words.now }
@@ -46,13 +47,18 @@ fn up_to_name(words: &[String]) -> usize
 }
 
 /// How many words of a command line stand before the arguments of a program that is compiled.
+#[tactic(auto, using(crate::proofs::CuttingLemmas::fewer, crate::proofs::CuttingLemmas::compiled, crate::proofs::CuttingLemmas::other))]
 fn before_arguments(words: &[String]) -> usize
     ensures is { result ≡ spec.before_arguments (map string_bytes words.now) }
     ensures within { result ≤ length words.now }
 {
-    match words {
-        [_, word, rest @ ..] if word.as_str() == "compile" => 2 + up_to_name(rest),
-        _ => words.len(),
+    if words.len() < 2 {
+        return words.len();
+    }
+    if words[1].as_str() == "compile" {
+        2 + up_to_name(&words[2..])
+    } else {
+        words.len()
     }
 }
 

@@ -97,7 +97,7 @@ fn behind(
 }
 
 /// The line of the program of a name, or why there is none.
-#[tactic(auto, using(crate::proofs::Answering::when_read, crate::proofs::Answering::when_bad))]
+#[tactic(auto, using(crate::proofs::Answering::when_read))]
 fn program_of(
     alloc: Global,
     name: Option<&str>,

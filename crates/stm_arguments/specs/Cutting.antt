@@ -1,5 +1,5 @@
 -- The arguments of a program that is compiled: the words behind a file and the program's name.
-use Rattle.std.specs.Prelude.{ℕ, suc, ◌+◌, List, [], ◌∷◌, take, drop, length, map, Bool, true, false, nat_eq, bytes_eq, if◌then◌else◌, codes, string_bytes}
+use Rattle.std.specs.Prelude.{ℕ, suc, ◌+◌, List, [], ◌∷◌, take, drop, length, map, Bool, false, nat_eq, bytes_eq, if◌then◌else◌, codes, string_bytes}
 use Rattle.stm_arguments.specs.declared.cutting.CutWords.{CutWords}
 
 -- an option, and no word in a place: it begins with `-` (45), and has more

@@ -37,7 +37,6 @@ fn up_to_place(words: &[String]) -> usize
 }
 
 /// How many words there are up to the second one in a place, and with it.
-#[tactic(auto, using(crate::proofs::CuttingLemmas::named))]
 fn up_to_name(words: &[String]) -> usize
     ensures is { result ≡ spec.up_to_name (map string_bytes words.now) }
     ensures within { result ≤ length words.now }

@@ -8,7 +8,7 @@ use Rattle.stm_json.specs.declared.limits.TheConstants.{MOST_BYTES}
 use Rattle.stm_terms.specs.declared.faults.BadSource.{BadSource}
 use Rattle.stm_terms.specs.declared.faults.SourceCause.TheVariants.{TooLong}
 use Rattle.stm_terms.specs.Outcome.{Outcome}
-use Rattle.stm_source.specs.Sources.{scenario_in}
+use Rattle.stm_source.specs.Sources.{scenario_in, source_in}
 use Rattle.stm_tokens.specs.Positions.{place_after}
 use Rattle.stm_compiling.specs.Parts.{line_by, text_by}
 use Rattle.stm_compiling.specs.declared.part.Part.{Part}
@@ -19,7 +19,7 @@ abbrev too_long : BadSource
 too_long = record { at = 0; cause = TooLong }
 
 scenario_in-long : (bytes : List ℕ) → MOST_BYTES < length bytes → scenario_in bytes ≡ Err too_long
-unfolding scenario_in
+unfolding scenario_in source_in
 scenario_in-long bytes long = grind (arith, nat_tests)
 
 line_by-long : (part : Part) (bytes : List ℕ) → MOST_BYTES < length bytes → line_by part bytes ≡ Err too_long

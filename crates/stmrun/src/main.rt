@@ -12,6 +12,7 @@ mod noting;
 mod sources;
 mod terminals;
 mod threading;
+mod waits;
 
 use files::open;
 use sources::{ScenarioFile, run_compile, scenario_at};
@@ -21,7 +22,7 @@ use std::sync::Wait;
 use std::thread::Threads;
 use stm_arguments::{
     Asked, CutWords, PlainWords, asked_of, cut_words, plain_words, print_topic, read_level,
-    read_words, refuse_waits, topic_of,
+    read_words, topic_of,
 };
 use stm_commands::{Format, RecipeWords, Shown, Std, no_format_to};
 pub use stm_commands::{
@@ -29,11 +30,12 @@ pub use stm_commands::{
     script_as_to, script_explained_to, script_to, show_to,
 };
 use stm_compiling::Part;
-use stm_exploring::{Level, Wait as RunnerWait, waits_in};
+use stm_exploring::{Level, Wait as RunnerWait};
 pub use stm_exploring::{explore_explained_to, explore_to, outcomes_explained_to, outcomes_to};
 pub use stm_threading::{threads_as_to, threads_to};
 use terminals::{close, is_shown, shown_budget};
 use threading::{printing_of, run_threads};
+use waits::read_waits;
 
 /// The path of an input that may be named: that of standard input where it is not.
 fn path_of(named: Option<&str>) -> &str {
@@ -154,28 +156,6 @@ fn run_outcomes(
     );
     close(&mut budget);
     status
-}
-
-/// The waits that are spelled, none where nothing is; or the status where they are spelled wrongly, or there is no rule to look for.
-fn read_waits(
-    rt: &HostRuntime,
-    after: Option<&str>,
-    has_rule: bool,
-) -> Result<Vec<RunnerWait>, u8> {
-    let Some(text) = after else {
-        return Ok(Vec::new(rt.alloc()));
-    };
-    if !has_rule {
-        return Err(refuse_waits(rt));
-    }
-    match waits_in(rt.alloc(), text) {
-        Ok(Some(waits)) => Ok(waits),
-        Ok(None) => Err(refuse_waits(rt)),
-        Err(_) => {
-            let _ = rt.eprintln("stmrun: out of memory");
-            Err(3)
-        }
-    }
 }
 
 /// Looks through the interleavings of a scenario, for one that breaks a rule, where there is one, or for what they come to.

@@ -26,6 +26,18 @@ pub enum StoreAsked<'a> {
     Show {
         store: &'a str,
     },
+    /// To print what the store had at the revision of this word.
+    At {
+        store: &'a str,
+        revision: &'a str,
+    },
+    /// To print what has happened in the store from the revision of this word on: to a key, to the keys from one to before another, or to all.
+    Since {
+        store: &'a str,
+        revision: &'a str,
+        key: Option<&'a str>,
+        range: Option<(&'a str, &'a str)>,
+    },
     /// To read it all, and to say whether it is whole.
     Check {
         store: &'a str,
@@ -34,8 +46,14 @@ pub enum StoreAsked<'a> {
     Nothing(u8),
 }
 
+/// The words of a range of keys.
+const RANGE: &[&str] = &["FIRST", "END"];
+
 const EXAMPLE: &str =
     "Prints the keys that are present in the store of FILE, its live leases and its revision, as the last lines of a report.
+With --at its keys as they were at a revision are printed, and with --since what has happened from a revision on, an event a line:
+[\"PUT\",KEY,VALUE,CREATE,MOD,VERSION,LEASE] or [\"DELETE\",KEY,REVISION]; of one key with --key, of the keys from FIRST to
+before END, by bytes, with --range. A revision that was compacted, or is yet to come, is refused with status 2.
 With --check the file is read whole: yes RECORDS BYTES says that it is as it was written, and no OFFSET Damaged or
 no OFFSET NoScenario that the record at that byte is not. Nothing behind such a record is served, and nothing is changed.
 
@@ -51,7 +69,7 @@ whose report was printed, and of one that was under way all or nothing.
 
 Beside FILE stand FILE.lock, which one process holds at a time, and now and then FILE.next.
 
-Statuses: 0 done or yes, 1 no, 2 usage, 3 out of memory, a failed disk or device, or a store that another process has open.";
+Statuses: 0 done or yes, 1 no, 2 usage or no such revision, 3 out of memory, a failed disk or device, or a store that another process has open.";
 
 const SCRIPT_EXAMPLE: &str =
     "Runs a scenario over the store of the file STORE, and prints its report once the scenario is on the disk. The events of
@@ -91,9 +109,38 @@ fn store_option<'a>(alloc: Global) -> Arg<'a> {
     store.required(true)
 }
 
+/// The options of the command `store` about what is past.
+fn with_past<'a>(alloc: Global, command: Command<'a>) -> Result<Command<'a>, AllocError> {
+    let at = option(alloc, "at", "REVISION", "The keys at this revision");
+    let since = option(
+        alloc,
+        "since",
+        "REVISION",
+        "The events from this revision on",
+    );
+    let key = option(alloc, "key", "KEY", "Only the events of this key");
+    let range = option(
+        alloc,
+        "range",
+        "FIRST",
+        "Only the events of the keys from FIRST to before END",
+    );
+    let range = range.value_names(RANGE);
+    command
+        .arg(at.conflicts_with("since")?)?
+        .arg(since)?
+        .arg(key.requires_arg("since")?)?
+        .arg(range.requires_arg("since")?.conflicts_with("key")?)
+}
+
 /// The command `store`.
 fn store_command<'a>(alloc: Global) -> Result<Command<'a>, AllocError> {
-    Command::new(alloc, "store")
+    let check = Arg::new(alloc, "check")
+        .long("check")
+        .action(ArgAction::SetTrue)
+        .help("Whether the file is whole")
+        .conflicts_with_all(&["at", "since"])?;
+    let command = Command::new(alloc, "store")
         .about("Prints what a store that is kept in a file has")
         .after_long_help(EXAMPLE)
         .arg(
@@ -101,12 +148,8 @@ fn store_command<'a>(alloc: Global) -> Result<Command<'a>, AllocError> {
                 .required(true)
                 .help("The file of the store"),
         )?
-        .arg(
-            Arg::new(alloc, "check")
-                .long("check")
-                .action(ArgAction::SetTrue)
-                .help("Whether the file is whole"),
-        )
+        .arg(check)?;
+    with_past(alloc, command)
 }
 
 /// The command `script`, over a store that is kept.
@@ -244,9 +287,34 @@ fn asked_at<'a>(name: &str, found: &ArgMatches<'a>) -> Option<StoreAsked<'a>> {
             attempts: found.get_str("attempts"),
         });
     }
+    shown_of(found)
+}
+
+/// The two words of an option, where it was given.
+fn pair_of<'a>(found: &ArgMatches<'a>, name: &str) -> Option<(&'a str, &'a str)> {
+    let words = found.get_strs(name)?;
+    if words.len() == 2 {
+        return Some((words[0], words[1]));
+    }
+    None
+}
+
+/// What the command `store` asks for, with what was found of it.
+fn shown_of<'a>(found: &ArgMatches<'a>) -> Option<StoreAsked<'a>> {
     let store = found.get_str("FILE")?;
     if is_set(found, "check") {
         return Some(StoreAsked::Check { store });
+    }
+    if let Some(revision) = found.get_str("at") {
+        return Some(StoreAsked::At { store, revision });
+    }
+    if let Some(revision) = found.get_str("since") {
+        return Some(StoreAsked::Since {
+            store,
+            revision,
+            key: found.get_str("key"),
+            range: pair_of(found, "range"),
+        });
     }
     Some(StoreAsked::Show { store })
 }

@@ -22,6 +22,10 @@ pub enum StoreFault {
     NoScenario(usize),
     /// The scenario says what its store opens with, and the file has a store already.
     OpenAlready,
+    /// The revision that was asked for is above the store's.
+    FutureRevision,
+    /// The revision that was asked for is below the lowest one that can be read.
+    Compacted,
     /// The report could not be written.
     Output,
 }
@@ -86,6 +90,8 @@ impl fmt::Display for StoreFault {
                     "the store is there already: only its first scenario may begin with [\"begin\",..]",
                 )
             }
+            StoreFault::FutureRevision => f.write_str("the store has not come to that revision"),
+            StoreFault::Compacted => f.write_str("that revision is compacted"),
             StoreFault::Output => f.write_str("the report could not be written"),
         }
     }

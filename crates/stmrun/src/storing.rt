@@ -1,30 +1,44 @@
 //! The commands over a store that is kept in a file.
+ghost use Rattle.std.specs.Prelude.{◌≡◌, List, ℕ, IfOk, IsTrue};
+ghost use Rattle.stm_file_disk.specs.Event.{events_of};
+ghost use Rattle.stm_file_disk.specs.Replay.{replay};
 
 use crate::explaining::{say_unread, say_unwritten};
 use crate::files::open as open_input;
 use crate::noting::Noting;
 use std::fs;
 use stm_commands::{Format, Std};
-use stm_file_disk::{FileDisk, OpenError, open};
+use stm_file_disk::{FileDisk, open};
 use stm_store_arguments::{StoreAsked, store_asked_of};
 use stm_storing::{
-    Level, Manner, StoreFault, check_kept, read_input, read_program, run_kept, script_kept,
-    show_kept,
+    HIGHEST_REVISION, Level, Manner, RecordFile, StoreFault, Text, Watched, check_kept, read_input,
+    read_program, run_kept, script_kept, show_at, show_kept, show_since,
 };
 
 /// Says of the file of a store why a command failed, and gives the status.
 fn say_fault(rt: &HostRuntime, path: &str, fault: &StoreFault) -> u8 {
     let _ = eprintln!(rt; "stmrun: {path}: {fault}");
     match fault {
-        StoreFault::OpenAlready => 2,
+        StoreFault::OpenAlready | StoreFault::FutureRevision | StoreFault::Compacted => 2,
         _ => 3,
     }
 }
 
 /// Opens the file of a store. Where that is refused, it was said why, and the status is given.
-fn opened(rt: &HostRuntime, path: &str) -> Result<(FileDisk, Vec<u8>), u8> {
+fn opened(rt: &HostRuntime, path: &str) -> Result<(RecordFile<FileDisk>, Vec<u8>), u8>
+    ensures bytes { IfOk result (λ opened. (replay (events_of opened.0.disk.calls.items)).seen ≡ opened.1.items) }
+    ensures usable { IfOk result (λ opened. IsTrue (replay (events_of opened.0.disk.calls.items)).is_usable) }
+    ensures durable { IfOk result (λ opened. (c : List ℕ) → (replay (events_of opened.0.disk.calls.items)).may c → c ≡ opened.1.items) }
+{
     match open(rt, path) {
-        Ok(opened) => Ok(opened),
+        Ok((disk, bytes)) => {
+            let records = RecordFile {
+                alloc: rt.alloc(),
+                disk,
+                end: bytes.len(),
+            };
+            Ok((records, bytes))
+        }
         Err(error) => {
             let _ = eprintln!(rt; "stmrun: {path}: {error}");
             Err(3)
@@ -33,7 +47,11 @@ fn opened(rt: &HostRuntime, path: &str) -> Result<(FileDisk, Vec<u8>), u8> {
 }
 
 /// Opens the file of a store that is there already.
-fn opened_there(rt: &HostRuntime, path: &str) -> Result<(FileDisk, Vec<u8>), u8> {
+fn opened_there(rt: &HostRuntime, path: &str) -> Result<(RecordFile<FileDisk>, Vec<u8>), u8>
+    ensures bytes { IfOk result (λ opened. (replay (events_of opened.0.disk.calls.items)).seen ≡ opened.1.items) }
+    ensures usable { IfOk result (λ opened. IsTrue (replay (events_of opened.0.disk.calls.items)).is_usable) }
+    ensures durable { IfOk result (λ opened. (c : List ℕ) → (replay (events_of opened.0.disk.calls.items)).may c → c ≡ opened.1.items) }
+{
     if let Err(error) = fs::metadata(rt, path) {
         let _ = eprintln!(rt; "stmrun: {path}: {error}");
         return Err(3);
@@ -73,9 +91,9 @@ fn run_script(
         input.device.failure,
     );
     let (text, scenario) = read?;
-    let (disk, bytes) = opened(rt, store)?;
+    let (mut records, bytes) = opened(rt, store)?;
     let mut out = Std::new(Noting::new(rt.stdout()));
-    let kept = script_kept(rt.alloc(), format, disk, bytes, &text, &scenario, &mut out);
+    let kept = script_kept(format, &mut records, bytes, &text, &scenario, &mut out);
     say_unwritten(rt, out.device.failure);
     match kept {
         Ok(()) => Ok(()),
@@ -128,9 +146,9 @@ fn run_program(
         input.device.failure,
     );
     let (text, program) = read?;
-    let (disk, bytes) = opened(rt, store)?;
+    let (mut records, bytes) = opened(rt, store)?;
     let mut out = Std::new(Noting::new(rt.stdout()));
-    let ran = run_kept(rt.alloc(), disk, bytes, &text, program, manner, &mut out);
+    let ran = run_kept(&mut records, bytes, &text, program, manner, &mut out);
     say_unwritten(rt, out.device.failure);
     match ran {
         Ok(true) => Ok(()),
@@ -154,9 +172,80 @@ fn run_program_at(
 
 /// Prints what the store of a file has.
 fn show(rt: &HostRuntime, store: &str) -> Result<(), u8> {
-    let (disk, bytes) = opened_there(rt, store)?;
+    let (mut records, bytes) = opened_there(rt, store)?;
     let mut out = Std::new(Noting::new(rt.stdout()));
-    let shown = show_kept(rt.alloc(), Format::Lines, disk, bytes, &mut out);
+    let shown = show_kept(Format::Lines, &mut records, bytes, &mut out);
+    say_unwritten(rt, out.device.failure);
+    match shown {
+        Ok(()) => Ok(()),
+        Err(fault) => Err(say_fault(rt, store, &fault)),
+    }
+}
+
+/// The revision that a word spells, from 1 on.
+fn revision_of(rt: &HostRuntime, word: &str) -> Result<u64, u8> {
+    let revision = word.parse::<u64>().unwrap_or(0);
+    if revision == 0 || revision > HIGHEST_REVISION {
+        let _ = rt.eprintln("error: a revision is from 1 to 9223372036854775806");
+        return Err(2);
+    }
+    Ok(revision)
+}
+
+/// Prints the keys that the store of a file had at the revision of a word.
+fn show_past(rt: &HostRuntime, store: &str, word: &str) -> Result<(), u8> {
+    let revision = revision_of(rt, word)?;
+    let (mut records, bytes) = opened_there(rt, store)?;
+    let mut out = Std::new(Noting::new(rt.stdout()));
+    let shown = show_at(&mut records, bytes, revision, &mut out);
+    say_unwritten(rt, out.device.failure);
+    match shown {
+        Ok(()) => Ok(()),
+        Err(fault) => Err(say_fault(rt, store, &fault)),
+    }
+}
+
+/// A copy of a word, or the status where no memory is left.
+fn copied(rt: &HostRuntime, word: &str) -> Result<Text, u8> {
+    match Text::copy_of(rt.alloc(), word) {
+        Ok(text) => Ok(text),
+        Err(_) => {
+            let _ = rt.eprintln("stmrun: out of memory");
+            Err(3)
+        }
+    }
+}
+
+/// The keys whose events are asked for: none where all are.
+fn watched_of(
+    rt: &HostRuntime,
+    key: Option<&str>,
+    range: Option<(&str, &str)>,
+) -> Result<Option<Watched>, u8> {
+    if let Some(key) = key {
+        return Ok(Some(Watched::Key(copied(rt, key)?)));
+    }
+    match range {
+        None => Ok(None),
+        Some((first, end)) => {
+            let first = copied(rt, first)?;
+            let end = copied(rt, end)?;
+            Ok(Some(Watched::Range { first, end }))
+        }
+    }
+}
+
+/// Prints the events of the store of a file from the revision of a word on, those of these keys.
+fn show_events(
+    rt: &HostRuntime,
+    store: &str,
+    word: &str,
+    wanted: &Option<Watched>,
+) -> Result<(), u8> {
+    let from = revision_of(rt, word)?;
+    let (mut records, bytes) = opened_there(rt, store)?;
+    let mut out = Std::new(Noting::new(rt.stdout()));
+    let shown = show_since(&mut records, bytes, from, wanted, &mut out);
     say_unwritten(rt, out.device.failure);
     match shown {
         Ok(()) => Ok(()),
@@ -166,8 +255,8 @@ fn show(rt: &HostRuntime, store: &str) -> Result<(), u8> {
 
 /// Says whether the file of a store is whole.
 fn check(rt: &HostRuntime, store: &str) -> Result<(), u8> {
-    let (disk, bytes) = opened_there(rt, store)?;
-    let said = match check_kept(rt.alloc(), disk, bytes) {
+    let (mut records, bytes) = opened_there(rt, store)?;
+    let said = match check_kept(&mut records, bytes) {
         Ok(checked) => {
             let said = println!(rt; "yes {} {}", checked.records, checked.bytes);
             said.is_ok()
@@ -200,6 +289,16 @@ pub(crate) fn run_stored(rt: &HostRuntime, words: &[String]) -> u8 {
             attempts,
         } => run_program_at(rt, store, program, level, attempts),
         StoreAsked::Show { store } => show(rt, store),
+        StoreAsked::At { store, revision } => show_past(rt, store, revision),
+        StoreAsked::Since {
+            store,
+            revision,
+            key,
+            range,
+        } => match watched_of(rt, key, range) {
+            Ok(wanted) => show_events(rt, store, revision, &wanted),
+            Err(status) => Err(status),
+        },
         StoreAsked::Check { store } => check(rt, store),
         StoreAsked::Nothing(status) => return status,
     };

@@ -1,7 +1,5 @@
 pub mod Report
 pub mod Script
-pub mod Laws
-pub mod ReadBack
 pub mod Format
 pub mod FormatShown
 pub mod FormatEscaped
@@ -19,4 +17,3 @@ pub mod FormatLaws
 pub mod WholeLines
 pub mod WholeComparing
 pub mod WholeJudging
-pub mod WholeLaws

@@ -13,7 +13,6 @@
 mod format;
 mod format_columns;
 mod format_fields;
-mod format_laws;
 mod format_notes;
 mod format_pieces;
 mod format_row;
@@ -22,26 +21,18 @@ mod format_script;
 mod format_svg;
 mod format_text;
 mod format_words;
-mod laws;
 mod leases;
 mod line_form;
 mod report_text;
 mod run_script;
 mod whole_comparing;
 mod whole_judging;
-mod whole_laws;
 mod whole_lines;
 
 pub use format::Format;
-pub use format_laws::{nothing_unescaped, one_line_a_row, one_object_an_event, one_row_an_event};
 pub use format_row::{Lane, Mark, Row};
 pub use format_rows::rows_of;
 pub use format_script::{render, script_as};
-pub use laws::{
-    checks_say_yes, entries_are_reported, never_no_to_a_script, one_report,
-    reports_are_of_right_runs, reports_are_read_back, scripts_are_read_as_right,
-    scripts_pass_checks, yes_to_a_script,
-};
 pub use leases::live_leases;
 pub use report_text::report;
 pub use run_script::{ScriptFault, script};
@@ -57,5 +48,4 @@ pub use stm_retry::{Denied, Reply, World};
 pub use stm_texts::{BadInput, Cause, Opening, ReadError, Scenario, WorldEvent, read_scenario};
 pub use whole_comparing::WholeChecked;
 pub use whole_judging::check_whole;
-pub use whole_laws::{alike_is_equal, yes_is_the_report};
 pub use whole_lines::first_unlike;

@@ -30,7 +30,7 @@ use Rattle.stm_schedules.specs.Outcomes.{Ends, after_reply, after_reported, afte
 use Rattle.stm_schedules.proofs.Members.{IsAmong}
 use Rattle.stm_schedules.proofs.MoveLemmas.{step_is_move}
 use Rattle.stm_schedules.proofs.Runs.{world_along}
-use Rattle.stm_schedules.proofs.Exchanging.{put, put_end, IsKnownChange, Touches, Enters, runner_does}
+use Rattle.stm_schedules.proofs.StepReplies.{put, put_end, IsKnownChange, Touches, Enters, runner_does}
 
 -- ---- places that are written
 

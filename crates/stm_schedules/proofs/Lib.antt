@@ -7,8 +7,6 @@ pub mod Lengths
 pub mod Splits
 pub mod Gathered
 pub mod Merging
-pub mod Exchanging
+pub mod StepReplies
 pub mod KnownEnds
-pub mod Sorting
-pub mod FewerLemmas
 pub mod WorkedExamples

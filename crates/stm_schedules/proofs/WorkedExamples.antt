@@ -24,7 +24,6 @@ use Rattle.stm_schedules.specs.Schedules.{place_after}
 use Rattle.stm_schedules.specs.Keeping.{end_alone, keeps, first_bad, goes_on}
 use Rattle.stm_schedules.specs.Scenarios.{up_to_last_start, after_last_start, begun, with_schedule}
 use Rattle.stm_schedules.specs.Outcomes.{ends_begun, outcomes_at, outcomes_up_to}
-use Rattle.stm_schedules.specs.Fewer.{fewer_outcomes_at}
 
 abbrev puts : List ℕ → List ℕ → WorldEvent
 puts key value = Txn (record { compares = []; success = Put key value 0 ∷ []; failure = [] })
@@ -106,7 +105,3 @@ two_copies = Start (copy_to (codes "a")) ReadCommitted 1 ∷ Start (copy_to (cod
 six_schedules : length (outcomes_at 4 (begun (at_revision 1) two_copies) (ends_begun (at_revision 1) two_copies)) ≡ 6
 unfolding start_runner fetch commit step_live settle run_over run_block evaluate key_in text_in put_of get_key last_write latest_writes fresh
 six_schedules = refl
-
-four_are_looked_at : length (fewer_outcomes_at 4 None (begun (at_revision 1) two_copies) (ends_begun (at_revision 1) two_copies)) ≡ 4
-unfolding start_runner fetch commit step_live settle run_over run_block evaluate key_in text_in put_of get_key last_write latest_writes fresh
-four_are_looked_at = refl

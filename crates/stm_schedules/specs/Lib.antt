@@ -4,5 +4,3 @@ pub mod Keeping
 pub mod Scenarios
 pub mod Outcomes
 pub mod Merges
-pub mod Exchange
-pub mod Fewer

@@ -1,6 +1,4 @@
 //! The laws of schedules. Each function does nothing: its contract is the law.
-ghost use Rattle.stm_schedules.specs.Exchange.{QuietStepsExchange};
-ghost use Rattle.stm_schedules.specs.Fewer.{FewerAreEnough};
 ghost use Rattle.stm_schedules.specs.Keeping.{FirstBadIsFirst, LongestIsAll, RulesEnd};
 ghost use Rattle.stm_schedules.specs.Merges.{MergesKeep};
 ghost use Rattle.stm_schedules.specs.Outcomes.{EndsAreKnown, OutcomesAreThose};
@@ -61,19 +59,4 @@ pub fn outcomes_are_those()
 /// end of each runner.
 pub fn ends_are_known()
     ensures { EndsAreKnown }
-{}
-
-/// Two steps of different runners, neither of which enters anything (a fetch, an abort, a fault, a commit that fails or is refused), come to
-/// the same world in either order, each gets the same reply, and neither enters anything after the other.
-pub fn quiet_steps_exchange()
-    ensures { QuietStepsExchange }
-{}
-
-/// Fewer schedules are enough. Of those that differ by exchanges of neighbouring quiet steps of different runners one is looked at: it has
-/// no quiet step right after a quiet step of a runner of a higher number. For each schedule there is one that is looked at, which comes to
-/// the same world and the same ends of runners, is as long and does not stand after it.
-///
-/// So the first bad schedule of those that are looked at is the first of all, their lengths are those of all, and so are their outcomes.
-pub fn fewer_are_enough()
-    ensures { FewerAreEnough }
 {}

@@ -1,4 +1,3 @@
-pub mod Wrong
 pub mod Wants
 pub mod NeverOutOfMemory
 pub mod Polling
@@ -31,12 +30,4 @@ pub mod OneReply
 pub mod GoingOn
 pub mod Joined
 pub mod Lines
-pub mod Doomed
-pub mod LowRevisions
 pub mod Served
-pub mod MovingOn
-pub mod Failures
-pub mod Notifying
-pub mod WrongFailures
-pub mod WorkedExamples
-pub mod ListExamples

@@ -10,8 +10,5 @@ pub mod Headline
 pub mod Joined
 pub mod OneReply
 pub mod Doomed
-pub mod WrongLogs
 pub mod NeverOutOfMemory
 pub mod Causes
-pub mod Notifying
-pub mod WrongFailures

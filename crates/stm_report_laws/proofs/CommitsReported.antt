@@ -1,0 +1,136 @@
+-- The line of a commit: a check finds its program's run on what the line reports, and the store that it leads to.
+use Rattle.std.proofs.Common.{◌≡◌, ℕ, ◌+◌, ◌≤◌, Bool, true, false, cond, List, [], ◌∷◌, map, Option, Some, option_map, bytes_eq, refl, sym, ◌∙◌}
+use Rattle.std.proofs.Common.{ap, subst}
+use Rattle.std.specs.Prelude.{MatchBool}
+use Rattle.stm_history.specs.declared.key_state.KeyState.{KeyState}
+use Rattle.stm_history.specs.declared.key_state.ReadAnswer.{ReadAnswer}
+use Rattle.stm_history.specs.History.{History, key_at, mod_of}
+use Rattle.stm_program.specs.Syntax.{ProgramTree}
+use Rattle.stm_steps.specs.declared.value.Value.{Value}
+use Rattle.stm_steps.specs.declared.trace_item.TraceItem.{TraceItem}
+use Rattle.stm_steps.specs.declared.run.End.{End}
+use Rattle.stm_steps.specs.declared.run.Run.{Run}
+use Rattle.stm_steps.specs.declared.run.Answered.{Answered}
+use Rattle.stm_meaning.specs.Answer.{Lookup}
+use Rattle.stm_meaning.specs.Meaning.{run_over}
+use Rattle.stm_txn.specs.Standing.{Standing, with_history as with_standing_history}
+use Rattle.stm_program.specs.Levels.{is_comparing}
+use Rattle.stm_compile.specs.Answers.{AreTrue, answer_in, look_up, said, state_now}
+use Rattle.stm_entries.specs.Replayed.{Replayed, without_moment}
+use Rattle.stm_entries.specs.Alone.{seen_at, left_by, left_by_run}
+use Rattle.stm_entries.specs.declared.entry.Entry.TheVariants.{Program}
+use Rattle.stm_events.specs.declared.reply.CommittedRead.{CommittedRead}
+use Rattle.stm_events.specs.Replies.{committed_read, reads_in}
+use Rattle.stm_events.specs.FirstReads.{keys_first_read}
+use Rattle.stm_world.specs.Asked.{keys_read}
+use Rattle.stm_world.specs.Right.{Situation, IsCommitted}
+use Rattle.stm_check.specs.Point.{led_by}
+use Rattle.stm_check.specs.Replays.{AreTrulyReported, AnswersFit, keys_reported, IsRightCommit}
+use Rattle.stm_check.specs.Runs.{IsRunReported, revision_reached}
+use Rattle.stm_check.proofs.CommitLemmas.{right_commit, commit_led}
+use Rattle.stm_report_laws.proofs.RunsReported.{run_with}
+use Rattle.stm_report_laws.proofs.CallsReported.{unwatched}
+
+-- ---- answers that are true are reported so, and looked up alike
+
+found_alike : (b : Bool) (h : History) (a : ReadAnswer) (reported rest : Option ReadAnswer) → key_at h a.key a.of_rev ≡ a.kv →
+    option_map said reported ≡ option_map said rest →
+    option_map said (cond b (Some record { key = a.key; kv = key_at h a.key a.of_rev; of_rev = a.of_rev; revision = a.of_rev }) reported)
+    ≡ option_map said (cond b (Some a) rest)
+found_alike true h a reported rest shown same =
+    ap (λ (kv : Option KeyState). Some (said (record { key = a.key; kv = kv; of_rev = a.of_rev; revision = a.of_rev }))) shown
+found_alike false h a reported rest shown same = same
+
+looked_up : (h : History) (answers : List ReadAnswer) → AreTrue h answers → (key : List ℕ) →
+    look_up (reads_in h (map committed_read answers)) key ≡ look_up answers key
+looked_up h [] truth key = refl
+looked_up h (a ∷ answers) truth key =
+    found_alike (bytes_eq a.key key) h a (answer_in key (reads_in h (map committed_read answers))) (answer_in key answers) truth.0.shown
+    (looked_up h answers truth.1 key)
+
+truly_reported : (h : History) (answers : List ReadAnswer) → AreTrue h answers → AreTrulyReported h (map committed_read answers)
+truly_reported h [] truth = tt
+truly_reported h (a ∷ answers) truth = (
+  record {
+    reached = truth.0.reached;
+    value = ap (λ (kv : Option KeyState). option_map (λ (s : KeyState). s.value) kv) (sym truth.0.shown);
+    modified = ap mod_of (sym truth.0.shown);
+  },
+  truly_reported h answers truth.1,
+)
+
+keys_are : (answers : List ReadAnswer) → keys_reported (map committed_read answers) ≡ keys_read answers
+keys_are [] = refl
+keys_are (a ∷ answers) = ap (λ (keys : List (List ℕ)). a.key ∷ keys) (keys_are answers)
+
+-- ---- by whether the level compares
+
+-- the program sees on what is reported what it saw
+seen_by : (b : Bool) (h : History) (reads : List ReadAnswer) → AreTrue h reads →
+    cond b (state_now h) (look_up (reads_in h (map committed_read (cond b [] reads)))) ≡ cond b (state_now h) (look_up reads)
+seen_by true h reads truth = refl
+seen_by false h reads truth = λ i key. looked_up h reads truth key i
+
+-- and what is reported are the reads of its run
+fit_by : (b : Bool) (h : History) (program : ProgramTree) (reads : List ReadAnswer) (run : Run) → AreTrue h reads →
+    keys_first_read program.prefetch run.reads ≡ keys_read reads →
+    MatchBool b (map committed_read (cond b [] reads) ≡ [])
+    ((keys_reported (map committed_read (cond b [] reads)) ≡ keys_first_read program.prefetch run.reads)
+    × AreTrulyReported h (map committed_read (cond b [] reads)))
+fit_by true h program reads run truth in_order = refl
+fit_by false h program reads run truth in_order = (keys_are reads ∙ sym in_order, truly_reported h reads truth)
+
+-- ---- a commit that is right in a log, of a runner whose reads are true
+
+pub record IsCommitLine (at : Situation) (revision attempts conflicts : ℕ) (output : List Value) (trace : List TraceItem) (answers : List CommittedRead)
+    : Type 0 where
+  pub right : IsCommitted at revision output trace answers
+  pub truth : AreTrue at.store.history at.reads
+  pub attempt : attempts ≡ conflicts + 1
+  pub may_be_sent : attempts ≤ at.task.limit
+
+run_is_reported : (at : Situation) (revision attempts conflicts : ℕ) (output : List Value) (trace : List TraceItem) (answers : List CommittedRead) →
+    (e : IsCommitLine at revision attempts conflicts output trace answers) →
+    IsRunReported at.task.level at.store.history at.task.program answers e.right.commits.run
+run_is_reported at revision attempts conflicts output trace answers e =
+    let h : History = at.store.history in
+    let b : Bool = is_comparing at.task.level in
+    let run : Run = e.right.commits.run in
+    record {
+      is_run = ap (λ (xs : List CommittedRead). run_over (seen_at at.task.level (reads_in h xs) h) at.task.program.statements) e.right.reported
+          ∙ ap (λ (look : Lookup). run_over look at.task.program.statements) (seen_by b h at.reads e.truth) ∙ e.right.is_alone;
+      answers_fit = subst (λ (xs : List CommittedRead). AnswersFit at.task.level h (keys_first_read at.task.program.prefetch run.reads) xs)
+          (sym e.right.reported) (fit_by b h at.task.program at.reads run e.truth e.right.in_order);
+    }
+
+pub commit_right : (at : Situation) (revision attempts conflicts : ℕ) (output : List Value) (trace : List TraceItem) (answers : List CommittedRead) →
+    IsCommitLine at revision attempts conflicts output trace answers →
+    IsRightCommit (unwatched at.store) (run_with conflicts at.task) revision attempts output trace answers
+commit_right at revision attempts conflicts output trace answers e =
+    right_commit (unwatched at.store) (run_with conflicts at.task) e.right.commits.run revision attempts output trace answers
+    (run_is_reported at revision attempts conflicts output trace answers e)
+    (record {
+      is_done = e.right.commits.is_done;
+      emits = sym e.right.emits;
+      sees = sym e.right.sees;
+      reached = ap revision_reached e.right.changes ∙ ap Some (sym e.right.reached);
+      attempt = e.attempt;
+      may_be_sent = e.may_be_sent;
+    })
+
+-- the entry of the line leads to what the program's run leaves
+pub commit_store : (at : Situation) (revision attempts conflicts : ℕ) (output : List Value) (trace : List TraceItem) (answers : List CommittedRead) →
+    IsCommitLine at revision attempts conflicts output trace answers →
+    led_by (Program at.task.program at.task.level (reads_in at.store.history answers) output trace revision ∷ []) (unwatched at.store) at.store.moment
+    ≡ unwatched (with_standing_history at.store
+    (left_by_run (run_over (seen_at at.task.level (reads_in at.store.history answers) at.store.history) at.task.program.statements)
+    (without_moment at.store)).history)
+commit_store at revision attempts conflicts output trace answers e =
+    let s : Standing = at.store in
+    let run : Run = e.right.commits.run in
+    let reported : IsRunReported at.task.level s.history at.task.program answers run =
+    run_is_reported at revision attempts conflicts output trace answers e in
+    sym (commit_led (unwatched s) (run_with conflicts at.task) run revision output trace answers reported e.right.commits.is_done)
+    ∙ ap (λ (r : Replayed). unwatched (with_standing_history s r.history))
+    (sym (ap (λ (a : Answered). left_by_run a (without_moment s)) reported.is_run
+    ∙ ap (λ (end : End). left_by run end (without_moment s)) e.right.commits.is_done))

@@ -1,0 +1,273 @@
+-- What fits into 64 bits of replies, events and worlds, and the numbers that are read of a history.
+use Rattle.std.proofs.Common.{◌≡◌, ℕ, zero, suc, ◌+◌, ◌<◌, ◌≤◌, Bool, true, false, cond, List, [], ◌∷◌, ◌++◌, length, map, refl, sym}
+use Rattle.std.proofs.Common.{subst, arith, Option, Some, None, Ok, Err, IfSome, inl, inr, bytes_eq}
+use Rattle.std.specs.Prelude.{Result, nat_lt, slice_get, option_map, is_some, ◌⊎◌, ◌||◌, ◌&&◌}
+use Rattle.std.specs.FinMap as finmap
+use Rattle.std.proofs.lemmas.Bool.{ltb-true}
+use Rattle.stm_history.specs.declared.change.Change.{Change}
+use Rattle.stm_history.specs.declared.key_state.KeyState.{KeyState}
+use Rattle.stm_history.specs.declared.key_state.ReadAnswer.{ReadAnswer}
+use Rattle.stm_history.specs.declared.revisions.TheConstants.{HIGHEST_REVISION, HIGHEST_NUMBER}
+use Rattle.stm_history.specs.Opening.{Opening, opened_state}
+use Rattle.stm_history.specs.History.{History, now, key_at, key_now, mod_of, number_of_last, change_of}
+use Rattle.stm_history.proofs.HistoryLaws.{mod_is_reached}
+use Rattle.stm_program.specs.Limits.{BlockInRange}
+use Rattle.stm_program.specs.declared.write.Write.{Write}
+use Rattle.stm_steps.specs.Answer.{Answer}
+use Rattle.stm_outcome.specs.declared.answer.FailedCompare.{FailedCompare}
+use Rattle.stm_outcome.specs.declared.answer.OpAnswer.{OpAnswer}
+use Rattle.stm_outcome.specs.declared.answer.OpAnswer.TheVariants as answer
+use Rattle.stm_outcome.specs.declared.answer.TxnAnswer.{TxnAnswer}
+use Rattle.stm_outcome.specs.Numbers.{StateFits, EventsFit, OpsFit, AnswerFits, AllExpiredFit}
+use Rattle.stm_txn.specs.Standing.{opening}
+use Rattle.stm_txn.proofs.Fitting.{states_fit}
+use Rattle.stm_compile.specs.Answers.{answer_in, said, look_up, AreTrue}
+use Rattle.stm_compile.specs.Conflicts.{Seen, seen_in, seen_of_read, seen_of_write, seen_by, changes_above, IsConflict}
+use Rattle.stm_compile.specs.CommitTxn.{first_carried}
+use Rattle.stm_events.specs.declared.event.WorldEvent.{WorldEvent}
+use Rattle.stm_events.specs.declared.event.WorldEvent.TheVariants.{Start, Step, Txn, Grant, Keep, Revoke, Advance as AdvanceTo}
+use Rattle.stm_events.specs.declared.event.WorldEvent.TheVariants.{WatchKey, WatchRange, Poll, Cancel, Compact}
+use Rattle.stm_events.specs.declared.reply.Reply.{Reply}
+use Rattle.stm_events.specs.declared.reply.KeyRead.{KeyRead}
+use Rattle.stm_events.specs.declared.reply.CommittedRead.{CommittedRead}
+use Rattle.stm_events.specs.declared.reply.OpReply.{OpReply}
+use Rattle.stm_events.specs.declared.reply.OpReply.TheVariants as op
+use Rattle.stm_events.specs.declared.reply.Reply.TheVariants.{Started, Prefetched, Fetched, Committed, Conflict, GaveUp, Aborted, Faulted, Ended}
+use Rattle.stm_events.specs.declared.reply.Reply.TheVariants.{Txn as TxnDone, Granted, Kept, Revoked, Advanced, Compacted, Watching as WatchingReply, Batch as BatchReply}
+use Rattle.stm_events.specs.declared.reply.Reply.TheVariants.{Lost, Cancelled}
+use Rattle.stm_events.specs.declared.refusal.Denied.{Denied}
+use Rattle.stm_events.specs.Replies.{committed_read, op_reply, txn_reply}
+use Rattle.stm_world.specs.Task.{modified_now}
+use Rattle.stm_world.specs.World.{World, Runner, Slot, Stepped, runner_at}
+use Rattle.stm_world.specs.Sound.{IsSound}
+use Rattle.stm_report_laws.proofs.SmallRuns.{ValuesFit, ItemsFit}
+use Rattle.stm_report_laws.proofs.SmallStores.{IsSmall, HistoryFits}
+use Rattle.stm_report_laws.proofs.SmallStores.{WatchersFit}
+
+abbrev pub Few : ℕ → Type 0
+Few n = n ≤ HIGHEST_NUMBER
+
+-- ---- what fits
+
+abbrev pub KeyReadsFit : List KeyRead → Type 0
+KeyReadsFit [] = Unit {0}
+KeyReadsFit (r ∷ rs) = (r.mod_rev ≤ HIGHEST_NUMBER) × KeyReadsFit rs
+
+-- what answers show
+abbrev pub AnswersFit : List ReadAnswer → Type 0
+AnswersFit [] = Unit {0}
+AnswersFit (a ∷ rest) = ((mod_of a.kv ≤ HIGHEST_NUMBER) × (a.of_rev ≤ HIGHEST_NUMBER)) × AnswersFit rest
+
+-- what is reported of a commit's answers
+abbrev pub CommittedReadsFit : List CommittedRead → Type 0
+CommittedReadsFit [] = Unit {0}
+CommittedReadsFit (r ∷ rest) = ((r.mod_rev ≤ HIGHEST_NUMBER) × (r.of_rev ≤ HIGHEST_NUMBER)) × CommittedReadsFit rest
+
+-- what is reported of a transaction's answers
+abbrev pub OpReplyFits : OpReply → Type 0
+OpReplyFits (op.Get revision kv) = (revision ≤ HIGHEST_NUMBER) × IfSome kv StateFits
+OpReplyFits op.Put = Unit {0}
+OpReplyFits (op.Del count) = count ≤ 1
+
+abbrev pub OpRepliesFit : List OpReply → Type 0
+OpRepliesFit [] = Unit {0}
+OpRepliesFit (o ∷ os) = OpReplyFits o × OpRepliesFit os
+
+abbrev pub ReplyFits : Reply → Type 0
+ReplyFits (Started runner) = Few runner
+ReplyFits (Prefetched runner revision reads) = Few runner × Few revision × KeyReadsFit reads
+ReplyFits (Fetched runner key mod_rev of_rev revision) = Few runner × Few mod_rev × Few of_rev × Few revision
+ReplyFits (Committed runner revision attempts output trace answers) =
+    Few runner × Few revision × Few attempts × ValuesFit output × ItemsFit trace × CommittedReadsFit answers
+ReplyFits (Conflict runner key seen now_modified) = Few runner × Few seen × Few now_modified
+ReplyFits (GaveUp runner attempts key seen now_modified) = Few runner × Few attempts × Few seen × Few now_modified
+ReplyFits (Aborted runner text) = Few runner
+ReplyFits (Faulted runner fault) = Few runner
+ReplyFits (Ended runner cause) = Few runner
+ReplyFits (TxnDone succeeded revision answers) = Few revision × OpRepliesFit answers
+ReplyFits (Granted id) = Few id
+ReplyFits (Kept id) = Few id
+ReplyFits (Revoked id revision) = Few id × Few revision
+ReplyFits (Advanced moment expired) = Few moment × AllExpiredFit expired
+ReplyFits (Compacted revision) = Few revision
+ReplyFits (WatchingReply watcher) = Few watcher
+ReplyFits (BatchReply watcher upto events) = Few watcher × Few upto × EventsFit events
+ReplyFits (Lost watcher floor) = Few watcher × Few floor
+ReplyFits (Cancelled watcher) = Few watcher
+
+abbrev pub AnswerToFits : Result Reply Denied → Type 0
+AnswerToFits (Ok reply) = ReplyFits reply
+AnswerToFits (Err denied) = AllExpiredFit denied.expired
+
+abbrev pub RepliesFit : List (Result Reply Denied) → Type 0
+RepliesFit [] = Unit {0}
+RepliesFit (r ∷ rs) = AnswerToFits r × RepliesFit rs
+
+-- what an event asks
+abbrev pub EventAsksFew : WorldEvent → Type 0
+EventAsksFew (Start program level limit) = (limit ≤ HIGHEST_NUMBER) × BlockInRange program.statements
+EventAsksFew (Step id) = Few id
+EventAsksFew (Txn txn) = Unit {0}
+EventAsksFew (Grant id ttl) = Unit {0}
+EventAsksFew (Keep id) = Few id
+EventAsksFew (Revoke id) = Few id
+EventAsksFew (AdvanceTo moment) = Few moment
+EventAsksFew (WatchKey key from) = Few from
+EventAsksFew (WatchRange first end from) = Few from
+EventAsksFew (Poll watcher most) = Few watcher
+EventAsksFew (Cancel watcher) = Few watcher
+EventAsksFew (Compact revision) = Few revision
+
+abbrev pub EventsAskFew : List WorldEvent → Type 0
+EventsAskFew [] = Unit {0}
+EventsAskFew (e ∷ es) = EventAsksFew e × EventsAskFew es
+
+-- a runner: its limit, the commits that failed, and the literals of its program
+pub record RunnerFits (r : Runner) : Type 0 where
+  pub limit : r.task.limit ≤ HIGHEST_NUMBER
+  pub failures : r.failures < r.task.limit
+  pub literals : BlockInRange r.task.program.statements
+
+abbrev pub RunnersFit : List Slot → Type 0
+RunnersFit slots = (id : ℕ) (r : Runner) → runner_at id slots ≡ Some r → RunnerFits r
+
+-- a world after n events
+pub record WorldFits (n : ℕ) (w : World) : Type 0 where
+  pub sound : IsSound w
+  pub small : IsSmall w.standing
+  pub watchers : WatchersFit w.standing.watchers
+  pub watching : length w.standing.watchers ≤ n
+  pub started : length w.runners ≤ n
+  pub runners : RunnersFit w.runners
+  pub entries : length w.entries + finmap.len w.standing.live ≤ n + n
+
+-- ---- the numbers that are read of a history
+
+mod_by : (o : Option KeyState) → IfSome o StateFits → Few (mod_of o)
+mod_by None fits = omega arith
+mod_by (Some s) fits = fits.numbers.mod_rev
+
+pub mod_fits : (h : History) (key : List ℕ) (r : ℕ) → HistoryFits h → Few (mod_of (key_at h key r))
+mod_fits h key r fits = mod_by (key_at h key r) (states_fit h fits.1 fits.0 key r)
+
+mod_now_fits : (h : History) (key : List ℕ) → HistoryFits h → Few (mod_of (key_now h key))
+mod_now_fits h key fits =
+    let low : now h ≤ HIGHEST_REVISION = fits.1 in
+    let reached : mod_of (key_now h key) ≤ now h = mod_is_reached h.opening key h.revisions in
+    omega (arith, low, reached)
+
+pub low_fits : (h : History) → HistoryFits h → Few (now h)
+low_fits h fits = let low : now h ≤ HIGHEST_REVISION = fits.1 in omega (arith, low)
+
+pub answers_fit : (h : History) (answers : List ReadAnswer) → HistoryFits h → AreTrue h answers → AnswersFit answers
+answers_fit h [] fits truth = tt
+answers_fit h (a ∷ rest) fits truth =
+    let reached : a.of_rev ≤ now h = truth.0.reached in
+    let low : now h ≤ HIGHEST_REVISION = fits.1 in (
+      (subst (λ (o : Option KeyState). Few (mod_of o)) truth.0.shown (mod_fits h a.key a.of_rev fits), omega (arith, reached, low)),
+      answers_fit h rest fits truth.1,
+    )
+
+found_by : (x : ReadAnswer) (rest : List ReadAnswer) (key : List ℕ) (a : Answer) (b : Bool) → Few (mod_of x.kv) →
+    (look_up rest key ≡ Some a → Few a.mod_rev) → option_map said (cond b (Some x) (answer_in key rest)) ≡ Some a → Few a.mod_rev
+found_by x rest key a true mine other same = let one : said x ≡ a = cc in subst (λ (y : Answer). Few y.mod_rev) one mine
+found_by x rest key a false mine other same = other same
+
+pub found_in : (answers : List ReadAnswer) (key : List ℕ) (a : Answer) → AnswersFit answers → look_up answers key ≡ Some a → Few a.mod_rev
+found_in [] key a fits is = absurd (cc)
+found_in (x ∷ rest) key a fits is = found_by x rest key a (bytes_eq x.key key) fits.0.0 (λ same. found_in rest key a fits.1 same) is
+
+pub keys_fit : (h : History) (keys : List (List ℕ)) → HistoryFits h → KeyReadsFit (map (modified_now h) keys)
+keys_fit h [] fits = tt
+keys_fit h (key ∷ keys) fits = (mod_now_fits h key fits, keys_fit h keys fits)
+
+committed_reads_fit : (answers : List ReadAnswer) → AnswersFit answers → CommittedReadsFit (map committed_read answers)
+committed_reads_fit [] fits = tt
+committed_reads_fit (a ∷ rest) fits = (fits.0, committed_reads_fit rest fits.1)
+
+pub kept_by_level : (answers : List ReadAnswer) (b : Bool) → AnswersFit answers → CommittedReadsFit (map committed_read (cond b [] answers))
+kept_by_level answers true fits = tt
+kept_by_level answers false fits = committed_reads_fit answers fits
+
+op_replies_fit : (answers : List OpAnswer) → OpsFit answers → OpRepliesFit (map op_reply answers)
+op_replies_fit [] fits = tt
+op_replies_fit (answer.Get a ∷ rest) fits = ((fits.0.revision, fits.0.state), op_replies_fit rest fits.1)
+op_replies_fit (answer.Put ∷ rest) fits = (tt, op_replies_fit rest fits.1)
+op_replies_fit (answer.Del count ∷ rest) fits = (fits.0, op_replies_fit rest fits.1)
+
+pub txn_reply_fits : (a : TxnAnswer) → AnswerFits a → ReplyFits (txn_reply a)
+txn_reply_fits a fits = (fits.revision, op_replies_fit a.answers fits.answers)
+
+-- ---- what a failed compare is about
+
+abbrev SeenFits : Seen → Type 0
+SeenFits seen = Few seen.mod_rev ⊎ (seen.mod_rev ≡ seen.at)
+
+abbrev AllSeenFit : List Seen → Type 0
+AllSeenFit [] = Unit {0}
+AllSeenFit (s ∷ ss) = SeenFits s × AllSeenFit ss
+
+seen_append : (a b : List Seen) → AllSeenFit a → AllSeenFit b → AllSeenFit (a ++ b)
+seen_append [] b first second = second
+seen_append (s ∷ a) b first second = (first.0, seen_append a b first.1 second)
+
+reads_seen : (answers : List ReadAnswer) → AnswersFit answers → AllSeenFit (map seen_of_read answers)
+reads_seen [] fits = tt
+reads_seen (a ∷ rest) fits = (inl fits.0.0, reads_seen rest fits.1)
+
+writes_seen : (first : ℕ) (writes : List Write) → AllSeenFit (map (seen_of_write first) writes)
+writes_seen first [] = tt
+writes_seen first (w ∷ ws) = (inr refl, writes_seen first ws)
+
+seen_at_place : (ss : List Seen) (i : ℕ) (seen : Seen) → AllSeenFit ss → slice_get ss i ≡ Some seen → SeenFits seen
+seen_at_place [] i seen fits is = absurd (cc)
+seen_at_place (s ∷ ss) zero seen fits is = let same : s ≡ seen = cc in subst SeenFits same fits.0
+seen_at_place (s ∷ ss) (suc i) seen fits is = seen_at_place ss i seen fits.1 is
+
+either : (a b : Bool) → (a || b) ≡ true → (P : Type 0) → (a ≡ true → P) → (b ≡ true → P) → P
+either true b is P left right = left refl
+either false b is P left right = right is
+
+first_of : (a b : Bool) → (a && b) ≡ true → a ≡ true
+first_of true b is = refl
+first_of false b is = absurd (cc)
+
+changed_above : (opening : Opening) (r : ℕ) (key : List ℕ) (revisions : List (List Change)) → changes_above opening r key revisions ≡ true →
+    r ≤ number_of_last opening revisions
+changed_above opening r key [] is =
+    let below : r < mod_of (opened_state opening key) = ltb-true r (mod_of (opened_state opening key)) is in
+    let reached : mod_of (opened_state opening key) ≤ number_of_last opening [] = mod_is_reached opening key [] in
+    omega (arith, below, reached)
+changed_above opening r key (changes ∷ older) is =
+    let number : ℕ = number_of_last opening (changes ∷ older) in
+    either (nat_lt r number && is_some (change_of key changes)) (changes_above opening r key older) is (r ≤ number)
+    (λ here. let below : r < number = ltb-true r number (first_of (nat_lt r number) (is_some (change_of key changes)) here) in omega (arith, below))
+    (λ before. let rest : r ≤ number_of_last opening older = changed_above opening r key older before in omega (arith, rest))
+
+seen_few : (h : History) (seen : Seen) → HistoryFits h → changes_above h.opening seen.at seen.key h.revisions ≡ true → SeenFits seen → Few seen.mod_rev
+seen_few h seen fits changed (inl few) = few
+seen_few h seen fits changed (inr same) =
+    let reached : seen.at ≤ now h = changed_above h.opening seen.at seen.key h.revisions changed in
+    let low : now h ≤ HIGHEST_REVISION = fits.1 in
+    omega (arith, same, reached, low)
+
+-- a failed compare
+pub record FailureFits (about : Seen) (failed : FailedCompare) : Type 0 where
+  pub seen : Few about.mod_rev
+  pub stands : Few failed.mod_rev
+
+pub failure_fits : (h : History) (reads : List ReadAnswer) (writes : List Write) (failed : FailedCompare) → HistoryFits h → AnswersFit reads →
+    IsConflict h reads writes failed → FailureFits (seen_in (slice_get (seen_by reads writes) failed.index)) failed
+failure_fits h reads writes failed fits answers c =
+    let all : AllSeenFit (seen_by reads writes) =
+    seen_append (map seen_of_read reads) (map (seen_of_write (first_carried reads)) writes) (reads_seen reads answers) (writes_seen (first_carried reads) writes) in
+    record {
+      seen = subst (λ (o : Option Seen). Few (seen_in o).mod_rev) (sym c.about)
+          (seen_few h c.seen fits c.changed (seen_at_place (seen_by reads writes) failed.index c.seen all c.about));
+      stands = subst Few (sym c.reported) (mod_now_fits h c.seen.key fits);
+    }
+
+-- a reply, and the world after it
+pub record StepFits (n : ℕ) (o : Stepped) : Type 0 where
+  pub reply : AnswerToFits o.reply
+  pub next : WorldFits (suc n) o.next

@@ -1,8 +1,0 @@
-use Rattle.stm_compile.proofs.AgreeLemmas.{commit_is_the_run_now}
-use Rattle.stm_compile.proofs.ConflictLemmas.{failed_compares_conflict}
-use Rattle.stm_world.proofs.Failures.{failures_move_on}
-use Rattle.stm_world.proofs.WrongFailures.{wrong_failures}
-use Rattle.stm_world.proofs.laws.wrong_failures_are_none.Goals as goal
-
-pub returns : goal.returns
-returns c = wrong_failures (failures_move_on (record { run_now = commit_is_the_run_now; conflicts = failed_compares_conflict }))

@@ -1,0 +1,9 @@
+pub mod Wrong
+pub mod Doomed
+pub mod LowRevisions
+pub mod MovingOn
+pub mod Failures
+pub mod Notifying
+pub mod WrongFailures
+pub mod WorkedExamples
+pub mod ListExamples

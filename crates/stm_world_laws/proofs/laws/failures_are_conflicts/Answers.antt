@@ -1,0 +1,7 @@
+use Rattle.stm_compile.proofs.AgreeLemmas.{commit_is_the_run_now}
+use Rattle.stm_compile.proofs.ConflictLemmas.{failed_compares_conflict}
+use Rattle.stm_world_laws.proofs.Doomed.{failures_are_conflicts}
+use Rattle.stm_world_laws.proofs.laws.failures_are_conflicts.Goals as goal
+
+pub returns : goal.returns
+returns c = failures_are_conflicts (record { run_now = commit_is_the_run_now; conflicts = failed_compares_conflict })

@@ -1,0 +1,3 @@
+pub mod WrongLogs
+pub mod Notifying
+pub mod WrongFailures

@@ -1,5 +1,5 @@
 //! Why the program could not do what it was asked for with a world that lasts.
-ghost use Rattle.std.specs.Prelude.{◌≡◌};
+ghost use Rattle.std.specs.Prelude.{◌≡◌, ℕ};
 ghost use Rattle.stm_storing.specs.Faults.{opening_fault, keeping_fault};
 
 use std::alloc::AllocError;
@@ -33,7 +33,8 @@ pub enum StoreFault {
 impl StoreFault {
     /// Why a file could not be opened.
     pub fn of_opening(fault: KeptFault) -> StoreFault
-        ensures { result ≡ opening_fault fault }
+        ensures value { result ≡ opening_fault fault }
+        ensures damaged { (at : ℕ) → result ≡ StoreFault.Damaged at → fault ≡ KeptFault.Damaged at }
     {
         match fault {
             KeptFault::OutOfMemory => StoreFault::OutOfMemory,

@@ -10,9 +10,9 @@ ghost use Rattle.stm_storing.specs.Storing.{HasShownEvents};
 ghost use Rattle.stm_storing.specs.Past.{key_text, is_wanted, event_text, text_since};
 
 use crate::fault::StoreFault;
-use crate::scripting::opened;
+use crate::scripting::{opened, print_text};
 use std::alloc::{AllocError, Global};
-use stm_devices::{Sink, write_all};
+use stm_devices::Sink;
 use stm_lasting::{Disk, RecordFile};
 use stm_report_lines::{Event, Spelled, key_json, push_line};
 use stm_txn::{Keys, Store, Watched};
@@ -216,7 +216,7 @@ pub fn show_at<D: Disk, W: Sink>(
 {
     let kept = opened(records, bytes)?;
     let text = text_of_past(records.alloc, kept.world.store(), revision)?;
-    write_all(out, text.as_bytes())?;
+    print_text(text.as_str(), out)?;
     Ok(())
 }
 
@@ -241,6 +241,6 @@ pub fn show_since<D: Disk, W: Sink>(
 {
     let kept = opened(records, bytes)?;
     let text = text_of_events(records.alloc, kept.world.store(), from, wanted)?;
-    write_all(out, text.as_bytes())?;
+    print_text(text.as_str(), out)?;
     Ok(())
 }

@@ -144,6 +144,24 @@ fn write_end<W: Sink>(
     Ok(())
 }
 
+/// Keeps the scenario that a text spells, over the world of a file that was opened. At `Ok` it lasts.
+fn keep_text<D: Disk>(
+    records: &mut RecordFile<D>,
+    kept: Kept,
+    text: &[u8],
+) -> Result<(), StoreFault>
+    requires settled { IsSettled D.is_usable D.seen D.may_leave records.old }
+    requires end { kept.end ≡ length (D.seen records.old.disk) }
+    requires kept { IsKept (D.seen records.old.disk) kept.world }
+    ensures settled { OnOk result (IsSettled D.is_usable D.seen D.may_leave records.new) }
+    ensures past { OnOk result (LeadsPast (D.seen records.old.disk) (D.seen records.new.disk)) }
+    ensures any_moment { LeavesOnly D.moment D.left_since records.old.disk records.new.disk (LeavesAroundRun (D.seen records.old.disk)) }
+{
+    let scenario = read(records.alloc, text)?;
+    go_on_with(records, kept, text, &scenario)?;
+    Ok(())
+}
+
 /// Keeps a run that was tried, of the program of this text, over the world of a file that was opened. At `Ok` it lasts.
 fn keep_run<D: Disk>(
     records: &mut RecordFile<D>,
@@ -160,8 +178,30 @@ fn keep_run<D: Disk>(
     ensures any_moment { LeavesOnly D.moment D.left_since records.old.disk records.new.disk (LeavesAroundRun (D.seen records.old.disk)) }
 {
     let text = text_of(records.alloc, program, manner, tried)?;
-    let scenario = read(records.alloc, &text)?;
-    go_on_with(records, kept, &text, &scenario)?;
+    keep_text(records, kept, &text)?;
+    Ok(())
+}
+
+/// The same, where it has committed; else nothing is kept.
+fn keep_committed<D: Disk>(
+    records: &mut RecordFile<D>,
+    kept: Kept,
+    program: &[u8],
+    manner: Manner,
+    tried: &Tried,
+    is_committed: bool,
+) -> Result<(), StoreFault>
+    requires settled { IsSettled D.is_usable D.seen D.may_leave records.old }
+    requires end { kept.end ≡ length (D.seen records.old.disk) }
+    requires kept { IsKept (D.seen records.old.disk) kept.world }
+    ensures settled { OnOk result (IsSettled D.is_usable D.seen D.may_leave records.new) }
+    ensures past { OnOk result (is_committed ≡ true → LeadsPast (D.seen records.old.disk) (D.seen records.new.disk)) }
+    ensures any_moment { LeavesOnly D.moment D.left_since records.old.disk records.new.disk (LeavesAroundRun (D.seen records.old.disk)) }
+{
+    if is_committed {
+        keep_run(records, kept, program, manner, tried)?;
+        return Ok(());
+    }
     Ok(())
 }
 
@@ -191,9 +231,7 @@ pub fn run_kept<D: Disk, W: Sink>(
     let kept = opened(records, bytes)?;
     let tried = try_out(kept.world.copy()?, program, manner)?;
     let is_committed = is_committed(&tried.end);
-    if is_committed {
-        keep_run(records, kept, text, manner, &tried)?;
-    }
+    keep_committed(records, kept, text, manner, &tried, is_committed)?;
     write_end(records.alloc, tried.events, &tried.end, out)?;
     Ok(is_committed)
 }

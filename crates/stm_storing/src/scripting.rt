@@ -1,5 +1,6 @@
 //! Going on with a scenario over the world of a file.
 ghost use Rattle.std.specs.Prelude.{◌≡◌, ℕ, Ok as OkOf, length, IfOk, IfErr, OnOk, IsTrue, false};
+ghost use Rattle.std.specs.Io.KnownBytes.{Appends};
 ghost use Rattle.stm_records.specs.Disk.{Only, LeavesOnly};
 ghost use Rattle.stm_records.specs.Head.{IsHurt};
 ghost use Rattle.stm_records.specs.RecordFiles.{IsSettled};
@@ -13,7 +14,7 @@ use crate::fault::StoreFault;
 use std::alloc::Global;
 use stm_devices::{Sink, write_all};
 use stm_lasting::{Disk, Kept, RecordFile, World, empty_world, go_on, open};
-use stm_report::{Denied, Format, Reply, Scenario, render};
+use stm_report::{Denied, Format, Reply, Scenario, WorldEvent, render};
 
 /// What a scenario came to that was gone on with.
 #[derive(Drop)]
@@ -116,6 +117,35 @@ pub(crate) fn go_on_with<D: Disk>(
     }
 }
 
+/// Writes a text.
+pub(crate) fn print_text<W: Sink>(text: &str, out: &mut W) -> Result<(), StoreFault>
+    requires { W.failed out.old ≡ false }
+    ensures printed { OnOk result (Appends (W.held out.old) (W.held out.new) text.now) }
+    ensures silent { IfErr result (λ e. (e ≡ StoreFault.Output → ⊥) → W.held out.new ≡ W.held out.old) }
+{
+    write_all(out, text.as_bytes())?;
+    Ok(())
+}
+
+/// Writes the report of a world, and of these events with their replies.
+pub(crate) fn print_report<W: Sink>(
+    alloc: Global,
+    format: Format,
+    world: &World,
+    events: &[WorldEvent],
+    replies: &[Result<Reply, Denied>],
+    out: &mut W,
+) -> Result<(), StoreFault>
+    requires replies { length events.now ≡ length replies.now }
+    requires out_works { W.failed out.old ≡ false }
+    ensures printed { OnOk result (HasPrinted format world.now events.now replies.now (W.held out.old) (W.held out.new)) }
+    ensures silent { IfErr result (λ e. (e ≡ StoreFault.Output → ⊥) → W.held out.new ≡ W.held out.old) }
+{
+    let report = render(alloc, format, world, events, replies)?;
+    write_all(out, &report)?;
+    Ok(())
+}
+
 /// Writes the report of a scenario that was gone on with.
 fn write_report<W: Sink>(
     alloc: Global,
@@ -130,8 +160,14 @@ fn write_report<W: Sink>(
     ensures silent { IfErr result (λ e. (e ≡ StoreFault.Output → ⊥) → W.held out.new ≡ W.held out.old) }
 {
     let events = scenario.events.as_slice();
-    let report = render(alloc, format, &gone.world, events, gone.replies.as_slice())?;
-    write_all(out, &report)?;
+    print_report(
+        alloc,
+        format,
+        &gone.world,
+        events,
+        gone.replies.as_slice(),
+        out,
+    )?;
     Ok(())
 }
 

@@ -6,10 +6,10 @@ ghost use Rattle.stm_lasting.specs.Kept.{OpensAlike};
 ghost use Rattle.stm_storing.specs.Storing.{HasShown, OpensToAny};
 
 use crate::fault::StoreFault;
-use crate::scripting::opened;
-use stm_devices::{Sink, write_all};
+use crate::scripting::{opened, print_report};
+use stm_devices::Sink;
 use stm_lasting::{Disk, RecordFile};
-use stm_report::{Format, render};
+use stm_report::Format;
 
 /// What a check of a file found.
 #[derive(Clone, Copy, Debug, PartialEq, Eq)]
@@ -39,8 +39,7 @@ pub fn show_kept<D: Disk, W: Sink>(
     ensures any_moment { LeavesOnly D.moment D.left_since records.old.disk records.new.disk (OpensAlike (D.seen records.old.disk)) }
 {
     let kept = opened(records, bytes)?;
-    let text = render(records.alloc, format, &kept.world, &[], &[])?;
-    write_all(out, &text)?;
+    print_report(records.alloc, format, &kept.world, &[], &[], out)?;
     Ok(())
 }
 

@@ -139,7 +139,8 @@ fn store_command<'a>(alloc: Global) -> Result<Command<'a>, AllocError> {
         .long("check")
         .action(ArgAction::SetTrue)
         .help("Whether the file is whole")
-        .conflicts_with_all(&["at", "since"])?;
+        .conflicts_with("at")?
+        .conflicts_with("since")?;
     let command = Command::new(alloc, "store")
         .about("Prints what a store that is kept in a file has")
         .after_long_help(EXAMPLE)

@@ -18,7 +18,6 @@ use Rattle.stm_events.specs.Names.{refusal_name}
 use Rattle.stm_meaning.specs.Faults.{fault_name}
 use Rattle.stm_report.specs.declared.format_row.Lane.{Lane}
 use Rattle.stm_report.specs.declared.format_row.Lane.TheVariants.{Store, Runner}
-use Rattle.stm_report.specs.declared.format_pieces.TheConstants.{MOST_SHOWN, KEPT, MOST_COLUMNS}
 use Rattle.stm_report.specs.FormatShown.{shown, plain, plain_after, hidden, front}
 use Rattle.stm_report.specs.FormatPieces.{joined, padded, tag_text}
 use Rattle.stm_report.specs.FormatWords.{named_words, reported_words, start_words, listed_words, fetched_words, commit_words, compared_words, txn_words, revoked_words}
@@ -61,12 +60,12 @@ plain_without zero (x ∷ xs) =
     next_without (nat_eq (hidden (x ∷ xs)) 0) x (plain_after 0 xs) (plain_after (pred (hidden (x ∷ xs))) xs)
     (other_by (nat_lt x 32) (nat_eq x 127) x _ refl) (plain_without 0 xs) (plain_without (pred (hidden (x ∷ xs))) xs)
 
-shown_by : (b : Bool) (text : List ℕ) → has 10 (cond b (plain text) (plain (front KEPT text) ++ codes "..")) ≡ false
-shown_by true text = plain_without 0 text
-shown_by false text = has-append 10 (plain (front KEPT text)) (codes "..") (plain_without 0 (front KEPT text)) refl
+shown_by : (kept : ℕ) (b : Bool) (text : List ℕ) → has 10 (cond b (plain text) (plain (front kept text) ++ codes "..")) ≡ false
+shown_by kept true text = plain_without 0 text
+shown_by kept false text = has-append 10 (plain (front kept text)) (codes "..") (plain_without 0 (front kept text)) refl
 
 shown_without : (text : List ℕ) → has 10 (shown text) ≡ false
-shown_without text = shown_by (nat_le (length text) MOST_SHOWN) text
+shown_without text = shown_by _ _ text
 
 glyph_by : (b : Bool) (d : ℕ) → nat_eq (cond b (48 + d) (87 + d)) 10 ≡ false
 glyph_by true d = grind (arith, nat_tests)
@@ -218,7 +217,7 @@ tag_by false runner = has-append 10 (decimal runner) (codes ": ") (decimal_witho
 
 tag_without : (lane : Lane) → has 10 (tag_text lane) ≡ false
 tag_without Store = refl
-tag_without (Runner runner) = tag_by (nat_lt runner MOST_COLUMNS) runner
+tag_without (Runner runner) = tag_by _ runner
 
 count_by : (b : Bool) (n : ℕ) → b ≡ false → cond b (n + 1) n ≡ n
 count_by false n is = refl

@@ -10,6 +10,7 @@ mod explaining;
 mod files;
 mod noting;
 mod sources;
+mod storing;
 mod terminals;
 mod threading;
 
@@ -29,7 +30,9 @@ pub use stm_commands::{
 };
 use stm_exploring::{Level, Wait as RunnerWait, waits_in};
 pub use stm_exploring::{explore_explained_to, explore_to, outcomes_explained_to, outcomes_to};
+use stm_store_arguments::is_of_store;
 pub use stm_threading::{threads_as_to, threads_to};
+use storing::run_stored;
 use terminals::{close, is_shown, shown_budget};
 use threading::{printing_of, run_threads};
 
@@ -317,6 +320,9 @@ fn run<T: Threads + Wait + Sync>(rt: &HostRuntime, threads: &T) -> u8 {
         Ok(words) => words,
         Err(status) => return status,
     };
+    if is_of_store(words.as_slice()) {
+        return run_stored(rt, words.as_slice());
+    }
     if let Some(topic) = topic_of(words.as_slice()) {
         return print_topic(rt, topic);
     }

@@ -1,10 +1,9 @@
 //! The command `check` over devices.
-ghost use Rattle.std.specs.Prelude.{◌≡◌, ◌≤◌, ◌+◌, false, IfOk, string_bytes};
+ghost use Rattle.std.specs.Prelude.{◌≡◌, ◌≤◌, ◌+◌, ◌++◌, false, IfOk, string_bytes};
 ghost use Rattle.stm_devices.specs.declared.transfer.TheConstants.{MOST_READ};
-ghost use Rattle.stm_explain.specs.Saying.{status_of as code_of, text_of as message_text, IsExplained};
+ghost use Rattle.stm_explain.specs.Saying.{status_of as code_of, text_of as message_text, Reports};
 ghost use Rattle.stm_check.specs.declared.checking.Checked.TheVariants.{No};
 ghost use Rattle.stm_commands.specs.Checking.{answer_status, answer_text, fault_status, fault_message, SaysOf, Does, Ends};
-ghost use Rattle.stm_commands.specs.Explaining.{CheckSays};
 
 use std::alloc::{AllocError, Global};
 use stm_check::{CheckFault, Checked, WrongCause, check_sources};
@@ -95,11 +94,10 @@ pub(crate) fn report_fault<E: Sink>(err: &mut E, fault: &CheckFault) -> u8
     message(fault).report(err)
 }
 
-/// Says what went wrong and its explanation, and returns the status.
+/// Says what went wrong and more after it, and returns the status.
 pub(crate) fn report_explained<E: Sink>(err: &mut E, fault: &CheckFault, more: &str) -> u8
-    requires works { E.failed err.old ≡ false }
-    requires explains { IsExplained more.now }
-    ensures { CheckSays (E.held err.old) (E.held err.new) (E.failed err.new) fault.now result }
+    requires { E.failed err.old ≡ false }
+    ensures { Reports (fault_status fault.now) (fault_message fault.now ++ more.now) (E.held err.old) (E.held err.new) (E.failed err.new) result }
 {
     message(fault).report_with(err, more)
 }

@@ -1,24 +1,24 @@
 //! The commands that explain a bad input after what they say of it, and runs that came to a fault.
-ghost use Rattle.std.specs.Prelude.{◌≡◌, ◌≤◌, ◌+◌, false, string_bytes};
+ghost use Rattle.std.specs.Prelude.{◌≡◌, ◌≤◌, ◌+◌, false, IfOk, string_bytes};
 ghost use Rattle.stm_devices.specs.declared.transfer.TheConstants.{MOST_READ};
 ghost use Rattle.stm_texts.specs.Reading.{scenario_in};
-ghost use Rattle.stm_faulted_runs.specs.Lines.{OrNothing, ExplainsRun};
-ghost use Rattle.stm_commands.specs.Explaining.{IsExplained, SaysRuns, ScriptEnds, CheckEnds, WholeCheckEnds};
+ghost use Rattle.stm_faulted_runs.specs.Lines.{ExplainsRun};
+ghost use Rattle.stm_commands.specs.Explaining.{ScriptExplains, ScriptSays, SaysRuns, ScriptEnds, CheckExplains, CheckSays, CheckEnds, WholeCheckEnds};
 
 use crate::checking::{answer, report_explained as report_check, status_of};
 use crate::scripting::report_explained as report_script;
 use crate::whole_checking::{answer as whole_answer, say};
-use std::alloc::Global;
+use std::alloc::{AllocError, Global};
 use stm_check::CheckFault;
 use stm_explain::{Input, KeptSource, write_text};
-use stm_faulted_runs::{Named, faults_explained};
+use stm_faulted_runs::{Named, faults_explained, said_of};
 use stm_report::{Format, ScriptFault, Sink, Source, script_as};
 
 // ---- explanations
 
 /// The explanation of what is wrong with a scenario; none of another fault.
 fn script_explanation<S>(alloc: Global, input: &KeptSource<'_, S>, fault: &ScriptFault) -> String
-    ensures { IsExplained (string_bytes result) }
+    ensures { ScriptExplains input.now.name.now input.now.bytes.items fault.now (string_bytes result) }
 {
     match fault {
         ScriptFault::Bad(bad) => input.explanation(alloc, Input::Scenario, bad),
@@ -33,7 +33,12 @@ fn check_explanation<S, R>(
     report: &KeptSource<'_, R>,
     fault: &CheckFault,
 ) -> String
-    ensures { IsExplained (string_bytes result) }
+    ensures { CheckExplains (record {
+      scenario_name = scenario.now.name.now;
+      scenario_text = scenario.now.bytes.items;
+      report_name = report.now.name.now;
+      report_text = report.now.bytes.items;
+    }) fault.now (string_bytes result) }
 {
     match fault {
         CheckFault::BadScenario(bad) => scenario.explanation(alloc, Input::Checked, bad),
@@ -42,24 +47,49 @@ fn check_explanation<S, R>(
     }
 }
 
-/// The explanations of the runs that came to a fault, of the scenario that a text spells; none where an allocation failed.
-fn lines_of_runs(alloc: Global, name: &str, text: &str) -> String
-    ensures { OrNothing (ExplainsRun name.now text.now (scenario_in text.now)) (string_bytes result) }
+/// The explanations of the runs of a scenario that came to a fault, by its text. It fails where an allocation failed, now or when the text was kept.
+fn runs_explained<S>(alloc: Global, input: &KeptSource<'_, S>) -> Result<String, AllocError>
+    ensures { IfOk result (λ lines. ExplainsRun input.now.name.now input.now.bytes.items (scenario_in input.now.bytes.items) (string_bytes lines)) }
 {
-    match faults_explained(alloc, &Named { name, text }) {
-        Ok(lines) => lines,
-        Err(_) => String::new(alloc),
+    let name = input.name;
+    match input.text() {
+        Some(text) => faults_explained(alloc, &Named { name, text }),
+        None => Err(AllocError),
     }
 }
 
-/// The explanations of the runs of a scenario that came to a fault; none where an allocation failed, now or before.
-fn runs_explained<S>(alloc: Global, input: &KeptSource<'_, S>) -> String
-    ensures { OrNothing (ExplainsRun input.now.name.now input.now.bytes.items (scenario_in input.now.bytes.items)) (string_bytes result) }
+/// Says what went wrong with a script, explains it, and gives the status.
+fn report_script_fault<S, E: Sink>(
+    alloc: Global,
+    input: &KeptSource<'_, S>,
+    fault: &ScriptFault,
+    err: &mut E,
+) -> u8
+    requires { E.failed err.old ≡ false }
+    ensures { ScriptSays input.now.name.now input.now.bytes.items (E.held err.old) (E.held err.new) (E.failed err.new) fault.now result }
 {
-    match input.text() {
-        Some(text) => lines_of_runs(alloc, input.name, text),
-        None => String::new(alloc),
-    }
+    let more = script_explanation(alloc, input, fault);
+    report_script(err, fault, more.as_str())
+}
+
+/// Says what went wrong with a check, explains it, and gives the status.
+fn report_check_fault<S, R, E: Sink>(
+    alloc: Global,
+    scenario: &KeptSource<'_, S>,
+    report: &KeptSource<'_, R>,
+    fault: &CheckFault,
+    err: &mut E,
+) -> u8
+    requires { E.failed err.old ≡ false }
+    ensures { CheckSays (record {
+      scenario_name = scenario.now.name.now;
+      scenario_text = scenario.now.bytes.items;
+      report_name = report.now.name.now;
+      report_text = report.now.bytes.items;
+    }) (E.held err.old) (E.held err.new) (E.failed err.new) fault.now result }
+{
+    let more = check_explanation(alloc, scenario, report, fault);
+    report_check(err, fault, more.as_str())
 }
 
 // ---- runs that came to a fault
@@ -70,8 +100,8 @@ fn report_runs<S, E: Sink>(alloc: Global, input: &KeptSource<'_, S>, err: &mut E
     ensures status { result ≡ 0 }
     ensures says { SaysRuns input.now.name.now input.now.bytes.items (E.held err.old) (E.held err.new) (E.failed err.new) }
 {
-    let more = runs_explained(alloc, input);
-    let _ = write_text(err, more.as_str());
+    let explained = runs_explained(alloc, input);
+    let _ = write_text(err, said_of(&explained));
     0
 }
 
@@ -101,10 +131,7 @@ pub fn script_explained_to<S: Source, W: Sink, E: Sink>(
 {
     match script_as(alloc, format, input, out) {
         Ok(()) => report_runs(alloc, input, err),
-        Err(fault) => {
-            let more = script_explanation(alloc, input, &fault);
-            report_script(err, &fault, more.as_str())
-        }
+        Err(fault) => report_script_fault(alloc, input, &fault, err),
     }
 }
 
@@ -122,6 +149,11 @@ pub fn check_explained_to<S: Source, R: Source, W: Sink, E: Sink>(
     requires out_works { W.failed out.old ≡ false }
     requires err_works { E.failed err.old ≡ false }
     ensures ends { CheckEnds (record {
+      scenario_name = scenario.new.name.now;
+      scenario_text = scenario.new.bytes.items;
+      report_name = report.new.name.now;
+      report_text = report.new.bytes.items;
+    }) (record {
       sources = record {
         scenario = S.left scenario.old.source;
         report = R.left report.old.source;
@@ -137,10 +169,7 @@ pub fn check_explained_to<S: Source, R: Source, W: Sink, E: Sink>(
 {
     match answer(alloc, scenario, report, out) {
         Ok(checked) => status_of(checked),
-        Err(fault) => {
-            let more = check_explanation(alloc, scenario, report, &fault);
-            report_check(err, &fault, more.as_str())
-        }
+        Err(fault) => report_check_fault(alloc, scenario, report, &fault, err),
     }
 }
 
@@ -158,6 +187,11 @@ pub fn check_whole_explained_to<S: Source, R: Source, W: Sink, E: Sink>(
     requires out_works { W.failed out.old ≡ false }
     requires err_works { E.failed err.old ≡ false }
     ensures ends { WholeCheckEnds (record {
+      scenario_name = scenario.new.name.now;
+      scenario_text = scenario.new.bytes.items;
+      report_name = report.new.name.now;
+      report_text = report.new.bytes.items;
+    }) (record {
       sources = record {
         scenario = S.left scenario.old.source;
         report = R.left report.old.source;
@@ -173,9 +207,6 @@ pub fn check_whole_explained_to<S: Source, R: Source, W: Sink, E: Sink>(
 {
     match whole_answer(alloc, scenario, report, out) {
         Ok(checked) => say(err, &checked),
-        Err(fault) => {
-            let more = check_explanation(alloc, scenario, report, &fault);
-            report_check(err, &fault, more.as_str())
-        }
+        Err(fault) => report_check_fault(alloc, scenario, report, &fault, err),
     }
 }

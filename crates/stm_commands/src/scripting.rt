@@ -1,8 +1,7 @@
 //! The command `script` over devices.
-ghost use Rattle.std.specs.Prelude.{◌≡◌, ◌≤◌, ◌+◌, false};
+ghost use Rattle.std.specs.Prelude.{◌≡◌, ◌≤◌, ◌+◌, ◌++◌, false};
 ghost use Rattle.stm_devices.specs.declared.transfer.TheConstants.{MOST_READ};
-ghost use Rattle.stm_explain.specs.Saying.{status_of as code_of, text_of, IsExplained};
-ghost use Rattle.stm_commands.specs.Explaining.{ScriptSays};
+ghost use Rattle.stm_explain.specs.Saying.{status_of as code_of, text_of, Reports};
 ghost use Rattle.stm_commands.specs.Statuses.{status_of, message_of, SaysOf, Ends};
 
 use std::alloc::Global;
@@ -32,11 +31,10 @@ pub(crate) fn report_fault<E: Sink>(err: &mut E, fault: &ScriptFault) -> u8
     message(fault).report(err)
 }
 
-/// Says what went wrong and its explanation, and returns the status.
+/// Says what went wrong and more after it, and returns the status.
 pub(crate) fn report_explained<E: Sink>(err: &mut E, fault: &ScriptFault, more: &str) -> u8
-    requires works { E.failed err.old ≡ false }
-    requires explains { IsExplained more.now }
-    ensures { ScriptSays (E.held err.old) (E.held err.new) (E.failed err.new) fault.now result }
+    requires { E.failed err.old ≡ false }
+    ensures { Reports (status_of fault.now) (message_of fault.now ++ more.now) (E.held err.old) (E.held err.new) (E.failed err.new) result }
 {
     message(fault).report_with(err, more)
 }

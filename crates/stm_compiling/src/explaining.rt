@@ -4,6 +4,7 @@ ghost use Rattle.stm_explain.specs.Explaining.{explanation};
 ghost use Rattle.stm_compiling.specs.Faults.{IsExplanation, place_of};
 
 use crate::fault::position_in;
+use crate::naming::{is_called, said_of_function, said_of_place};
 use crate::spots::{Event, Place, Spot, spot_at};
 use crate::wanted::{Wanted, allowed, is_behind_condition_word, numbers_at, wanted_at};
 use serde_json::Value as Json;
@@ -95,10 +96,29 @@ fn name_in(spot: Spot<'_>) -> &str {
     }
 }
 
-/// What is said of a name behind which `++` or `:=` stands; nothing of others.
-fn said_of_sign(spot: Spot<'_>) -> &'static str {
+/// Whether a character cannot stand in a name.
+fn is_sign(character: char) -> bool {
+    !character.is_alphanumeric() && character != '_'
+}
+
+/// The name behind the dot that stands behind a name; nothing where there is no dot.
+fn behind_dot<'a>(source: &'a [u8], spot: Spot<'_>) -> Option<&'a str> {
+    let next = spot.from.get(1)?;
+    let to = next.at.saturating_add(MOST_SHOWN).min(source.len());
+    let text = between(source, next.at, to).strip_prefix('.')?;
+    match text.split_once(is_sign) {
+        Some((name, _)) => Some(name),
+        None => Some(text),
+    }
+}
+
+/// What is said of a name behind which `.`, `++` or `:=` stands; nothing of others.
+fn said_of_sign(source: &[u8], spot: Spot<'_>) -> &'static str {
     if name_in(spot).is_empty() {
         return "";
+    }
+    if let Some(function) = behind_dot(source, spot) {
+        return said_of_function(function);
     }
     match spot.next() {
         Some(TokenKind::Symbol(Symbol::Concatenate)) => "one is added by NAME += 1",
@@ -156,8 +176,13 @@ fn said_of(spot: Spot<'_>) -> &'static str {
 }
 
 /// What is said of a token in whose place another one is wanted.
-fn syntax_words(alloc: Global, found: &str, spot: Spot<'_>) -> Result<String, AllocError> {
-    let said = said_of_sign(spot);
+fn syntax_words(
+    alloc: Global,
+    source: &[u8],
+    found: &str,
+    spot: Spot<'_>,
+) -> Result<String, AllocError> {
+    let said = said_of_sign(source, spot);
     if !said.is_empty() {
         return format!(in alloc; "{found} is no statement: {said}");
     }
@@ -171,6 +196,9 @@ fn syntax_words(alloc: Global, found: &str, spot: Spot<'_>) -> Result<String, Al
             format!(in alloc; "{found} is no {noun}: {list}")
         }
         Wanted::Said(wanted) => format!(in alloc; "found {found}, where {wanted} is wanted"),
+        Wanted::OperatorOr(wanted) => {
+            format!(in alloc; "found {found}, where an operator, or {wanted} is wanted")
+        }
     }
 }
 
@@ -184,21 +212,36 @@ fn sort_words(alloc: Global, found: &str, spot: Spot<'_>) -> Result<String, Allo
     format!(in alloc; "{found} begins a condition, where a value is wanted")
 }
 
+/// What is said of a name that people know from elsewhere, or that is used as a function; nothing of others.
+fn said_of_name(source: &[u8], spot: Spot<'_>) -> &'static str {
+    let name = name_in(spot);
+    let said = said_of_word(name);
+    if !said.is_empty() {
+        return said;
+    }
+    if let Some(function) = behind_dot(source, spot) {
+        return said_of_function(function);
+    }
+    if is_called(spot) {
+        said_of_function(name)
+    } else {
+        ""
+    }
+}
+
 /// What is said of a name that cannot stand in its place.
-fn name_words(alloc: Global, found: &str, spot: Spot<'_>) -> Result<String, AllocError> {
-    let said = said_of_word(name_in(spot));
+fn name_words(
+    alloc: Global,
+    source: &[u8],
+    found: &str,
+    spot: Spot<'_>,
+) -> Result<String, AllocError> {
+    let said = said_of_name(source, spot);
     if !said.is_empty() {
         return format!(in alloc; "{found} is no name of anything here: {said}");
     }
-    if spot.place() == Place::Events && spot.event() == Some(Event::Step) {
-        return format!(in alloc; "no runner before has the name {found}, and a number");
-    }
-    if spot.is_behind_word(0, Word::Let) || spot.is_behind_word(0, Word::For) {
-        return format!(in alloc;
-            "{found} cannot be given here: it is the name of something in sight, or one of v0 to v15, which are never let"
-        );
-    }
-    format!(in alloc; "{found} is the name of nothing that can stand here")
+    let said = said_of_place(spot);
+    format!(in alloc; "{found} {said}")
 }
 
 /// What is said of a number that is out of range.
@@ -255,9 +298,9 @@ fn words_at(
             let character = first_character(word_from(source, spot, bad.at));
             token_words(alloc, character)
         }
-        SourceCause::Syntax => syntax_words(alloc, found, spot),
+        SourceCause::Syntax => syntax_words(alloc, source, found, spot),
         SourceCause::Sort => sort_words(alloc, found, spot),
-        SourceCause::Name => name_words(alloc, found, spot),
+        SourceCause::Name => name_words(alloc, source, found, spot),
         SourceCause::Range => range_words(alloc, found, spot),
         SourceCause::Key => format!(in alloc;
             "{found} is an empty key, or one that stands in the list already"

@@ -28,6 +28,17 @@ pub(crate) enum Event {
     Transaction,
 }
 
+/// The parentheses that are open before a token.
+#[derive(Clone, Copy)]
+pub(crate) struct Call<'a> {
+    /// What stands before them.
+    pub(crate) word: &'a TokenKind,
+    /// What stands before that.
+    pub(crate) before: Option<&'a TokenKind>,
+    /// How many values stand in them already, each with a comma behind it.
+    pub(crate) values: usize,
+}
+
 /// A token of a source, and those before it.
 #[derive(Clone, Copy)]
 pub(crate) struct Spot<'a> {
@@ -74,19 +85,23 @@ fn is_end_of_statement(kind: &TokenKind) -> bool {
         || kind.is_symbol(Symbol::Semicolon)
 }
 
-/// The place of the last bracket among these tokens that is open behind them.
-fn last_open(tokens: &[Token]) -> Option<usize> {
+/// The place of the last bracket among these tokens that is open behind them, and how many commas stand behind it, outside of other brackets.
+fn last_open(tokens: &[Token]) -> Option<(usize, usize)> {
     let mut closed = 0usize;
+    let mut commas = 0usize;
     for (index, token) in tokens.iter().enumerate().rev() {
         let (opens, closes) = turn(&token.kind);
         if closes && closed < tokens.len() {
             closed += 1;
         }
         if opens && closed == 0 {
-            return Some(index);
+            return Some((index, commas));
         }
         if opens && closed > 0 {
             closed -= 1;
+        }
+        if closed == 0 && token.kind.is_symbol(Symbol::Comma) {
+            commas = commas.saturating_add(1);
         }
     }
     None
@@ -181,7 +196,7 @@ impl<'a> Spot<'a> {
 
     /// What the brackets that are open there belong to.
     pub(crate) fn place(self) -> Place {
-        let Some(last) = last_open(self.before) else {
+        let Some((last, _)) = last_open(self.before) else {
             return Place::Events;
         };
         if self.is_parenthesis(last) {
@@ -194,6 +209,21 @@ impl<'a> Spot<'a> {
             Some(Event::Transaction) => Place::Operations,
             _ => Place::Statements,
         }
+    }
+
+    /// The parentheses that it stands in, if it does and something stands before them.
+    pub(crate) fn call(self) -> Option<Call<'a>> {
+        let (open, values) = last_open(self.before)?;
+        if open == 0 || !self.is_parenthesis(open) {
+            return None;
+        }
+        let word = self.at(open - 1)?;
+        let before = if open > 1 { self.at(open - 2) } else { None };
+        Some(Call {
+            word,
+            before,
+            values,
+        })
     }
 
     /// The event that it stands in, of those that have several parts, or behind.
@@ -214,10 +244,18 @@ impl<'a> Spot<'a> {
         false
     }
 
+    /// The token at an index before it.
+    fn at(self, index: usize) -> Option<&'a TokenKind> {
+        match self.before.get(index) {
+            Some(token) => Some(&token.kind),
+            None => None,
+        }
+    }
+
     /// Whether the token at an index before it is a parenthesis.
     fn is_parenthesis(self, index: usize) -> bool {
-        match self.before.get(index) {
-            Some(token) => token.kind.is_symbol(Symbol::LeftParenthesis),
+        match self.at(index) {
+            Some(kind) => kind.is_symbol(Symbol::LeftParenthesis),
             None => false,
         }
     }

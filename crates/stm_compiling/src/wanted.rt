@@ -1,5 +1,6 @@
 //! What is wanted in a place of a source.
 
+use crate::calls::{behind_value, value_in};
 use crate::spots::{Event, Place, Spot};
 use std::alloc::{AllocError, Global};
 use stm_tokens::{Symbol, TokenKind, Word};
@@ -42,6 +43,8 @@ pub(crate) enum Wanted {
     Words(&'static str, &'static [&'static str], &'static str),
     /// Something that this text says.
     Said(&'static str),
+    /// An operator, or what this text says.
+    OperatorOr(&'static str),
 }
 
 /// What is wanted behind a name that has a meaning in an event.
@@ -213,15 +216,26 @@ fn in_program(spot: Spot<'_>) -> Wanted {
     statement_or_more(spot)
 }
 
+/// Whether what stands before a place opens parentheses, or ends a value in them.
+fn is_behind_opening(spot: Spot<'_>) -> bool {
+    spot.is_behind_symbol(0, Symbol::LeftParenthesis) || spot.is_behind_symbol(0, Symbol::Comma)
+}
+
 /// What is wanted in parentheses.
 fn in_parentheses(spot: Spot<'_>) -> Wanted {
     if is_behind_call(spot) {
         return Wanted::Said("(");
     }
+    if is_behind_opening(spot) {
+        return Wanted::Said(value_in(spot));
+    }
     if is_behind_operator(spot) {
         return Wanted::Said("a value");
     }
-    Wanted::Said("an operator, a comma, or the ) that ends the list")
+    if spot.event() == Some(Event::Transaction) {
+        return Wanted::Said(behind_value(spot));
+    }
+    Wanted::OperatorOr(behind_value(spot))
 }
 
 /// What is wanted in a place.

@@ -54,13 +54,9 @@ text_of (Audit job) = audit_fault job
 abbrev pub Says : Option (List ℕ) → Option (List ℕ) → Bool → List ℕ → Type 0
 Says before after failed text = WritesFront before after text × (failed ≡ false → Appends before after text)
 
--- explanations of faults of some text under some name, or nothing; that they are those of the input is the body's matter
+-- explanations of faults of some text under some name, or nothing
 abbrev pub IsExplained : List ℕ → Type 0
 IsExplained more = (name text : List ℕ) × ExplainsOrNothing name text more
-
--- a message was written and its explanations after it, or a prefix of the two where the sink then has failed
-abbrev pub SaysMore : Option (List ℕ) → Option (List ℕ) → Bool → List ℕ → Type 0
-SaysMore before after failed message = (more : List ℕ) × IsExplained more × Says before after failed (message ++ more)
 
 -- a text of this form was written, or a prefix of it where the sink then has failed
 abbrev pub SaysSome : (List ℕ → Type 0) → Option (List ℕ) → Option (List ℕ) → Bool → Type 0
@@ -70,6 +66,6 @@ SaysSome Form before after failed = (more : List ℕ) × Form more × Says befor
 abbrev pub Reports : ℕ → List ℕ → Option (List ℕ) → Option (List ℕ) → Bool → ℕ → Type 0
 Reports code message before after failed status = (status ≡ code) × Says before after failed message
 
--- the same with an explanation after the message
-abbrev pub ReportsMore : ℕ → List ℕ → Option (List ℕ) → Option (List ℕ) → Bool → ℕ → Type 0
-ReportsMore code message before after failed status = (status ≡ code) × SaysMore before after failed message
+-- the same with explanations of this form after the message
+abbrev pub ReportsMore : (List ℕ → Type 0) → ℕ → List ℕ → Option (List ℕ) → Option (List ℕ) → Bool → ℕ → Type 0
+ReportsMore Form code message before after failed status = (more : List ℕ) × Form more × Reports code (message ++ more) before after failed status

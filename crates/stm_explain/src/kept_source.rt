@@ -1,5 +1,6 @@
 //! Sources that keep what was read of them.
-ghost use Rattle.std.specs.Prelude.{◌≡◌, IfSome, string_bytes};
+ghost use Rattle.std.specs.Prelude.{◌≡◌, ◌≤◌, ◌+◌, ◌++◌, [], take, false, IfOk, IfSome, string_bytes};
+ghost use Rattle.stm_devices.specs.Devices.{Reads};
 ghost use Rattle.stm_explain.specs.Explaining.{ExplainsOrNothing};
 
 use crate::explaining::explain;
@@ -24,7 +25,10 @@ pub struct KeptSource<'a, S> {
 impl<'a, S> KeptSource<'a, S> {
     /// A source of which nothing has been read yet.
     pub fn new(alloc: Global, name: &'a str, source: S) -> KeptSource<'a, S>
-        ensures { result.source ≡ source }
+        ensures source { result.source ≡ source }
+        ensures name { result.name.now ≡ name.now }
+        ensures nothing { result.bytes.items ≡ [] }
+        ensures whole { result.is_cut ≡ false }
     {
         KeptSource {
             name,
@@ -63,9 +67,13 @@ impl<'a, S> KeptSource<'a, S> {
 
     /// Keeps bytes that were read, unless some are missing already.
     fn keep(&mut self, bytes: &[u8])
-        ensures { self.new.source ≡ self.old.source }
+        ensures source { self.new.source ≡ self.old.source }
+        ensures kept { self.new.is_cut ≡ false → (self.old.is_cut ≡ false) × (self.new.bytes.items ≡ self.old.bytes.items ++ bytes.now) }
     {
-        if !self.is_cut && self.bytes.extend_from_slice(bytes).is_err() {
+        if self.is_cut {
+            return;
+        }
+        if self.bytes.extend_from_slice(bytes).is_err() {
             self.is_cut = true;
         }
     }
@@ -78,7 +86,12 @@ impl<'a, S: Source> Source for KeptSource<'a, S> {
 
     ghost reads = { λ k. S.reads k.source };
 
-    fn read(&mut self, buffer: &mut [u8]) -> Result<usize, DeviceFault> {
+    fn read(&mut self, buffer: &mut [u8]) -> Result<usize, DeviceFault>
+        requires { S.failed self.old.source ≡ false }
+        ensures bytes { Reads (S.left self.old.source) (S.left self.new.source) (S.failed self.new.source) result buffer.new }
+        ensures counted { S.reads self.new.source ≤ S.reads self.old.source + 1 }
+        ensures kept { self.new.is_cut ≡ false → (self.old.is_cut ≡ false) × IfOk result (λ n. self.new.bytes.items ≡ self.old.bytes.items ++ take n buffer.new) }
+    {
         let count = self.source.read(buffer)?;
         self.keep(&buffer[..count]);
         Ok(count)

@@ -1,7 +1,7 @@
 //! What a command says of a fault on standard error, and the status that it ends with.
 ghost use Rattle.std.specs.Prelude.{◌≡◌, ◌++◌, false, decimal};
 ghost use Rattle.stm_devices.specs.Transfers.{HasWritten};
-ghost use Rattle.stm_explain.specs.Saying.{bad_input, usage_fault, audit_fault, status_of, text_of, IsExplained, Reports, ReportsMore};
+ghost use Rattle.stm_explain.specs.Saying.{bad_input, usage_fault, audit_fault, status_of, text_of, Reports};
 
 use itoa::Buffer;
 use stm_devices::{DeviceFault, Sink, write_all};
@@ -130,11 +130,10 @@ impl Message<'_> {
         self.status()
     }
 
-    /// Says what went wrong, and its explanations after it, and returns the status, all as `report` does.
+    /// Says what went wrong, and more after it, and returns the status, all as `report` does.
     pub fn report_with<E: Sink>(&self, err: &mut E, more: &str) -> u8
-        requires works { E.failed err.old ≡ false }
-        requires explains { IsExplained more.now }
-        ensures { ReportsMore (status_of self.now) (text_of self.now) (E.held err.old) (E.held err.new) (E.failed err.new) result }
+        requires { E.failed err.old ≡ false }
+        ensures { Reports (status_of self.now) (text_of self.now ++ more.now) (E.held err.old) (E.held err.new) (E.failed err.new) result }
     {
         let _ = self.write_with(err, more);
         self.status()

@@ -1,8 +1,9 @@
 -- What the command `explore` does where it explains a bad input after what it says of it, and a rule that came to a fault: what it does otherwise,
 -- but for the explanations.
-use Rattle.std.specs.Prelude.{◌≡◌, ◌==◌, ℕ, List, Bool, false, Option, Result, Ok, Err}
+use Rattle.std.specs.Prelude.{◌≡◌, ◌==◌, ℕ, List, [], Bool, false, Option, Result, Ok, Err}
 use Rattle.std.specs.List.{after_first}
 use Rattle.std.specs.Io.KnownBytes.{Keeps}
+use Rattle.stm_explain.specs.Explaining.{ExplainsOrNothing}
 use Rattle.stm_explain.specs.Saying.{Says, ReportsMore}
 use Rattle.stm_texts.specs.Reading.{scenario_in}
 use Rattle.stm_faulted_runs.specs.Lines.{OrNothing}
@@ -12,13 +13,31 @@ use Rattle.stm_exploring.specs.declared.printed.Printed.{Printed}
 use Rattle.stm_exploring.specs.declared.printed.SearchAnswer.{SearchAnswer}
 use Rattle.stm_exploring.specs.declared.printed.SearchAnswer.TheVariants.{Broken}
 use Rattle.stm_exploring.specs.declared.reading.ExploreFault.{ExploreFault}
+use Rattle.stm_exploring.specs.declared.reading.ExploreFault.TheVariants.{BadScenario, BadProgram}
 use Rattle.stm_explore.specs.declared.waits.Wait.{Wait}
 use Rattle.stm_exploring.specs.Exploring.{Sources, Searches, Gathers}
 use Rattle.stm_exploring.specs.Command.{Sunk, Writes, verdict_status, fault_status, fault_message}
 
+-- an input's name, and the text as which it was kept
+pub record KeptInput : Type 0 where
+  pub name : List ℕ
+  pub text : List ℕ
+
+-- the scenario or the rule is explained that is bad, or nothing is said; of another fault nothing is
+abbrev pub ExplainsFault : KeptInput → KeptInput → ExploreFault → List ℕ → Type 0
+ExplainsFault scenario keeps (BadScenario bad) more = ExplainsOrNothing scenario.name scenario.text more
+ExplainsFault scenario keeps (BadProgram bad) more = ExplainsOrNothing keeps.name keeps.text more
+ExplainsFault scenario keeps other more = more ≡ []
+
+-- the same of a search without a rule
+abbrev pub ExplainsScenario : KeptInput → ExploreFault → List ℕ → Type 0
+ExplainsScenario scenario (BadScenario bad) more = ExplainsOrNothing scenario.name scenario.text more
+ExplainsScenario scenario other more = more ≡ []
+
 -- what is said and answered of a fault: its own message with what explains it, and its status
-abbrev pub SaysMoreOf : Option (List ℕ) → Option (List ℕ) → Bool → ExploreFault → ℕ → Type 0
-SaysMoreOf before after failed fault status = ReportsMore (fault_status fault) (fault_message fault) before after failed status
+abbrev pub SaysMoreOf : (ExploreFault → List ℕ → Type 0) → Option (List ℕ) → Option (List ℕ) → Bool → ExploreFault → ℕ → Type 0
+SaysMoreOf Explains before after failed fault status =
+    ReportsMore (Explains fault) (fault_status fault) (fault_message fault) before after failed status
 
 -- the schedule, which is printed of a rule that is broken after the first line
 abbrev pub schedule_in : List ℕ → List ℕ
@@ -28,39 +47,45 @@ schedule_in printed = after_first (λ b. b == 10) printed
 abbrev pub ExplainsOnSchedule : List ℕ → List ℕ → List ℕ → List ℕ → Type 0
 ExplainsOnSchedule name text printed said = ExplainsRule name text (scenario_in (schedule_in printed)) said
 
-abbrev pub ExplainsSearched : List ℕ → List ℕ → Result Printed ExploreFault → List ℕ → Type 0
-ExplainsSearched name text (Ok printed) said = ExplainsOnSchedule name text printed.text said
-ExplainsSearched name text (Err fault) said = ⊥
+-- a rule that is broken is explained on its schedule, and another is not
+abbrev pub ExplainsAnswer : SearchAnswer → KeptInput → List ℕ → List ℕ → Type 0
+ExplainsAnswer Broken keeps printed said = ExplainsOnSchedule keeps.name keeps.text printed said
+ExplainsAnswer other keeps printed said = said ≡ []
+
+abbrev pub ExplainsSearched : KeptInput → Result Printed ExploreFault → List ℕ → Type 0
+ExplainsSearched keeps (Ok printed) said = ExplainsAnswer printed.verdict keeps printed.text said
+ExplainsSearched keeps (Err fault) said = said ≡ []
 
 -- after what is printed of a rule that is broken stands this, and else nothing
 abbrev pub SaysOfVerdict : SearchAnswer → List ℕ → Option (List ℕ) → Option (List ℕ) → Bool → Type 0
 SaysOfVerdict Broken more before after failed = Says before after failed more
 SaysOfVerdict other more before after failed = (failed ≡ false) × Keeps before after
 
-abbrev pub RuleEndsBy : List ℕ → List ℕ → Result Printed ExploreFault → Sunk → Result SearchAnswer ExploreFault → ℕ → Type 0
-RuleEndsBy name text searched err (Ok verdict) status =
-    (status ≡ verdict_status verdict) × (more : List ℕ) × OrNothing (ExplainsSearched name text searched) more
+abbrev pub RuleEndsBy : KeptInput → KeptInput → Result Printed ExploreFault → Sunk → Result SearchAnswer ExploreFault → ℕ → Type 0
+RuleEndsBy scenario keeps searched err (Ok verdict) status =
+    (status ≡ verdict_status verdict) × (more : List ℕ) × OrNothing (ExplainsSearched keeps searched) more
     × SaysOfVerdict verdict more err.before err.after err.failed
-RuleEndsBy name text searched err (Err fault) status = SaysMoreOf err.before err.after err.failed fault status
+RuleEndsBy scenario keeps searched err (Err fault) status = SaysMoreOf (ExplainsFault scenario keeps) err.before err.after err.failed fault status
 
-abbrev pub RuleFinishes : List ℕ → List ℕ → Result Printed ExploreFault → Sunk → Sunk → ℕ → Type 0
-RuleFinishes name text searched out err status =
-    (ended : Result SearchAnswer ExploreFault) × Writes searched out.before out.after out.failed ended × RuleEndsBy name text searched err ended status
+abbrev pub RuleFinishes : KeptInput → KeptInput → Result Printed ExploreFault → Sunk → Sunk → ℕ → Type 0
+RuleFinishes scenario keeps searched out err status =
+    (ended : Result SearchAnswer ExploreFault) × Writes searched out.before out.after out.failed ended
+    × RuleEndsBy scenario keeps searched err ended status
 
--- with a rule, which was kept under this name as this text: it is explained where it is broken by a fault
-abbrev pub Explores : List Wait → Option Level → List ℕ → List ℕ → Sources → Sunk → Sunk → ℕ → Type 0
-Explores waits level name text sources out err status =
-    (searched : Result Printed ExploreFault) × Searches waits level sources searched × RuleFinishes name text searched out err status
+-- with a rule: it is explained where it is broken by a fault
+abbrev pub Explores : List Wait → Option Level → KeptInput → KeptInput → Sources → Sunk → Sunk → ℕ → Type 0
+Explores waits level scenario keeps sources out err status =
+    (searched : Result Printed ExploreFault) × Searches waits level sources searched × RuleFinishes scenario keeps searched out err status
 
-abbrev pub EndsBy : Sunk → Result SearchAnswer ExploreFault → ℕ → Type 0
-EndsBy err (Ok verdict) status = (status ≡ verdict_status verdict) × (err.failed ≡ false) × Keeps err.before err.after
-EndsBy err (Err fault) status = SaysMoreOf err.before err.after err.failed fault status
+abbrev pub EndsBy : KeptInput → Sunk → Result SearchAnswer ExploreFault → ℕ → Type 0
+EndsBy scenario err (Ok verdict) status = (status ≡ verdict_status verdict) × (err.failed ≡ false) × Keeps err.before err.after
+EndsBy scenario err (Err fault) status = SaysMoreOf (ExplainsScenario scenario) err.before err.after err.failed fault status
 
-abbrev pub Finishes : Result Printed ExploreFault → Sunk → Sunk → ℕ → Type 0
-Finishes gathered out err status =
-    (ended : Result SearchAnswer ExploreFault) × Writes gathered out.before out.after out.failed ended × EndsBy err ended status
+abbrev pub Finishes : KeptInput → Result Printed ExploreFault → Sunk → Sunk → ℕ → Type 0
+Finishes scenario gathered out err status =
+    (ended : Result SearchAnswer ExploreFault) × Writes gathered out.before out.after out.failed ended × EndsBy scenario err ended status
 
 -- without one
-abbrev pub GoesThrough : Option Level → Option (List ℕ) → Bool → Sunk → Sunk → ℕ → Type 0
-GoesThrough level known failed out err status =
-    (gathered : Result Printed ExploreFault) × Gathers level known failed gathered × Finishes gathered out err status
+abbrev pub GoesThrough : Option Level → KeptInput → Option (List ℕ) → Bool → Sunk → Sunk → ℕ → Type 0
+GoesThrough level scenario known failed out err status =
+    (gathered : Result Printed ExploreFault) × Gathers level known failed gathered × Finishes scenario gathered out err status

@@ -1,9 +1,8 @@
 //! The command `explore` over devices.
-ghost use Rattle.std.specs.Prelude.{◌≡◌, ◌≤◌, ◌+◌, false};
+ghost use Rattle.std.specs.Prelude.{◌≡◌, ◌≤◌, ◌+◌, ◌++◌, false};
 ghost use Rattle.stm_devices.specs.declared.transfer.TheConstants.{MOST_READ};
-ghost use Rattle.stm_explain.specs.Saying.{status_of as code_of, text_of, IsExplained};
+ghost use Rattle.stm_explain.specs.Saying.{status_of as code_of, text_of, Reports};
 ghost use Rattle.stm_exploring.specs.Command.{verdict_status, fault_status, fault_message, SaysOf, Writes, Finishes, Explores, GoesThrough};
-ghost use Rattle.stm_exploring.specs.Explaining.{SaysMoreOf};
 
 use crate::audience::Audience;
 use crate::exploring::explore_sources;
@@ -56,6 +55,10 @@ fn message(fault: &ExploreFault) -> Message<'_>
             begin: "stmrun: bad program at ",
             bad,
         },
+        ExploreFault::BadWait(bad) => Message::Bad {
+            begin: "stmrun: bad wait ",
+            bad,
+        },
         ExploreFault::OutOfMemory => Message::OutOfMemory,
         ExploreFault::Device => Message::Device,
     }
@@ -69,11 +72,10 @@ fn report_fault<E: Sink>(err: &mut E, fault: &ExploreFault) -> u8
     message(fault).report(err)
 }
 
-/// Says what went wrong and its explanation, and returns the status.
-pub(crate) fn report_explained<E: Sink>(err: &mut E, fault: &ExploreFault, more: &str) -> u8
-    requires works { E.failed err.old ≡ false }
-    requires explains { IsExplained more.now }
-    ensures { SaysMoreOf (E.held err.old) (E.held err.new) (E.failed err.new) fault.now result }
+/// Says what went wrong and more after it, and returns the status.
+pub(crate) fn report_with<E: Sink>(err: &mut E, fault: &ExploreFault, more: &str) -> u8
+    requires { E.failed err.old ≡ false }
+    ensures { Reports (fault_status fault.now) (fault_message fault.now ++ more.now) (E.held err.old) (E.held err.new) (E.failed err.new) result }
 {
     message(fault).report_with(err, more)
 }
@@ -101,9 +103,9 @@ fn finish<W: Sink, E: Sink>(searched: Result<Printed, ExploreFault>, out: &mut W
 /// before anything is written.
 ///
 /// Of the schedules those alone are looked at in which the runners wait for others, as `waits` says. The steps of the scenario are left out. Each start is taken at `level`, where one is named. The scenario is read and judged first, then the
-/// program. Status 2 is for a bad scenario and for a bad program, 3 for a failed allocation and for a failed device other than `err`: then nothing was written,
+/// program, and then whether the scenario has the runners of the waits. Status 2 is for a bad scenario, a bad program and a bad wait, 3 for a failed allocation and for a failed device other than `err`: then nothing was written,
 /// but for a front where `out` has failed. On `err` it says what went wrong, and takes no memory for it: `stmrun: bad scenario at PLACE: CAUSE`,
-/// `stmrun: bad program at PLACE: CAUSE`, `stmrun: out of memory` or `stmrun: device fault`, whole where `err` then has not failed. That `err`
+/// `stmrun: bad program at PLACE: CAUSE`, `stmrun: bad wait RUNNER:FIRST: Range`, `stmrun: out of memory` or `stmrun: device fault`, whole where `err` then has not failed. That `err`
 /// fails changes no status. None of the devices has failed before. `scenario` and `keeps` are read at most 16777217 times each.
 pub fn explore_to<S: Source, R: Source, W: Sink, E: Sink, O: Audience>(
     alloc: Global,

@@ -1,24 +1,23 @@
 //! The command `explore`, which explains a bad input after what it says of it, and a rule that came to a fault.
-ghost use Rattle.std.specs.Prelude.{◌≡◌, ◌≤◌, ◌+◌, false, IfSome, string_bytes};
+ghost use Rattle.std.specs.Prelude.{◌≡◌, ◌≤◌, ◌+◌, false, IfOk, IfSome, string_bytes};
 ghost use Rattle.stm_devices.specs.declared.transfer.TheConstants.{MOST_READ};
-ghost use Rattle.stm_explain.specs.Saying.{IsExplained, Says};
+ghost use Rattle.stm_explain.specs.Saying.{Says};
 ghost use Rattle.stm_texts.specs.Reading.{scenario_in};
-ghost use Rattle.stm_faulted_runs.specs.Lines.{OrNothing};
 ghost use Rattle.stm_faulted_runs.specs.Rules.{ExplainsRule};
 ghost use Rattle.stm_exploring.specs.Command.{verdict_status};
-ghost use Rattle.stm_exploring.specs.Explaining.{SaysOfVerdict, schedule_in, ExplainsOnSchedule, ExplainsSearched, Explores, GoesThrough};
+ghost use Rattle.stm_exploring.specs.Explaining.{ExplainsFault, ExplainsScenario, SaysMoreOf, SaysOfVerdict, schedule_in, ExplainsOnSchedule, ExplainsSearched, Explores, GoesThrough};
 
 use crate::audience::Audience;
-use crate::command::{report_explained, status_of, write};
+use crate::command::{report_with, status_of, write};
 use crate::exploring::explore_sources;
 use crate::outcomes::outcomes_of_source;
 use crate::printed::{Printed, SearchAnswer};
 use crate::reading::ExploreFault;
-use std::alloc::Global;
+use std::alloc::{AllocError, Global};
 use stm_devices::{Sink, Source};
 use stm_explain::{Input, KeptSource, write_text};
 use stm_explore::{Budget, Wait};
-use stm_faulted_runs::{Named, rule_explained};
+use stm_faulted_runs::{Named, rule_explained, said_of};
 use stm_program::Level;
 
 /// The explanation of what is wrong with a scenario or with the program of a rule; none of another fault.
@@ -28,12 +27,15 @@ fn rule_explanation<S, R>(
     keeps: &KeptSource<'_, R>,
     fault: &ExploreFault,
 ) -> String
-    ensures { IsExplained (string_bytes result) }
+    ensures { ExplainsFault (record { name = scenario.now.name.now; text = scenario.now.bytes.items })
+        (record { name = keeps.now.name.now; text = keeps.now.bytes.items }) fault.now (string_bytes result) }
 {
     match fault {
         ExploreFault::BadScenario(bad) => scenario.explanation(alloc, Input::Scenario, bad),
         ExploreFault::BadProgram(bad) => keeps.explanation(alloc, Input::Program, bad),
-        ExploreFault::OutOfMemory | ExploreFault::Device => String::new(alloc),
+        ExploreFault::BadWait(_) | ExploreFault::OutOfMemory | ExploreFault::Device => {
+            String::new(alloc)
+        }
     }
 }
 
@@ -43,21 +45,11 @@ fn search_explanation<S>(
     scenario: &KeptSource<'_, S>,
     fault: &ExploreFault,
 ) -> String
-    ensures { IsExplained (string_bytes result) }
+    ensures { ExplainsScenario (record { name = scenario.now.name.now; text = scenario.now.bytes.items }) fault.now (string_bytes result) }
 {
     match fault {
         ExploreFault::BadScenario(bad) => scenario.explanation(alloc, Input::Scenario, bad),
         _ => String::new(alloc),
-    }
-}
-
-/// The explanation of a rule that comes to a fault after a schedule; none where an allocation failed.
-fn line_of_rule(alloc: Global, name: &str, text: &str, schedule: &str) -> String
-    ensures { OrNothing (ExplainsRule name.now text.now (scenario_in schedule.now)) (string_bytes result) }
-{
-    match rule_explained(alloc, &Named { name, text }, schedule) {
-        Ok(line) => line,
-        Err(_) => String::new(alloc),
     }
 }
 
@@ -71,41 +63,45 @@ fn schedule_in(printed: &str) -> Option<&str>
     }
 }
 
-/// The explanation of a broken rule that comes to a fault after its schedule, by what is printed of that; none where an allocation failed.
-fn line_by_printed(alloc: Global, name: &str, text: &str, printed: &str) -> String
-    ensures { OrNothing (ExplainsOnSchedule name.now text.now printed.now) (string_bytes result) }
+/// The explanation of a broken rule that comes to a fault after its schedule, by what is printed of that. It fails where an allocation failed.
+fn line_by_printed(
+    alloc: Global,
+    name: &str,
+    text: &str,
+    printed: &str,
+) -> Result<String, AllocError>
+    ensures { IfOk result (λ line. ExplainsOnSchedule name.now text.now printed.now (string_bytes line)) }
 {
     match schedule_in(printed) {
-        Some(schedule) => line_of_rule(alloc, name, text, schedule),
-        None => String::new(alloc),
+        Some(schedule) => rule_explained(alloc, &Named { name, text }, schedule),
+        None => Err(AllocError),
     }
 }
 
-/// The explanation of a broken rule that comes to a fault after its schedule, by what is printed of that; none where an allocation failed, now
-/// or before.
-fn rule_on<R>(alloc: Global, keeps: &KeptSource<'_, R>, printed: &str) -> String
-    ensures { OrNothing (ExplainsOnSchedule keeps.now.name.now keeps.now.bytes.items printed.now) (string_bytes result) }
+/// The same, by the rule's text. It fails where an allocation failed, now or when the text was kept.
+fn rule_on<R>(alloc: Global, keeps: &KeptSource<'_, R>, printed: &str) -> Result<String, AllocError>
+    ensures { IfOk result (λ line. ExplainsOnSchedule keeps.now.name.now keeps.now.bytes.items printed.now (string_bytes line)) }
 {
     match keeps.text() {
         Some(text) => line_by_printed(alloc, keeps.name, text, printed),
-        None => String::new(alloc),
+        None => Err(AllocError),
     }
 }
 
-/// The explanation of what a search came to: of a broken rule that comes to a fault.
+/// The explanation of what a search came to: of a broken rule that comes to a fault. It fails where an allocation failed, now or before.
 fn searched_explanation<R>(
     alloc: Global,
     keeps: &KeptSource<'_, R>,
     searched: &Result<Printed, ExploreFault>,
-) -> String
-    ensures { OrNothing (ExplainsSearched keeps.now.name.now keeps.now.bytes.items searched.now) (string_bytes result) }
+) -> Result<String, AllocError>
+    ensures { IfOk result (λ line. ExplainsSearched (record { name = keeps.now.name.now; text = keeps.now.bytes.items }) searched.now (string_bytes line)) }
 {
     match searched {
         Ok(printed) => match printed.verdict {
             SearchAnswer::Broken => rule_on(alloc, keeps, printed.text.as_str()),
-            SearchAnswer::Kept | SearchAnswer::Open => String::new(alloc),
+            SearchAnswer::Kept | SearchAnswer::Open => Ok(String::new(alloc)),
         },
-        Err(_) => String::new(alloc),
+        Err(_) => Ok(String::new(alloc)),
     }
 }
 
@@ -130,9 +126,40 @@ fn report_verdict<E: Sink>(err: &mut E, verdict: SearchAnswer, more: &str) -> u8
     status_of(verdict)
 }
 
+/// Says what went wrong with a search for a rule, explains it, and gives the status.
+fn report_rule_fault<S, R, E: Sink>(
+    alloc: Global,
+    scenario: &KeptSource<'_, S>,
+    keeps: &KeptSource<'_, R>,
+    fault: &ExploreFault,
+    err: &mut E,
+) -> u8
+    requires { E.failed err.old ≡ false }
+    ensures { SaysMoreOf (ExplainsFault (record { name = scenario.now.name.now; text = scenario.now.bytes.items })
+        (record { name = keeps.now.name.now; text = keeps.now.bytes.items })) (E.held err.old) (E.held err.new) (E.failed err.new) fault.now result }
+{
+    let more = rule_explanation(alloc, scenario, keeps, fault);
+    report_with(err, fault, more.as_str())
+}
+
+/// The same of a search without a rule.
+fn report_search_fault<S, E: Sink>(
+    alloc: Global,
+    scenario: &KeptSource<'_, S>,
+    fault: &ExploreFault,
+    err: &mut E,
+) -> u8
+    requires { E.failed err.old ≡ false }
+    ensures { SaysMoreOf (ExplainsScenario (record { name = scenario.now.name.now; text = scenario.now.bytes.items }))
+        (E.held err.old) (E.held err.new) (E.failed err.new) fault.now result }
+{
+    let more = search_explanation(alloc, scenario, fault);
+    report_with(err, fault, more.as_str())
+}
+
 /// Does what `explore_to` does, with that status and that output. After what is said of a bad input stands its explanation, as a line
-/// `NAME:LINE:COLUMN: WORDS`, and after what is printed of a rule that was broken by a fault a line of that form; or nothing where memory ran out
-/// refused for these.
+/// `NAME:LINE:COLUMN: WORDS`, and after what is printed of a rule that was broken by a fault a line of that form; or nothing where an allocation
+/// failed for these.
 pub fn explore_explained_to<S: Source, R: Source, W: Sink, E: Sink, O: Audience>(
     alloc: Global,
     scenario: &mut KeptSource<'_, S>,
@@ -147,24 +174,22 @@ pub fn explore_explained_to<S: Source, R: Source, W: Sink, E: Sink, O: Audience>
     requires keeps_works { R.failed keeps.old.source ≡ false }
     requires out_works { W.failed out.old ≡ false }
     requires err_works { E.failed err.old ≡ false }
-    ensures ends { Explores waits.now level keeps.new.name.now keeps.new.bytes.items (record {
-      scenario = S.left scenario.old.source;
-      keeps = R.left keeps.old.source;
-      scenario_failed = S.failed scenario.new.source;
-      keeps_failed = R.failed keeps.new.source;
-    }) (record { before = W.held out.old; after = W.held out.new; failed = W.failed out.new })
+    ensures ends { Explores waits.now level (record { name = scenario.new.name.now; text = scenario.new.bytes.items })
+        (record { name = keeps.new.name.now; text = keeps.new.bytes.items }) (record {
+          scenario = S.left scenario.old.source;
+          keeps = R.left keeps.old.source;
+          scenario_failed = S.failed scenario.new.source;
+          keeps_failed = R.failed keeps.new.source;
+        }) (record { before = W.held out.old; after = W.held out.new; failed = W.failed out.new })
         (record { before = E.held err.old; after = E.held err.new; failed = E.failed err.new }) result }
     ensures scenario_bounded { S.reads scenario.new.source ≤ S.reads scenario.old.source + MOST_READ }
     ensures keeps_bounded { R.reads keeps.new.source ≤ R.reads keeps.old.source + MOST_READ }
 {
     let searched = explore_sources(alloc, scenario, keeps, waits, level, budget);
-    let more = searched_explanation(alloc, keeps, &searched);
+    let explained = searched_explanation(alloc, keeps, &searched);
     match write(out, searched) {
-        Ok(verdict) => report_verdict(err, verdict, more.as_str()),
-        Err(fault) => {
-            let more = rule_explanation(alloc, scenario, keeps, &fault);
-            report_explained(err, &fault, more.as_str())
-        }
+        Ok(verdict) => report_verdict(err, verdict, said_of(&explained)),
+        Err(fault) => report_rule_fault(alloc, scenario, keeps, &fault, err),
     }
 }
 
@@ -181,7 +206,7 @@ pub fn outcomes_explained_to<S: Source, W: Sink, E: Sink, O: Audience>(
     requires scenario_works { S.failed scenario.old.source ≡ false }
     requires out_works { W.failed out.old ≡ false }
     requires err_works { E.failed err.old ≡ false }
-    ensures ends { GoesThrough level (S.left scenario.old.source) (S.failed scenario.new.source)
+    ensures ends { GoesThrough level (record { name = scenario.new.name.now; text = scenario.new.bytes.items }) (S.left scenario.old.source) (S.failed scenario.new.source)
         (record { before = W.held out.old; after = W.held out.new; failed = W.failed out.new })
         (record { before = E.held err.old; after = E.held err.new; failed = E.failed err.new }) result }
     ensures bounded { S.reads scenario.new.source ≤ S.reads scenario.old.source + MOST_READ }
@@ -189,9 +214,6 @@ pub fn outcomes_explained_to<S: Source, W: Sink, E: Sink, O: Audience>(
     let gathered = outcomes_of_source(alloc, scenario, level, budget);
     match write(out, gathered) {
         Ok(verdict) => status_of(verdict),
-        Err(fault) => {
-            let more = search_explanation(alloc, scenario, &fault);
-            report_explained(err, &fault, more.as_str())
-        }
+        Err(fault) => report_search_fault(alloc, scenario, &fault, err),
     }
 }

@@ -3,3 +3,4 @@ pub mod PlaceLemmas
 pub mod BegunLemmas
 pub mod RuleLemmas
 pub mod LineLemmas
+pub mod SaidLemmas

@@ -14,10 +14,12 @@ mod reads;
 mod reasons;
 mod rules;
 mod runs;
+mod said;
 mod scripts;
 
 pub use jobs::{FaultedJob, jobs_explained};
 pub use rules::rule_explained;
+pub use said::said_of;
 pub use scripts::{Named, faults_explained};
 pub use stm_sites::{
     Fault, FoundFault, Lookup, Node, Operator, Program, Sequence, Site, Value, find_fault,

@@ -1,5 +1,5 @@
 -- Reading statements one after the other, as a loop does.
-use Rattle.std.proofs.Common.{◌≡◌, ℕ, suc, ◌-◌, ◌+◌, ◌<◌, List, [], ◌∷◌, ◌++◌, Option, Some, None, Ok, Err, refl, sym, ap, ◌∙◌, arith}
+use Rattle.std.proofs.Common.{◌≡◌, ℕ, Bool, true, false, nat_lt, if◌then◌else◌, suc, ◌-◌, ◌+◌, ◌<◌, List, [], ◌∷◌, ◌++◌, Some, None, Ok, Err, refl, sym, ap, ◌∙◌, arith}
 use Rattle.stm_tokens.specs.declared.token.Token.{Token}
 use Rattle.stm_tokens.specs.declared.token.Symbol.TheVariants.{RightBrace}
 use Rattle.stm_program.specs.Syntax.{Statement, Block, End, Then}
@@ -10,8 +10,10 @@ use Rattle.stm_terms.specs.declared.faults.SourceCause.TheVariants.{TooDeep}
 use Rattle.stm_terms.specs.Cursor.{after_symbol, skip_semicolon, unexpected}
 use Rattle.stm_terms.specs.declared.faults.SourceError.{SourceError}
 use Rattle.stm_terms.specs.declared.faults.SourceError.TheVariants.{OutOfMemory, Bad}
-use Rattle.stm_terms.specs.Outcome.{Read, ReturnsFault, bad, ◌>>=◌}
-use Rattle.stm_source.specs.Statements.{ReadStatement, Blocks, statements_from, closed_or, statement_by, block_by, block_at, choice_by, choice_at}
+use Rattle.stm_terms.specs.Outcome.{Read, ReturnsFault, ◌>>=◌}
+use Rattle.stm_source.specs.declared.statements.TheConstants.{MOST_STATEMENTS}
+use Rattle.stm_source.specs.Kept.{pushed_up}
+use Rattle.stm_source.specs.Statements.{ReadStatement, Blocks, statements_from, then_up, statement_by, block_by, block_at, choice_by, choice_at}
 
 -- a block after statements
 abbrev pub block_after : List Statement → Block → Block
@@ -34,48 +36,53 @@ pub nothing_before : (reading : Read Block) → with_front [] reading ≡ readin
 nothing_before (Ok b) = refl
 nothing_before (Err f) = refl
 
-regroup : (front : List Statement) (s : Statement) (reading : Read Block)
-    → with_front front (reading >>= λ b. Ok (Then s b.0, b.1)) ≡ with_front (front ++ s ∷ []) reading
-regroup front s (Ok b) = ap (λ (c : Block). Ok (c, b.1)) (sym (block_after-snoc front s b.0))
-regroup front s (Err f) = refl
+regroup_by : (keeps : Bool) (front : List Statement) (s : Statement) (b : Block)
+    → block_after front (if keeps then Then s b else b) ≡ block_after (if keeps then front ++ s ∷ [] else front) b
+regroup_by true front s b = sym (block_after-snoc front s b)
+regroup_by false front s b = refl
+
+regroup : (done : ℕ) (front : List Statement) (s : Statement) (reading : Read Block)
+    → with_front front (reading >>= λ b. Ok (then_up done s b.0, b.1)) ≡ with_front (pushed_up done front s) reading
+regroup done front s (Ok b) = ap (λ (c : Block). Ok (c, b.1)) (regroup_by (nat_lt done MOST_STATEMENTS) front s b.0)
+regroup done front s (Err f) = refl
 
 -- a statement more
-pub goes_on : (statement : Scope → List Token → ReadStatement) (front : List Statement) (fuel more : ℕ) (scope behind : Scope) (tokens rest : List Token)
+pub goes_on : (statement : Scope → List Token → ReadStatement) (front : List Statement) (done fuel more : ℕ) (scope behind : Scope) (tokens rest : List Token)
     (s : Statement) (total : Read Block) → fuel ≡ suc more → after_symbol RightBrace tokens ≡ None → statement scope tokens ≡ Ok (s, behind, rest)
-    → with_front front (statements_from statement fuel scope tokens) ≡ total
-    → with_front (front ++ s ∷ []) (statements_from statement more behind (skip_semicolon rest)) ≡ total
+    → with_front front (statements_from statement done fuel scope tokens) ≡ total
+    → with_front (pushed_up done front s) (statements_from statement (done + 1) more behind (skip_semicolon rest)) ≡ total
 unfolding statements_from
-goes_on statement front fuel more scope behind tokens rest s total some unclosed is so_far =
-    let one : with_front front (statements_from statement fuel scope tokens)
-    ≡ with_front (front ++ s ∷ []) (statements_from statement more behind (skip_semicolon rest)) =
-    rw (some, unclosed, is) (regroup front s (statements_from statement more behind (skip_semicolon rest))) in
+goes_on statement front done fuel more scope behind tokens rest s total some unclosed is so_far =
+    let one : with_front front (statements_from statement done fuel scope tokens)
+    ≡ with_front (pushed_up done front s) (statements_from statement (done + 1) more behind (skip_semicolon rest)) =
+    rw (some, unclosed, is) (regroup done front s (statements_from statement (done + 1) more behind (skip_semicolon rest))) in
     sym one ∙ so_far
 
 -- a statement that is faulty
-pub fails : (statement : Scope → List Token → ReadStatement) (front : List Statement) (fuel more : ℕ) (scope : Scope) (tokens : List Token) (f : BadSource)
+pub fails : (statement : Scope → List Token → ReadStatement) (front : List Statement) (done fuel more : ℕ) (scope : Scope) (tokens : List Token) (f : BadSource)
     (total : Read Block) → fuel ≡ suc more → after_symbol RightBrace tokens ≡ None → statement scope tokens ≡ Err f
-    → with_front front (statements_from statement fuel scope tokens) ≡ total → total ≡ Err f
+    → with_front front (statements_from statement done fuel scope tokens) ≡ total → total ≡ Err f
 unfolding statements_from
-fails statement front fuel more scope tokens f total some unclosed is so_far =
-    let one : with_front front (statements_from statement fuel scope tokens) ≡ Err f = rw (some, unclosed, is) refl in
+fails statement front done fuel more scope tokens f total some unclosed is so_far =
+    let one : with_front front (statements_from statement done fuel scope tokens) ≡ Err f = rw (some, unclosed, is) refl in
     sym so_far ∙ one
 
 -- the brace that closes the block
-pub closes : (statement : Scope → List Token → ReadStatement) (front : List Statement) (fuel more : ℕ) (scope : Scope) (tokens rest : List Token)
+pub closes : (statement : Scope → List Token → ReadStatement) (front : List Statement) (done fuel more : ℕ) (scope : Scope) (tokens rest : List Token)
     (total : Read Block) → fuel ≡ suc more → after_symbol RightBrace tokens ≡ Some rest
-    → with_front front (statements_from statement fuel scope tokens) ≡ total → total ≡ Ok (block_of front, rest)
+    → with_front front (statements_from statement done fuel scope tokens) ≡ total → total ≡ Ok (block_of front, rest)
 unfolding statements_from
-closes statement front fuel more scope tokens rest total some closed so_far =
-    let one : with_front front (statements_from statement fuel scope tokens) ≡ Ok (block_of front, rest) =
+closes statement front done fuel more scope tokens rest total some closed so_far =
+    let one : with_front front (statements_from statement done fuel scope tokens) ≡ Ok (block_of front, rest) =
     rw (some, closed) (ap (λ (b : Block). Ok (b, rest)) (block_after-end front)) in
     sym so_far ∙ one
 
 -- no token is left
-pub runs_out : (statement : Scope → List Token → ReadStatement) (front : List Statement) (fuel : ℕ) (scope : Scope) (tokens : List Token) (total : Read Block)
-    → fuel ≡ 0 → with_front front (statements_from statement fuel scope tokens) ≡ total → total ≡ Err (unexpected tokens)
+pub runs_out : (statement : Scope → List Token → ReadStatement) (front : List Statement) (done fuel : ℕ) (scope : Scope) (tokens : List Token) (total : Read Block)
+    → fuel ≡ 0 → with_front front (statements_from statement done fuel scope tokens) ≡ total → total ≡ Err (unexpected tokens)
 unfolding statements_from
-runs_out statement front fuel scope tokens total none so_far =
-    let one : with_front front (statements_from statement fuel scope tokens) ≡ Err (unexpected tokens) = rw none refl in
+runs_out statement front done fuel scope tokens total none so_far =
+    let one : with_front front (statements_from statement done fuel scope tokens) ≡ Err (unexpected tokens) = rw none refl in
     sym so_far ∙ one
 
 -- ---- one bracket, or one choice, less
@@ -105,9 +112,9 @@ choice_some block levels scope more tokens some =
     ap (λ (n : ℕ). choice_at block levels scope n tokens) e
 
 -- what a statement's error is of the statements
-pub faults : (e : SourceError) (statement : Scope → List Token → ReadStatement) (front : List Statement) (fuel more : ℕ) (scope : Scope) (tokens : List Token)
+pub faults : (e : SourceError) (statement : Scope → List Token → ReadStatement) (front : List Statement) (done fuel more : ℕ) (scope : Scope) (tokens : List Token)
     (total : Read Block) → fuel ≡ suc more → after_symbol RightBrace tokens ≡ None → ReturnsFault e (statement scope tokens)
-    → with_front front (statements_from statement fuel scope tokens) ≡ total → ReturnsFault e total
-faults OutOfMemory statement front fuel more scope tokens total some unclosed is so_far = tt
-faults (Bad f) statement front fuel more scope tokens total some unclosed is so_far =
-    fails statement front fuel more scope tokens f total some unclosed is so_far
+    → with_front front (statements_from statement done fuel scope tokens) ≡ total → ReturnsFault e total
+faults OutOfMemory statement front done fuel more scope tokens total some unclosed is so_far = tt
+faults (Bad f) statement front done fuel more scope tokens total some unclosed is so_far =
+    fails statement front done fuel more scope tokens f total some unclosed is so_far

@@ -1,12 +1,11 @@
 -- One turn of each reader that reads one thing after the other, at turn i of n: what it answers is what all of it does.
-use Rattle.std.proofs.Common.{◌≡◌, ℕ, suc, ◌-◌, ◌+◌, ◌<◌, ◌≤◌, List, [], ◌∷◌, ◌++◌, Bool, true, false, Option, Some, None, Ok, Err, refl, sym, ap, ◌∙◌, arith}
+use Rattle.std.proofs.Common.{◌≡◌, ℕ, suc, ◌-◌, ◌+◌, ◌<◌, ◌≤◌, List, [], ◌∷◌, ◌++◌, true, false, Option, Some, None, Ok, Err, refl, sym, ap, ◌∙◌, arith}
 use Rattle.std.proofs.lemmas.List.{append-nil, append_assoc}
 use Rattle.stm_tokens.specs.declared.token.Token.{Token}
 use Rattle.stm_tokens.specs.declared.token.Symbol.TheVariants.{Comma, And, RightBrace, RightParenthesis}
 use Rattle.stm_outcome.specs.declared.txn.Compare.{Compare}
 use Rattle.stm_outcome.specs.declared.txn.Op.{Op}
 use Rattle.stm_program.specs.Syntax.{ProgramTree}
-use Rattle.stm_program.specs.declared.level.Level.{Level}
 use Rattle.stm_terms.specs.declared.faults.BadSource.{BadSource}
 use Rattle.stm_terms.specs.declared.faults.SourceError.{SourceError}
 use Rattle.stm_terms.specs.declared.faults.SourceError.TheVariants.{OutOfMemory, Bad}
@@ -19,7 +18,7 @@ use Rattle.stm_source.specs.declared.story.Story.{Story}
 use Rattle.stm_terms.specs.Cursor.{unexpected, after_symbol, expect_symbol, skip_semicolon}
 use Rattle.stm_source.specs.Events.{copies, is_turn, turn_at, turns_from, new_name_at, ReadNames, names_from, next_option, options_from, start_one, start_named}
 use Rattle.stm_terms.specs.Outcome.{Outcome, Read, ReturnsFault}
-use Rattle.stm_source.specs.Definitions.{argument_at, arguments_from, parameter_at, parameters_from, given_as, open_given}
+use Rattle.stm_source.specs.Definitions.{argument_at, arguments_from, free_name_at, parameters_from, given_as, open_given}
 use Rattle.stm_source.specs.Programs.{key_at, with_key, keys_from}
 use Rattle.stm_source.specs.Sources.{at_end, item_at, items_from}
 use Rattle.stm_source.specs.Txns.{compare_at, compares_from, operation_at, operations_from}
@@ -120,47 +119,47 @@ arguments_unclosed e n i xs x tokens behind total less is ends unclosed so_far =
 
 -- ---- parameters
 
-pub parameters_fault : (e : SourceError) (programs : List (List ℕ)) (n i : ℕ) (xs : List (List ℕ)) (tokens : List Token) (total : Read (List (List ℕ))) → i < n
-    → ReturnsFault e (parameter_at programs xs tokens) → parameters_from programs (n - i) xs tokens ≡ total → ReturnsFault e total
+pub parameters_fault : (e : SourceError) (n i : ℕ) (xs : List (List ℕ)) (tokens : List Token) (total : Read (List (List ℕ))) → i < n
+    → ReturnsFault e (free_name_at xs tokens) → parameters_from (n - i) xs tokens ≡ total → ReturnsFault e total
 unfolding parameters_from
-parameters_fault e programs n i xs tokens total less is so_far =
+parameters_fault e n i xs tokens total less is so_far =
     let k : n - i ≡ suc (n - (i + 1)) = omega arith in
-    fault_of e (parameter_at programs xs tokens) total (λ f bad. let one : parameters_from programs (n - i) xs tokens ≡ Err f = rw (k, bad) refl in sym so_far ∙ one) is
+    fault_of e (free_name_at xs tokens) total (λ f bad. let one : parameters_from (n - i) xs tokens ≡ Err f = rw (k, bad) refl in sym so_far ∙ one) is
 
-pub parameters_more : (programs : List (List ℕ)) (n i : ℕ) (xs : List (List ℕ)) (x : (List ℕ)) (tokens behind next : List Token) (total : Read (List (List ℕ))) → i < n
-    → parameter_at programs xs tokens ≡ Ok (x, behind) → after_symbol Comma behind ≡ Some next → parameters_from programs (n - i) xs tokens ≡ total
-    → parameters_from programs (n - (i + 1)) (xs ++ x ∷ []) next ≡ total
+pub parameters_more : (n i : ℕ) (xs : List (List ℕ)) (x : (List ℕ)) (tokens behind next : List Token) (total : Read (List (List ℕ))) → i < n
+    → free_name_at xs tokens ≡ Ok (x, behind) → after_symbol Comma behind ≡ Some next → parameters_from (n - i) xs tokens ≡ total
+    → parameters_from (n - (i + 1)) (xs ++ x ∷ []) next ≡ total
 unfolding parameters_from
-parameters_more programs n i xs x tokens behind next total less is follows so_far =
+parameters_more n i xs x tokens behind next total less is follows so_far =
     let k : n - i ≡ suc (n - (i + 1)) = omega arith in
-    let one : parameters_from programs (n - i) xs tokens ≡ parameters_from programs (n - (i + 1)) (xs ++ x ∷ []) next = rw (k, is, follows) refl in
+    let one : parameters_from (n - i) xs tokens ≡ parameters_from (n - (i + 1)) (xs ++ x ∷ []) next = rw (k, is, follows) refl in
     sym one ∙ so_far
 
-pub parameters_over : (e : SourceError) (programs : List (List ℕ)) (n i : ℕ) (xs : List (List ℕ)) (tokens : List Token) (total : Read (List (List ℕ))) → n ≤ i
-    → e ≡ Bad (unexpected tokens) → parameters_from programs (n - i) xs tokens ≡ total → ReturnsFault e total
+pub parameters_over : (e : SourceError) (n i : ℕ) (xs : List (List ℕ)) (tokens : List Token) (total : Read (List (List ℕ))) → n ≤ i
+    → e ≡ Bad (unexpected tokens) → parameters_from (n - i) xs tokens ≡ total → ReturnsFault e total
 unfolding parameters_from
-parameters_over e programs n i xs tokens total over is so_far =
+parameters_over e n i xs tokens total over is so_far =
     let k : n - i ≡ 0 = omega arith in
-    let one : parameters_from programs (n - i) xs tokens ≡ Err (unexpected tokens) = rw k refl in
+    let one : parameters_from (n - i) xs tokens ≡ Err (unexpected tokens) = rw k refl in
     rw is (sym so_far ∙ one)
 
-pub parameters_last : (programs : List (List ℕ)) (n i : ℕ) (xs : List (List ℕ)) (x : (List ℕ)) (tokens behind rest : List Token) (total : Read (List (List ℕ))) → i < n
-    → parameter_at programs xs tokens ≡ Ok (x, behind) → after_symbol Comma behind ≡ None → expect_symbol RightParenthesis behind ≡ Ok rest
-    → parameters_from programs (n - i) xs tokens ≡ total → total ≡ Ok (xs ++ x ∷ [], rest)
+pub parameters_last : (n i : ℕ) (xs : List (List ℕ)) (x : (List ℕ)) (tokens behind rest : List Token) (total : Read (List (List ℕ))) → i < n
+    → free_name_at xs tokens ≡ Ok (x, behind) → after_symbol Comma behind ≡ None → expect_symbol RightParenthesis behind ≡ Ok rest
+    → parameters_from (n - i) xs tokens ≡ total → total ≡ Ok (xs ++ x ∷ [], rest)
 unfolding parameters_from
-parameters_last programs n i xs x tokens behind rest total less is ends closed so_far =
+parameters_last n i xs x tokens behind rest total less is ends closed so_far =
     let k : n - i ≡ suc (n - (i + 1)) = omega arith in
-    let one : parameters_from programs (n - i) xs tokens ≡ Ok (xs ++ x ∷ [], rest) = rw (k, is, ends, closed) refl in
+    let one : parameters_from (n - i) xs tokens ≡ Ok (xs ++ x ∷ [], rest) = rw (k, is, ends, closed) refl in
     sym so_far ∙ one
 
-pub parameters_unclosed : (e : SourceError) (programs : List (List ℕ)) (n i : ℕ) (xs : List (List ℕ)) (x : (List ℕ)) (tokens behind : List Token) (total : Read (List (List ℕ))) → i < n
-    → parameter_at programs xs tokens ≡ Ok (x, behind) → after_symbol Comma behind ≡ None → ReturnsFault e (expect_symbol RightParenthesis behind)
-    → parameters_from programs (n - i) xs tokens ≡ total → ReturnsFault e total
+pub parameters_unclosed : (e : SourceError) (n i : ℕ) (xs : List (List ℕ)) (x : (List ℕ)) (tokens behind : List Token) (total : Read (List (List ℕ))) → i < n
+    → free_name_at xs tokens ≡ Ok (x, behind) → after_symbol Comma behind ≡ None → ReturnsFault e (expect_symbol RightParenthesis behind)
+    → parameters_from (n - i) xs tokens ≡ total → ReturnsFault e total
 unfolding parameters_from
-parameters_unclosed e programs n i xs x tokens behind total less is ends unclosed so_far =
+parameters_unclosed e n i xs x tokens behind total less is ends unclosed so_far =
     let k : n - i ≡ suc (n - (i + 1)) = omega arith in
     fault_of e (expect_symbol RightParenthesis behind) total
-    (λ f bad. let one : parameters_from programs (n - i) xs tokens ≡ Err f = rw (k, is, ends, bad) refl in sym so_far ∙ one) unclosed
+    (λ f bad. let one : parameters_from (n - i) xs tokens ≡ Err f = rw (k, is, ends, bad) refl in sym so_far ∙ one) unclosed
 
 -- ---- compares
 
@@ -336,40 +335,40 @@ items_over e all n i d story tokens total over is so_far =
 
 -- ---- starts
 
-pub starts_fault : (e : SourceError) (at : ℕ) (program : ProgramTree) (level : Level) (limit n i : ℕ) (story : Story) (total : Outcome Story) → i < n
-    → ReturnsFault e (start_one at program level limit true story) → start_named at program level limit (n - i) story ≡ total → ReturnsFault e total
-starts_fault e at program level limit n i story total less faulty so_far =
+pub starts_fault : (e : SourceError) (at : ℕ) (program : ProgramTree) (o : Options) (n i : ℕ) (story : Story) (total : Outcome Story) → i < n
+    → ReturnsFault e (start_one at program o true story) → start_named at program o (n - i) story ≡ total → ReturnsFault e total
+starts_fault e at program o n i story total less faulty so_far =
     let k : n - i ≡ suc (n - (i + 1)) = omega arith in
-    fault_of e (start_one at program level limit true story) total
-    (λ f bad. let one : start_named at program level limit (n - i) story ≡ Err f = rw (k, bad) refl in sym so_far ∙ one) faulty
+    fault_of e (start_one at program o true story) total
+    (λ f bad. let one : start_named at program o (n - i) story ≡ Err f = rw (k, bad) refl in sym so_far ∙ one) faulty
 
-pub starts_more : (at : ℕ) (program : ProgramTree) (level : Level) (limit n i : ℕ) (story after : Story) (total : Outcome Story) → i < n
-    → start_one at program level limit true story ≡ Ok after → start_named at program level limit (n - i) story ≡ total
-    → start_named at program level limit (n - (i + 1)) after ≡ total
-starts_more at program level limit n i story after total less started so_far =
+pub starts_more : (at : ℕ) (program : ProgramTree) (o : Options) (n i : ℕ) (story after : Story) (total : Outcome Story) → i < n
+    → start_one at program o true story ≡ Ok after → start_named at program o (n - i) story ≡ total
+    → start_named at program o (n - (i + 1)) after ≡ total
+starts_more at program o n i story after total less started so_far =
     let k : n - i ≡ suc (n - (i + 1)) = omega arith in
-    let one : start_named at program level limit (n - i) story ≡ start_named at program level limit (n - (i + 1)) after = rw (k, started) refl in
+    let one : start_named at program o (n - i) story ≡ start_named at program o (n - (i + 1)) after = rw (k, started) refl in
     sym one ∙ so_far
 
-pub starts_over : (at : ℕ) (program : ProgramTree) (level : Level) (limit n i : ℕ) (story : Story) (total : Outcome Story) → n ≤ i
-    → start_named at program level limit (n - i) story ≡ total → total ≡ Ok story
-starts_over at program level limit n i story total over so_far =
+pub starts_over : (at : ℕ) (program : ProgramTree) (o : Options) (n i : ℕ) (story : Story) (total : Outcome Story) → n ≤ i
+    → start_named at program o (n - i) story ≡ total → total ≡ Ok story
+starts_over at program o n i story total over so_far =
     let k : n - i ≡ 0 = omega arith in
-    let one : start_named at program level limit (n - i) story ≡ Ok story = rw k refl in
+    let one : start_named at program o (n - i) story ≡ Ok story = rw k refl in
     sym so_far ∙ one
 
 -- ---- options
 
-pub options_none : (more : ℕ) (o : Options) (names : List (List ℕ)) (tokens : List Token) → more ≡ 0 → options_from more o names tokens ≡ Ok (o, names, tokens)
+pub options_none : (more : ℕ) (o : Options) (story : Story) (tokens : List Token) → more ≡ 0 → options_from more o story tokens ≡ Ok (o, story, tokens)
 unfolding options_from
-options_none more o names tokens none = rw none refl
+options_none more o story tokens none = rw none refl
 
-pub options_some : (more : ℕ) (o : Options) (names : List (List ℕ)) (tokens : List Token) → 0 < more
-    → options_from more o names tokens ≡ next_option (options_from (more - 1)) o names tokens
+pub options_some : (more : ℕ) (o : Options) (story : Story) (tokens : List Token) → 0 < more
+    → options_from more o story tokens ≡ next_option (options_from (more - 1)) o story tokens
 unfolding options_from
-options_some more o names tokens some =
+options_some more o story tokens some =
     let k : more ≡ suc (more - 1) = omega arith in
-    ap (λ (n : ℕ). options_from n o names tokens) k
+    ap (λ (n : ℕ). options_from n o story tokens) k
 
 -- ---- turns that are counted
 

@@ -1,5 +1,5 @@
 -- Programs that have a name and parameters, and the arguments of a start.
-use Rattle.std.specs.Prelude.{ℕ, zero, suc, ◌-◌, ◌^◌, ℤ, pos, neg_ℤ, List, [], ◌∷◌, ◌++◌, length, drop, not, ◌||◌, Option, Some, None, is_some, Ok, Err, bytes_eq, slice_get}
+use Rattle.std.specs.Prelude.{ℕ, zero, suc, ◌-◌, ◌^◌, pos, neg_ℤ, List, [], ◌∷◌, ◌++◌, length, drop, not, ◌||◌, Option, Some, None, is_some, Ok, Err, bytes_eq, slice_get}
 use Rattle.std.specs.Prelude.{nat_eq, nat_le, nat_lt, if◌then◌else◌}
 use Rattle.std.specs.List.{list_any, position}
 use Rattle.stm_tokens.specs.declared.token.Token.{Token}
@@ -8,12 +8,13 @@ use Rattle.stm_program.specs.Syntax.{ProgramTree}
 use Rattle.stm_terms.specs.declared.arguments.Argument.{Argument}
 use Rattle.stm_terms.specs.declared.arguments.Argument.TheVariants.{Either, Text, Number}
 use Rattle.stm_terms.specs.declared.arguments.Given.{Given}
-use Rattle.stm_terms.specs.declared.arguments.Arguments.{Arguments}
 use Rattle.stm_terms.specs.declared.faults.SourceCause.TheVariants as cause
 use Rattle.stm_terms.specs.Outcome.{Outcome, Read, bad, ◌>>=◌}
 use Rattle.stm_terms.specs.Cursor.{place, unexpected, after_symbol, expect_symbol, next_name, next_number, next_text}
 use Rattle.stm_terms.specs.Scope.{numbered_variable}
 use Rattle.stm_source.specs.declared.definitions.Definition.{Definition}
+use Rattle.stm_source.specs.declared.definitions.Meaning.{Meaning}
+use Rattle.stm_source.specs.declared.definitions.Meaning.TheVariants.{Program, Rule}
 use Rattle.stm_source.specs.declared.definitions.Definitions.{Definitions}
 use Rattle.stm_source.specs.Programs.{program_at}
 
@@ -60,33 +61,33 @@ arguments_by tokens None = arguments_from (length tokens) [] tokens
 abbrev pub arguments_at : List Token → Read (List Given)
 arguments_at tokens = expect_symbol symbol.LeftParenthesis tokens >>= λ inner. arguments_by inner (after_symbol symbol.RightParenthesis inner)
 
--- ---- parameters: their names are new, and none is that of a program or of a variable
+-- ---- parameters: their names are new, and none is that of a variable
 
-abbrev pub parameter_by : List (List ℕ) → List (List ℕ) → List Token → Option (List ℕ × List Token) → Read (List ℕ)
-parameter_by programs names tokens None = Err (unexpected tokens)
-parameter_by programs names tokens (Some p) =
-    if list_any (bytes_eq p.0) names || list_any (bytes_eq p.0) programs || is_some (numbered_variable p.0) then bad (place tokens) cause.Name else Ok p
+-- a name that is none of these, nor that of a variable
+abbrev pub free_name_by : List (List ℕ) → List Token → Option (List ℕ × List Token) → Read (List ℕ)
+free_name_by names tokens None = Err (unexpected tokens)
+free_name_by names tokens (Some p) =
+    if list_any (bytes_eq p.0) names || is_some (numbered_variable p.0) then bad (place tokens) cause.Name else Ok p
 
-abbrev pub parameter_at : List (List ℕ) → List (List ℕ) → List Token → Read (List ℕ)
-parameter_at programs names tokens = parameter_by programs names tokens (next_name tokens)
+abbrev pub free_name_at : List (List ℕ) → List Token → Read (List ℕ)
+free_name_at names tokens = free_name_by names tokens (next_name tokens)
 
 abbrev pub parameters_behind : (List (List ℕ) → List Token → Read (List (List ℕ))) → List (List ℕ) → List Token → Option (List Token) → Read (List (List ℕ))
 parameters_behind more names tokens (Some rest) = more names rest
 parameters_behind more names tokens None = expect_symbol symbol.RightParenthesis tokens >>= λ rest. Ok (names, rest)
 
 -- parameters behind these, at most so many
-unfoldable pub parameters_from : List (List ℕ) → ℕ → List (List ℕ) → List Token → Read (List (List ℕ))
-parameters_from programs zero names tokens = Err (unexpected tokens)
-parameters_from programs (suc more) names tokens =
-    parameter_at programs names tokens >>= λ x. parameters_behind (parameters_from programs more) (names ++ x.0 ∷ []) x.1 (after_symbol symbol.Comma x.1)
+unfoldable pub parameters_from : ℕ → List (List ℕ) → List Token → Read (List (List ℕ))
+parameters_from zero names tokens = Err (unexpected tokens)
+parameters_from (suc more) names tokens =
+    free_name_at names tokens >>= λ x. parameters_behind (parameters_from more) (names ++ x.0 ∷ []) x.1 (after_symbol symbol.Comma x.1)
 
-abbrev pub parameters_by : List (List ℕ) → List Token → Option (List Token) → Read (List (List ℕ))
-parameters_by programs tokens (Some rest) = Ok ([], rest)
-parameters_by programs tokens None = parameters_from programs (length tokens) [] tokens
+abbrev pub parameters_by : List Token → Option (List Token) → Read (List (List ℕ))
+parameters_by tokens (Some rest) = Ok ([], rest)
+parameters_by tokens None = parameters_from (length tokens) [] tokens
 
-abbrev pub parameters_at : List (List ℕ) → List Token → Read (List (List ℕ))
-parameters_at programs tokens =
-    expect_symbol symbol.LeftParenthesis tokens >>= λ inner. parameters_by programs inner (after_symbol symbol.RightParenthesis inner)
+abbrev pub parameters_at : List Token → Read (List (List ℕ))
+parameters_at tokens = expect_symbol symbol.LeftParenthesis tokens >>= λ inner. parameters_by inner (after_symbol symbol.RightParenthesis inner)
 
 -- ---- definitions
 
@@ -95,46 +96,51 @@ abbrev pub open_given : ℕ → List Given
 open_given zero = []
 open_given (suc n) = given_as Either 0 ∷ open_given n
 
--- the program of a body where its parameters stand for what is given
-abbrev pub bound_program : List (List ℕ) → List Given → List Token → Read ProgramTree
-bound_program parameters given body = program_at (record { names = parameters; given = given }) body
+-- the program of a body where its parameters stand for what is given; `at` is the place of what is wrong with it as a whole
+abbrev pub bound_program : ℕ → List (List ℕ) → List Given → List Token → Read ProgramTree
+bound_program at parameters given body = program_at at (record { names = parameters; given = given }) body
 
 -- a definition whose body these tokens begin with
-abbrev pub definition_at : List (List ℕ) → List Token → Read Definition
-definition_at parameters body =
-    bound_program parameters (open_given (length parameters)) body >>= λ p.
-    Ok (record { parameters = parameters; left = length body; program = p.0 }, p.1)
+abbrev pub definition_at : ℕ → List (List ℕ) → List Token → Read Definition
+definition_at at parameters body =
+    bound_program at parameters (open_given (length parameters)) body >>= λ p.
+    Ok (record { parameters = parameters; left = length body; length = length body - length p.1; program = p.0 }, p.1)
 
-abbrev pub with_definition : Definitions → List ℕ → Definition → Definitions
-with_definition definitions name d = record { names = definitions.names ++ name ∷ []; programs = definitions.programs ++ d ∷ [] }
+abbrev pub with_meaning : Definitions → List ℕ → Meaning → Definitions
+with_meaning definitions name m = record { names = definitions.names ++ name ∷ []; meanings = definitions.meanings ++ m ∷ [] }
 
-abbrev pub define_by : Definitions → List Token → Option (List ℕ × List Token) → Outcome (Definitions × List Token)
-define_by definitions tokens None = Err (unexpected tokens)
-define_by definitions tokens (Some p) =
-    if list_any (bytes_eq p.0) definitions.names then bad (place tokens) cause.Name
-    else (parameters_at definitions.names p.1 >>= λ parameters.
-    definition_at parameters.0 parameters.1 >>= λ d. Ok (with_definition definitions p.0 d.0, d.1))
-
--- behind its word
+-- behind its word; programs and rules share their names
 abbrev pub define_at : Definitions → List Token → Outcome (Definitions × List Token)
-define_at definitions tokens = define_by definitions tokens (next_name tokens)
+define_at definitions tokens =
+    free_name_at definitions.names tokens >>= λ name.
+    parameters_at name.1 >>= λ parameters.
+    definition_at (place tokens) parameters.0 parameters.1 >>= λ d. Ok (with_meaning definitions name.0 (Program d.0), d.1)
 
 -- ---- starts by a name
 
-abbrev pub definition_in : List Definition → Option ℕ → Option Definition
-definition_in programs None = None
-definition_in programs (Some i) = slice_get programs i
+abbrev pub program_of : Option Meaning → Option Definition
+program_of None = None
+program_of (Some (Program d)) = Some d
+program_of (Some Rule) = None
+
+abbrev pub meaning_in : List Meaning → Option ℕ → Option Meaning
+meaning_in meanings None = None
+meaning_in meanings (Some i) = slice_get meanings i
 
 abbrev pub definition_named : Definitions → List ℕ → Option Definition
-definition_named definitions name = definition_in definitions.programs (position (bytes_eq name) definitions.names)
+definition_named definitions name = program_of (meaning_in definitions.meanings (position (bytes_eq name) definitions.names))
 
--- the program of a definition with these arguments: its body among all tokens is read with them
-abbrev pub with_arguments : List Token → ℕ → Definition → List Given → Outcome ProgramTree
+-- the program of a definition with these arguments, and how many tokens were read for it: its body among all tokens is read with them
+abbrev pub with_arguments : List Token → ℕ → Definition → List Given → Outcome (ProgramTree × ℕ)
 with_arguments all at d given =
     if not (nat_eq (length given) (length d.parameters)) then bad at cause.Arguments
-    else (if nat_eq (length given) 0 then Ok d.program
-    else (bound_program d.parameters given (drop (length all - d.left) all) >>= λ p. Ok p.0))
+    else (if nat_eq (length given) 0 then Ok (d.program, 0)
+    else (bound_program at d.parameters given (drop (length all - d.left) all) >>= λ p. Ok (p.0, d.length)))
 
-abbrev pub named_program : List Token → ℕ → List Token → Option Definition → Read ProgramTree
+-- a program, how many tokens were read again for it, and the tokens behind it
+abbrev pub ReadProgram : Type 0
+ReadProgram = Outcome (ProgramTree × ℕ × List Token)
+
+abbrev pub named_program : List Token → ℕ → List Token → Option Definition → ReadProgram
 named_program all at tokens None = bad at cause.Name
-named_program all at tokens (Some d) = arguments_at tokens >>= λ given. with_arguments all at d given.0 >>= λ program. Ok (program, given.1)
+named_program all at tokens (Some d) = arguments_at tokens >>= λ given. with_arguments all at d given.0 >>= λ p. Ok (p.0, p.1, given.1)

@@ -18,11 +18,14 @@ use Rattle.stm_source.specs.declared.starts.TheConstants.{USUAL_LIMIT}
 use Rattle.stm_source.specs.declared.words.EventWord.{EventWord}
 use Rattle.stm_source.specs.declared.words.EventWord.TheVariants as event
 use Rattle.stm_source.specs.declared.story.Story.{Story}
+use Rattle.stm_source.specs.declared.story.Wait.{Wait}
 use Rattle.stm_source.specs.declared.starts.Options.{Options}
+use Rattle.stm_source.specs.declared.starts.After.{After}
 use Rattle.stm_terms.specs.Outcome.{Outcome, Read, bad, ◌>>=◌}
-use Rattle.stm_terms.specs.Cursor.{place, unexpected, after_symbol, after_name, expect_symbol, expect_name, next_name, next_number, text_at}
+use Rattle.stm_terms.specs.Cursor.{place, unexpected, after_symbol, after_name, expect_name, next_name, next_number, text_at}
 use Rattle.stm_source.specs.declared.definitions.Definitions.{Definitions}
-use Rattle.stm_source.specs.Definitions.{bound_program, named_program, definition_named}
+use Rattle.stm_source.specs.Bulk.{program_bulk}
+use Rattle.stm_source.specs.Definitions.{ReadProgram, bound_program, named_program, definition_named}
 use Rattle.stm_source.specs.Txns.{number_at, txn_at}
 use Rattle.stm_source.specs.Words.{event_word, level_word}
 
@@ -83,8 +86,7 @@ abbrev pub is_room : Story → ℕ → Bool
 is_room story more = nat_le more (MOST_EVENTS - length story.events)
 
 abbrev pub with_events : Story → List WorldEvent → Story
-with_events story events =
-    record { opening = story.opening; has_events = true; events = story.events ++ events; runners = story.runners; names = story.names; numbers = story.numbers }
+with_events story events = record story { has_events = true; events = story.events ++ events }
 
 -- an event that begins at a byte
 abbrev pub one_event : Story → ℕ → Read WorldEvent → Outcome (Story × List Token)
@@ -109,10 +111,13 @@ abbrev pub name_of_runner : List Token → Option (List ℕ × List Token) → O
 name_of_runner tokens None = None
 name_of_runner tokens (Some p) = if is_some (event_word p.0) then None else Some p
 
+abbrev pub runner_by_name : Story → List Token → Option (List ℕ × List Token) → Read ℕ
+runner_by_name story tokens None = Err (unexpected tokens)
+runner_by_name story tokens (Some p) = numbered_runner (place tokens) p.1 (number_named story p.0)
+
 abbrev pub runner_by : Story → List Token → Option (ℕ × List Token) → Option (List ℕ × List Token) → Read ℕ
 runner_by story tokens (Some p) name = if nat_le p.0 HIGHEST_NUMBER then Ok p else bad (place tokens) cause.Range
-runner_by story tokens None (Some p) = numbered_runner (place tokens) p.1 (number_named story p.0)
-runner_by story tokens None None = Err (unexpected tokens)
+runner_by story tokens None name = runner_by_name story tokens name
 
 abbrev pub runner_at : Story → List Token → Read ℕ
 runner_at story tokens = runner_by story tokens (next_number tokens) (name_of_runner tokens (next_name tokens))
@@ -185,103 +190,128 @@ level_by tokens (Some p) = known_level tokens p.1 (level_word p.0)
 abbrev pub level_at : List Token → Read Level
 level_at tokens = level_by tokens (next_name tokens)
 
+-- the number of a runner that was started
+abbrev pub started_by : Story → List Token → Option (ℕ × List Token) → Option (List ℕ × List Token) → Read ℕ
+started_by story tokens (Some p) name = if nat_lt 0 p.0 && nat_le p.0 story.runners then Ok p else bad (place tokens) cause.Name
+started_by story tokens None name = runner_by_name story tokens name
+
+abbrev pub started_at : Story → List Token → Read ℕ
+started_at story tokens = started_by story tokens (next_number tokens) (name_of_runner tokens (next_name tokens))
+
+abbrev pub after_by : ℕ → List Token → Option (List Token) → Read After
+after_by runner tokens None = Ok (record { runner = runner; committed = false }, tokens)
+after_by runner tokens (Some rest) = Ok (record { runner = runner; committed = true }, rest)
+
+-- the runner behind whose end another one begins, and whether that has to commit
+abbrev pub after_at : Story → List Token → Read After
+after_at story tokens = started_at story tokens >>= λ r. after_by r.0 r.1 (after_name (codes "committed") r.1)
+
 abbrev pub no_options : Options
-no_options = record { named = 0; level = None; limit = None }
+no_options = record { named = 0; level = None; limit = None; after = None }
 
 abbrev pub named_with : Options → ℕ → Options
-named_with o named = record { named = named; level = o.level; limit = o.limit }
+named_with o named = record o { named = named }
 
 abbrev pub leveled_with : Options → Level → Options
-leveled_with o level = record { named = o.named; level = Some level; limit = o.limit }
+leveled_with o level = record o { level = Some level }
 
 abbrev pub limited_with : Options → ℕ → Options
-limited_with o limit = record { named = o.named; level = o.level; limit = Some limit }
+limited_with o limit = record o { limit = Some limit }
+
+abbrev pub waiting_with : Options → After → Options
+waiting_with o after = record o { after = Some after }
 
 -- each at most once
 abbrev pub if_new : Bool → Option (List Token) → Option (List Token)
 if_new seen behind = if seen then None else behind
 
--- the options, all names of runners, and the tokens behind
+abbrev pub with_names : Story → List (List ℕ) → Story
+with_names story names = record story { names = names }
+
+-- the options, the story with the names that they give, and the tokens behind
 abbrev pub ReadOptions : Type 0
-ReadOptions = Outcome (Options × List (List ℕ) × List Token)
+ReadOptions = Outcome (Options × Story × List Token)
 
-abbrev pub option_by : (Options → List (List ℕ) → List Token → ReadOptions) → Options → List (List ℕ) → List Token
-    → Option (List Token) → Option (List Token) → Option (List Token) → ReadOptions
-option_by more o names tokens (Some rest) level limit = names_from (length rest) 0 names rest >>= λ x. more (named_with o x.0) x.1 x.2
-option_by more o names tokens None (Some rest) limit = level_at rest >>= λ x. more (leveled_with o x.0) names x.1
-option_by more o names tokens None None (Some rest) = plain_number HIGHEST_LIMIT rest >>= λ x. more (limited_with o x.0) names x.1
-option_by more o names tokens None None None = Ok (o, names, tokens)
+abbrev pub option_by : (Options → Story → List Token → ReadOptions) → Options → Story → List Token
+    → Option (List Token) → Option (List Token) → Option (List Token) → Option (List Token) → ReadOptions
+option_by more o story tokens (Some rest) level limit after =
+    names_from (length rest) 0 story.names rest >>= λ x. more (named_with o x.0) (with_names story x.1) x.2
+option_by more o story tokens None (Some rest) limit after = level_at rest >>= λ x. more (leveled_with o x.0) story x.1
+option_by more o story tokens None None (Some rest) after = plain_number HIGHEST_LIMIT rest >>= λ x. more (limited_with o x.0) story x.1
+option_by more o story tokens None None None (Some rest) = after_at story rest >>= λ x. more (waiting_with o x.0) story x.1
+option_by more o story tokens None None None None = Ok (o, story, tokens)
 
-abbrev pub next_option : (Options → List (List ℕ) → List Token → ReadOptions) → Options → List (List ℕ) → List Token → ReadOptions
-next_option more o names tokens =
-    option_by more o names tokens
+abbrev pub next_option : (Options → Story → List Token → ReadOptions) → Options → Story → List Token → ReadOptions
+next_option more o story tokens =
+    option_by more o story tokens
     (if_new (nat_lt 0 o.named) (after_name (codes "as") tokens))
     (if_new (is_some o.level) (after_name (codes "at") tokens))
     (if_new (is_some o.limit) (after_name (codes "limit") tokens))
+    (if_new (is_some o.after) (after_name (codes "after") tokens))
 
 -- options behind these, at most so many
-unfoldable pub options_from : ℕ → Options → List (List ℕ) → List Token → ReadOptions
-options_from zero o names tokens = Ok (o, names, tokens)
-options_from (suc more) o names tokens = next_option (options_from more) o names tokens
+unfoldable pub options_from : ℕ → Options → Story → List Token → ReadOptions
+options_from zero o story tokens = Ok (o, story, tokens)
+options_from (suc more) o story tokens = next_option (options_from more) o story tokens
 
 -- a start that may send no commit takes no number
 abbrev pub next_number_of : Story → ℕ → Option ℕ
 next_number_of story limit = if nat_eq limit 0 then None else Some (story.runners + 1)
 
-abbrev pub with_start : ProgramTree → Level → ℕ → Bool → Story → Story
-with_start program level limit is_named story = record {
-  opening = story.opening;
+-- the runner of a number waits for another one
+abbrev pub waits_with : List Wait → Option ℕ → Option After → List Wait
+waits_with waits None after = waits
+waits_with waits (Some runner) None = waits
+waits_with waits (Some runner) (Some a) = waits ++ record { runner = runner; ended = a.runner; committed = a.committed } ∷ []
+
+abbrev pub limit_of : Options → ℕ
+limit_of o = unwrap_or o.limit USUAL_LIMIT
+
+abbrev pub with_start : ProgramTree → Options → Bool → Story → Story
+with_start program o is_named story = record story {
   has_events = true;
-  events = story.events ++ Start program level limit ∷ [];
-  runners = if nat_eq limit 0 then story.runners else story.runners + 1;
-  names = story.names;
-  numbers = if is_named then story.numbers ++ next_number_of story limit ∷ [] else story.numbers;
+  events = story.events ++ Start program (unwrap_or o.level SerializableSnapshot) (limit_of o) ∷ [];
+  runners = if nat_eq (limit_of o) 0 then story.runners else story.runners + 1;
+  numbers = if is_named then story.numbers ++ next_number_of story (limit_of o) ∷ [] else story.numbers;
+  waits = waits_with story.waits (next_number_of story (limit_of o)) o.after;
 }
 
+-- so much of the room is taken
+abbrev pub with_less_room : Story → ℕ → Story
+with_less_room story taken = record story { room = story.room - taken }
+
 -- one more start, of which the first word begins at a byte; there are never more runners than events
-abbrev pub start_one : ℕ → ProgramTree → Level → ℕ → Bool → Story → Outcome Story
-start_one at program level limit is_named story =
-    if is_room story 1 && nat_lt story.runners MOST_EVENTS then Ok (with_start program level limit is_named story) else bad at cause.TooMany
+abbrev pub start_one : ℕ → ProgramTree → Options → Bool → Story → Outcome Story
+start_one at program o is_named story =
+    if is_room story 1 && nat_lt story.runners MOST_EVENTS then
+    (if nat_eq (story.room - program_bulk program) 0 then bad at cause.TooManyNodes
+    else Ok (with_less_room (with_start program o is_named story) (program_bulk program)))
+    else bad at cause.TooMany
 
 -- so many starts, of runners that have names
-abbrev pub start_named : ℕ → ProgramTree → Level → ℕ → ℕ → Story → Outcome Story
-start_named at program level limit zero story = Ok story
-start_named at program level limit (suc more) story =
-    start_one at program level limit true story >>= λ next. start_named at program level limit more next
-
-abbrev pub start_all : ℕ → ProgramTree → Level → ℕ → ℕ → Story → Outcome Story
-start_all at program level limit named story =
-    if nat_eq named 0 then start_one at program level limit false story else start_named at program level limit named story
+abbrev pub start_named : ℕ → ProgramTree → Options → ℕ → Story → Outcome Story
+start_named at program o zero story = Ok story
+start_named at program o (suc more) story = start_one at program o true story >>= λ next. start_named at program o more next
 
 abbrev pub started_with : Story → ℕ → ProgramTree → Options → Outcome Story
 started_with story at program o =
-    start_all at program (unwrap_or o.level SerializableSnapshot) (unwrap_or o.limit USUAL_LIMIT) o.named story
+    if nat_eq o.named 0 then start_one at program o false story else start_named at program o o.named story
 
-abbrev pub with_names : Story → List (List ℕ) → Story
-with_names story names = record {
-  opening = story.opening;
-  has_events = story.has_events;
-  events = story.events;
-  runners = story.runners;
-  names = names;
-  numbers = story.numbers;
-}
-
-abbrev pub started_by : List Token → Definitions → List Token → Option (List ℕ × List Token) → Read ProgramTree
-started_by all definitions tokens None = bound_program [] [] tokens
-started_by all definitions tokens (Some p) = named_program all (place tokens) p.1 (definition_named definitions p.0)
+abbrev pub program_by_name : List Token → Definitions → List Token → Option (List ℕ × List Token) → ReadProgram
+program_by_name all definitions tokens None = bound_program (place tokens) [] [] tokens >>= λ p. Ok (p.0, 0, p.1)
+program_by_name all definitions tokens (Some p) = named_program all (place tokens) p.1 (definition_named definitions p.0)
 
 -- one that the start names, or its own in braces
-abbrev pub started_program : List Token → Definitions → List Token → Read ProgramTree
-started_program all definitions tokens = started_by all definitions tokens (next_name tokens)
+abbrev pub started_program : List Token → Definitions → List Token → ReadProgram
+started_program all definitions tokens = program_by_name all definitions tokens (next_name tokens)
 
 -- behind its word, which begins at a byte
 abbrev pub start_at : List Token → Definitions → Story → ℕ → List Token → Outcome (Story × List Token)
 start_at all definitions story at tokens =
     if is_room story 1 then (
     started_program all definitions tokens >>= λ p.
-    options_from 3 no_options story.names p.1 >>= λ o.
-    started_with (with_names story o.1) at p.0 o.0 >>= λ next. Ok (next, o.2))
+    options_from 4 no_options (with_less_room story p.1) p.2 >>= λ o.
+    started_with o.1 at p.0 o.0 >>= λ next. Ok (next, o.2))
     else bad at cause.TooMany
 
 -- ---- what the store opens with
@@ -303,8 +333,7 @@ opening_at tokens =
     Ok (setup_at revision.0 operations.0, operations.1)
 
 abbrev pub with_opening : Story → Setup → Story
-with_opening story o =
-    record { opening = Some o; has_events = true; events = story.events; runners = story.runners; names = story.names; numbers = story.numbers }
+with_opening story o = record story { opening = Some o; has_events = true }
 
 -- before all other events
 abbrev pub begin_at : Story → List Token → List Token → Outcome (Story × List Token)

@@ -1,6 +1,9 @@
+pub mod Bulk
 pub mod Definitions
 pub mod Events
+pub mod Kept
 pub mod Programs
+pub mod Rules
 pub mod Sources
 pub mod Statements
 pub mod Txns

@@ -85,8 +85,8 @@ abbrev pub statements_behind : Arguments → ℕ → List (List ℕ) → List To
 statements_behind arguments at keys tokens =
     statements_at (MOST_BRACKETS - 1) (first_scope arguments at tokens) tokens >>= λ b. program_of at keys b.0 >>= λ p. Ok (p, b.1)
 
--- a program in braces, of which the first begins at its place
-abbrev pub program_at : Arguments → List Token → Read ProgramTree
-program_at arguments tokens =
+-- a program in braces; `at` is the place of what is wrong with it as a whole
+abbrev pub program_at : ℕ → Arguments → List Token → Read ProgramTree
+program_at at arguments tokens =
     expect_symbol symbol.LeftBrace tokens >>= λ inner.
-    list_at arguments inner >>= λ keys. statements_behind arguments (place tokens) keys.0 keys.1
+    list_at arguments inner >>= λ keys. statements_behind arguments at keys.0 keys.1

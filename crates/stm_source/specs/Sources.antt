@@ -11,12 +11,15 @@ use Rattle.stm_tokens.specs.declared.token.TokenKind.TheVariants as kind
 use Rattle.stm_texts.specs.declared.scenario.Scenario.{Scenario}
 use Rattle.stm_terms.specs.declared.faults.SourceCause.TheVariants as cause
 use Rattle.stm_source.specs.declared.definitions.Definitions.{Definitions}
+use Rattle.stm_source.specs.declared.sources.Source.{Source}
 use Rattle.stm_source.specs.declared.story.Story.{Story}
+use Rattle.stm_source.specs.declared.story.TheConstants.{MOST_BULK}
 use Rattle.stm_source.specs.declared.words.EventWord.{EventWord}
 use Rattle.stm_terms.specs.Outcome.{Outcome, bad, ◌>>=◌}
 use Rattle.stm_terms.specs.Cursor.{unexpected, after_word, next_name}
 use Rattle.stm_source.specs.Definitions.{define_at}
 use Rattle.stm_source.specs.Events.{event_at}
+use Rattle.stm_source.specs.Rules.{rule_at}
 use Rattle.stm_source.specs.Words.{event_word}
 
 abbrev pub is_end : TokenKind → Bool
@@ -43,12 +46,15 @@ event_item_at all definitions story tokens = event_item_by all definitions story
 abbrev pub Item : Type 0
 Item = Outcome (Definitions × Story × List Token)
 
-abbrev pub item_by : List Token → Definitions → Story → List Token → Option (List Token) → Item
-item_by all definitions story tokens (Some rest) = define_at definitions rest >>= λ d. Ok (d.0, story, d.1)
-item_by all definitions story tokens None = event_item_at all definitions story tokens >>= λ e. Ok (definitions, e.0, e.1)
+abbrev pub item_by : List Token → Definitions → Story → List Token → Option (List Token) → Option (List Token) → Option (List Token) → Item
+item_by all definitions story tokens (Some rest) rule final = define_at definitions rest >>= λ d. Ok (d.0, story, d.1)
+item_by all definitions story tokens None (Some rest) final = rule_at all definitions story false rest
+item_by all definitions story tokens None None (Some rest) = rule_at all definitions story true rest
+item_by all definitions story tokens None None None = event_item_at all definitions story tokens >>= λ e. Ok (definitions, e.0, e.1)
 
 abbrev pub item_at : List Token → Definitions → Story → List Token → Item
-item_at all definitions story tokens = item_by all definitions story tokens (after_word word.Program tokens)
+item_at all definitions story tokens =
+    item_by all definitions story tokens (after_word word.Program tokens) (after_word word.Rule tokens) (after_word word.Finally tokens)
 
 -- the items that are left, at most so many
 unfoldable pub items_from : List Token → ℕ → Definitions → Story → List Token → Outcome Story
@@ -57,20 +63,40 @@ items_from all (suc more) definitions story tokens =
     if at_end tokens then Ok story else (item_at all definitions story tokens >>= λ x. items_from all more x.0 x.1 x.2)
 
 abbrev pub no_definitions : Definitions
-no_definitions = record { names = []; programs = [] }
+no_definitions = record { names = []; meanings = [] }
 
 abbrev pub empty_story : Story
-empty_story = record { opening = None; has_events = false; events = []; runners = 0; names = []; numbers = [] }
+empty_story = record {
+  opening = None;
+  has_events = false;
+  events = [];
+  runners = 0;
+  names = [];
+  numbers = [];
+  waits = [];
+  rules = [];
+  room = MOST_BULK;
+}
 
-abbrev pub as_scenario : Story → Scenario
-as_scenario story = record { opening = story.opening; events = story.events }
+abbrev pub as_source : Story → Source
+as_source story = record {
+  scenario = record { opening = story.opening; events = story.events };
+  rules = story.rules;
+  waits = story.waits;
+  names = story.names;
+  numbers = story.numbers;
+}
 
 -- what tokens spell
-unfoldable pub scenario_at : List Token → Outcome Scenario
-scenario_at tokens = items_from tokens (length tokens) no_definitions empty_story tokens >>= λ story. Ok (as_scenario story)
+unfoldable pub source_at : List Token → Outcome Source
+source_at tokens = items_from tokens (length tokens) no_definitions empty_story tokens >>= λ story. Ok (as_source story)
 
 -- what bytes spell
-unfoldable pub scenario_in : List ℕ → Outcome Scenario
-scenario_in bytes =
+unfoldable pub source_in : List ℕ → Outcome Source
+source_in bytes =
     if nat_lt MOST_BYTES (length bytes) then bad 0 cause.TooLong
-    else (if is_utf8 bytes then scenario_at (tokens_in bytes) else bad (utf8_valid_len bytes) cause.NotUtf8)
+    else (if is_utf8 bytes then source_at (tokens_in bytes) else bad (utf8_valid_len bytes) cause.NotUtf8)
+
+-- the scenario that they spell
+unfoldable pub scenario_in : List ℕ → Outcome Scenario
+scenario_in bytes = source_in bytes >>= λ s. Ok s.scenario

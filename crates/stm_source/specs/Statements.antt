@@ -1,6 +1,6 @@
 -- Statements and blocks: what tokens spell, or the first fault.
-use Rattle.std.specs.Prelude.{ℕ, zero, suc, ◌-◌, ℤ, pos, negsuc, List, [], ◌∷◌, length, not, ◌||◌, Option, Some, None, is_some, Ok, Err}
-use Rattle.std.specs.Prelude.{nat_eq, nat_le, if◌then◌else◌, codes}
+use Rattle.std.specs.Prelude.{ℕ, zero, suc, ◌+◌, ◌-◌, pos, negsuc, List, [], ◌∷◌, length, not, ◌||◌, Option, Some, None, is_some, Ok, Err}
+use Rattle.std.specs.Prelude.{nat_eq, nat_le, nat_lt, if◌then◌else◌, codes}
 use Rattle.stm_tokens.specs.declared.token.Token.{Token}
 use Rattle.stm_tokens.specs.declared.token.TokenKind.{TokenKind}
 use Rattle.stm_tokens.specs.declared.token.TokenKind.TheVariants as kind
@@ -11,12 +11,13 @@ use Rattle.stm_tokens.specs.declared.token.Word.TheVariants as word
 use Rattle.stm_tokens.specs.Same.{same_symbol, same_word}
 use Rattle.stm_program.specs.declared.limits.TheConstants.{MAX_TURNS, MAX_LEASE}
 use Rattle.stm_program.specs.declared.operator.Operator.TheVariants.{Add, Sub}
-use Rattle.stm_program.specs.Syntax.{Expression, Text, Number, Variable, Get, Rev, Arithmetic, Cat, TextOf, NumOf, Condition}
+use Rattle.stm_program.specs.Syntax.{Expression, Number, Variable}
 use Rattle.stm_program.specs.Syntax.{Statement, Set, Put, Del, If, For, Emit, Abort, Block, End, Then}
 use Rattle.stm_terms.specs.declared.faults.SourceCause.TheVariants as cause
 use Rattle.stm_terms.specs.declared.scope.Scope.{Scope}
 use Rattle.stm_terms.specs.declared.values.Join.{Join}
 use Rattle.stm_terms.specs.declared.values.Join.TheVariants as join
+use Rattle.stm_source.specs.declared.statements.TheConstants.{MOST_STATEMENTS}
 use Rattle.stm_source.specs.declared.statements.Simple.{Simple}
 use Rattle.stm_source.specs.declared.statements.Simple.TheVariants as simple
 use Rattle.stm_terms.specs.declared.limits.TheConstants.{MOST_BRACKETS}
@@ -261,19 +262,23 @@ unfoldable pub statement_by : Blocks → ℕ → Scope → List Token → ReadSt
 statement_by block levels scope [] = Err (unexpected [])
 statement_by block levels scope (t ∷ ts) = statement_kind block levels scope t.kind (t ∷ ts) ts
 
-abbrev pub closed_or : (List Token → ReadStatement) → (Statement × Scope × List Token → Read Block) → List Token → Option (List Token) → Read Block
-closed_or statement more tokens (Some rest) = Ok (End, rest)
-closed_or statement more tokens None = statement tokens >>= λ s. more s >>= λ b. Ok (Then s.0 b.0, b.1)
+-- a block with more statements than are kept has too many nodes, whatever they are
+abbrev pub then_up : ℕ → Statement → Block → Block
+then_up done s b = if nat_lt done MOST_STATEMENTS then Then s b else b
 
--- the statements up to the brace that closes their block, at most so many
-unfoldable pub statements_from : (Scope → List Token → ReadStatement) → ℕ → Scope → List Token → Read Block
-statements_from statement zero scope tokens = Err (unexpected tokens)
-statements_from statement (suc more) scope tokens =
-    closed_or (statement scope) (λ s. statements_from statement more s.1 (skip_semicolon s.2)) tokens (after_symbol symbol.RightBrace tokens)
+abbrev pub closed_or : ℕ → (List Token → ReadStatement) → (Statement × Scope × List Token → Read Block) → List Token → Option (List Token) → Read Block
+closed_or done statement more tokens (Some rest) = Ok (End, rest)
+closed_or done statement more tokens None = statement tokens >>= λ s. more s >>= λ b. Ok (then_up done s.0 b.0, b.1)
+
+-- the statements up to the brace that closes their block, behind so many, and at most so many more
+unfoldable pub statements_from : (Scope → List Token → ReadStatement) → ℕ → ℕ → Scope → List Token → Read Block
+statements_from statement done zero scope tokens = Err (unexpected tokens)
+statements_from statement done (suc more) scope tokens =
+    closed_or done (statement scope) (λ s. statements_from statement (done + 1) more s.1 (skip_semicolon s.2)) tokens (after_symbol symbol.RightBrace tokens)
 
 -- statements between braces
 abbrev pub block_by : (Scope → List Token → ReadStatement) → Scope → List Token → Read Block
-block_by statement scope tokens = expect_symbol symbol.LeftBrace tokens >>= λ inner. statements_from statement (length inner) scope inner
+block_by statement scope tokens = expect_symbol symbol.LeftBrace tokens >>= λ inner. statements_from statement 0 (length inner) scope inner
 
 -- where so many brackets may still be opened
 unfoldable pub block_at : ℕ → Scope → List Token → Read Block
@@ -281,4 +286,4 @@ block_at zero scope tokens = Err (unexpected tokens)
 block_at (suc levels) scope tokens = block_by (statement_by (block_at levels) levels) scope tokens
 
 abbrev pub statements_at : ℕ → Scope → List Token → Read Block
-statements_at levels scope tokens = statements_from (statement_by (block_at levels) levels) (length tokens) scope tokens
+statements_at levels scope tokens = statements_from (statement_by (block_at levels) levels) 0 (length tokens) scope tokens

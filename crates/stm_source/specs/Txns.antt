@@ -13,7 +13,7 @@ use Rattle.stm_outcome.specs.declared.txn.Target.TheVariants.{Version, Create, M
 use Rattle.stm_outcome.specs.declared.txn.Txn.{Txn}
 use Rattle.stm_source.specs.declared.words.TargetWord.{TargetWord}
 use Rattle.stm_source.specs.declared.words.TargetWord.TheVariants as target
-use Rattle.stm_terms.specs.Outcome.{Outcome, Read, ◌>>=◌}
+use Rattle.stm_terms.specs.Outcome.{Read, ◌>>=◌}
 use Rattle.stm_terms.specs.Cursor.{unexpected, after_symbol, after_word, expect_symbol, skip_semicolon, next_name, number_up_to, text_at}
 use Rattle.stm_source.specs.Words.{target_word, next_order}
 

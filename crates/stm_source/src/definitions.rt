@@ -1,6 +1,6 @@
 //! Reading programs that have a name and parameters.
 ghost use Rattle.std.specs.Prelude.{◌≡◌, [], length, bytes_eq, false, option_copied, IfOk};
-ghost use Rattle.std.specs.List.{list_any};
+ghost use Rattle.std.specs.List.{list_any, position};
 ghost use Rattle.stm_terms.specs.Outcome.{Returns};
 ghost use Rattle.stm_source.specs.Definitions as spec;
 
@@ -22,47 +22,67 @@ pub(crate) struct Definition {
     pub parameters: Shared<Names>,
     /// How many tokens of the source there are from its body on.
     pub left: usize,
+    /// How many tokens its body has.
+    pub length: usize,
     /// The program, where its parameters may be either texts or numbers.
     pub program: Program,
 }
 
-/// The programs that a source defines.
+/// What a name stands for.
+#[derive(Debug, Drop)]
+pub(crate) enum Meaning {
+    /// A program.
+    Program(Definition),
+    /// A rule or a final, which nothing in a source asks for.
+    Rule,
+}
+
+/// What a source defines.
 #[derive(Debug, Drop)]
 pub(crate) struct Definitions {
-    /// Their names.
+    /// The names.
     pub names: Names,
-    /// The programs, in the same order.
-    pub programs: Sequence<Definition>,
+    /// What they stand for, in the same order.
+    pub meanings: Sequence<Meaning>,
 }
 
 impl Definitions {
-    /// The program of a name.
-    fn named(&self, name: &str) -> Option<&Definition>
-        ensures { option_copied result ≡ spec.definition_named self.now name.now }
+    /// What a name stands for.
+    fn meaning_of(&self, name: &str) -> Option<&Meaning>
+        ensures { option_copied result ≡ spec.meaning_in self.now.meanings (position (bytes_eq name.now) self.now.names) }
     {
         let place = self.names.place(name)?;
-        let programs = self.programs.as_slice();
-        if place < programs.len() {
-            Some(&programs[place])
+        let meanings = self.meanings.as_slice();
+        if place < meanings.len() {
+            Some(&meanings[place])
         } else {
             None
         }
     }
+
+    /// The program of a name.
+    fn named(&self, name: &str) -> Option<&Definition>
+        ensures { option_copied result ≡ spec.definition_named self.now name.now }
+    {
+        match self.meaning_of(name) {
+            Some(Meaning::Program(definition)) => Some(definition),
+            _ => None,
+        }
+    }
 }
 
-/// The name of a new parameter, behind these.
-fn parameter<'a>(
-    programs: &Names,
+/// A name that is none of these, nor that of a variable.
+pub(crate) fn free_name<'a>(
     names: &Names,
     tokens: &'a [Token],
 ) -> Result<(&'a str, &'a [Token]), SourceError>
-    ensures is { Returns (λ x. (x.0.now, x.1.now)) result (spec.parameter_at programs.now names.now tokens.now) }
+    ensures is { Returns (λ x. (x.0.now, x.1.now)) result (spec.free_name_at names.now tokens.now) }
     ensures new { IfOk result (λ x. list_any (bytes_eq x.0.now) names.now ≡ false) }
 {
     let Some((name, rest)) = next_name(tokens) else {
         return Err(unexpected(tokens));
     };
-    if names.contains(name) || programs.contains(name) || numbered_variable(name).is_some() {
+    if names.contains(name) || numbered_variable(name).is_some() {
         return Err(fault(place(tokens), SourceCause::Name));
     }
     Ok((name, rest))
@@ -71,15 +91,14 @@ fn parameter<'a>(
 /// Parameters up to the bracket that closes them, one at least.
 fn some_parameters<'a>(
     alloc: Global,
-    programs: &Names,
     tokens: &'a [Token],
 ) -> Result<(Names, &'a [Token]), SourceError>
-    ensures { Returns (λ x. (x.0, x.1.now)) result (spec.parameters_from programs.now (length tokens.now) [] tokens.now) }
+    ensures { Returns (λ x. (x.0, x.1.now)) result (spec.parameters_from (length tokens.now) [] tokens.now) }
 {
     let mut names = Names::new(alloc);
     let mut rest = tokens;
     for _turn in 0..tokens.len() {
-        let (name, behind) = parameter(programs, &names, rest)?;
+        let (name, behind) = free_name(&names, rest)?;
         names.push(alloc, name)?;
         let Some(next) = after_symbol(behind, Symbol::Comma) else {
             let rest = expect_symbol(behind, Symbol::RightParenthesis)?;
@@ -91,17 +110,13 @@ fn some_parameters<'a>(
 }
 
 /// The parameters of a program, in their brackets.
-fn parameters<'a>(
-    alloc: Global,
-    programs: &Names,
-    tokens: &'a [Token],
-) -> Result<(Names, &'a [Token]), SourceError>
-    ensures { Returns (λ x. (x.0, x.1.now)) result (spec.parameters_at programs.now tokens.now) }
+fn parameters<'a>(alloc: Global, tokens: &'a [Token]) -> Result<(Names, &'a [Token]), SourceError>
+    ensures { Returns (λ x. (x.0, x.1.now)) result (spec.parameters_at tokens.now) }
 {
     let inner = expect_symbol(tokens, Symbol::LeftParenthesis)?;
     match after_symbol(inner, Symbol::RightParenthesis) {
         Some(rest) => Ok((Names::new(alloc), rest)),
-        None => some_parameters(alloc, programs, inner),
+        None => some_parameters(alloc, inner),
     }
 }
 
@@ -118,45 +133,49 @@ fn open_arguments(alloc: Global, times: usize) -> Result<Sequence<Given>, AllocE
     Ok(given)
 }
 
-/// The program whose body these tokens begin with, where its parameters stand for what is given.
+/// The program whose body these tokens begin with, where its parameters stand for what is given. `at` is the place of what is wrong with it as a whole.
 fn bound_program<'a>(
     alloc: Global,
+    at: usize,
     parameters: &Shared<Names>,
     given: Sequence<Given>,
     body: &'a [Token],
 ) -> Result<(Program, &'a [Token]), SourceError>
-    ensures { Returns (λ x. (x.0, x.1.now)) result (spec.bound_program parameters.now given body.now) }
+    ensures { Returns (λ x. (x.0, x.1.now)) result (spec.bound_program at parameters.now given body.now) }
 {
     let names = parameters.clone()?;
     let arguments = Shared::new(alloc, Arguments { names, given })?;
-    program(alloc, arguments, body)
+    program(alloc, arguments, at, body)
 }
 
 /// A program in braces that has no parameters.
 pub(crate) fn program_in_place<'a>(
     alloc: Global,
+    at: usize,
     tokens: &'a [Token],
 ) -> Result<(Program, &'a [Token]), SourceError>
-    ensures { Returns (λ x. (x.0, x.1.now)) result (spec.bound_program [] [] tokens.now) }
+    ensures { Returns (λ x. (x.0, x.1.now)) result (spec.bound_program at [] [] tokens.now) }
 {
     let none = Shared::new(alloc, Names::new(alloc))?;
-    bound_program(alloc, &none, Sequence::new(alloc), tokens)
+    bound_program(alloc, at, &none, Sequence::new(alloc), tokens)
 }
 
-/// A definition whose body these tokens begin with.
+/// A definition whose body these tokens begin with. `at` is where its name stands.
 fn defined<'a>(
     alloc: Global,
+    at: usize,
     parameters: Names,
     body: &'a [Token],
 ) -> Result<(Definition, &'a [Token]), SourceError>
-    ensures { Returns (λ x. (x.0, x.1.now)) result (spec.definition_at parameters body.now) }
+    ensures { Returns (λ x. (x.0, x.1.now)) result (spec.definition_at at parameters body.now) }
 {
     let given = open_arguments(alloc, parameters.len())?;
     let parameters = Shared::new(alloc, parameters)?;
-    let (program, rest) = bound_program(alloc, &parameters, given, body)?;
+    let (program, rest) = bound_program(alloc, at, &parameters, given, body)?;
     let definition = Definition {
         parameters,
         left: body.len(),
+        length: body.len().saturating_sub(rest.len()),
         program,
     };
     Ok((definition, rest))
@@ -170,27 +189,23 @@ pub(crate) fn define<'a>(
 ) -> Result<&'a [Token], SourceError>
     ensures { Returns (λ rest. (definitions.new, rest.now)) result (spec.define_at definitions.old tokens.now) }
 {
-    let Some((name, rest)) = next_name(tokens) else {
-        return Err(unexpected(tokens));
-    };
-    if definitions.names.contains(name) {
-        return Err(fault(place(tokens), SourceCause::Name));
-    }
-    let (parameters, body) = parameters(alloc, &definitions.names, rest)?;
-    let (definition, rest) = defined(alloc, parameters, body)?;
+    let (name, rest) = free_name(&definitions.names, tokens)?;
+    let (parameters, body) = parameters(alloc, rest)?;
+    let (definition, rest) = defined(alloc, place(tokens), parameters, body)?;
     definitions.names.push(alloc, name)?;
-    definitions.programs.push(definition)?;
+    definitions.meanings.push(Meaning::Program(definition))?;
     Ok(rest)
 }
 
-/// The program of a definition with these arguments, where its name in the start begins at a byte. `all` are the tokens of the source.
+/// The program of a definition with these arguments, and how many tokens were read again for it. Its name in the start begins at a byte. `all` are the
+/// tokens of the source.
 fn with_arguments(
     alloc: Global,
     all: &[Token],
     at: usize,
     definition: &Definition,
     given: Sequence<Given>,
-) -> Result<Program, SourceError>
+) -> Result<(Program, usize), SourceError>
     ensures { Returns (λ p. p) result (spec.with_arguments all.now at definition.now given) }
 {
     if given.len() != definition.parameters.get().len() {
@@ -198,14 +213,14 @@ fn with_arguments(
     }
     if given.len() == 0 {
         let program = definition.program.clone()?;
-        return Ok(program);
+        return Ok((program, 0));
     }
     let (_, body) = all.split_at(all.len().saturating_sub(definition.left));
-    let (program, _) = bound_program(alloc, &definition.parameters, given, body)?;
-    Ok(program)
+    let (program, _) = bound_program(alloc, at, &definition.parameters, given, body)?;
+    Ok((program, definition.length))
 }
 
-/// The program that a start names, behind its word, with its arguments.
+/// The program of a name, which begins at a byte, with its arguments, and how many tokens were read again for it.
 pub(crate) fn named_program<'a>(
     alloc: Global,
     all: &[Token],
@@ -213,13 +228,13 @@ pub(crate) fn named_program<'a>(
     name: &str,
     at: usize,
     tokens: &'a [Token],
-) -> Result<(Program, &'a [Token]), SourceError>
-    ensures { Returns (λ x. (x.0, x.1.now)) result (spec.named_program all.now at tokens.now (spec.definition_named definitions.now name.now)) }
+) -> Result<(Program, usize, &'a [Token]), SourceError>
+    ensures { Returns (λ x. (x.0, x.1, x.2.now)) result (spec.named_program all.now at tokens.now (spec.definition_named definitions.now name.now)) }
 {
     let Some(definition) = definitions.named(name) else {
         return Err(fault(at, SourceCause::Name));
     };
     let (given, rest) = arguments(alloc, tokens)?;
-    let program = with_arguments(alloc, all, at, definition, given)?;
-    Ok((program, rest))
+    let (program, again) = with_arguments(alloc, all, at, definition, given)?;
+    Ok((program, again, rest))
 }

@@ -1,14 +1,16 @@
 //! Sources, scenarios as people write them: how they are read.
 //!
 //! `specs/Sources.antt` says what bytes spell, or which fault comes first; it stands on `Statements.antt`, `Programs.antt`, `Definitions.antt`,
-//! `Txns.antt` and `Events.antt`, each of which says what is read of tokens, and these on the values and conditions of `stm_terms`.
+//! `Rules.antt`, `Txns.antt` and `Events.antt`, each of which says what is read of tokens, and these on the values and conditions of `stm_terms`.
 #![tactic(auto)]
 
 mod arguments;
+mod bulk;
 mod definitions;
 mod events;
 mod openings;
 mod programs;
+mod rules;
 mod sources;
 mod starts;
 mod statements;
@@ -17,6 +19,7 @@ mod story;
 mod txns;
 mod words;
 
-pub use sources::read_source;
-pub use stm_terms::{BadSource, MOST_BRACKETS, SourceCause, SourceError};
+pub use sources::{Source, read_source, read_whole_source};
+pub use stm_terms::{BadSource, MOST_BRACKETS, Names, SourceCause, SourceError};
 pub use stm_texts::Scenario;
+pub use story::{Rule, Wait};

@@ -115,7 +115,7 @@ fn list<'a>(
     Ok((keys, skip_semicolon(rest)))
 }
 
-/// The program of a list and of statements, which begins at a byte. Its copies share it.
+/// The program of a list and of statements. `at` is the place of what is wrong with it. Its copies share it.
 fn program_of(
     alloc: Global,
     at: usize,
@@ -134,7 +134,7 @@ fn program_of(
     Ok(program)
 }
 
-/// The statements of a program that begins at a byte, behind its list.
+/// The statements of a program, behind its list. `at` is the place of what is wrong with it as a whole.
 fn program_behind<'a>(
     alloc: Global,
     arguments: Shared<Arguments>,
@@ -155,15 +155,16 @@ fn program_behind<'a>(
     Ok((program, rest))
 }
 
-/// A program in braces, whose parameters stand for these arguments.
+/// A program in braces, whose parameters stand for these arguments. `at` is the place of what is wrong with it as a whole.
 pub(crate) fn program<'a>(
     alloc: Global,
     arguments: Shared<Arguments>,
+    at: usize,
     tokens: &'a [Token],
 ) -> Result<(Program, &'a [Token]), SourceError>
-    ensures { Returns (λ x. (x.0, x.1.now)) result (spec.program_at arguments tokens.now) }
+    ensures { Returns (λ x. (x.0, x.1.now)) result (spec.program_at at arguments tokens.now) }
 {
     let inner = expect_symbol(tokens, Symbol::LeftBrace)?;
     let (keys, rest) = list(alloc, arguments.get(), inner)?;
-    program_behind(alloc, arguments, place(tokens), keys, rest)
+    program_behind(alloc, arguments, at, keys, rest)
 }

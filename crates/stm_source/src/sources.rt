@@ -8,9 +8,10 @@ ghost use Rattle.stm_source.specs.Sources as spec;
 use crate::definitions::{Definitions, define};
 use crate::events::store_event;
 use crate::openings::begin;
+use crate::rules::rule;
 use crate::starts::start;
 use crate::steps::steps;
-use crate::story::Story;
+use crate::story::{MOST_BULK, Rule, Story, Wait};
 use crate::words::{EventWord, event_word};
 use std::alloc::Global;
 use stm_history::Sequence;
@@ -18,6 +19,21 @@ use stm_json::MOST_BYTES;
 use stm_terms::{Names, SourceCause, SourceError, after_word, fault, next_name, place, unexpected};
 use stm_texts::Scenario;
 use stm_tokens::{Token, TokenKind, Word, tokens_of};
+
+/// A source: its scenario, and what JSON has no place for.
+#[derive(Debug, Drop)]
+pub struct Source {
+    /// The scenario.
+    pub scenario: Scenario,
+    /// The rules and finals, in the order in which they stand.
+    pub rules: Sequence<Rule>,
+    /// Which runners begin behind the end of others, in the order of their starts.
+    pub waits: Sequence<Wait>,
+    /// The names of runners, in the order in which they stand.
+    pub names: Names,
+    /// The number of the runner of each name: none, where its start may send no commit.
+    pub numbers: Sequence<Option<u64>>,
+}
 
 /// Adds what an event comes to, of which the first word begins these tokens. `all` are the tokens of the source.
 fn event<'a>(
@@ -89,10 +105,16 @@ fn item<'a>(
     ensures { Returns (λ rest. (definitions.new, story.new, rest.now)) result
         (spec.item_at all.now definitions.old story.old tokens.now) }
 {
-    match after_word(tokens, Word::Program) {
-        Some(rest) => define(alloc, definitions, rest),
-        None => event_item(alloc, all, definitions, story, tokens),
+    if let Some(rest) = after_word(tokens, Word::Program) {
+        return define(alloc, definitions, rest);
     }
+    if let Some(rest) = after_word(tokens, Word::Rule) {
+        return rule(alloc, all, definitions, story, false, rest);
+    }
+    if let Some(rest) = after_word(tokens, Word::Finally) {
+        return rule(alloc, all, definitions, story, true, rest);
+    }
+    event_item(alloc, all, definitions, story, tokens)
 }
 
 /// Whether the source ends here.
@@ -125,40 +147,79 @@ fn items(
     Err(unexpected(rest))
 }
 
-/// The scenario that tokens spell.
-#[tactic(auto, unfolding(crate::specs::Sources::scenario_at))]
-fn scenario(alloc: Global, tokens: &[Token]) -> Result<Scenario, SourceError>
-    ensures { Returns (λ s. s) result (spec.scenario_at tokens.now) }
+/// What a source is while nothing of it was read.
+fn empty_story(alloc: Global) -> Story
+    ensures { result ≡ spec.empty_story }
 {
-    let mut definitions = Definitions {
-        names: Names::new(alloc),
-        programs: Sequence::new(alloc),
-    };
-    let mut story = Story {
+    Story {
         opening: None,
         has_events: false,
         events: Sequence::new(alloc),
         runners: 0,
         names: Names::new(alloc),
         numbers: Sequence::new(alloc),
-    };
-    items(alloc, &mut definitions, &mut story, tokens)?;
-    drop(definitions);
+        waits: Sequence::new(alloc),
+        rules: Sequence::new(alloc),
+        room: MOST_BULK,
+    }
+}
+
+/// What a source is that was read whole.
+fn source_of(story: Story) -> Source
+    ensures { result ≡ spec.as_source story }
+{
     let Story {
         opening,
         events,
+        names,
+        numbers,
+        waits,
+        rules,
         ..
     } = story;
-    Ok(Scenario { opening, events })
+    let scenario = Scenario { opening, events };
+    Source {
+        scenario,
+        rules,
+        waits,
+        names,
+        numbers,
+    }
 }
 
-/// The scenario that a source spells, or its first fault.
-///
-/// A source is a text in UTF-8 of at most 16777216 bytes: programs that have names, and events, one after another. `specs/Sources.antt` says what
-/// each spells, and which fault comes first; its place is a byte of the source. `OutOfMemory` may come in place of any other answer, where an allocation failed.
+/// What tokens spell.
+#[tactic(auto, unfolding(crate::specs::Sources::source_at))]
+fn source_at(alloc: Global, tokens: &[Token]) -> Result<Source, SourceError>
+    ensures { Returns (λ s. s) result (spec.source_at tokens.now) }
+{
+    let mut definitions = Definitions {
+        names: Names::new(alloc),
+        meanings: Sequence::new(alloc),
+    };
+    let mut story = empty_story(alloc);
+    items(alloc, &mut definitions, &mut story, tokens)?;
+    drop(definitions);
+    Ok(source_of(story))
+}
+
+/// The scenario that a source spells, or its first fault: what `read_whole_source` answers, without what JSON has no place for.
 #[tactic(auto, unfolding(crate::specs::Sources::scenario_in))]
 pub fn read_source(alloc: Global, source: &[u8]) -> Result<Scenario, SourceError>
     ensures { Returns (λ s. s) result (spec.scenario_in source.now) }
+{
+    let source = read_whole_source(alloc, source)?;
+    let Source { scenario, .. } = source;
+    Ok(scenario)
+}
+
+/// What a source spells, or its first fault.
+///
+/// A source is a text in UTF-8 of at most 16777216 bytes: programs that have names, rules and finals, and events, one after another. `specs/Sources.antt`
+/// says what each spells, and which fault comes first; its place is a byte of the source. `OutOfMemory` may come in place of any other answer, where an
+/// allocation failed.
+#[tactic(auto, unfolding(crate::specs::Sources::source_in))]
+pub fn read_whole_source(alloc: Global, source: &[u8]) -> Result<Source, SourceError>
+    ensures { Returns (λ s. s) result (spec.source_in source.now) }
 {
     if source.len() > MOST_BYTES {
         return Err(fault(0, SourceCause::TooLong));
@@ -166,7 +227,7 @@ pub fn read_source(alloc: Global, source: &[u8]) -> Result<Scenario, SourceError
     match str::from_utf8(source) {
         Ok(_) => {
             let tokens = tokens_of(alloc, source)?;
-            scenario(alloc, tokens.as_slice())
+            source_at(alloc, tokens.as_slice())
         }
         Err(error) => Err(fault(error.valid_up_to(), SourceCause::NotUtf8)),
     }

@@ -6,22 +6,34 @@ ghost use Rattle.stm_terms.specs.Outcome.{Returns};
 ghost use Rattle.stm_source.specs.Events as spec;
 ghost use Rattle.stm_texts.specs.declared.events.TheConstants.{MOST_EVENTS};
 
+use crate::bulk::program_room;
 use crate::definitions::{Definitions, named_program, program_in_place};
 use crate::events::plain_number;
-use crate::steps::next_runner_name;
-use crate::story::Story;
+use crate::steps::{named_runner, next_runner_name};
+use crate::story::{Story, Wait};
 use crate::words::level_word;
 use std::alloc::{AllocError, Global};
 use stm_events::WorldEvent;
+use stm_history::Sequence;
 use stm_program::{Level, Program};
 use stm_terms::{
-    Names, SourceCause, SourceError, after_name, after_symbol, fault, next_name, place, unexpected,
+    Names, SourceCause, SourceError, after_name, after_symbol, fault, next_name, next_number,
+    place, unexpected,
 };
 use stm_texts::{HIGHEST_LIMIT, MOST_EVENTS};
 use stm_tokens::{Symbol, Token};
 
 /// How many commits a start may send where it does not say it.
 pub(crate) const USUAL_LIMIT: u32 = 2;
+
+/// Behind whose end a runner begins.
+#[derive(Clone, Copy, Debug)]
+pub(crate) struct After {
+    /// The number of that runner.
+    pub runner: u64,
+    /// Whether it has to commit.
+    pub committed: bool,
+}
 
 /// What a start says besides its program and its names.
 #[derive(Clone, Copy, Debug)]
@@ -32,6 +44,8 @@ pub(crate) struct Options {
     pub level: Option<Level>,
     /// How many commits it may send.
     pub limit: Option<u32>,
+    /// Behind whose end it begins.
+    pub after: Option<After>,
 }
 
 /// A name of a runner that is none of these.
@@ -69,7 +83,7 @@ fn new_names<'a>(
 }
 
 /// The level of a start, behind its word.
-fn level(tokens: &[Token]) -> Result<(Level, &[Token]), SourceError>
+pub(crate) fn level(tokens: &[Token]) -> Result<(Level, &[Token]), SourceError>
     ensures { Returns (λ x. (x.0, x.1.now)) result (spec.level_at tokens.now) }
 {
     let Some((name, rest)) = next_name(tokens) else {
@@ -91,67 +105,133 @@ fn if_new<'a>(seen: bool, tokens: &'a [Token], word: &str) -> Option<&'a [Token]
     after_name(tokens, word)
 }
 
-/// The options of a start behind these, in any order, at most so many. Its names are added to these.
+/// The number of a runner that was started.
+fn started<'a>(story: &Story, tokens: &'a [Token]) -> Result<(u64, &'a [Token]), SourceError>
+    ensures { Returns (λ x. (x.0, x.1.now)) result (spec.started_at story.now tokens.now) }
+{
+    if let Some((number, rest)) = next_number(tokens) {
+        if number > 0 && number <= story.runners {
+            return Ok((number, rest));
+        }
+        return Err(fault(place(tokens), SourceCause::Name));
+    }
+    named_runner(story, tokens)
+}
+
+/// Behind whose end a runner begins, behind the word.
+fn behind_end<'a>(story: &Story, tokens: &'a [Token]) -> Result<(After, &'a [Token]), SourceError>
+    ensures { Returns (λ x. (x.0, x.1.now)) result (spec.after_at story.now tokens.now) }
+{
+    let (runner, rest) = started(story, tokens)?;
+    match after_name(rest, "committed") {
+        Some(behind) => {
+            let committed = true;
+            Ok((After { runner, committed }, behind))
+        }
+        None => {
+            let committed = false;
+            Ok((After { runner, committed }, rest))
+        }
+    }
+}
+
+/// The options of a start behind these, in any order, at most so many. The story gets its names.
 #[cycle(read_options)]
 fn more_options<'a>(
     alloc: Global,
-    names: &mut Names,
+    story: &mut Story,
     more: usize,
     options: Options,
     tokens: &'a [Token],
 ) -> Result<(Options, &'a [Token]), SourceError>
-    ensures { Returns (λ x. (x.0, names.new, x.1.now)) result (spec.options_from more options names.old tokens.now) }
+    ensures { Returns (λ x. (x.0, story.new, x.1.now)) result (spec.options_from more options story.old tokens.now) }
 {
     if more == 0 {
         return Ok((options, tokens));
     }
-    next_option(alloc, names, more - 1, options, tokens)
+    next_option(alloc, story, more - 1, options, tokens)
 }
 
 /// The next option, if there is one, and at most so many behind it.
 #[cycle(read_options)]
 fn next_option<'a>(
     alloc: Global,
-    names: &mut Names,
+    story: &mut Story,
     more: usize,
     options: Options,
     tokens: &'a [Token],
 ) -> Result<(Options, &'a [Token]), SourceError>
-    ensures { Returns (λ x. (x.0, names.new, x.1.now)) result (spec.next_option (spec.options_from more) options names.old tokens.now) }
+    ensures { Returns (λ x. (x.0, story.new, x.1.now)) result (spec.next_option (spec.options_from more) options story.old tokens.now) }
 {
     if let Some(rest) = if_new(options.named > 0, tokens, "as") {
-        let (named, rest) = new_names(alloc, names, rest)?;
-        return more_options(alloc, names, more, Options { named, ..options }, rest);
+        let (named, rest) = new_names(alloc, &mut story.names, rest)?;
+        return more_options(alloc, story, more, Options { named, ..options }, rest);
     }
     if let Some(rest) = if_new(options.level.is_some(), tokens, "at") {
         let (level, rest) = level(rest)?;
         let level = Some(level);
-        return more_options(alloc, names, more, Options { level, ..options }, rest);
+        return more_options(alloc, story, more, Options { level, ..options }, rest);
     }
     if let Some(rest) = if_new(options.limit.is_some(), tokens, "limit") {
         let (limit, rest) = plain_number(HIGHEST_LIMIT, rest)?;
         let limit = Some(limit as u32);
-        return more_options(alloc, names, more, Options { limit, ..options }, rest);
+        return more_options(alloc, story, more, Options { limit, ..options }, rest);
+    }
+    if let Some(rest) = if_new(options.after.is_some(), tokens, "after") {
+        let (after, rest) = behind_end(story, rest)?;
+        let after = Some(after);
+        return more_options(alloc, story, more, Options { after, ..options }, rest);
     }
     Ok((options, tokens))
+}
+
+/// The number of the next runner, where it takes one.
+fn next_number_of(story: &Story, limit: u32) -> Option<u64>
+    requires { story.now.runners < MOST_EVENTS }
+    ensures { result ≡ spec.next_number_of story.now limit }
+{
+    if limit == 0 {
+        None
+    } else {
+        Some(story.runners + 1)
+    }
+}
+
+/// Adds that the runner of a number begins behind the end of another one.
+fn push_wait(
+    waits: &mut Sequence<Wait>,
+    number: Option<u64>,
+    after: Option<After>,
+) -> Result<(), AllocError>
+    ensures { OnOk result (waits.new ≡ spec.waits_with waits.old number after) }
+{
+    let Some(runner) = number else {
+        return Ok(());
+    };
+    let Some(after) = after else {
+        return Ok(());
+    };
+    waits.push(Wait {
+        runner,
+        ended: after.runner,
+        committed: after.committed,
+    })?;
+    Ok(())
 }
 
 /// One more start, whose runner has the next name, or none.
 fn push_start(
     story: &mut Story,
     program: Program,
-    level: Level,
-    limit: u32,
+    options: Options,
     is_named: bool,
 ) -> Result<(), AllocError>
     requires { story.old.runners < MOST_EVENTS }
-    ensures { OnOk result (story.new ≡ spec.with_start program level limit is_named story.old) }
+    ensures { OnOk result (story.new ≡ spec.with_start program options is_named story.old) }
 {
-    let number = if limit == 0 {
-        None
-    } else {
-        Some(story.runners + 1)
-    };
+    let level = options.level.unwrap_or(Level::SerializableSnapshot);
+    let limit = options.limit.unwrap_or(USUAL_LIMIT);
+    let number = next_number_of(story, limit);
     let start = WorldEvent::Start {
         program,
         level,
@@ -159,6 +239,7 @@ fn push_start(
     };
     story.events.push(start)?;
     story.has_events = true;
+    push_wait(&mut story.waits, number, options.after)?;
     if is_named {
         story.numbers.push(number)?;
     }
@@ -173,17 +254,22 @@ fn start_one(
     story: &mut Story,
     at: usize,
     program: Program,
-    level: Level,
-    limit: u32,
+    options: Options,
     is_named: bool,
 ) -> Result<(), SourceError>
-    ensures { Returns (λ _. story.new) result (spec.start_one at program level limit is_named story.old) }
+    ensures { Returns (λ _. story.new) result (spec.start_one at program options is_named story.old) }
 {
     if !story.has_room(1) || story.runners >= MOST_EVENTS as u64 {
         drop(program);
         return Err(fault(at, SourceCause::TooMany));
     }
-    push_start(story, program, level, limit, is_named)?;
+    let room = program_room(&program, story.room);
+    if room == 0 {
+        drop(program);
+        return Err(fault(at, SourceCause::TooManyNodes));
+    }
+    push_start(story, program, options, is_named)?;
+    story.room = room;
     Ok(())
 }
 
@@ -192,15 +278,14 @@ fn start_named(
     story: &mut Story,
     at: usize,
     program: &Program,
-    level: Level,
-    limit: u32,
+    options: Options,
     times: usize,
 ) -> Result<(), SourceError>
-    ensures { Returns (λ _. story.new) result (spec.start_named at program.now level limit times story.old) }
+    ensures { Returns (λ _. story.new) result (spec.start_named at program.now options times story.old) }
 {
     for _done in 0..times {
         let program = program.clone()?;
-        start_one(story, at, program, level, limit, true)?;
+        start_one(story, at, program, options, true)?;
     }
     Ok(())
 }
@@ -214,27 +299,27 @@ fn start_all(
 ) -> Result<(), SourceError>
     ensures { Returns (λ _. story.new) result (spec.started_with story.old at program options) }
 {
-    let level = options.level.unwrap_or(Level::SerializableSnapshot);
-    let limit = options.limit.unwrap_or(USUAL_LIMIT);
     if options.named == 0 {
-        return start_one(story, at, program, level, limit, false);
+        return start_one(story, at, program, options, false);
     }
-    start_named(story, at, &program, level, limit, options.named)
+    start_named(story, at, &program, options, options.named)
 }
 
-/// The program of a start, behind its word: one that it names, or its own in braces. `all` are the tokens of the source.
+/// The program of a start, behind its word: one that it names, or its own in braces; and how many tokens were read again for it. `all` are the tokens
+/// of the source.
 fn started_program<'a>(
     alloc: Global,
     all: &[Token],
     definitions: &Definitions,
     tokens: &'a [Token],
-) -> Result<(Program, &'a [Token]), SourceError>
-    ensures { Returns (λ x. (x.0, x.1.now)) result (spec.started_program all.now definitions.now tokens.now) }
+) -> Result<(Program, usize, &'a [Token]), SourceError>
+    ensures { Returns (λ x. (x.0, x.1, x.2.now)) result (spec.started_program all.now definitions.now tokens.now) }
 {
     if let Some((name, rest)) = next_name(tokens) {
         return named_program(alloc, all, definitions, name, place(tokens), rest);
     }
-    program_in_place(alloc, tokens)
+    let (program, rest) = program_in_place(alloc, place(tokens), tokens)?;
+    Ok((program, 0, rest))
 }
 
 /// Starts, behind their word, which begins at a byte. `all` are the tokens of the source.
@@ -251,13 +336,15 @@ pub(crate) fn start<'a>(
     if !story.has_room(1) {
         return Err(fault(at, SourceCause::TooMany));
     }
-    let (program, rest) = started_program(alloc, all, definitions, tokens)?;
+    let (program, again, rest) = started_program(alloc, all, definitions, tokens)?;
+    story.room = story.room.saturating_sub(again);
     let none = Options {
         named: 0,
         level: None,
         limit: None,
+        after: None,
     };
-    let (options, rest) = more_options(alloc, &mut story.names, 3, none, rest)?;
+    let (options, rest) = more_options(alloc, story, 4, none, rest)?;
     start_all(story, at, program, options)?;
     Ok(rest)
 }

@@ -1,5 +1,5 @@
 //! Reading statements and blocks.
-ghost use Rattle.std.specs.Prelude.{◌≡◌, ◌≤◌, option_copied, option_map, Some, IfOk};
+ghost use Rattle.std.specs.Prelude.{◌≡◌, ◌≤◌, option_copied, option_map, Some, IfOk, OnOk};
 ghost use Rattle.stm_program.specs.BlockView.{block_of};
 ghost use Rattle.stm_program.specs.Syntax.{Set, Then, End};
 ghost use Rattle.stm_program.specs.declared.limits.TheConstants.{MAX_VARIABLE};
@@ -8,11 +8,12 @@ ghost use Rattle.stm_terms.specs.Cursor as cursor;
 ghost use Rattle.stm_terms.specs.Outcome.{Returns};
 ghost use Rattle.stm_terms.specs.Scope.{variable_of};
 ghost use Rattle.stm_source.specs.Statements as spec;
+ghost use Rattle.stm_source.specs.Kept.{pushed_up};
 
 use std::alloc::{AllocError, Global};
 use std::sync::Arc;
 use stm_program::{
-    Block, Expr, ExprNode, MAX_LEASE, MAX_TURNS, Operator, Stmt, StmtNode, Variable,
+    Block, Expr, ExprNode, MAX_LEASE, MAX_NODES, MAX_TURNS, Operator, Stmt, StmtNode, Variable,
 };
 use stm_terms::{
     Given, Join, MOST_BRACKETS, Scope, SourceCause, SourceError, after_name, after_symbol,
@@ -21,6 +22,9 @@ use stm_terms::{
     unexpected, value,
 };
 use stm_tokens::{Symbol, Token, TokenKind, Word};
+
+/// How many statements of a block are kept: with one more than a program may have nodes, it has too many.
+pub(crate) const MOST_STATEMENTS: usize = MAX_NODES + 1;
 
 /// A statement of one value.
 #[derive(Clone, Copy, Debug, PartialEq, Eq)]
@@ -550,6 +554,16 @@ fn statement<'a>(
     }
 }
 
+/// Adds a statement behind so many, where that many are kept.
+fn push_up(done: usize, statements: &mut Vec<Stmt>, statement: Stmt) -> Result<(), AllocError>
+    ensures { OnOk result (statements.new.items ≡ pushed_up done statements.old.items statement) }
+{
+    if done < MOST_STATEMENTS {
+        statements.push(statement)?;
+    }
+    Ok(())
+}
+
 /// The statements up to the brace that closes their block, with these names in sight before the first.
 #[cycle(read_statements)]
 pub(crate) fn statements<'a>(
@@ -563,12 +577,12 @@ pub(crate) fn statements<'a>(
     let mut scope = outer.copy(alloc)?;
     let mut statements = Vec::new(alloc);
     let mut rest = tokens;
-    for _turn in 0..tokens.len() {
+    for done in 0..tokens.len() {
         if let Some(behind) = after_symbol(rest, Symbol::RightBrace) {
             return Ok((statements, behind));
         }
         let (statement, behind) = statement(alloc, &mut scope, levels, rest)?;
-        statements.push(statement)?;
+        push_up(done, &mut statements, statement)?;
         rest = skip_semicolon(behind);
     }
     Err(unexpected(rest))

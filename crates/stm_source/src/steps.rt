@@ -52,6 +52,23 @@ pub(crate) fn next_runner_name(tokens: &[Token]) -> Option<(&str, &[Token])>
     }
 }
 
+/// The number of the runner whose name is the next token.
+pub(crate) fn named_runner<'a>(
+    story: &Story,
+    tokens: &'a [Token],
+) -> Result<(u64, &'a [Token]), SourceError>
+    ensures { Returns (λ x. (x.0, x.1.now)) result
+        (spec.runner_by_name story.now tokens.now (spec.name_of_runner tokens.now (cursor.next_name tokens.now))) }
+{
+    let Some((name, rest)) = next_runner_name(tokens) else {
+        return Err(unexpected(tokens));
+    };
+    match number_named(story, name) {
+        Some(number) => Ok((number, rest)),
+        None => Err(fault(place(tokens), SourceCause::Name)),
+    }
+}
+
 /// The runner of a turn.
 fn runner<'a>(story: &Story, tokens: &'a [Token]) -> Result<(u64, &'a [Token]), SourceError>
     ensures { Returns (λ x. (x.0, x.1.now)) result (spec.runner_at story.now tokens.now) }
@@ -62,13 +79,7 @@ fn runner<'a>(story: &Story, tokens: &'a [Token]) -> Result<(u64, &'a [Token]), 
         }
         return Err(fault(place(tokens), SourceCause::Range));
     }
-    match next_runner_name(tokens) {
-        Some((name, rest)) => match number_named(story, name) {
-            Some(number) => Ok((number, rest)),
-            None => Err(fault(place(tokens), SourceCause::Name)),
-        },
-        None => Err(unexpected(tokens)),
-    }
+    named_runner(story, tokens)
 }
 
 /// How many steps a turn makes.

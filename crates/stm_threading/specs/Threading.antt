@@ -11,6 +11,7 @@ use Rattle.stm_threading.specs.declared.running.JobsFault.{JobsFault}
 use Rattle.stm_threading.specs.declared.running.JobsFault.TheVariants.{OutOfMemory, Bad, Read, Write, Spawn, Audit}
 use Rattle.stm_threading.specs.declared.shown.Printing.{Printing}
 use Rattle.stm_threading.specs.Running.{Does}
+use Rattle.stm_explain.specs.Explaining.{ExplainsOrNothing}
 use Rattle.stm_explain.specs.Saying.{bad_input, memory_fault, device_fault, thread_fault, audit_fault, Reports, ReportsMore, SaysSome}
 
 -- 2 for bad input, 3 where memory ran out, a device failed, a thread could not be started or an end does not stand
@@ -34,14 +35,20 @@ fault_message (Audit job) = audit_fault job
 abbrev pub SaysOf : Option (List ℕ) → Option (List ℕ) → Bool → JobsFault → ℕ → Type 0
 SaysOf before after failed fault status = Reports (fault_status fault) (fault_message fault) before after failed status
 
+-- a bad scenario is explained, that was kept under this name as this text, or nothing is said; of another fault nothing is
+abbrev pub Explains : List ℕ → List ℕ → JobsFault → List ℕ → Type 0
+Explains name text (Bad bad) more = ExplainsOrNothing name text more
+Explains name text other more = more ≡ []
+
 -- the same with an explanation after the message
-abbrev pub SaysMoreOf : Option (List ℕ) → Option (List ℕ) → Bool → JobsFault → ℕ → Type 0
-SaysMoreOf before after failed fault status = ReportsMore (fault_status fault) (fault_message fault) before after failed status
+abbrev pub SaysMoreOf : List ℕ → List ℕ → Option (List ℕ) → Option (List ℕ) → Bool → JobsFault → ℕ → Type 0
+SaysMoreOf name text before after failed fault status =
+    ReportsMore (Explains name text fault) (fault_status fault) (fault_message fault) before after failed status
 
 -- with one where faults are explained, and else without
-abbrev pub SaysBy : Bool → Option (List ℕ) → Option (List ℕ) → Bool → JobsFault → ℕ → Type 0
-SaysBy false before after failed fault status = SaysOf before after failed fault status
-SaysBy true before after failed fault status = SaysMoreOf before after failed fault status
+abbrev pub SaysBy : Bool → List ℕ → List ℕ → Option (List ℕ) → Option (List ℕ) → Bool → JobsFault → ℕ → Type 0
+SaysBy false name text before after failed fault status = SaysOf before after failed fault status
+SaysBy true name text before after failed fault status = SaysMoreOf name text before after failed fault status
 
 -- the jobs that came to a fault, of those that ended so, of which the first has this number
 abbrev pub faulted_job : ℕ → JobEnd → List ReportedJob
@@ -63,7 +70,7 @@ SaysOfEnds true name text ends before after failed = SaysJobs name text ends bef
 
 abbrev pub EndsBy : Bool → List ℕ → List ℕ → Option (List ℕ) → Option (List ℕ) → Bool → Result (List JobEnd) JobsFault → ℕ → Type 0
 EndsBy explained name text before after failed (Ok ends) status = (status ≡ 0) × SaysOfEnds explained name text ends before after failed
-EndsBy explained name text before after failed (Err fault) status = SaysBy explained before after failed fault status
+EndsBy explained name text before after failed (Err fault) status = SaysBy explained name text before after failed fault status
 
 -- What the command does to its devices, and its status: what is to be printed of the jobs is written, with status 0 at a good end, at which the jobs
 -- that came to a fault are explained or nothing is said, and else it is said what went wrong.

@@ -1,14 +1,13 @@
 //! What explains the jobs that came to a fault.
 ghost use Rattle.std.specs.Prelude.{◌≡◌, ◌++◌, false, map, IfOk, OnOk, string_bytes};
 ghost use Rattle.stm_texts.specs.Reading.{scenario_in};
-ghost use Rattle.stm_faulted_runs.specs.Lines.{OrNothing};
 ghost use Rattle.stm_faulted_runs.specs.Jobs.{reported_job, ExplainsJobs};
 ghost use Rattle.stm_threading.specs.Threading.{faulted_job, faulted_jobs, SaysJobs, SaysOfEnds};
 
 use std::alloc::{AllocError, Global};
 use stm_devices::Sink;
 use stm_explain::{KeptSource, write_text};
-use stm_faulted_runs::{FaultedJob, Named, jobs_explained};
+use stm_faulted_runs::{FaultedJob, Named, jobs_explained, said_of};
 use stm_job::JobEnd;
 
 /// Adds a job, where it came to a fault.
@@ -49,23 +48,17 @@ fn lines_in(alloc: Global, name: &str, text: &str, ends: &[JobEnd]) -> Result<St
     jobs_explained(alloc, &Named { name, text }, jobs.as_slice())
 }
 
-/// The same, or nothing where an allocation failed.
-fn lines_of_jobs(alloc: Global, name: &str, text: &str, ends: &[JobEnd]) -> String
-    ensures { OrNothing (ExplainsJobs name.now text.now (scenario_in text.now) (faulted_jobs 0 ends.now)) (string_bytes result) }
-{
-    match lines_in(alloc, name, text, ends) {
-        Ok(lines) => lines,
-        Err(_) => String::new(alloc),
-    }
-}
-
-/// The explanations of the jobs of a scenario that came to a fault; none where an allocation failed, now or before.
-fn jobs_of_input<S>(alloc: Global, input: &KeptSource<'_, S>, ends: &[JobEnd]) -> String
-    ensures { OrNothing (ExplainsJobs input.now.name.now input.now.bytes.items (scenario_in input.now.bytes.items) (faulted_jobs 0 ends.now)) (string_bytes result) }
+/// The explanations of the jobs of a scenario that came to a fault, by its text. It fails where an allocation failed, now or when the text was kept.
+fn jobs_of_input<S>(
+    alloc: Global,
+    input: &KeptSource<'_, S>,
+    ends: &[JobEnd],
+) -> Result<String, AllocError>
+    ensures { IfOk result (λ said. ExplainsJobs input.now.name.now input.now.bytes.items (scenario_in input.now.bytes.items) (faulted_jobs 0 ends.now) (string_bytes said)) }
 {
     match input.text() {
-        Some(text) => lines_of_jobs(alloc, input.name, text, ends),
-        None => String::new(alloc),
+        Some(text) => lines_in(alloc, input.name, text, ends),
+        None => Err(AllocError),
     }
 }
 
@@ -80,8 +73,8 @@ fn report_jobs<S, E: Sink>(
     ensures status { result ≡ 0 }
     ensures says { SaysJobs input.now.name.now input.now.bytes.items ends.now (E.held err.old) (E.held err.new) (E.failed err.new) }
 {
-    let more = jobs_of_input(alloc, input, ends);
-    let _ = write_text(err, more.as_str());
+    let explained = jobs_of_input(alloc, input, ends);
+    let _ = write_text(err, said_of(&explained));
     0
 }
 

@@ -1,7 +1,7 @@
 //! What the command `threads` says of a fault, and its statuses.
-ghost use Rattle.std.specs.Prelude.{◌≡◌, false, string_bytes};
-ghost use Rattle.stm_explain.specs.Saying.{status_of, text_of, IsExplained};
-ghost use Rattle.stm_threading.specs.Threading.{fault_status, fault_message, SaysOf, SaysMoreOf, SaysBy};
+ghost use Rattle.std.specs.Prelude.{◌≡◌, ◌++◌, false, string_bytes};
+ghost use Rattle.stm_explain.specs.Saying.{status_of, text_of, Reports};
+ghost use Rattle.stm_threading.specs.Threading.{fault_status, fault_message, Explains, SaysOf, SaysMoreOf, SaysBy};
 
 use crate::running::JobsFault;
 use std::alloc::Global;
@@ -35,7 +35,7 @@ pub(crate) fn report_fault<E: Sink>(err: &mut E, fault: &JobsFault) -> u8
 
 /// The explanation of what is wrong with a scenario of jobs; none of another fault.
 fn explanation<S>(alloc: Global, input: &KeptSource<'_, S>, fault: &JobsFault) -> String
-    ensures { IsExplained (string_bytes result) }
+    ensures { Explains input.now.name.now input.now.bytes.items fault.now (string_bytes result) }
 {
     match fault {
         JobsFault::Bad(bad) => input.explanation(alloc, Input::Jobs, bad),
@@ -43,13 +43,26 @@ fn explanation<S>(alloc: Global, input: &KeptSource<'_, S>, fault: &JobsFault) -
     }
 }
 
-/// Says what went wrong and its explanation, and returns the status.
-fn report_explained<E: Sink>(err: &mut E, fault: &JobsFault, more: &str) -> u8
-    requires works { E.failed err.old ≡ false }
-    requires explains { IsExplained more.now }
-    ensures { SaysMoreOf (E.held err.old) (E.held err.new) (E.failed err.new) fault.now result }
+/// Says what went wrong and more after it, and returns the status.
+fn report_with<E: Sink>(err: &mut E, fault: &JobsFault, more: &str) -> u8
+    requires { E.failed err.old ≡ false }
+    ensures { Reports (fault_status fault.now) (fault_message fault.now ++ more.now) (E.held err.old) (E.held err.new) (E.failed err.new) result }
 {
     message(fault).report_with(err, more)
+}
+
+/// Says what went wrong with the jobs of an input, explains it, and gives the status.
+fn report_explained<S, E: Sink>(
+    alloc: Global,
+    input: &KeptSource<'_, S>,
+    fault: &JobsFault,
+    err: &mut E,
+) -> u8
+    requires { E.failed err.old ≡ false }
+    ensures { SaysMoreOf input.now.name.now input.now.bytes.items (E.held err.old) (E.held err.new) (E.failed err.new) fault.now result }
+{
+    let more = explanation(alloc, input, fault);
+    report_with(err, fault, more.as_str())
 }
 
 /// Says what went wrong with the jobs of an input, explains it where it is to be explained, and gives the status.
@@ -61,11 +74,10 @@ pub(crate) fn report_by<S, E: Sink>(
     err: &mut E,
 ) -> u8
     requires { E.failed err.old ≡ false }
-    ensures { SaysBy explain (E.held err.old) (E.held err.new) (E.failed err.new) fault.now result }
+    ensures { SaysBy explain input.now.name.now input.now.bytes.items (E.held err.old) (E.held err.new) (E.failed err.new) fault.now result }
 {
     if !explain {
         return report_fault(err, fault);
     }
-    let more = explanation(alloc, input, fault);
-    report_explained(err, fault, more.as_str())
+    report_explained(alloc, input, fault, err)
 }

@@ -1,12 +1,14 @@
-use Rattle.std.proofs.Common.{Ok, sym, subst}
-use Rattle.stm_faulted_runs.specs.Lines.{OrNothing}
-use Rattle.stm_exploring.specs.Explaining.{ExplainsSearched}
+use Rattle.std.proofs.Common.{Ok}
+use Rattle.std.specs.Prelude.{string_bytes}
+use Rattle.stm_faulted_runs.proofs.SaidLemmas.{said}
+use Rattle.stm_exploring.specs.Explaining.{KeptInput, ExplainsSearched}
 use Rattle.stm_exploring.proofs.explaining.explore_explained_to.Goals as goal
 
 -- an answer was written, and the rule explained where it is broken
 pub returns-in-Ok-clause-ends : goal.returns-in-Ok-clause-ends
 returns-in-Ok-clause-ends g c =
-    let keeps = c.explore_sources-searched.new.keeps in (
+    let kept = c.explore_sources-searched.new.keeps in
+    let keeps : KeptInput = record { name = kept.name.now; text = kept.bytes.items } in (
       c.explore_sources-searched.result,
       c.explore_sources-searched.ensures.searched,
       (
@@ -14,9 +16,9 @@ returns-in-Ok-clause-ends g c =
         c.in-Ok.ensures,
         (
           c.report_verdict.ensures.status,
-          c.as_str.result.now,
-          subst (OrNothing (ExplainsSearched keeps.name.now keeps.bytes.items c.explore_sources-searched.result)) (sym c.as_str.ensures.value)
-              c.searched_explanation-more.ensures,
+          c.said_of.result.now,
+          said (ExplainsSearched keeps c.explore_sources-searched.result) string_bytes c.searched_explanation-explained.result c.said_of.result.now
+              c.searched_explanation-explained.ensures c.said_of.ensures.ok c.said_of.ensures.err,
           c.report_verdict.ensures.says,
         ),
       ),

@@ -5,5 +5,5 @@ use Rattle.stm_source.proofs.starts.start_named.Given as goal
 -- what is left leads to all
 abbrev pub invariant-loop-done : goal.invariant-loop-done
 invariant-loop-done l =
-    start_named l.fn.at l.fn.program l.fn.level l.fn.limit (l.fn.times - l._done) l.story
-    ≡ start_named l.fn.at l.fn.program l.fn.level l.fn.limit l.fn.times l.fn.story
+    start_named l.fn.at l.fn.program l.fn.options (l.fn.times - l._done) l.story
+    ≡ start_named l.fn.at l.fn.program l.fn.options l.fn.times l.fn.story

@@ -40,7 +40,7 @@ abbrev pub decreases-statements : goal.decreases-statements
 decreases-statements l = 500 * l.levels + 403
 
 -- the statements so far, and then what is read of the rest
-abbrev pub invariant-statements-loop-turn : goal.invariant-statements-loop-turn
-invariant-statements-loop-turn l =
-    with_front l.statements.items (statements_from (statement_by (block_at l.fn.levels) l.fn.levels) (length l.fn.tokens - l._turn) l.scope l.rest)
+abbrev pub invariant-statements-loop-done : goal.invariant-statements-loop-done
+invariant-statements-loop-done l =
+    with_front l.statements.items (statements_from (statement_by (block_at l.fn.levels) l.fn.levels) l.done (length l.fn.tokens - l.done) l.scope l.rest)
     ≡ statements_at l.fn.levels l.fn.outer l.fn.tokens

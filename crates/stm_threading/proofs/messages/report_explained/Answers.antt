@@ -1,9 +1,11 @@
-use Rattle.stm_explain.proofs.ExplainLemmas.{reports_more_of}
+use Rattle.std.proofs.Common.{sym, subst}
+use Rattle.stm_threading.specs.Threading.{Explains}
 use Rattle.stm_threading.proofs.messages.report_explained.Goals as goal
 
 pub returns : goal.returns
 returns g c =
-    let held = g.E.Sink.held in
-    let after = c.report_with.new.err in
-    reports_more_of (held c.args.err.now) (held after) (g.E.Sink.failed after) c.report_with.result _ _ _ _ c.report_with.ensures c.message.ensures.status
-    c.message.ensures.text
+    let input = c.args.input.now in (
+      c.as_str.result.now,
+      subst (Explains input.name.now input.bytes.items c.args.fault.now) (sym c.as_str.ensures.value) c.explanation-more.ensures,
+      c.report_with.ensures,
+    )

@@ -1,5 +1,6 @@
+use Rattle.std.proofs.Common.{◌++◌}
 use Rattle.stm_explain.specs.Saying.{text_of}
-use Rattle.stm_explain.proofs.ExplainLemmas.{says_more}
+use Rattle.stm_explain.proofs.ExplainLemmas.{says}
 use Rattle.stm_explain.proofs.messages.Message.report_with.Goals as goal
 
 pub returns : goal.returns
@@ -7,6 +8,5 @@ returns g c =
     let held = g.E.Sink.held in
     let after = c.write_with.new.err in (
       c.status.ensures,
-      says_more (held c.args.err.now) (held after) (g.E.Sink.failed after) c.write_with.result (text_of c.args.self.now) c.args.more.now
-          c.requires.explains c.write_with.ensures,
+      says (held c.args.err.now) (held after) (g.E.Sink.failed after) c.write_with.result (text_of c.args.self.now ++ c.args.more.now) c.write_with.ensures,
     )

@@ -1,0 +1,96 @@
+-- A commit of which nothing broken is found.
+use Rattle.std.proofs.Common.{◌≡◌, ◌≤◌, ◌∙◌, ℕ, Bool, true, false, not, cond, nat_lt, nat_eq, List, [], ◌∷◌, Option, Some, None, IfSome, All, option_map, refl, sym, arith}
+use Rattle.std.specs.Prelude.{find, if◌then◌else◌}
+use Rattle.std.specs.List.{AllByRecursion}
+use Rattle.std.specs.Option.{option_or}
+use Rattle.std.proofs.lemmas.Bool.Decides.{nat_tests}
+use Rattle.std.proofs.lemmas.List.Elements.{All-from_recursion}
+use Rattle.stm_history.specs.History.{History, key_now, mod_of}
+use Rattle.stm_program.specs.declared.level.Level.{Level}
+use Rattle.stm_program.specs.declared.level.Level.TheVariants.{SerializableSnapshot}
+use Rattle.stm_program.specs.Levels.{is_comparing}
+use Rattle.stm_program.specs.Writes.{key_of}
+use Rattle.stm_program.specs.declared.write.Write.{Write}
+use Rattle.stm_events.specs.declared.reply.CommittedRead.{CommittedRead}
+use Rattle.stm_audit.specs.declared.anomaly.Anomaly.TheVariants.{DirtyRead}
+use Rattle.stm_audit.specs.declared.finding.Finding.{Finding}
+use Rattle.stm_audit.specs.Anomalies.{compares_writes, first_read, of_read, of_stale, of_write, is_put_above, stale_in, overwritten_in}
+use Rattle.stm_audit.specs.Laws.{KeptWhereNothingIsBroken}
+use Rattle.stm_audit.specs.Reads.{is_so, is_untrue, is_stale}
+
+-- ---- where none is found, none is so
+
+head_passes_not : {X : Type 0} (x : X) (rest : Option X) (b : Bool) → cond b (Some x) rest ≡ None → (b ≡ false) × (rest ≡ None)
+head_passes_not x rest true is = absurd (cc)
+head_passes_not x rest false is = (refl, is)
+
+none_found : {X : Type 0} (p : X → Bool) (xs : List X) → find p xs ≡ None → AllByRecursion (λ x. p x ≡ false) xs
+none_found p [] is = tt
+none_found p (x ∷ xs) is = let both = head_passes_not x (find p xs) (p x) is in (both.0, none_found p xs both.1)
+
+each : {X : Type 0} (P Q : X → Type 0) (xs : List X) → ((x : X) → P x → Q x) → AllByRecursion P xs → AllByRecursion Q xs
+each P Q [] turn all = tt
+each P Q (x ∷ xs) turn all = (turn x all.0, each P Q xs turn all.1)
+
+none_is : {X : Type 0} (p : X → Bool) (Q : X → Type 0) (xs : List X) → ((x : X) → p x ≡ false → Q x) → find p xs ≡ None → All Q xs
+none_is p Q xs turn is = All-from_recursion Q xs (each (λ x. p x ≡ false) Q xs turn (none_found p xs is))
+
+not_not : (b : Bool) → not b ≡ false → b ≡ true
+not_not true is = refl
+not_not false is = absurd (cc)
+
+same_number : (m n : ℕ) → not (nat_eq m n) ≡ false → m ≡ n
+same_number m n is = grind (arith, nat_tests)
+
+not_above : (m n : ℕ) → nat_lt m n ≡ false → n ≤ m
+not_above m n is = grind (arith, nat_tests)
+
+-- ---- by what is found
+
+broken : (b : Bool) → b ≡ true → b ≡ false → ⊥
+broken b is is_not = let no : true ≡ false = sym is ∙ is_not in absurd (cc)
+
+abbrev NotBroken : Option Finding → Type 0
+NotBroken found = IfSome found (λ (f : Finding). f.is_broken ≡ false)
+
+-- what is found first is not broken, so it is nothing that is broken
+none_first : {A : Type 0} (f : A → Finding) (o : Option A) (rest : Option Finding) → ((a : A) → (f a).is_broken ≡ true) → NotBroken (option_or (option_map f o) rest)
+    → o ≡ None
+none_first f None rest all kept = refl
+none_first f (Some a) rest all kept = absurd (broken (f a).is_broken (all a) kept)
+
+-- and then neither is what is found next
+past : {A : Type 0} (f : A → Finding) (o : Option A) (rest : Option Finding) → o ≡ None → NotBroken (option_or (option_map f o) rest) → NotBroken rest
+past f None rest none kept = kept
+past f (Some a) rest none kept = absurd (cc)
+
+none_last : (h : History) (number first : ℕ) (o : Option Write) (b : Bool) → b ≡ true
+    → NotBroken (if b then option_map (of_write h number first) o else None) → o ≡ None
+none_last h number first None b is kept = refl
+none_last h number first (Some w) true is kept = absurd (broken true refl kept)
+none_last h number first (Some w) false is kept = absurd (cc)
+
+compares_both : (level : Level) → compares_writes level ≡ true → is_comparing level ≡ true
+compares_both SerializableSnapshot is = refl
+compares_both _ is = absurd (cc)
+
+pub kept_where_nothing_is_broken : KeptWhereNothingIsBroken
+kept_where_nothing_is_broken h made number t kept =
+    let untrue : Option CommittedRead = find (is_untrue h) t.reads in
+    let stale : Option CommittedRead = find (is_stale h) t.reads in
+    let after_untrue : Option Finding = option_or (stale_in h made number t) (overwritten_in h number t) in
+    let all_so : find (is_untrue h) t.reads ≡ None = none_first (of_read h number DirtyRead true) untrue after_untrue (λ a. refl) kept in
+    let next : NotBroken after_untrue = past (of_read h number DirtyRead true) untrue after_untrue all_so kept in
+    let none_stale : is_comparing t.level ≡ true → find (is_stale h) t.reads ≡ None =
+    λ is. none_first (of_stale h made number t) stale (overwritten_in h number t) (λ a. is) next in
+    record {
+      so = none_is (is_untrue h) (λ (a : CommittedRead). is_so h a ≡ true) t.reads (λ a. not_not (is_so h a)) all_so;
+      unchanged = λ is.
+          none_is (is_stale h) (λ (a : CommittedRead). a.mod_rev ≡ mod_of (key_now h a.key)) t.reads (λ a. same_number a.mod_rev (mod_of (key_now h a.key)))
+          (none_stale is);
+      unwritten = λ is.
+          none_is (is_put_above h (first_read t.reads)) (λ (w : Write). mod_of (key_now h (key_of w)) ≤ first_read t.reads) t.writes
+          (λ w. not_above (first_read t.reads) (mod_of (key_now h (key_of w))))
+          (none_last h number (first_read t.reads) (find (is_put_above h (first_read t.reads)) t.writes) (compares_writes t.level) is
+          (past (of_stale h made number t) stale (overwritten_in h number t) (none_stale (compares_both t.level is)) next));
+    }

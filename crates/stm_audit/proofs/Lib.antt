@@ -1,0 +1,5 @@
+pub mod TraceLemmas
+pub mod StoreLemmas
+pub mod AuditLemmas
+pub mod PrintLemmas
+pub mod Keeping

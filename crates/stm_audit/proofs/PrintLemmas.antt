@@ -1,0 +1,41 @@
+-- What is printed, line after line, and what is answered of an input.
+use Rattle.std.proofs.Common.{◌≡◌, ℕ, ◌+◌, ◌<◌, List, [], ◌++◌, length, take, drop, get_or, IfSome, Some, None, Bool, false, Option, Result, Ok, Err}
+use Rattle.std.proofs.Common.{sym, ap, subst, ◌∙◌, append_assoc}
+use Rattle.std.proofs.lemmas.List.{append-nil}
+use Rattle.stm_devices.specs.declared.transfer.TheConstants.{MOST_READ}
+use Rattle.stm_report_lines.specs.Text.{line_text}
+use Rattle.stm_audit.specs.declared.command.Printed.{Printed}
+use Rattle.stm_audit.specs.declared.command.AuditFault.{AuditFault}
+use Rattle.stm_audit.specs.declared.command.AuditFault.TheVariants.{OutOfMemory, Bad, Device}
+use Rattle.stm_audit.specs.declared.finding.Finding.{Finding}
+use Rattle.stm_audit.specs.Command.{Answers, Gives}
+use Rattle.stm_audit.specs.Lines.{finding_line, findings_text}
+use Rattle.stm_audit.proofs.AuditLemmas.{left_at}
+
+-- ---- the lines of findings
+
+pub one_line_more : (fs : List Finding) (i : ℕ) (f : Finding) (text next total : List ℕ) → i < length fs → f ≡ get_or fs i f
+    → next ≡ text ++ line_text (finding_line f) → text ++ findings_text (drop i fs) ≡ total → next ++ findings_text (drop (i + 1) fs) ≡ total
+one_line_more fs i f text next total within at is so_far =
+    let one : text ++ findings_text (drop i fs) ≡ (text ++ line_text (finding_line f)) ++ findings_text (drop (i + 1) fs) =
+    ap (λ (l : List Finding). text ++ findings_text l) (left_at fs i f within at) ∙ simp append_assoc in
+    rw is (sym one ∙ so_far)
+
+pub all_lines : (fs : List Finding) (i : ℕ) (text total : List ℕ) → drop i fs ≡ [] → text ++ findings_text (drop i fs) ≡ total → text ≡ total
+all_lines fs i text total none so_far =
+    let one : text ++ findings_text (drop i fs) ≡ text = ap (λ (l : List Finding). text ++ findings_text l) none ∙ append-nil text in
+    sym one ∙ so_far
+
+-- ---- inputs
+
+of_input : (input : Option (List ℕ)) (bytes : List ℕ) (P : List ℕ → Type 0) → IfSome input (λ all. bytes ≡ take MOST_READ all) → P bytes
+    → IfSome input (λ all. P (take MOST_READ all))
+of_input None bytes P read holds = tt
+of_input (Some all) bytes P read holds = subst P read holds
+
+pub Gives-from_Answers : (input : Option (List ℕ)) (failed : Bool) (bytes : List ℕ) (result : Result Printed AuditFault) → failed ≡ false
+    → IfSome input (λ all. bytes ≡ take MOST_READ all) → Answers bytes result → Gives input failed result
+Gives-from_Answers input failed bytes (Ok p) works read answers = (works, of_input input bytes (λ b. Answers b (Ok p)) read answers)
+Gives-from_Answers input failed bytes (Err OutOfMemory) works read answers = works
+Gives-from_Answers input failed bytes (Err (Bad bad)) works read answers = (works, of_input input bytes (λ b. Answers b (Err (Bad bad))) read answers)
+Gives-from_Answers input failed bytes (Err Device) works read answers = absurd answers

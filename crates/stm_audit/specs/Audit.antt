@@ -1,0 +1,77 @@
+-- What an audit finds in a trace.
+--
+-- etcd's API reference, "Revisions": a transaction that changes something gets the next revision, and another one has that of the store. So a trace
+-- that has every commit since its first one has their revisions without a gap.
+use Rattle.std.specs.Prelude.{ℕ, suc, ◌-◌, Bool, true, false, nat_eq, nat_lt, if◌then◌else◌, List, [], ◌∷◌, ◌++◌, map, Option, Some, None, Result, Ok, Err, min, max}
+use Rattle.std.specs.List.{list_any}
+use Rattle.stm_history.specs.declared.revisions.TheConstants.{HIGHEST_REVISION}
+use Rattle.stm_history.specs.History.{now}
+use Rattle.stm_program.specs.declared.write.Write.{Write}
+use Rattle.stm_program.specs.declared.write.Write.TheVariants.{Put, Del}
+use Rattle.stm_program.specs.Writes.{latest_writes}
+use Rattle.stm_outcome.specs.declared.refusal.Refusal.{Refusal}
+use Rattle.stm_txn.specs.Standing.{Standing, Step, made, opening, at_revision}
+use Rattle.stm_compile.specs.Now.{as_change}
+use Rattle.stm_audit.specs.declared.auditing.Audited.{Audited}
+use Rattle.stm_audit.specs.declared.commit.Commit.{Commit}
+use Rattle.stm_audit.specs.declared.finding.Finding.{Finding}
+use Rattle.stm_audit.specs.Anomalies.{found_in}
+
+-- ---- the store after writes
+
+-- the last write of each key is made, with nothing compared
+abbrev pub after : Standing → List Write → Result (Step ℕ) Refusal
+after s writes = made s (map as_change (latest_writes writes))
+
+abbrev pub revision_of : Result (Step ℕ) Refusal → Option ℕ
+revision_of (Ok step) = Some step.answer
+revision_of (Err cause) = None
+
+abbrev pub left_by : Standing → Result (Step ℕ) Refusal → Standing
+left_by s (Ok step) = step.next
+left_by s (Err cause) = s
+
+abbrev pub is_reached : ℕ → Option ℕ → Bool
+is_reached revision None = false
+is_reached revision (Some reached) = nat_eq reached revision
+
+-- ---- a trace, commit after commit
+
+abbrev pub with_found : Option Finding → List Finding → List Finding
+with_found None findings = findings
+with_found (Some f) findings = f ∷ findings
+
+-- the commits that changed something, with one more where it has
+abbrev pub with_maker : Bool → List Commit → Commit → List Commit
+with_maker has_changed made t = if has_changed then made ++ t ∷ [] else made
+
+abbrev pub more : Option Finding → Audited → Audited
+more found a = record { findings = with_found found a.findings; off = a.off }
+
+-- a commit whose revision is not the store's ends the audit: what the store was is not known from there on
+abbrev pub audit_from : Standing → List Commit → ℕ → List Commit → Audited
+audit_from s made number [] = record { findings = []; off = None }
+audit_from s made number (t ∷ ts) =
+    if is_reached t.revision (revision_of (after s t.writes))
+    then more (found_in s.history made number t)
+    (audit_from (left_by s (after s t.writes)) (with_maker (nat_lt (now s.history) t.revision) made t) (suc number) ts)
+    else record { findings = []; off = Some number }
+
+-- ---- where a trace begins
+
+abbrev pub is_put : Write → Bool
+is_put (Put key value lease) = true
+is_put (Del key) = false
+
+-- the revision before the first commit: the one below it, where it puts a key
+abbrev pub before_first : List Commit → ℕ
+before_first [] = 1
+before_first (t ∷ ts) = if list_any is_put t.writes then t.revision - 1 else t.revision
+
+-- a store's revision is 1 at least
+abbrev pub opened : List Commit → ℕ
+opened commits = min HIGHEST_REVISION (max 1 (before_first commits))
+
+-- the audit of a trace over a store in which no key was present before it
+abbrev pub audited : List Commit → Audited
+audited commits = audit_from (opening (at_revision (opened commits))) [] 1 commits

@@ -1,0 +1,156 @@
+//! The audit of a trace.
+ghost use Rattle.std.specs.Prelude.{◌≡◌, ◌+◌, ◌≤◌, [], ◌++◌, true, false, map, nat_lt, min, max, IfOk, OnOk};
+ghost use Rattle.std.specs.List.{list_any};
+ghost use Rattle.stm_history.specs.History.{now};
+ghost use Rattle.stm_txn.specs.Standing.{opening, at_revision};
+ghost use Rattle.stm_audit.specs.Anomalies.{found_in};
+ghost use Rattle.stm_audit.specs.Audit.{after, left_by, revision_of, is_reached, with_found, with_maker, is_put, before_first, opened, audit_from, audited};
+
+use crate::commit::Commit;
+use crate::finding::Finding;
+use crate::stale::found_in;
+use crate::store_after::comes_to;
+use std::alloc::{AllocError, Global};
+use stm_events::Sequence;
+use stm_history::HIGHEST_REVISION;
+use stm_program::Write;
+use stm_txn::Store;
+
+/// What an audit comes to.
+#[derive(Debug, Drop)]
+pub struct Audited {
+    /// The anomalies, at most one for each commit, in the order of the commits.
+    pub findings: Sequence<Finding>,
+    /// The first commit whose revision is not the one that the store then has, where there is one: what comes behind it was not looked at.
+    pub off: Option<u64>,
+}
+
+/// Adds what was found, if anything was.
+fn add_found(findings: &mut Vec<Finding>, found: Option<Finding>) -> Result<(), AllocError>
+    ensures { OnOk result (findings.new.items ≡ findings.old.items ++ with_found found []) }
+{
+    match found {
+        None => Ok(()),
+        Some(found) => Ok(findings.push(found)?),
+    }
+}
+
+/// Adds a commit to those that changed something, where it has.
+fn add_maker<'a>(
+    made: &mut Vec<&'a Commit>,
+    has_changed: bool,
+    commit: &'a Commit,
+) -> Result<(), AllocError>
+    ensures { OnOk result (map (λ c. c.now) made.new.items ≡ with_maker has_changed (map (λ c. c.now) made.old.items) commit.now) }
+{
+    if has_changed {
+        made.push(commit)?;
+    }
+    Ok(())
+}
+
+/// Takes a commit, and returns whether its revision is the store's after it.
+fn take<'a>(
+    alloc: Global,
+    store: &mut Store,
+    made: &mut Vec<&'a Commit>,
+    findings: &mut Vec<Finding>,
+    number: u64,
+    commit: &'a Commit,
+) -> Result<bool, AllocError>
+    ensures reached { IfOk result (λ b. b ≡ is_reached commit.now.revision (revision_of (after store.old.standing commit.now.writes))) }
+    ensures store { IfOk result (λ b. b ≡ true → store.new.standing ≡ left_by store.old.standing (after store.old.standing commit.now.writes)) }
+    ensures made { IfOk result (λ b. b ≡ true → map (λ c. c.now) made.new.items
+        ≡ with_maker (nat_lt (now store.old.standing.history) commit.now.revision) (map (λ c. c.now) made.old.items) commit.now) }
+    ensures found { IfOk result (λ b. b ≡ true → findings.new.items
+        ≡ findings.old.items ++ with_found (found_in store.old.standing.history (map (λ c. c.now) made.old.items) number commit.now) []) }
+    ensures off { IfOk result (λ b. b ≡ false → findings.new.items ≡ findings.old.items) }
+{
+    let found = found_in(alloc, store.keys(), made.as_slice(), number, commit)?;
+    let before = store.keys().revision();
+    if !comes_to(alloc, store, commit.writes.as_slice(), commit.revision)? {
+        return Ok(false);
+    }
+    add_maker(made, before < commit.revision, commit)?;
+    add_found(findings, found)?;
+    Ok(true)
+}
+
+/// Takes these commits, one after another, over a store.
+fn audit_each(alloc: Global, store: &mut Store, commits: &[Commit]) -> Result<Audited, AllocError>
+    ensures { IfOk result (λ a. a ≡ audit_from store.old.standing [] 1 commits.now) }
+{
+    let mut made = Vec::new(alloc);
+    let mut findings = Vec::new(alloc);
+    for (index, commit) in commits.iter().enumerate() {
+        let number = index as u64 + 1;
+        let fits = take(alloc, store, &mut made, &mut findings, number, commit)?;
+        if !fits {
+            return Ok(Audited {
+                findings: Sequence::of(findings),
+                off: Some(number),
+            });
+        }
+    }
+    Ok(Audited {
+        findings: Sequence::of(findings),
+        off: None,
+    })
+}
+
+/// Whether a write puts its key.
+fn is_put(write: &Write) -> bool
+    ensures { result ≡ is_put write.now }
+{
+    match write {
+        Write::Put { .. } => true,
+        Write::Del { .. } => false,
+    }
+}
+
+/// Whether one of these writes does.
+fn any_is_put(writes: &[Write]) -> bool
+    ensures { result ≡ list_any is_put writes.now }
+{
+    writes.iter().any(|write| is_put(write))
+}
+
+/// The revision before the first commit.
+fn before_first(commits: &[Commit]) -> u64
+    ensures { result ≡ before_first commits.now }
+{
+    match commits {
+        [] => 1,
+        [first, ..] => {
+            if any_is_put(first.writes.as_slice()) {
+                first.revision.saturating_sub(1)
+            } else {
+                first.revision
+            }
+        }
+    }
+}
+
+/// The revision at which the store opens.
+fn opened(commits: &[Commit]) -> u64
+    ensures value { result ≡ opened commits.now }
+    ensures range { (1 ≤ result) × (result ≤ HIGHEST_REVISION) }
+{
+    before_first(commits).max(1).min(HIGHEST_REVISION)
+}
+
+/// Audits a trace: the commits of transactions in the order in which a store took them, of which each has the store's revision after it.
+///
+/// Before the first one no key is present. A read has to say what its key was at the revision that it is of. At a level that compares the keys read, each of
+/// these has to be at the commit as it was read; at `SerializableSnapshot` no key that is written may have been put after the revision of the first read. What
+/// breaks one of these is a broken promise; a read whose key has been changed is a finding at ReadCommitted, too. Of a commit the first of these is found.
+///
+/// It takes a step for each read and each write, and for each of these a search by halves in its key's revisions. It fails only where an allocation does.
+pub fn audit(alloc: Global, commits: &[Commit]) -> Result<Audited, AllocError>
+    ensures { IfOk result (λ a. a ≡ audited commits.now) }
+{
+    let mut store = Store::with_revision(alloc, opened(commits))?;
+    let audited = audit_each(alloc, &mut store, commits);
+    drop(store);
+    audited
+}

@@ -1,0 +1,183 @@
+//! The parts of commits: what is read of each, and of lists of them.
+ghost use Rattle.std.specs.Prelude.{◌≡◌, option_map};
+ghost use Rattle.serde_json.specs.Data.{Data};
+ghost use Rattle.serde_json.specs.View.{view, items_view};
+ghost use Rattle.stm_json.specs.Elements.{one_of, two_of};
+ghost use Rattle.stm_json.specs.Outcome.{Outcome, within as within_list};
+ghost use Rattle.stm_json.specs.Returns.{Returns};
+ghost use Rattle.stm_json.specs.Parts.{each_from, text_of};
+ghost use Rattle.stm_texts.specs.Reading.{level_named, level_of};
+ghost use Rattle.stm_audit.specs.Reading.{quad, listed, text_or_null, put_of, del_of};
+
+use serde_json::Value as Json;
+use std::alloc::Global;
+use stm_events::{CommittedRead, Level, Sequence, Text};
+use stm_history::HIGHEST_NUMBER;
+use stm_json::{
+    Cause, ReadError, fault, four, number_part, number_within, one, text, text_part, two, within,
+    worded_array,
+};
+use stm_program::Write;
+
+/// A type that an element of a list is read as.
+pub(crate) trait Readable {
+    /// What data spell, or their first fault.
+    ghost reading: { Data → Outcome Self };
+
+    /// What a value spells, or its first fault, with a place inside the value.
+    fn read(alloc: Global, value: &Json) -> Result<Self, ReadError>
+        ensures { Returns (λ x. x) result (reading (view value.now)) };
+}
+
+/// What is read of the element of a list at an index. A fault's place is that in the list.
+pub(crate) fn read_within<T: Readable>(
+    alloc: Global,
+    index: usize,
+    element: &Json,
+) -> Result<T, ReadError>
+    ensures { Returns (λ x. x) result (within_list index (T.reading (view element.now))) }
+{
+    within(alloc, index, T::read(alloc, element))
+}
+
+fn each_element<T: Readable + Drop>(alloc: Global, values: &[Json]) -> Result<Vec<T>, ReadError>
+    ensures { Returns (λ v. v.items) result (each_from T.reading 0 (items_view values.now)) }
+{
+    let mut elements = Vec::new(alloc);
+    for (index, value) in values.iter().enumerate() {
+        let element = read_within(alloc, index, value)?;
+        elements.push(element)?;
+    }
+    Ok(elements)
+}
+
+impl<T: Readable + Drop> Readable for Sequence<T> {
+    ghost reading = { listed T.reading };
+
+    fn read(alloc: Global, value: &Json) -> Result<Sequence<T>, ReadError> {
+        match value.as_array() {
+            Some(values) => {
+                let elements = each_element(alloc, values.as_slice())?;
+                Ok(Sequence::of(elements))
+            }
+            None => Err(fault(alloc, Cause::Shape)),
+        }
+    }
+}
+
+/// The four elements of an array; `None` of any other value.
+pub(crate) fn elements(value: &Json) -> Option<(&Json, &Json, &Json, &Json)>
+    ensures { option_map (λ p. (view p.0.now, view p.1.now, view p.2.now, view p.3.now)) result ≡ quad (view value.now) }
+{
+    let items = value.as_array()?;
+    four(items.as_slice())
+}
+
+/// The level of a word.
+#[tactic(auto, unfolding(stm_texts::specs::Reading::level_named))]
+fn level_word(alloc: Global, word: &str) -> Result<Level, ReadError>
+    ensures { Returns (λ l. l) result (level_named word.now) }
+{
+    if word == "SerializableSnapshot" {
+        Ok(Level::SerializableSnapshot)
+    } else if word == "Serializable" {
+        Ok(Level::Serializable)
+    } else if word == "RepeatableReads" {
+        Ok(Level::RepeatableReads)
+    } else if word == "ReadCommitted" {
+        Ok(Level::ReadCommitted)
+    } else {
+        Err(fault(alloc, Cause::Shape))
+    }
+}
+
+/// A level.
+#[tactic(auto, unfolding(stm_texts::specs::Reading::level_of))]
+pub(crate) fn level(alloc: Global, value: &Json) -> Result<Level, ReadError>
+    ensures { Returns (λ l. l) result (level_of (view value.now)) }
+{
+    match value.as_str() {
+        Some(word) => level_word(alloc, word),
+        None => Err(fault(alloc, Cause::Shape)),
+    }
+}
+
+/// A text; null stands for that of an absent key.
+#[tactic(auto, unfolding(crate::specs::Reading::text_or_null))]
+fn text_or_null(alloc: Global, value: &Json) -> Result<Option<Text>, ReadError>
+    ensures { Returns (λ t. t) result (text_or_null (view value.now)) }
+{
+    if value.is_null() {
+        return Ok(None);
+    }
+    let text = text(alloc, value)?;
+    Ok(Some(text))
+}
+
+impl Readable for CommittedRead {
+    ghost use Rattle.stm_audit.specs.Reading.{read_of};
+
+    ghost reading = { read_of };
+
+    #[tactic(auto, unfolding(crate::specs::Reading::read_of))]
+    fn read(alloc: Global, value: &Json) -> Result<CommittedRead, ReadError> {
+        let Some((first, second, third, fourth)) = elements(value) else {
+            return Err(fault(alloc, Cause::Shape));
+        };
+        let key = text_part(alloc, 0, first)?;
+        let value = within(alloc, 1, text_or_null(alloc, second))?;
+        let mod_rev = number_part(alloc, 2, third)?;
+        let of_rev = number_part(alloc, 3, fourth)?;
+        Ok(CommittedRead {
+            key,
+            value,
+            mod_rev,
+            of_rev,
+        })
+    }
+}
+
+fn put(alloc: Global, elements: &[Json]) -> Result<Write, ReadError>
+    ensures { Returns (λ w. w) result (put_of (two_of (items_view elements.now))) }
+{
+    let Some((first, second)) = two(elements) else {
+        return Err(fault(alloc, Cause::Shape));
+    };
+    let key = text_part(alloc, 1, first)?;
+    let value = text_part(alloc, 2, second)?;
+    Ok(Write::Put {
+        key,
+        value,
+        lease: 0,
+    })
+}
+
+fn del(alloc: Global, elements: &[Json]) -> Result<Write, ReadError>
+    ensures { Returns (λ w. w) result (del_of (one_of (items_view elements.now))) }
+{
+    let Some(first) = one(elements) else {
+        return Err(fault(alloc, Cause::Shape));
+    };
+    let key = text_part(alloc, 1, first)?;
+    Ok(Write::Del { key })
+}
+
+impl Readable for Write {
+    ghost use Rattle.stm_audit.specs.Reading.{write_of};
+
+    ghost reading = { write_of };
+
+    #[tactic(auto, unfolding(crate::specs::Reading::write_of))]
+    fn read(alloc: Global, value: &Json) -> Result<Write, ReadError> {
+        let Some((word, elements)) = worded_array(value) else {
+            return Err(fault(alloc, Cause::Shape));
+        };
+        if word == "put" {
+            put(alloc, elements)
+        } else if word == "del" {
+            del(alloc, elements)
+        } else {
+            Err(fault(alloc, Cause::Shape))
+        }
+    }
+}

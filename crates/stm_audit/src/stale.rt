@@ -1,0 +1,237 @@
+//! What is wrong with a commit.
+ghost use Rattle.std.specs.Prelude.{◌≡◌, ◌-◌, map, find, slice_get, option_copied, option_map, IfOk};
+ghost use Rattle.stm_audit.specs.Anomalies.{is_fractured, maker, has_read, is_skewed, anomaly_of, of_read, untrue_in, stale_in, compares_writes, first_read};
+ghost use Rattle.stm_audit.specs.Anomalies.{is_put_above, of_write, overwritten_in, found_in};
+
+use crate::anomaly::Anomaly;
+use crate::commit::Commit;
+use crate::finding::Finding;
+use crate::reads::{
+    any_is_among, any_shows_from, changed_at, find_stale, find_untrue, is_among, mod_rev_now,
+};
+use std::alloc::{AllocError, Global};
+use stm_events::{CommittedRead, Level, Text};
+use stm_history::HIGHEST_REVISION;
+use stm_keys::Keys;
+use stm_program::Write;
+
+/// Whether one of these reads shows a change that was made with or after that of a stale one's key.
+fn is_fractured(keys: &Keys, changed: Option<u64>, reads: &[CommittedRead]) -> bool
+    ensures { result ≡ is_fractured keys.now.history changed reads.now }
+{
+    match changed {
+        None => false,
+        Some(changed) => any_shows_from(keys, changed, reads),
+    }
+}
+
+/// How many commits had changed something since the opening, before the one that made a revision.
+fn makers_before(opened: u64, revision: u64) -> usize
+    ensures { result ≡ revision - opened - 1 }
+{
+    revision.saturating_sub(opened).saturating_sub(1) as usize
+}
+
+/// The commit that made a revision, among those that changed something since the opening.
+fn maker<'a>(opened: u64, made: &[&'a Commit], revision: u64) -> Option<&'a Commit>
+    ensures { option_copied result ≡ maker opened (map (λ c. c.now) made.now) revision }
+{
+    let index = makers_before(opened, revision);
+    if index < made.len() {
+        Some(made[index])
+    } else {
+        None
+    }
+}
+
+/// Whether a commit had read a key that these writes are of.
+fn has_read(writes: &[Write], commit: Option<&Commit>) -> bool
+    ensures { result ≡ has_read writes.now (option_copied commit.entry) }
+{
+    match commit {
+        None => false,
+        Some(commit) => any_is_among(writes, commit.reads.as_slice()),
+    }
+}
+
+/// Whether the commit that changed a stale read's key had read what these writes are of.
+fn is_skewed(opened: u64, made: &[&Commit], changed: Option<u64>, writes: &[Write]) -> bool
+    ensures { result ≡ is_skewed opened (map (λ c. c.now) made.now) changed writes.now }
+{
+    match changed {
+        None => false,
+        Some(changed) => has_read(writes, maker(opened, made, changed)),
+    }
+}
+
+/// What came of a stale read.
+fn anomaly_of(keys: &Keys, made: &[&Commit], commit: &Commit, read: &CommittedRead) -> Anomaly
+    ensures { result ≡ anomaly_of keys.now.history (map (λ c. c.now) made.now) commit.now read.now }
+{
+    let writes = commit.writes.as_slice();
+    let changed = changed_at(keys, read);
+    if is_among(writes, read.key.as_str()) {
+        Anomaly::LostUpdate
+    } else if is_fractured(keys, changed, commit.reads.as_slice()) {
+        Anomaly::FracturedRead
+    } else if is_skewed(keys.below(), made, changed, writes) {
+        Anomaly::WriteSkew
+    } else {
+        Anomaly::StaleRead
+    }
+}
+
+/// What is found of a read.
+fn of_read(
+    keys: &Keys,
+    number: u64,
+    anomaly: Anomaly,
+    is_broken: bool,
+    read: &CommittedRead,
+) -> Result<Finding, AllocError>
+    ensures { IfOk result (λ found. found ≡ of_read keys.now.history number anomaly is_broken read.now) }
+{
+    let held = mod_rev_now(keys, read.key.as_str());
+    let key = read.key.clone()?;
+    Ok(Finding {
+        commit: number,
+        anomaly,
+        is_broken,
+        key,
+        seen: read.mod_rev,
+        held,
+    })
+}
+
+/// The first read of a commit that says what was not so.
+fn untrue_in(keys: &Keys, number: u64, commit: &Commit) -> Result<Option<Finding>, AllocError>
+    ensures { IfOk result (λ found. found ≡ untrue_in keys.now.history number commit.now) }
+{
+    match find_untrue(keys, commit.reads.as_slice()) {
+        None => Ok(None),
+        Some(read) => {
+            let found = of_read(keys, number, Anomaly::DirtyRead, true, read)?;
+            Ok(Some(found))
+        }
+    }
+}
+
+/// The first read of a commit whose key has been changed since.
+fn stale_in(
+    keys: &Keys,
+    made: &[&Commit],
+    number: u64,
+    commit: &Commit,
+) -> Result<Option<Finding>, AllocError>
+    ensures { IfOk result (λ found. found ≡ stale_in keys.now.history (map (λ c. c.now) made.now) number commit.now) }
+{
+    match find_stale(keys, commit.reads.as_slice()) {
+        None => Ok(None),
+        Some(read) => {
+            let anomaly = anomaly_of(keys, made, commit, read);
+            let found = of_read(keys, number, anomaly, commit.level.is_comparing(), read)?;
+            Ok(Some(found))
+        }
+    }
+}
+
+/// Whether a commit at a level compares what was written.
+fn compares_writes(level: Level) -> bool
+    ensures { result ≡ compares_writes level }
+{
+    match level {
+        Level::SerializableSnapshot => true,
+        Level::Serializable => false,
+        Level::RepeatableReads => false,
+        Level::ReadCommitted => false,
+    }
+}
+
+/// The revision of the first of these reads, and the highest one where there is none.
+fn first_read(reads: &[CommittedRead]) -> u64
+    ensures { result ≡ first_read reads.now }
+{
+    match reads {
+        [] => HIGHEST_REVISION,
+        [first, ..] => first.of_rev,
+    }
+}
+
+/// Whether a written key was put above a revision.
+fn is_put_above(keys: &Keys, revision: u64, write: &Write) -> bool
+    ensures { result ≡ is_put_above keys.now.history revision write.now }
+{
+    revision < mod_rev_now(keys, write.key())
+}
+
+/// The first of these writes whose key was put above a revision.
+fn find_put_above<'a>(keys: &Keys, revision: u64, writes: &'a [Write]) -> Option<&'a Write>
+    ensures { option_copied result ≡ find (is_put_above keys.now.history revision) writes.now }
+{
+    writes
+        .iter()
+        .find(|write| is_put_above(keys, revision, write))
+}
+
+/// What is found of a write.
+fn of_write(
+    alloc: Global,
+    keys: &Keys,
+    number: u64,
+    first: u64,
+    write: &Write,
+) -> Result<Finding, AllocError>
+    ensures { IfOk result (λ found. found ≡ of_write keys.now.history number first write.now) }
+{
+    let held = mod_rev_now(keys, write.key());
+    let key = Text::copy_of(alloc, write.key())?;
+    Ok(Finding {
+        commit: number,
+        anomaly: Anomaly::BlindWrite,
+        is_broken: true,
+        key,
+        seen: first,
+        held,
+    })
+}
+
+/// The first key that a commit wrote and that was put after its first read, at a level that compares the keys written.
+fn overwritten_in(
+    alloc: Global,
+    keys: &Keys,
+    number: u64,
+    commit: &Commit,
+) -> Result<Option<Finding>, AllocError>
+    ensures { IfOk result (λ found. found ≡ overwritten_in keys.now.history number commit.now) }
+{
+    if !compares_writes(commit.level) {
+        return Ok(None);
+    }
+    let first = first_read(commit.reads.as_slice());
+    match find_put_above(keys, first, commit.writes.as_slice()) {
+        None => Ok(None),
+        Some(write) => {
+            let found = of_write(alloc, keys, number, first, write)?;
+            Ok(Some(found))
+        }
+    }
+}
+
+/// What is wrong with a commit, if anything is.
+pub(crate) fn found_in(
+    alloc: Global,
+    keys: &Keys,
+    made: &[&Commit],
+    number: u64,
+    commit: &Commit,
+) -> Result<Option<Finding>, AllocError>
+    ensures { IfOk result (λ found. found ≡ found_in keys.now.history (map (λ c. c.now) made.now) number commit.now) }
+{
+    if let Some(found) = untrue_in(keys, number, commit)? {
+        return Ok(Some(found));
+    }
+    if let Some(found) = stale_in(keys, made, number, commit)? {
+        return Ok(Some(found));
+    }
+    overwritten_in(alloc, keys, number, commit)
+}

@@ -1,0 +1,90 @@
+//! What is said of a name that cannot stand in its place.
+
+use crate::calls::{is_argument, is_lease, is_listed, is_parameter};
+use crate::spots::{Event, Place, Spot};
+use stm_tokens::{Symbol, TokenKind, Word};
+
+/// What is said of a function that people know from elsewhere, by its name.
+pub(crate) fn said_of_function(name: &str) -> &'static str {
+    match name {
+        "atoi" | "Atoi" | "ParseInt" | "parseInt" | "int" => "the number of a text is num_of(TEXT)",
+        "itoa" | "Itoa" | "FormatInt" | "Sprint" | "Sprintf" | "str" => {
+            "the text of a number is text_of(NUMBER)"
+        }
+        "Get" | "read" => "a key is looked up by get(KEY)",
+        "Rev" => "the revision at which a key was put last is rev(KEY)",
+        "Put" | "write" => "a key is put by put(KEY, VALUE)",
+        "Del" | "Delete" => "a key is deleted by del(KEY)",
+        _ => "the functions are get(KEY), rev(KEY), num_of(TEXT) and text_of(NUMBER)",
+    }
+}
+
+/// What is said of a name that stands outside of programs.
+fn said_in_event(spot: Spot<'_>) -> &'static str {
+    if spot.is_behind(0, "start") {
+        return "is no program above: program NAME(PARAMETER, ..) { .. } stands before what starts it";
+    }
+    if spot.event() == Some(Event::Step) {
+        return "is no runner above: a runner has the name that its start gives it by as NAME, or its number";
+    }
+    if spot.is_behind_word(0, Word::Program) {
+        return "cannot be given here: another program has this name, or it is one of v0 to v15";
+    }
+    "cannot be given here: another runner has this name"
+}
+
+/// Whether the sign of an assignment stands behind a name.
+fn is_assigned(spot: Spot<'_>) -> bool {
+    match spot.next() {
+        Some(TokenKind::Symbol(symbol)) => matches!(
+            symbol,
+            Symbol::Assign | Symbol::AddAssign | Symbol::SubtractAssign | Symbol::ConcatenateAssign
+        ),
+        _ => false,
+    }
+}
+
+/// What is said of a name that stands in a program, or in its head.
+fn said_in_program(spot: Spot<'_>) -> &'static str {
+    if spot.is_behind_word(0, Word::Let) || spot.is_behind_word(0, Word::For) {
+        return "cannot be given here: it is the name of something in sight, or one of v0 to v15, which are never let and stand beside no other names";
+    }
+    if is_parameter(spot) {
+        return "cannot be given here: it is the name of something in sight, or one of v0 to v15";
+    }
+    if is_argument(spot) {
+        return "is no argument: those are texts and whole numbers";
+    }
+    if is_listed(spot) {
+        return "is no key of the list: that is a text as it stands, or a parameter";
+    }
+    if spot.is_behind(0, "max") {
+        return "is no number of turns: that is a number as it stands, or a parameter";
+    }
+    if is_lease(spot) {
+        return "is no lease: that is a number as it stands, or a parameter";
+    }
+    if is_assigned(spot) {
+        return "is no variable in sight: a new one is let NAME = VALUE, and a parameter is not set";
+    }
+    "is no variable and no parameter in sight"
+}
+
+/// What is said of a name, behind it, in whose place none of that name can stand.
+pub(crate) fn said_of_place(spot: Spot<'_>) -> &'static str {
+    match spot.place() {
+        Place::Events => said_in_event(spot),
+        _ => said_in_program(spot),
+    }
+}
+
+/// Whether a name stands in the place of a function: in a program, with parentheses behind it.
+pub(crate) fn is_called(spot: Spot<'_>) -> bool {
+    if spot.place() == Place::Events {
+        return false;
+    }
+    match spot.next() {
+        Some(kind) => kind.is_symbol(Symbol::LeftParenthesis),
+        None => false,
+    }
+}

@@ -1,0 +1,4 @@
+pub mod Counters
+pub mod Looks
+pub mod Causes
+pub mod Reasons

@@ -242,8 +242,9 @@ fn run_recipe(rt: &HostRuntime, words: &RecipeWords<'_>) -> u8 {
     recipe_to(rt.alloc(), words, &mut out, &mut err)
 }
 
-/// Prints the source of a path's scenario or program, or of that on standard input. Why a file fails is said, or is not.
-fn run_show(rt: &HostRuntime, path: &str, program: bool, explain: bool) -> u8 {
+/// Prints the source of a path's scenario or program, or of that on standard input. On a terminal it is said why a file failed, unless nothing is
+/// to be explained.
+fn run_show(rt: &HostRuntime, path: &str, program: bool, is_silent: bool) -> u8 {
     let shown = if program {
         Shown::Program
     } else {
@@ -253,7 +254,7 @@ fn run_show(rt: &HostRuntime, path: &str, program: bool, explain: bool) -> u8 {
     let mut out = Std::new(Noting::new(rt.stdout()));
     let mut err = Std::new(rt.stderr());
     let status = show_to(rt.alloc(), shown, &mut input, &mut out, &mut err);
-    if explain {
+    if is_explained(rt, is_silent, false) {
         say_unread(rt, name_of(path), input.device.failure);
         say_unwritten(rt, out.device.failure);
     }
@@ -309,10 +310,7 @@ fn answer<T: Threads + Wait + Sync>(rt: &HostRuntime, threads: &T, plain: &Plain
             let explain = is_explained(rt, is_silent, explain);
             run_explore(rt, scenario, keeps, level, after, budget, explain)
         }
-        Asked::Show { input, program } => {
-            let explain = is_explained(rt, is_silent, false);
-            run_show(rt, path_of(input), program, explain)
-        }
+        Asked::Show { input, program } => run_show(rt, path_of(input), program, is_silent),
         Asked::Compile { source, explain } => {
             let explain = is_explained(rt, is_silent, explain);
             run_compile(rt, path_of(source), explain)

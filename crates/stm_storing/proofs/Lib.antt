@@ -1,1 +1,3 @@
+pub mod Around
 pub mod Ready
+pub mod Texts

@@ -1,5 +1,5 @@
 //! Why the program could not do what it was asked for with a world that lasts.
-ghost use Rattle.std.specs.Prelude.{◌≡◌};
+ghost use Rattle.std.specs.Prelude.{◌≡◌, ℕ};
 ghost use Rattle.stm_storing.specs.Faults.{opening_fault, keeping_fault};
 
 use std::alloc::AllocError;
@@ -22,6 +22,10 @@ pub enum StoreFault {
     NoScenario(usize),
     /// The scenario says what its store opens with, and the file has a store already.
     OpenAlready,
+    /// The revision that was asked for is above the store's.
+    FutureRevision,
+    /// The revision that was asked for is below the lowest one that can be read.
+    Compacted,
     /// The report could not be written.
     Output,
 }
@@ -29,7 +33,8 @@ pub enum StoreFault {
 impl StoreFault {
     /// Why a file could not be opened.
     pub fn of_opening(fault: KeptFault) -> StoreFault
-        ensures { result ≡ opening_fault fault }
+        ensures value { result ≡ opening_fault fault }
+        ensures damaged { (at : ℕ) → result ≡ StoreFault.Damaged at → fault ≡ KeptFault.Damaged at }
     {
         match fault {
             KeptFault::OutOfMemory => StoreFault::OutOfMemory,
@@ -86,6 +91,8 @@ impl fmt::Display for StoreFault {
                     "the store is there already: only its first scenario may begin with [\"begin\",..]",
                 )
             }
+            StoreFault::FutureRevision => f.write_str("the store has not come to that revision"),
+            StoreFault::Compacted => f.write_str("that revision is compacted"),
             StoreFault::Output => f.write_str("the report could not be written"),
         }
     }

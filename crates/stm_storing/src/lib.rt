@@ -1,19 +1,23 @@
-//! What the program does with a world that lasts: it goes on with a scenario, shows what the store has, and says whether a file is whole.
+//! What the program does with a world that lasts: it goes on with a scenario or a program, shows what the store has, had, and what has happened in it, and
+//! says whether a file is whole.
 //!
 //! A report is written only once its scenario lasts, and what a crash leaves opens to the world before the scenario or to the one after it (`stm_lasting`).
 #![tactic(auto)]
 
 mod fault;
 mod input;
+mod past;
 mod running;
 mod scripting;
 mod showing;
 
 pub use fault::StoreFault;
 pub use input::{read_input, read_program};
+pub use past::{show_at, show_since};
 pub use running::{Manner, run_kept};
 pub use scripting::script_kept;
 pub use showing::{Checked, check_kept, show_kept};
 pub use stm_lasting::{Disk, RecordFile};
 pub use stm_program::{Level, Program};
 pub use stm_report::{Format, Scenario, Sink, World};
+pub use stm_txn::{HIGHEST_REVISION, Text, Watched};

@@ -1,6 +1,9 @@
 //! Running one program over the world of a file.
-ghost use Rattle.std.specs.Prelude.{◌≡◌, Ok as OkOf, IfOk, IsTrue, false};
-ghost use Rattle.stm_records.specs.Disk.{Only};
+ghost use Rattle.std.specs.Prelude.{◌≡◌, Ok as OkOf, length, IfOk, IfErr, OnOk, IsTrue, true, false};
+ghost use Rattle.stm_records.specs.Disk.{Only, LeavesOnly};
+ghost use Rattle.stm_records.specs.RecordFiles.{IsSettled};
+ghost use Rattle.stm_lasting.specs.Kept.{IsKept};
+ghost use Rattle.stm_storing.specs.Storing.{HasCommitted, LeadsPast, LeavesAroundRun, LeavesFoundOrRun};
 ghost use Rattle.stm_texts.specs.Opens.{IsOpening};
 ghost use Rattle.stm_texts.specs.Reading.{scenario_in};
 
@@ -9,7 +12,7 @@ use crate::scripting::{go_on_with, opened};
 use std::alloc::{AllocError, Global};
 use stm_devices::{Sink, write_all};
 use stm_events::{Denied, Reply, WorldEvent};
-use stm_lasting::{Disk, World};
+use stm_lasting::{Disk, Kept, RecordFile, World};
 use stm_program::{Level, Program};
 use stm_report::{ReadError, Scenario, read_scenario};
 use stm_report_lines::{event_json, push_line};
@@ -132,6 +135,7 @@ fn write_end<W: Sink>(
     out: &mut W,
 ) -> Result<(), StoreFault>
     requires { W.failed out.old ≡ false }
+    ensures silent { IfErr result (λ e. (e ≡ StoreFault.Output → ⊥) → W.held out.new ≡ W.held out.old) }
 {
     let line = event_json(alloc, number, end)?;
     let mut text = String::new(alloc);
@@ -140,31 +144,94 @@ fn write_end<W: Sink>(
     Ok(())
 }
 
+/// Keeps the scenario that a text spells, over the world of a file that was opened. At `Ok` it lasts.
+fn keep_text<D: Disk>(
+    records: &mut RecordFile<D>,
+    kept: Kept,
+    text: &[u8],
+) -> Result<(), StoreFault>
+    requires settled { IsSettled D.is_usable D.seen D.may_leave records.old }
+    requires end { kept.end ≡ length (D.seen records.old.disk) }
+    requires kept { IsKept (D.seen records.old.disk) kept.world }
+    ensures settled { OnOk result (IsSettled D.is_usable D.seen D.may_leave records.new) }
+    ensures past { OnOk result (LeadsPast (D.seen records.old.disk) (D.seen records.new.disk)) }
+    ensures any_moment { LeavesOnly D.moment D.left_since records.old.disk records.new.disk (LeavesAroundRun (D.seen records.old.disk)) }
+{
+    let scenario = read(records.alloc, text)?;
+    go_on_with(records, kept, text, &scenario)?;
+    Ok(())
+}
+
+/// Keeps a run that was tried, of the program of this text, over the world of a file that was opened. At `Ok` it lasts.
+fn keep_run<D: Disk>(
+    records: &mut RecordFile<D>,
+    kept: Kept,
+    program: &[u8],
+    manner: Manner,
+    tried: &Tried,
+) -> Result<(), StoreFault>
+    requires settled { IsSettled D.is_usable D.seen D.may_leave records.old }
+    requires end { kept.end ≡ length (D.seen records.old.disk) }
+    requires kept { IsKept (D.seen records.old.disk) kept.world }
+    ensures settled { OnOk result (IsSettled D.is_usable D.seen D.may_leave records.new) }
+    ensures past { OnOk result (LeadsPast (D.seen records.old.disk) (D.seen records.new.disk)) }
+    ensures any_moment { LeavesOnly D.moment D.left_since records.old.disk records.new.disk (LeavesAroundRun (D.seen records.old.disk)) }
+{
+    let text = text_of(records.alloc, program, manner, tried)?;
+    keep_text(records, kept, &text)?;
+    Ok(())
+}
+
+/// The same, where it has committed; else nothing is kept.
+fn keep_committed<D: Disk>(
+    records: &mut RecordFile<D>,
+    kept: Kept,
+    program: &[u8],
+    manner: Manner,
+    tried: &Tried,
+    is_committed: bool,
+) -> Result<(), StoreFault>
+    requires settled { IsSettled D.is_usable D.seen D.may_leave records.old }
+    requires end { kept.end ≡ length (D.seen records.old.disk) }
+    requires kept { IsKept (D.seen records.old.disk) kept.world }
+    ensures settled { OnOk result (IsSettled D.is_usable D.seen D.may_leave records.new) }
+    ensures past { OnOk result (is_committed ≡ true → LeadsPast (D.seen records.old.disk) (D.seen records.new.disk)) }
+    ensures any_moment { LeavesOnly D.moment D.left_since records.old.disk records.new.disk (LeavesAroundRun (D.seen records.old.disk)) }
+{
+    if is_committed {
+        keep_run(records, kept, program, manner, tried)?;
+        return Ok(());
+    }
+    Ok(())
+}
+
 /// Runs a program alone over the world of a file, which was opened with these bytes, and writes the line of its last event to a sink, as a report has it:
 /// `true` where it has committed. A commit is written once it lasts; where nothing was committed, nothing is kept.
-pub fn run_kept<D: Disk + Drop, W: Sink>(
-    alloc: Global,
-    mut disk: D,
+///
+/// At a refusal other than `Output` nothing was written. The file has to be opened again after each.
+pub fn run_kept<D: Disk, W: Sink>(
+    records: &mut RecordFile<D>,
     bytes: Vec<u8>,
     text: &[u8],
     program: Program,
     manner: Manner,
     out: &mut W,
 ) -> Result<bool, StoreFault>
-    requires bytes { bytes.items ≡ D.seen disk }
-    requires durable { Only (D.seen disk) (D.may_leave disk) }
-    requires usable { IsTrue (D.is_usable disk) }
+    requires bytes { bytes.items ≡ D.seen records.old.disk }
+    requires durable { Only (D.seen records.old.disk) (D.may_leave records.old.disk) }
+    requires usable { IsTrue (D.is_usable records.old.disk) }
     requires out_works { W.failed out.old ≡ false }
+    ensures lasts { IfOk result (λ is_committed. is_committed ≡ true → HasCommitted (D.seen records.old.disk) (D.seen records.new.disk)) }
+    ensures settled { OnOk result (IsSettled D.is_usable D.seen D.may_leave records.new) }
+    ensures silent { IfErr result (λ e. (e ≡ StoreFault.Output → ⊥) → W.held out.new ≡ W.held out.old) }
+
+    // A crash at any moment leaves a file that opens to what it was found to open to, or to the world after the run.
+    ensures any_moment { LeavesOnly D.moment D.left_since records.old.disk records.new.disk (LeavesFoundOrRun (D.seen records.old.disk)) }
 {
-    let kept = opened(alloc, &mut disk, bytes)?;
+    let kept = opened(records, bytes)?;
     let tried = try_out(kept.world.copy()?, program, manner)?;
-    if !is_committed(&tried.end) {
-        write_end(alloc, tried.events, &tried.end, out)?;
-        return Ok(false);
-    }
-    let text = text_of(alloc, text, manner, &tried)?;
-    let scenario = read(alloc, &text)?;
-    go_on_with(alloc, disk, kept, &text, &scenario)?;
-    write_end(alloc, tried.events, &tried.end, out)?;
-    Ok(true)
+    let is_committed = is_committed(&tried.end);
+    keep_committed(records, kept, text, manner, &tried, is_committed)?;
+    write_end(records.alloc, tried.events, &tried.end, out)?;
+    Ok(is_committed)
 }

@@ -1,0 +1,16 @@
+use Rattle.std.proofs.Common.{◌≡◌, ℕ, List, string_bytes, ap, subst, ◌∙◌}
+use Rattle.std.specs.Io.KnownBytes.{Appends}
+use Rattle.stm_txn.specs.Standing.{Standing, kept}
+use Rattle.stm_storing.specs.Past.{text_since}
+use Rattle.stm_storing.proofs.past.show_since.Goals as goal
+
+pub returns-clause-shown : goal.returns-clause-shown
+returns-clause-shown g c =
+    let wanted = c.args.wanted.now in
+    let from = c.args.from in
+    let is : string_bytes c.in_ok-text.text ≡ text_since wanted (kept c.in_ok-kept.kept.world.standing).history from =
+    c.in_ok-text.ensures.text ∙ ap (λ (s : Standing). text_since wanted s.history from) c.store.ensures.standing in record {
+      world = c.in_ok-kept.kept.world;
+      opens = c.in_ok-kept.ensures.opens.opens;
+      printed = subst (λ (bytes : List ℕ). Appends (g.W.Sink.held c.args.out.now) (g.W.Sink.held c.print_text.new.out) bytes) (c.as_str.ensures.value ∙ is) c.in_ok-print_text.ensures.printed;
+    }

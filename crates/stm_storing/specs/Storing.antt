@@ -1,0 +1,90 @@
+-- What a command does to the file of a world, also where a crash comes at any moment of it, and what it prints.
+use Rattle.std.specs.Prelude.{◌≡◌, ◌⊎◌, ℕ, List, [], Option, Result, Ok}
+use Rattle.std.specs.Io.KnownBytes.{Appends}
+use Rattle.stm_texts.specs.declared.scenario.Scenario.{Scenario}
+use Rattle.stm_texts.specs.Reading.{scenario_in}
+use Rattle.stm_events.specs.declared.reply.Reply.{Reply}
+use Rattle.stm_events.specs.declared.refusal.Denied.{Denied}
+use Rattle.stm_events.specs.declared.event.WorldEvent.{WorldEvent}
+use Rattle.stm_world.specs.World.{World, world_after, replies_to}
+use Rattle.stm_report.specs.declared.format.Format.{Format}
+use Rattle.stm_report.specs.FormatScript.{IsTextOf, IsTextFrom}
+use Rattle.stm_watch.specs.declared.watched.Watched.{Watched}
+use Rattle.stm_txn.specs.Standing.{kept}
+use Rattle.stm_storing.specs.Past.{text_since}
+use Rattle.stm_lasting.specs.Kept.{IsKept, OpensTo, OpensAlike, IsReady, IsWorldBeforeOrAfter}
+
+-- the file opens to this world, as it was found, and leads to it once a torn end is cut off
+pub record IsOpened (found mended : List ℕ) (world : World) : Type 0 where
+  pub opens : OpensTo found world
+  pub kept : IsKept mended world
+
+-- a scenario has run over a world that was ready for it: the world after it, and the replies to its events
+abbrev pub HasRun : List ℕ → Scenario → World → List (Result Reply Denied) → Type 0
+HasRun mended scenario after_it replies =
+    (before : World) × IsReady mended before scenario × (after_it ≡ world_after scenario.events before) × (replies ≡ replies_to scenario.events before)
+
+-- of a crash while a scenario runs over a file: the world from before it, or the one after it
+abbrev pub LeavesAround : List ℕ → List ℕ → Scenario → List ℕ → Type 0
+LeavesAround mended text scenario c =
+    (before : World) × IsReady mended before scenario × IsWorldBeforeOrAfter mended text (world_after scenario.events before) c
+
+-- What a crash leaves while a scenario is gone on with: a file that opens to what it was found to open to, or to the world after the scenario.
+abbrev pub LeavesFoundOrAfter : List ℕ → List ℕ → Scenario → List ℕ → Type 0
+LeavesFoundOrAfter found text scenario c =
+    OpensAlike found c ⊎ ((mended : List ℕ) × (world : World) × IsOpened found mended world × LeavesAround mended text scenario c)
+
+-- of a crash while a program runs over a file: what it opened to, or the world after the scenario of the run
+abbrev pub LeavesAroundRun : List ℕ → List ℕ → Type 0
+LeavesAroundRun mended c =
+    OpensAlike mended c ⊎ ((text : List ℕ) × (scenario : Scenario) × (scenario_in text ≡ Ok scenario) × LeavesAround mended text scenario c)
+
+-- the same of a file with an end that may be torn
+abbrev pub LeavesFoundOrRun : List ℕ → List ℕ → Type 0
+LeavesFoundOrRun found c = OpensAlike found c ⊎ ((mended : List ℕ) × (world : World) × IsOpened found mended world × LeavesAroundRun mended c)
+
+-- a scenario lasts that was run over a file: the file leads to the world after it
+abbrev pub LeadsPast : List ℕ → List ℕ → Type 0
+LeadsPast mended file =
+    (scenario : Scenario) × (before : World) × IsReady mended before scenario × IsKept file (world_after scenario.events before)
+
+-- the report of a world, and of these events with their replies, was printed
+abbrev pub HasPrinted : Format → World → List WorldEvent → List (Result Reply Denied) → Option (List ℕ) → Option (List ℕ) → Type 0
+HasPrinted format world events replies before_it after_it = (report : List ℕ) × IsTextOf format world events replies report × Appends before_it after_it report
+
+-- A scenario has run over what was found: the file leads to the world after it, and its report was printed.
+pub record HasGoneOn (format : Format) (found file : List ℕ) (scenario : Scenario) (before_it after_it : Option (List ℕ)) : Type 0 where
+  pub mended : List ℕ
+  pub world : World
+  pub opened : IsOpened found mended world
+  pub before : World
+  pub ready : IsReady mended before scenario
+  pub kept : IsKept file (world_after scenario.events before)
+  pub report : List ℕ
+  pub reported : IsTextFrom format before scenario.events report
+  pub printed : Appends before_it after_it report
+
+-- a run of a program has committed over what was found, and lasts
+pub record HasCommitted (found file : List ℕ) : Type 0 where
+  pub mended : List ℕ
+  pub world : World
+  pub opened : IsOpened found mended world
+  pub past : LeadsPast mended file
+
+-- what the world of a file has was printed: the report of no events
+pub record HasShown (format : Format) (found : List ℕ) (before_it after_it : Option (List ℕ)) : Type 0 where
+  pub world : World
+  pub opens : OpensTo found world
+  pub report : List ℕ
+  pub reported : IsTextFrom format world [] report
+  pub printed : Appends before_it after_it report
+
+-- the file opens to some world
+abbrev pub OpensToAny : List ℕ → Type 0
+OpensToAny file = (world : World) × OpensTo file world
+
+-- the events of the world of a file from a revision on were printed, those that are asked for
+pub record HasShownEvents (found : List ℕ) (wanted : Option Watched) (from : ℕ) (before_it after_it : Option (List ℕ)) : Type 0 where
+  pub world : World
+  pub opens : OpensTo found world
+  pub printed : Appends before_it after_it (text_since wanted (kept world.standing).history from)

@@ -1,0 +1,246 @@
+//! What the store of a file had at a revision, and what has happened in it since one.
+ghost use Rattle.std.specs.Prelude.{◌≡◌, ◌<◌, ◌≤◌, ◌++◌, Err, false, IfOk, IfErr, OnOk, IsTrue, string_bytes};
+ghost use Rattle.std.specs.List.{flat_map};
+ghost use Rattle.stm_history.specs.History.{now};
+ghost use Rattle.stm_lasting.specs.Kept.{OpensAlike};
+ghost use Rattle.stm_records.specs.Disk.{Only, LeavesOnly};
+ghost use Rattle.stm_report_lines.specs.LineData.{event_data};
+ghost use Rattle.stm_report_lines.specs.Text.{line_text};
+ghost use Rattle.stm_storing.specs.Storing.{HasShownEvents};
+ghost use Rattle.stm_storing.specs.Past.{key_text, is_wanted, event_text, text_since};
+
+use crate::fault::StoreFault;
+use crate::scripting::{opened, print_text};
+use std::alloc::{AllocError, Global};
+use stm_devices::Sink;
+use stm_lasting::{Disk, RecordFile};
+use stm_report_lines::{Event, Spelled, key_json, push_line};
+use stm_txn::{Keys, Store, Watched};
+
+/// Adds the line of a key, if it was present at a revision.
+fn push_key_at(
+    alloc: Global,
+    text: &mut String,
+    keys: &Keys,
+    revision: u64,
+    key: &str,
+) -> Result<(), AllocError>
+    requires { revision ≤ now keys.now.history }
+    ensures { OnOk result (string_bytes text.new ≡ string_bytes text.old ++ key_text keys.now.history revision key.now) }
+{
+    match keys.look_back(key, revision) {
+        None => Ok(()),
+        Some(state) => {
+            let line = key_json(alloc, key, state)?;
+            push_line(alloc, text, &line)
+        }
+    }
+}
+
+/// Adds the lines of those of these keys that were present at a revision.
+fn push_keys_at(
+    alloc: Global,
+    text: &mut String,
+    keys: &Keys,
+    revision: u64,
+    named: &[String],
+) -> Result<(), AllocError>
+    requires { revision ≤ now keys.now.history }
+    ensures { OnOk result (string_bytes text.new
+        ≡ string_bytes text.old ++ flat_map (λ key. key_text keys.now.history revision (string_bytes key)) named.now) }
+{
+    for key in named {
+        push_key_at(alloc, text, keys, revision, key.as_str())?;
+    }
+    Ok(())
+}
+
+/// Adds the keys that are present now.
+fn name_present(alloc: Global, named: &mut Vec<String>, keys: &Keys) -> Result<(), AllocError> {
+    for index in 0..keys.len() {
+        let (key, _) = keys.at(index);
+        named.push(String::from_str(alloc, key)?)?;
+    }
+    Ok(())
+}
+
+/// Adds the keys that these events are about.
+fn name_changed(
+    alloc: Global,
+    named: &mut Vec<String>,
+    events: &[Event],
+) -> Result<(), AllocError> {
+    for event in events {
+        named.push(String::from_str(alloc, event.key().as_str())?)?;
+    }
+    Ok(())
+}
+
+/// The keys that were present at a revision, and others, ascending by bytes: a key that was is present now, or was changed since.
+fn named_since(alloc: Global, keys: &Keys, revision: u64) -> Result<Vec<String>, AllocError>
+    requires { revision ≤ now keys.now.history }
+{
+    let mut named = Vec::new(alloc);
+    name_present(alloc, &mut named, keys)?;
+    for later in revision..keys.revision() {
+        name_changed(alloc, &mut named, keys.events_at(later + 1))?;
+    }
+    named.sort_unstable();
+    named.dedup();
+    Ok(named)
+}
+
+/// A line for each key that was present at a revision.
+fn text_at(alloc: Global, keys: &Keys, revision: u64) -> Result<String, AllocError>
+    requires { revision ≤ now keys.now.history }
+{
+    let named = named_since(alloc, keys, revision)?;
+    let mut text = String::new(alloc);
+    push_keys_at(alloc, &mut text, keys, revision, named.as_slice())?;
+    Ok(text)
+}
+
+/// Whether an event is asked for: each one, where no keys are named.
+fn is_wanted(wanted: &Option<Watched>, event: &Event) -> bool
+    ensures { result ≡ is_wanted wanted.now event.now }
+{
+    match wanted {
+        None => true,
+        Some(watched) => watched.has(event.key()),
+    }
+}
+
+/// Adds the line of an event.
+fn push_event(alloc: Global, text: &mut String, event: &Event) -> Result<(), AllocError>
+    ensures { OnOk result (string_bytes text.new ≡ string_bytes text.old ++ line_text (event_data event.now)) }
+{
+    let line = event.to_json(alloc)?;
+    push_line(alloc, text, &line)
+}
+
+/// Adds the line of an event, if it is asked for.
+fn push_wanted(
+    alloc: Global,
+    text: &mut String,
+    wanted: &Option<Watched>,
+    event: &Event,
+) -> Result<(), AllocError>
+    ensures { OnOk result (string_bytes text.new ≡ string_bytes text.old ++ event_text wanted.now event.now) }
+{
+    if is_wanted(wanted, event) {
+        return push_event(alloc, text, event);
+    }
+    Ok(())
+}
+
+/// Adds the lines of those of these events that are asked for.
+fn push_events(
+    alloc: Global,
+    text: &mut String,
+    wanted: &Option<Watched>,
+    events: &[Event],
+) -> Result<(), AllocError>
+    ensures { OnOk result (string_bytes text.new ≡ string_bytes text.old ++ flat_map (event_text wanted.now) events.now) }
+{
+    for event in events {
+        push_wanted(alloc, text, wanted, event)?;
+    }
+    Ok(())
+}
+
+/// A line for each event from a revision on that is asked for, in their order.
+fn events_text(
+    alloc: Global,
+    keys: &Keys,
+    from: u64,
+    wanted: &Option<Watched>,
+) -> Result<String, AllocError>
+    ensures { IfOk result (λ text. string_bytes text ≡ text_since wanted.now keys.now.history from) }
+{
+    let mut text = String::new(alloc);
+    for revision in from..keys.revision() + 1 {
+        push_events(alloc, &mut text, wanted, keys.events_at(revision))?;
+    }
+    Ok(text)
+}
+
+/// A line for each key that was present at a revision of a store. `FutureRevision`: it is above the store's. `Compacted`: it is below the floor.
+fn text_of_past(alloc: Global, store: &Store, revision: u64) -> Result<String, StoreFault>
+    ensures future { now store.now.standing.history < revision → result ≡ Err StoreFault.FutureRevision }
+    ensures compacted { revision ≤ now store.now.standing.history → revision < store.now.standing.floor → result ≡ Err StoreFault.Compacted }
+{
+    let keys = store.keys();
+    if revision > keys.revision() {
+        return Err(StoreFault::FutureRevision);
+    }
+    if revision < store.floor() {
+        return Err(StoreFault::Compacted);
+    }
+    let text = text_at(alloc, keys, revision)?;
+    Ok(text)
+}
+
+/// A line for each event of a store from a revision on that is asked for. `Compacted`: that revision is below the floor.
+fn text_of_events(
+    alloc: Global,
+    store: &Store,
+    from: u64,
+    wanted: &Option<Watched>,
+) -> Result<String, StoreFault>
+    ensures text { IfOk result (λ text. string_bytes text ≡ text_since wanted.now store.now.standing.history from) }
+    ensures compacted { from < store.now.standing.floor → result ≡ Err StoreFault.Compacted }
+{
+    if from < store.floor() {
+        return Err(StoreFault::Compacted);
+    }
+    let text = events_text(alloc, store.keys(), from, wanted)?;
+    Ok(text)
+}
+
+/// Writes the keys that the store of a file had at a revision, each as a line of a report, ascending by bytes. The file was opened with these bytes.
+///
+/// `FutureRevision`: the revision is above the store's. `Compacted`: it was compacted. At a refusal other than `Output` nothing was written. After each the
+/// file opens to what it would have.
+pub fn show_at<D: Disk, W: Sink>(
+    records: &mut RecordFile<D>,
+    bytes: Vec<u8>,
+    revision: u64,
+    out: &mut W,
+) -> Result<(), StoreFault>
+    requires bytes { bytes.items ≡ D.seen records.old.disk }
+    requires durable { Only (D.seen records.old.disk) (D.may_leave records.old.disk) }
+    requires usable { IsTrue (D.is_usable records.old.disk) }
+    requires out_works { W.failed out.old ≡ false }
+    ensures silent { IfErr result (λ e. (e ≡ StoreFault.Output → ⊥) → W.held out.new ≡ W.held out.old) }
+    ensures any_moment { LeavesOnly D.moment D.left_since records.old.disk records.new.disk (OpensAlike (D.seen records.old.disk)) }
+{
+    let kept = opened(records, bytes)?;
+    let text = text_of_past(records.alloc, kept.world.store(), revision)?;
+    print_text(text.as_str(), out)?;
+    Ok(())
+}
+
+/// Writes the events of the store of a file from a revision on, each as an array on a line, in their order: those of the named keys, or all. The file was
+/// opened with these bytes.
+///
+/// `Compacted`: that revision was compacted. At a refusal other than `Output` nothing was written. After each the file opens to what it would have.
+pub fn show_since<D: Disk, W: Sink>(
+    records: &mut RecordFile<D>,
+    bytes: Vec<u8>,
+    from: u64,
+    wanted: &Option<Watched>,
+    out: &mut W,
+) -> Result<(), StoreFault>
+    requires bytes { bytes.items ≡ D.seen records.old.disk }
+    requires durable { Only (D.seen records.old.disk) (D.may_leave records.old.disk) }
+    requires usable { IsTrue (D.is_usable records.old.disk) }
+    requires out_works { W.failed out.old ≡ false }
+    ensures shown { OnOk result (HasShownEvents (D.seen records.old.disk) wanted.now from (W.held out.old) (W.held out.new)) }
+    ensures silent { IfErr result (λ e. (e ≡ StoreFault.Output → ⊥) → W.held out.new ≡ W.held out.old) }
+    ensures any_moment { LeavesOnly D.moment D.left_since records.old.disk records.new.disk (OpensAlike (D.seen records.old.disk)) }
+{
+    let kept = opened(records, bytes)?;
+    let text = text_of_events(records.alloc, kept.world.store(), from, wanted)?;
+    print_text(text.as_str(), out)?;
+    Ok(())
+}

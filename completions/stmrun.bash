@@ -23,7 +23,7 @@ _stmrun() {
             explore) case "$word" in -*) ;; *) compopt -o default; return ;; esac; words="--keeps --level --budget --after --explain --explain=never --help" ;;
             show) case "$word" in -*) ;; *) compopt -o default; return ;; esac; words="--program --help" ;;
             compile) case "$word" in -*) ;; *) compopt -o default; return ;; esac; words="--explain --explain=never --help" ;;
-            help) words="script check threads recipe explore show compile language causes" ;;
+            help) words="script check threads recipe explore show compile language stm source formats causes" ;;
             esac ;;
         esac
     fi

@@ -36,10 +36,10 @@ complete -c stmrun -n __fish_use_subcommand -a show -d 'Prints a scenario, or a 
 complete -c stmrun -n '__fish_seen_subcommand_from show' -F
 complete -c stmrun -n '__fish_seen_subcommand_from show' -l program -d 'Whether the input is a program, and no scenario'
 complete -c stmrun -n '__fish_seen_subcommand_from show' -l help -d 'Print help'
-complete -c stmrun -n __fish_use_subcommand -a compile -d 'Prints the scenario of a source as JSON'
+complete -c stmrun -n __fish_use_subcommand -a compile -d 'Prints the scenario of a source as JSON, or one of its programs'
 complete -c stmrun -n '__fish_seen_subcommand_from compile' -F
 complete -c stmrun -n '__fish_seen_subcommand_from compile' -l explain -d 'Explains faults, of an input or of a run'
 complete -c stmrun -n '__fish_seen_subcommand_from compile' -a '--explain=never'
 complete -c stmrun -n '__fish_seen_subcommand_from compile' -l help -d 'Print help'
 complete -c stmrun -n __fish_use_subcommand -a help -d 'Prints the help of a command or a topic'
-complete -c stmrun -n '__fish_seen_subcommand_from help' -a 'script check threads recipe explore show compile language causes'
+complete -c stmrun -n '__fish_seen_subcommand_from help' -a 'script check threads recipe explore show compile language stm source formats causes'

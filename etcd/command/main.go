@@ -8,6 +8,7 @@ import (
 	"fmt"
 	"io"
 	"os"
+	"os/exec"
 	"os/signal"
 	"strings"
 	"syscall"
@@ -32,8 +33,10 @@ const (
 )
 
 const usage = `Usage: etcd/stm --endpoints ADDRESS[,ADDRESS..] [OPTION..] PROGRAM.json
+       etcd/stm --endpoints ADDRESS[,ADDRESS..] [OPTION..] SOURCE.stm NAME ARGUMENT..
 
-Runs the program of the file (- for standard input) on an etcd cluster, and prints how it ended:
+Runs the program of the file (- for standard input), or the one of that name in a source, with these arguments as stmrun compile takes them, on an etcd
+cluster, and prints how it ended:
   ["committed",REVISION,ATTEMPTS,[OUTPUT..],[LOOKED..]]   its writes stand in the store; LOOKED as ["get",KEY,VALUE] or ["rev",KEY,REVISION]
   ["aborted",TEXT,ATTEMPTS]      the program aborted; nothing was committed
   ["faulted",FAULT,ATTEMPTS]     the program faulted; nothing was committed
@@ -48,6 +51,7 @@ Runs the program of the file (- for standard input) on an etcd cluster, and prin
   --cacert, --cert, --key FILE   for TLS
   --explain              says where in the file a program that is none is wrong, and where a run came to a fault, as FILE:LINE:COLUMN: WORDS on standard
                          error; the default where that is a terminal, which --explain=false ends
+  --stmrun PROGRAM       what compiles a source, in place of ./stmrun
 Options may begin with one dash, too.
 
 Statuses: 0 committed, 1 ended otherwise and nothing committed, 2 bad program or usage, 3 the cluster or a device failed and nothing was committed,
@@ -62,7 +66,19 @@ type settings struct {
 	attempts               uint
 	timeout                time.Duration
 	explain                bool
+	stmrun                 string
 	words                  []string
+}
+
+// isSource says whether the program is one of a source.
+func (s *settings) isSource() bool { return strings.HasSuffix(s.words[0], ".stm") }
+
+// name is what the text of the program is called: that of a source is the line that it was compiled to.
+func (s *settings) name() string {
+	if s.isSource() {
+		return s.words[0] + ", compiled"
+	}
+	return s.words[0]
 }
 
 func main() {
@@ -83,10 +99,9 @@ func answer(arguments []string) int {
 		fmt.Fprintln(os.Stderr, "etcd/stm --help has the options")
 		return statusBad
 	}
-	text, err := textOf(said.words[0])
-	if err != nil {
-		say(err)
-		return statusDevice
+	text, status := said.text()
+	if status != statusDone {
+		return status
 	}
 	program, err := stmprogram.Load(text)
 	if err != nil {
@@ -108,6 +123,7 @@ func settingsOf(arguments []string) (*settings, error) {
 	flags.StringVar(&said.certificate, "cert", "", "")
 	flags.StringVar(&said.key, "key", "", "")
 	flags.BoolVar(&said.explain, "explain", isTerminal(os.Stderr), "")
+	flags.StringVar(&said.stmrun, "stmrun", os.Getenv("STMRUN"), "")
 	if err := flags.Parse(arguments); err != nil {
 		return nil, err
 	}
@@ -129,7 +145,9 @@ func (s *settings) check(flags *flag.FlagSet) error {
 		return errors.New("--timeout is above 0")
 	case len(s.words) == 0:
 		return errors.New("a program is wanted")
-	case len(s.words) > 1:
+	case s.isSource() && len(s.words) == 1:
+		return fmt.Errorf("the name of a program is wanted behind %s, and its arguments", s.words[0])
+	case len(s.words) > 1 && !s.isSource():
 		return fmt.Errorf("%q is one word too many: one program is run", s.words[1])
 	}
 	return nil
@@ -142,7 +160,7 @@ func isTerminal(file *os.File) bool {
 
 // refused says why a text is no program.
 func refused(said *settings, text []byte, err error) int {
-	say(fmt.Errorf("%s: bad program %v", said.words[0], err))
+	say(fmt.Errorf("%s: bad program %v", said.name(), err))
 	if fault := (*reading.Fault)(nil); errors.As(err, &fault) {
 		offset, words := stmprogram.Explained(text, fault)
 		said.point(text, offset, words)
@@ -154,8 +172,40 @@ func refused(said *settings, text []byte, err error) int {
 func (s *settings) point(text []byte, offset int, words string) {
 	if s.explain {
 		line, column := stmprogram.Position(text, offset)
-		fmt.Fprintf(os.Stderr, "%s:%d:%d: %s\n", s.words[0], line, column, words)
+		fmt.Fprintf(os.Stderr, "%s:%d:%d: %s\n", s.name(), line, column, words)
 	}
+}
+
+// text is the program as JSON. Where there is none it says why, and gives the status.
+func (s *settings) text() ([]byte, int) {
+	if s.isSource() {
+		return s.compiled()
+	}
+	text, err := textOf(s.words[0])
+	if err != nil {
+		say(err)
+		return nil, statusDevice
+	}
+	return text, statusDone
+}
+
+// compiled is what stmrun compiles the program of a source to. Where there is none stmrun says why.
+func (s *settings) compiled() ([]byte, int) {
+	explain := "--explain=never"
+	if s.explain {
+		explain = "--explain"
+	}
+	compile := exec.Command(s.stmrun, append([]string{"compile", explain}, s.words...)...)
+	compile.Stderr = os.Stderr
+	text, err := compile.Output()
+	if exit := (*exec.ExitError)(nil); errors.As(err, &exit) && exit.ExitCode() == statusBad {
+		return nil, statusBad
+	}
+	if err != nil {
+		say(fmt.Errorf("%s is not compiled: %w", s.words[0], err))
+		return nil, statusDevice
+	}
+	return text, statusDone
 }
 
 func textOf(path string) ([]byte, error) {

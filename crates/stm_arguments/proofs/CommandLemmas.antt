@@ -38,7 +38,7 @@ asks words (Threads file workers ends repeat explain) none by = (none, by)
 asks words (Recipe named) none by = (none, by)
 asks words (Explore scenario keeps level budget after explain) none by = (none, by)
 asks words (Show file program) none by = (none, by)
-asks words (Compile file explain) none by = (none, by)
+asks words (Compile file program explain) none by = (none, by)
 asks words (Nothing status) none by = absurd (asks_something (subcommand_of stmrun_app words) status by)
 
 -- ---- the number of threads, and that of runs

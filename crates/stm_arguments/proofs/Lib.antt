@@ -1,3 +1,4 @@
 pub mod CommandLemmas
 pub mod WholeCommands
+pub mod CuttingLemmas
 pub mod TopicLemmas

@@ -1,6 +1,5 @@
 -- The topic of help that a command line asks for, by how many words it has.
-use Rattle.std.proofs.Common.{◌≡◌, ℕ, List, [], ◌∷◌, Option, None, length, slice_index_or, map, refl, arith}
-use Rattle.stm_arguments.specs.declared.topics.Topic.{Topic}
+use Rattle.std.proofs.Common.{◌≡◌, ℕ, List, [], ◌∷◌, None, length, slice_index_or, map, refl, arith}
 use Rattle.stm_arguments.specs.HelpTopics.{topic_by, topic_named}
 
 -- of three words

@@ -54,7 +54,8 @@ RunsAt (Some text) runs = IsSomeAnd runs (λ n. (1 ≤ n) × (n ≤ MOST_RUNS) �
 -- in the format that it names, for a check of its files, a whole one where that flag is set, for a run of its file by the number of threads that it
 -- names, 1 to MOST_WORKERS, with the ends of its jobs where that flag is set, or for as many runs as it names, for the recipe of its words, for a search of
 -- its files, at the level of a name, with at most the events that it names, each but a recipe with its fault explained, where that flag is set, or for
--- the source of its file, or of standard input, that of a program where that flag is set, or for the scenario of the source that is its file
+-- the source of its file, or of standard input, that of a program where that flag is set, or for the scenario of the source that is its file,
+-- or the program of the name in its place
 abbrev pub AsksAt : Text → List Row → Asked → Type 0
 AsksAt name rows (Script file format explain) =
     (name ≡ codes "script") × (first_of (codes "FILE") rows ≡ option_map (λ path. path.now) file)
@@ -80,8 +81,9 @@ AsksAt name rows (Explore scenario keeps level budget after explain) =
     × (explain ≡ is_set (first_of (codes "explain") rows))
 AsksAt name rows (Show file program) =
     (name ≡ codes "show") × (first_of (codes "FILE") rows ≡ option_map (λ path. path.now) file) × (program ≡ is_set (first_of (codes "program") rows))
-AsksAt name rows (Compile file explain) =
-    (name ≡ codes "compile") × (first_of (codes "FILE") rows ≡ option_map (λ path. path.now) file) × (explain ≡ is_set (first_of (codes "explain") rows))
+AsksAt name rows (Compile file program explain) =
+    (name ≡ codes "compile") × (first_of (codes "FILE") rows ≡ option_map (λ path. path.now) file)
+    × (first_of (codes "NAME") rows ≡ option_map (λ word. word.now) program) × (explain ≡ is_set (first_of (codes "explain") rows))
 AsksAt name rows (Nothing status) = ⊥
 
 -- the same, of the command that the words name

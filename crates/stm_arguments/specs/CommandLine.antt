@@ -78,7 +78,7 @@ abbrev pub show_app : App
 show_app = with_rule (with_rule (new_app (codes "show")) (new_rule (codes "FILE"))) (flag_rule (codes "program"))
 
 abbrev pub compile_app : App
-compile_app = with_rule (with_rule (new_app (codes "compile")) (new_rule (codes "FILE"))) explain_rule
+compile_app = with_rule (with_rule (with_rule (new_app (codes "compile")) (new_rule (codes "FILE"))) (new_rule (codes "NAME"))) explain_rule
 
 -- a command that is added to another makes it that one with this as a subcommand, the last
 abbrev pub IsAddedAs : App → Command → Type 0

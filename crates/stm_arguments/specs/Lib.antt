@@ -1,4 +1,5 @@
 pub mod Asking
 pub mod CommandLine
+pub mod Cutting
 pub mod HelpTopics
 pub mod Wording

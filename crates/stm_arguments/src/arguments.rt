@@ -70,6 +70,8 @@ pub enum Asked<'a> {
     /// The scenario of a source, by the path of that; of standard input, where there is none.
     Compile {
         source: Option<&'a str>,
+        /// The name of the program that is asked for in its place, where there is one.
+        program: Option<&'a str>,
         /// Whether a fault is explained.
         explain: bool,
     },
@@ -101,9 +103,9 @@ The first element may be [\"begin\",REVISION] or [\"begin\",REVISION,OPERATIONS]
 how many operations it takes in each list of a transaction, 1 to 128.
 
 LEVEL is ReadCommitted, RepeatableReads, Serializable or SerializableSnapshot. PROGRAM is an array of
-statements: stmrun help language has them, with the compares and operations of a txn, and stmrun help causes
+statements: stmrun help formats has them, with the compares and operations of a txn, and stmrun help causes
 has why a text, an event or a program is refused; stmrun recipe prints ready programs. A file whose name ends in .stm
-is a scenario in words: stmrun compile --help. This scenario starts a program that puts a key, and lets it take a step:
+is a scenario in words: stmrun help language. This scenario starts a program that puts a key, and lets it take a step:
 
   [[\"start\",\"Serializable\",1,[[\"put\",\"a\",\"1\",0]]],[\"step\",1]]
 

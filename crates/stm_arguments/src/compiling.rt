@@ -25,6 +25,17 @@ then stmrun compile s.stm prints
 A file whose name ends in .stm is such a source for script, check, threads and explore, too. stmrun show prints the source of
 a scenario that is JSON.
 
+With NAME it prints the program of that name, with the words behind NAME in place of its parameters: one that is spelled as a whole
+number of 64 bits is a number, each other one a text. Behind the word --text each is a text. If s.stm holds
+
+  program claim(job, holder, lease) { if get(job) == \"\" { put(job, holder, lease) } }
+
+then stmrun compile s.stm claim job/1 ada 7 prints
+
+  [[\"if\",[\"eq\",[\"get\",\"job/1\"],\"\"],[[\"put\",\"job/1\",\"ada\",7]],[]]]
+
+It is what start claim(\"job/1\", \"ada\", 7) starts, as one more line of s.stm: there a fault of an argument stands.
+
 Of a bad source it says where its first fault stands, by line and column, and why:
 
   stmrun: bad source at 3:5: Syntax
@@ -38,12 +49,17 @@ pub(crate) fn compile_command<'a>(alloc: Global) -> Result<Command<'a>, AllocErr
     ensures { IfOk result (IsAddedAs compile_app) }
 {
     Command::new(alloc, "compile")
-        .about("Prints the scenario of a source as JSON")
+        .about("Prints the scenario of a source as JSON, or one of its programs")
         .after_long_help(EXAMPLE)
         .arg(optional(
             alloc,
             "FILE",
             "The file of the source, in the place of standard input",
+        ))?
+        .arg(optional(
+            alloc,
+            "NAME",
+            "A program of the source, which is printed in place of the scenario; what stands behind it are its arguments",
         ))?
         .arg(explain(alloc))
 }
@@ -53,6 +69,11 @@ pub(crate) fn compile_of<'a>(found: &ArgMatches<'a>) -> Asked<'a>
     ensures { AsksAt (codes "compile") (rows_of (found_of found.now)) result }
 {
     let source = word_of(found, "FILE");
+    let program = word_of(found, "NAME");
     let explain = flag_of(found, "explain");
-    Asked::Compile { source, explain }
+    Asked::Compile {
+        source,
+        program,
+        explain,
+    }
 }

@@ -3,14 +3,17 @@
 
 mod arguments;
 mod compiling;
+mod cutting;
 mod exploring;
 mod given;
+mod language;
 mod plain;
 mod repeating;
 mod showing;
 mod topics;
 
 pub use arguments::{Asked, MOST_WORKERS, asked_of};
+pub use cutting::{CutWords, cut_words};
 pub use exploring::{USUAL_BUDGET, read_level, refuse_waits};
 pub use given::read_words;
 pub use plain::{PlainWords, plain_words};

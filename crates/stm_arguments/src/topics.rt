@@ -3,9 +3,11 @@ ghost use Rattle.std.specs.Prelude.{◌≡◌, ◌⊎◌, map, string_bytes};
 ghost use Rattle.stm_arguments.specs.HelpTopics.{topic_by, topic_called, topic_named};
 
 use crate::arguments::fail;
+use crate::language::LANGUAGE;
 
-const LANGUAGE: &str =
-    "A program is a JSON array of statements. Its first element may be a list of keys that each attempt reads first,
+const FORMATS: &str = "stmrun help language has the same in words.
+
+A program is a JSON array of statements. Its first element may be a list of keys that each attempt reads first,
 all at once: [\"prefetch\",[KEY,..]]. KEY, VALUE, TEXT and NUMBER are expressions; values are texts and numbers.
 
 Statements
@@ -97,8 +99,10 @@ The line faulted says what ended a program:
 /// A topic of help.
 #[derive(Clone, Copy, Debug, PartialEq, Eq)]
 pub enum Topic {
-    /// The language of programs and of transactions, in tables.
+    /// The language of sources, in tables.
     Language,
+    /// The JSON of programs and of transactions, in tables.
+    Formats,
     /// The causes with which texts, events and programs are refused.
     Causes,
 }
@@ -108,6 +112,7 @@ impl Topic {
     fn text(self) -> &'static str {
         match self {
             Topic::Language => LANGUAGE,
+            Topic::Formats => FORMATS,
             Topic::Causes => CAUSES,
         }
     }
@@ -119,6 +124,12 @@ fn topic_called(name: &str) -> Option<Topic>
 {
     if name == "language" {
         Some(Topic::Language)
+    } else if name == "stm" {
+        Some(Topic::Language)
+    } else if name == "source" {
+        Some(Topic::Language)
+    } else if name == "formats" {
+        Some(Topic::Formats)
     } else if name == "causes" {
         Some(Topic::Causes)
     } else {
@@ -126,7 +137,7 @@ fn topic_called(name: &str) -> Option<Topic>
     }
 }
 
-/// The topic that a word and a name ask for, `help language` or `help causes`.
+/// The topic that a word and a name ask for, as `help language`.
 fn topic_by(word: &str, name: &str) -> Option<Topic>
     ensures { result ≡ topic_by word.now name.now }
 {
@@ -137,7 +148,8 @@ fn topic_by(word: &str, name: &str) -> Option<Topic>
     }
 }
 
-/// The topic of help that these words ask for, of which the first is the program's name: `help language` or `help causes`.
+/// The topic of help that these words ask for, of which the first is the program's name: `help language` (also `help stm` and `help source`),
+/// `help formats` or `help causes`.
 pub fn topic_of(words: &[String]) -> Option<Topic>
     ensures { result ≡ topic_named (map string_bytes words.now) }
 {

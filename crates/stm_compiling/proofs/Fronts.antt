@@ -10,7 +10,9 @@ use Rattle.stm_terms.specs.declared.faults.SourceCause.TheVariants.{TooLong}
 use Rattle.stm_terms.specs.Outcome.{Outcome}
 use Rattle.stm_source.specs.Sources.{scenario_in, source_in}
 use Rattle.stm_tokens.specs.Positions.{place_after}
-use Rattle.stm_compiling.specs.Lines.{line_in}
+use Rattle.stm_compiling.specs.Parts.{line_by, text_by}
+use Rattle.stm_compiling.specs.declared.part.Part.{Part}
+use Rattle.stm_compiling.specs.declared.part.Part.TheVariants as of
 use Rattle.stm_compiling.specs.Faults.{SaysAt, SaysFault, SaysWrong, place_of}
 
 abbrev too_long : BadSource
@@ -20,8 +22,9 @@ scenario_in-long : (bytes : List ℕ) → MOST_BYTES < length bytes → scenario
 unfolding scenario_in source_in
 scenario_in-long bytes long = grind (arith, nat_tests)
 
-line_in-long : (bytes : List ℕ) → MOST_BYTES < length bytes → line_in bytes ≡ Err too_long
-line_in-long bytes long = rw (scenario_in-long bytes long) refl
+line_by-long : (part : Part) (bytes : List ℕ) → MOST_BYTES < length bytes → line_by part bytes ≡ Err too_long
+line_by-long of.Scenario bytes long = rw (scenario_in-long bytes long) refl
+line_by-long (of.Program name words) bytes long = rw (scenario_in-long bytes long) refl
 
 -- what is read of a source that is too long is too long, too
 front-long : (all : List ℕ) → MOST_BYTES < length all → MOST_BYTES < length (take MOST_READ all)
@@ -46,11 +49,11 @@ same_place : (name : Option (List ℕ)) (said front all : List ℕ) → SaysFaul
 same_place name said front all =
     subst (λ (place : ℕ × ℕ). SaysAt name place TooLong said) (first_place front ∙ sym (first_place all))
 
-same_saying : (name : Option (List ℕ)) (said front all : List ℕ) → line_in front ≡ Err too_long → line_in all ≡ Err too_long → SaysWrong name front said
-    → SaysWrong name all said
-same_saying name said front all short whole (bad, e, says) =
+same_saying : (part : Part) (name : Option (List ℕ)) (said front all : List ℕ) → line_by part front ≡ Err too_long → line_by part all ≡ Err too_long
+    → SaysWrong name (text_by part front) (line_by part front) said → SaysWrong name (text_by part all) (line_by part all) said
+same_saying part name said front all short whole (bad, e, says) =
     let is : bad ≡ too_long = ap (fault_or too_long) (sym e ∙ short) in
-    (too_long, whole, same_place name said front all (subst (λ (b : BadSource). SaysFault name front b said) is says))
+    (too_long, whole, same_place name said (text_by part front) (text_by part all) (subst (λ (b : BadSource). SaysFault name (text_by part front) b said) is says))
 
 front_by_length : (P : List ℕ → Type 0) → ((all : List ℕ) → MOST_BYTES < length all → P (take MOST_READ all) → P all) → (long : Bool) (all : List ℕ)
     → nat_lt MOST_BYTES (length all) ≡ long → P (take MOST_READ all) → P all
@@ -59,14 +62,16 @@ front_by_length P when_long false all is holds =
     let short : length all ≤ MOST_BYTES = ltb-false MOST_BYTES (length all) is in
     subst P (take_all MOST_READ all (omega arith)) holds
 
-pub line_in-front : (line all : List ℕ) → line_in (take MOST_READ all) ≡ Ok line → line_in all ≡ Ok line
-line_in-front line all =
-    front_by_length (λ (s : List ℕ). line_in s ≡ Ok line)
-    (λ whole long holds. line_in-long whole long ∙ sym (line_in-long (take MOST_READ whole) (front-long whole long)) ∙ holds)
+pub line_by-front : (part : Part) (line all : List ℕ) → line_by part (take MOST_READ all) ≡ Ok line → line_by part all ≡ Ok line
+line_by-front part line all =
+    front_by_length (λ (s : List ℕ). line_by part s ≡ Ok line)
+    (λ whole long holds. line_by-long part whole long ∙ sym (line_by-long part (take MOST_READ whole) (front-long whole long)) ∙ holds)
     (nat_lt MOST_BYTES (length all)) all refl
 
-pub SaysWrong-front : (name : Option (List ℕ)) (said all : List ℕ) → SaysWrong name (take MOST_READ all) said → SaysWrong name all said
-SaysWrong-front name said all =
-    front_by_length (λ (s : List ℕ). SaysWrong name s said)
-    (λ whole long holds. same_saying name said (take MOST_READ whole) whole (line_in-long (take MOST_READ whole) (front-long whole long)) (line_in-long whole long) holds)
+pub SaysWrong-front : (part : Part) (name : Option (List ℕ)) (said all : List ℕ)
+    → SaysWrong name (text_by part (take MOST_READ all)) (line_by part (take MOST_READ all)) said → SaysWrong name (text_by part all) (line_by part all) said
+SaysWrong-front part name said all =
+    front_by_length (λ (s : List ℕ). SaysWrong name (text_by part s) (line_by part s) said)
+    (λ whole long holds. same_saying part name said (take MOST_READ whole) whole (line_by-long part (take MOST_READ whole) (front-long whole long))
+    (line_by-long part whole long) holds)
     (nat_lt MOST_BYTES (length all)) all refl

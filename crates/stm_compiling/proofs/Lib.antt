@@ -1,2 +1,4 @@
+pub mod Answering
+pub mod Arguments
 pub mod Fronts
 pub mod Inputs

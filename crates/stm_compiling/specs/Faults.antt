@@ -3,10 +3,10 @@ use Rattle.std.specs.Prelude.{◌≡◌, ◌⊎◌, ℕ, List, [], ◌++◌, tak
 use Rattle.stm_explain.specs.Explaining.{explanation}
 use Rattle.stm_explain.specs.Saying.{memory_fault, device_fault}
 use Rattle.stm_terms.specs.CauseNames.{cause_name}
+use Rattle.stm_terms.specs.Outcome.{Outcome}
 use Rattle.stm_terms.specs.declared.faults.BadSource.{BadSource}
 use Rattle.stm_terms.specs.declared.faults.SourceCause.{SourceCause}
 use Rattle.stm_tokens.specs.Positions.{place_after}
-use Rattle.stm_compiling.specs.Lines.{line_in}
 use Rattle.stm_compiling.specs.declared.fault.CompileFault.{CompileFault}
 use Rattle.stm_compiling.specs.declared.fault.CompileFault.TheVariants.{OutOfMemory, Bad, Device}
 
@@ -34,9 +34,9 @@ SaysAt name place cause text = (more : List ℕ) × IsExplanation name place mor
 abbrev pub SaysFault : Option (List ℕ) → List ℕ → BadSource → List ℕ → Type 0
 SaysFault name source bad text = SaysAt name (place_of source bad.at) bad.cause text
 
--- it says the first fault of a source
-abbrev pub SaysWrong : Option (List ℕ) → List ℕ → List ℕ → Type 0
-SaysWrong name source text = (bad : BadSource) × (line_in source ≡ Err bad) × SaysFault name source bad text
+-- it says the fault that reading a text answers
+abbrev pub SaysWrong : Option (List ℕ) → List ℕ → Outcome (List ℕ) → List ℕ → Type 0
+SaysWrong name source line text = (bad : BadSource) × (line ≡ Err bad) × SaysFault name source bad text
 
 -- 2 for a bad source, 3 where memory ran out or a device failed
 abbrev pub fault_status : CompileFault → ℕ

@@ -1,3 +1,5 @@
 pub mod Command
 pub mod Faults
 pub mod Lines
+pub mod Parts
+pub mod Programs

@@ -1,8 +1,10 @@
 -- Adding events and lines one after the other, as loops do.
-use Rattle.std.proofs.Common.{◌≡◌, ℕ, suc, ◌+◌, ◌<◌, ◌≤◌, List, ◌∷◌, ◌++◌, length, map, drop, get_or, sym, ap, ◌∙◌, arith}
+use Rattle.std.proofs.Common.{◌≡◌, ℕ, suc, ◌+◌, ◌<◌, ◌≤◌, List, [], ◌∷◌, ◌++◌, length, map, take, drop, get_or, sym, ap, ◌∙◌, arith}
 use Rattle.std.proofs.Common.{append_assoc, append-nil}
 use Rattle.std.proofs.lemmas.List.{map-append, drop_all}
-use Rattle.std.proofs.Math.Seq.{drop-cons}
+use Rattle.std.proofs.lemmas.List.Folds.{concat-append}
+use Rattle.std.proofs.Math.Seq.{drop-cons, take-suc}
+use Rattle.std.specs.List.{concat}
 use Rattle.serde_json.specs.Data.{Data}
 use Rattle.stm_texts.specs.Writing.{written_event}
 use Rattle.stm_schedules.specs.declared.moves.Move.{Move}
@@ -37,3 +39,18 @@ pub moves_written : (front total : List Data) (ms : List Move) (i : ℕ) (left :
     → front ++ map written_event (events_along (drop i ms) left) ≡ total → front ≡ total
 moves_written front total ms i left all so_far =
     sym (append-nil front) ∙ ap (λ (ks : List Move). front ++ map written_event (events_along ks left)) (sym (drop_all i ms all)) ∙ so_far
+
+-- ---- texts that are joined
+
+-- one more
+pub joined_next : {A : Type 0} (f : A → List ℕ) (xs : List A) (i : ℕ) (d : A) (front old new : List ℕ) → i < length xs →
+    old ≡ front ++ concat (map f (take i xs)) → new ≡ old ++ f (get_or xs i d) → new ≡ front ++ concat (map f (take (i + 1) xs))
+joined_next f xs i d front old new within so_far written =
+    let x = get_or xs i d in
+    let step : i + 1 ≡ suc i = omega arith in
+    let more : map f (take (i + 1) xs) ≡ map f (take i xs) ++ f x ∷ [] =
+    ap (λ (n : ℕ). map f (take n xs)) step ∙ ap (map f) (take-suc xs i d within) ∙ map-append f (take i xs) (x ∷ []) in
+    let all : concat (map f (take (i + 1) xs)) ≡ concat (map f (take i xs)) ++ f x =
+    ap concat more ∙ concat-append (map f (take i xs)) (f x ∷ []) ∙ ap (λ (ys : List ℕ). concat (map f (take i xs)) ++ ys) (append-nil (f x)) in
+    written ∙ ap (λ (ys : List ℕ). ys ++ f x) so_far ∙ append_assoc front (concat (map f (take i xs))) (f x)
+    ∙ ap (λ (ys : List ℕ). front ++ ys) (sym all)

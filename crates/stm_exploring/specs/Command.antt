@@ -7,7 +7,7 @@ use Rattle.stm_exploring.specs.declared.printed.Printed.{Printed}
 use Rattle.stm_exploring.specs.declared.printed.SearchAnswer.{SearchAnswer}
 use Rattle.stm_exploring.specs.declared.printed.SearchAnswer.TheVariants.{Kept, Broken, Open}
 use Rattle.stm_exploring.specs.declared.reading.ExploreFault.{ExploreFault}
-use Rattle.stm_exploring.specs.declared.reading.ExploreFault.TheVariants.{OutOfMemory, BadScenario, BadProgram, Device}
+use Rattle.stm_exploring.specs.declared.reading.ExploreFault.TheVariants.{OutOfMemory, BadScenario, BadProgram, BadWait, Device}
 use Rattle.stm_explore.specs.declared.waits.Wait.{Wait}
 use Rattle.stm_exploring.specs.Exploring.{Sources, Searches, Gathers}
 use Rattle.stm_explain.specs.Saying.{bad_input, memory_fault, device_fault, Reports}
@@ -24,12 +24,14 @@ abbrev pub fault_status : ExploreFault → ℕ
 fault_status OutOfMemory = 3
 fault_status (BadScenario bad) = 2
 fault_status (BadProgram bad) = 2
+fault_status (BadWait bad) = 2
 fault_status Device = 3
 
 abbrev pub fault_message : ExploreFault → List ℕ
 fault_message OutOfMemory = memory_fault
 fault_message (BadScenario bad) = bad_input (codes "stmrun: bad scenario at ") bad
 fault_message (BadProgram bad) = bad_input (codes "stmrun: bad program at ") bad
+fault_message (BadWait bad) = bad_input (codes "stmrun: bad wait ") bad
 fault_message Device = device_fault
 
 -- ---- the sinks

@@ -1,5 +1,5 @@
 -- What a search does: from the bytes of a scenario and of a rule's program to what is printed.
-use Rattle.std.specs.Prelude.{◌≡◌, ◌⊎◌, ℕ, List, Bool, true, false, Option, Result, Ok, Err, IfSome, codes}
+use Rattle.std.specs.Prelude.{◌≡◌, ◌⊎◌, ℕ, List, Bool, true, false, Option, None, Result, Ok, Err, IfSome, codes}
 use Rattle.stm_devices.specs.declared.transfer.ReadFault.{ReadFault}
 use Rattle.stm_devices.specs.declared.transfer.ReadFault.TheVariants.{OutOfMemory as NoRoom, Device as NoDevice}
 use Rattle.stm_json.specs.Outcome.{Outcome, ◌>>=◌}
@@ -13,12 +13,13 @@ use Rattle.stm_explore.specs.declared.waits.Wait.{Wait}
 use Rattle.stm_explore.specs.declared.finding.Outcomes.{Outcomes}
 use Rattle.stm_explore.specs.declared.finding.Outcomes.TheVariants.{Found, Open as OpenAt}
 use Rattle.stm_exploring.specs.declared.reading.ExploreFault.{ExploreFault}
-use Rattle.stm_exploring.specs.declared.reading.ExploreFault.TheVariants.{OutOfMemory, BadScenario, BadProgram, Device}
+use Rattle.stm_exploring.specs.declared.reading.ExploreFault.TheVariants.{OutOfMemory, BadScenario, BadProgram, BadWait, Device}
 use Rattle.stm_exploring.specs.declared.printed.SearchAnswer.{SearchAnswer}
 use Rattle.stm_exploring.specs.declared.printed.SearchAnswer.TheVariants as verdict
 use Rattle.stm_exploring.specs.declared.printed.Printed.{Printed}
 use Rattle.stm_exploring.specs.Asking.{asked, place_of, ends_of}
 use Rattle.stm_exploring.specs.Lines.{count_line, outcomes_text}
+use Rattle.stm_exploring.specs.Waits.{first_stranger, IsWaitFault}
 use Rattle.stm_exploring.specs.declared.judging.Answer.{Answer}
 use Rattle.stm_exploring.specs.Judging.{IsFound, verdict_of, answer_text}
 use Rattle.stm_report_lines.specs.Text.{line_text}
@@ -42,6 +43,7 @@ ReadsScenario level known failed (Ok s) = (failed ≡ false) × IfSome known (λ
 ReadsScenario level known failed (Err OutOfMemory) = failed ≡ false
 ReadsScenario level known failed (Err (BadScenario fault)) = (failed ≡ false) × IfSome known (λ all. asked_in level all ≡ Err fault)
 ReadsScenario level known failed (Err (BadProgram fault)) = ⊥
+ReadsScenario level known failed (Err (BadWait fault)) = ⊥
 ReadsScenario level known failed (Err Device) = failed ≡ true
 
 -- what reading its program did
@@ -49,6 +51,7 @@ abbrev pub ReadsProgram : Option (List ℕ) → Bool → Result ProgramTree Expl
 ReadsProgram known failed (Ok p) = (failed ≡ false) × IfSome known (λ all. program_in all ≡ Ok p)
 ReadsProgram known failed (Err OutOfMemory) = failed ≡ false
 ReadsProgram known failed (Err (BadScenario fault)) = ⊥
+ReadsProgram known failed (Err (BadWait fault)) = ⊥
 ReadsProgram known failed (Err (BadProgram fault)) = (failed ≡ false) × IfSome known (λ all. program_in all ≡ Err fault)
 ReadsProgram known failed (Err Device) = failed ≡ true
 
@@ -73,15 +76,18 @@ abbrev pub NoneFailed : Sources → Type 0
 NoneFailed d = (d.scenario_failed ≡ false) × (d.keeps_failed ≡ false)
 
 -- What a search of two sources did, by its answer. The scenario is read and judged before the program, so that a program which cannot be
--- read is answered only beside a good scenario. A failed source is answered exactly where one has failed.
+-- read is answered only beside a good scenario, and both before the waits. A failed source is answered exactly where one has failed.
 abbrev pub Searches : List Wait → Option Level → Sources → Result Printed ExploreFault → Type 0
 Searches waits level d (Ok p) =
     NoneFailed d × (s : Scenario) × (rule : ProgramTree) × IfSome d.scenario (λ all. asked_in level all ≡ Ok s)
-    × IfSome d.keeps (λ all. program_in all ≡ Ok rule) × IsPrinted waits s rule p
+    × IfSome d.keeps (λ all. program_in all ≡ Ok rule) × (first_stranger s waits ≡ None) × IsPrinted waits s rule p
 Searches waits level d (Err OutOfMemory) = NoneFailed d
 Searches waits level d (Err (BadScenario fault)) = NoneFailed d × IfSome d.scenario (λ all. asked_in level all ≡ Err fault)
 Searches waits level d (Err (BadProgram fault)) =
     NoneFailed d × (s : Scenario) × IfSome d.scenario (λ all. asked_in level all ≡ Ok s) × IfSome d.keeps (λ all. program_in all ≡ Err fault)
+Searches waits level d (Err (BadWait fault)) =
+    NoneFailed d × (s : Scenario) × (rule : ProgramTree) × IfSome d.scenario (λ all. asked_in level all ≡ Ok s)
+    × IfSome d.keeps (λ all. program_in all ≡ Ok rule) × IsWaitFault s waits (BadWait fault)
 Searches waits level d (Err Device) =
     (d.scenario_failed ≡ true)
     ⊎ ((d.scenario_failed ≡ false) × (d.keeps_failed ≡ true) × (s : Scenario) × IfSome d.scenario (λ all. asked_in level all ≡ Ok s))
@@ -109,4 +115,5 @@ Gathers level known failed (Ok p) = (failed ≡ false) × (s : Scenario) × IfSo
 Gathers level known failed (Err OutOfMemory) = failed ≡ false
 Gathers level known failed (Err (BadScenario fault)) = (failed ≡ false) × IfSome known (λ all. asked_in level all ≡ Err fault)
 Gathers level known failed (Err (BadProgram fault)) = ⊥
+Gathers level known failed (Err (BadWait fault)) = ⊥
 Gathers level known failed (Err Device) = failed ≡ true

@@ -4,6 +4,7 @@ use Rattle.serde_json.specs.Data.{Data, null, string}
 use Rattle.stm_report_lines.specs.LineData.{list}
 use Rattle.stm_report_lines.specs.Text.{lines_text}
 use Rattle.stm_program.specs.Syntax.{ProgramTree}
+use Rattle.stm_schedules.specs.Outcomes.{Ends}
 use Rattle.stm_schedules.specs.Places.{Place}
 use Rattle.stm_texts.specs.Writing.{written_scenario}
 use Rattle.stm_texts.specs.declared.scenario.Scenario.{Scenario}
@@ -27,12 +28,17 @@ IsAnswer rule p (BySchedules explored) = IsExplored rule p explored × MergesAre
 IsAnswer rule p AlwaysByOrders = IsJudged rule p AlwaysJudged
 IsAnswer rule p (BrokenByOrder found) = IsJudged rule p (BrokenJudged found)
 
--- It is so of a scenario in which these runners wait: where none does, as above, and else by a search through the schedules in which they wait.
+-- It is so where these runners wait, of whose ends this is known: where none waits, as above, and else by a search through the schedules in which they
+-- wait.
+abbrev pub IsFoundFrom : List Wait → ProgramTree → Place → Ends → Answer → Type 0
+IsFoundFrom [] rule p ends answer = IsAnswer rule p answer
+IsFoundFrom (w ∷ ws) rule p ends (BySchedules explored) = IsExploredPatiently (w ∷ ws) rule p ends explored
+IsFoundFrom (w ∷ ws) rule p ends AlwaysByOrders = ⊥
+IsFoundFrom (w ∷ ws) rule p ends (BrokenByOrder found) = ⊥
+
+-- the same of a scenario
 abbrev pub IsFound : List Wait → ProgramTree → Scenario → Answer → Type 0
-IsFound [] rule s answer = IsAnswer rule (place_of s) answer
-IsFound (w ∷ ws) rule s (BySchedules explored) = IsExploredPatiently (w ∷ ws) rule (place_of s) (ends_of s) explored
-IsFound (w ∷ ws) rule s AlwaysByOrders = ⊥
-IsFound (w ∷ ws) rule s (BrokenByOrder found) = ⊥
+IsFound waits rule s answer = IsFoundFrom waits rule (place_of s) (ends_of s) answer
 
 abbrev pub verdict_of_explored : Explored → SearchAnswer
 verdict_of_explored (Always longest) = verdict.Kept

@@ -1,5 +1,4 @@
-//! How the runs of programs ended, where a rule is always kept: it says little where they never did their work, or where it asks for keys that
-//! nobody puts.
+//! How the runs of programs ended: that a rule is always kept says little where they never did their work, or where it asks for keys that nobody puts.
 ghost use Rattle.std.specs.Prelude.{◌<◌, length, IfSome};
 ghost use Rattle.stm_serial_search.specs.Search.{AreProgramsOf};
 
@@ -16,8 +15,39 @@ use stm_retry::World;
 use stm_serial_search::{Follower, go_through_orders};
 use stm_texts::WorldEvent;
 
-/// At most this many moves are made for an account.
+/// At most this many moves are made for an account of serial orders.
 const MOST_MOVES: u64 = 10000;
+
+/// Of which runners it is said how their runs ended.
+#[derive(Clone, Copy, Debug, PartialEq, Eq)]
+pub(crate) enum Told {
+    /// Of all.
+    All,
+    /// Of those that never committed.
+    Never,
+    /// Of none. It is only said which keys the rule asks for in vain.
+    None,
+}
+
+/// What is said at the end of a search: all where that is wanted, and where the rule is always kept which runners never committed.
+pub(crate) fn told_of(wants_all: bool, is_kept: bool) -> Told {
+    if wants_all {
+        Told::All
+    } else if is_kept {
+        Told::Never
+    } else {
+        Told::None
+    }
+}
+
+/// The runs of an account of serial orders, where all were gone through.
+const OF_ALL_ORDERS: &str = "runs in all serial orders";
+
+/// The same, where not all were.
+const OF_SOME_ORDERS: &str = "runs in 10000 moves of serial orders";
+
+/// What is said where an allocation failed for an account.
+const NO_MEMORY: &str = "out of memory: what the answer covers is not known";
 
 /// An end to which runs came, as it is said, and how many did.
 #[derive(Drop)]
@@ -41,8 +71,8 @@ struct Account {
     runners: Vec<Runs>,
     /// The keys that the rule asks for, and that nothing put so far.
     unput: Vec<Text>,
-    /// Whether it goes on once every runner has committed and every key was put.
-    wants_all: bool,
+    /// It goes on while something is to be learned of what is said.
+    told: Told,
     /// How many runners have not committed so far.
     waiting: usize,
     /// How many moves may still be made.
@@ -57,7 +87,11 @@ impl Follower for Account {
             return false;
         }
         self.left -= 1;
-        self.wants_all || self.waiting > 0 || !self.unput.is_empty()
+        match self.told {
+            Told::All => true,
+            Told::Never => self.waiting > 0 || !self.unput.is_empty(),
+            Told::None => !self.unput.is_empty(),
+        }
     }
 
     fn ran(&mut self, runner: u64, run: &Run) {
@@ -131,14 +165,14 @@ impl Account {
         alloc: Global,
         count: usize,
         unput: Vec<Text>,
-        wants_all: bool,
+        told: Told,
     ) -> Result<Account, AllocError> {
         let runners = no_account(alloc, count)?;
         Ok(Account {
             alloc,
             runners,
             unput,
-            wants_all,
+            told,
             waiting: count,
             left: MOST_MOVES,
             is_cut: false,
@@ -202,24 +236,6 @@ impl Account {
     }
 }
 
-/// How the line of a runner's account begins, where all serial orders were gone through, or not.
-fn head_of(
-    alloc: Global,
-    runner: usize,
-    has_committed: bool,
-    is_all: bool,
-) -> Result<String, AllocError> {
-    let never = if has_committed {
-        ""
-    } else {
-        " never committed"
-    };
-    if is_all {
-        return format!(in alloc; "runner {runner}{never}; runs in all serial orders");
-    }
-    format!(in alloc; "runner {runner}{never}; runs in {MOST_MOVES} moves of serial orders")
-}
-
 /// Adds how often each of these ends came.
 fn push_ends(alloc: Global, line: &mut String, ends: &[Came]) -> Result<(), AllocError> {
     let mut between = ": ";
@@ -233,45 +249,67 @@ fn push_ends(alloc: Global, line: &mut String, ends: &[Came]) -> Result<(), Allo
     Ok(())
 }
 
-/// The line of a runner's account.
-fn line_of(alloc: Global, runner: usize, runs: &Runs, is_all: bool) -> Result<String, AllocError> {
-    let mut line = head_of(alloc, runner, runs.has_committed, is_all)?;
+/// The line of a runner's account, which is of these runs.
+fn line_of(alloc: Global, runner: usize, runs: &Runs, of: &str) -> Result<String, AllocError> {
+    let never = if runs.has_committed {
+        ""
+    } else {
+        " never committed"
+    };
+    let mut line = format!(in alloc; "runner {runner}{never}; {of}")?;
     push_ends(alloc, &mut line, runs.ends.as_slice())?;
     Ok(line)
 }
 
-/// Whether it is to be said how the runs of a runner ended, if there were any: if none committed, or if all is wanted.
-fn is_said(runs: &Runs, wants_all: bool) -> bool {
-    !runs.ends.is_empty() && (wants_all || !runs.has_committed)
+/// Whether it is to be said how the runs of a runner ended, if there were any.
+fn is_said(runs: &Runs, told: Told) -> bool {
+    if runs.ends.is_empty() {
+        return false;
+    }
+    match told {
+        Told::All => true,
+        Told::Never => !runs.has_committed,
+        Told::None => false,
+    }
 }
 
-/// Says how the runs of each runner ended of which it is to be said.
-fn tell_runs<O: Audience>(account: &Account, audience: &mut O) -> Result<(), AllocError> {
-    let is_all = account.left > 0;
+/// Says how the runs of each runner ended of which it is to be said. The account is of these runs.
+fn tell_runs<O: Audience>(
+    account: &Account,
+    told: Told,
+    of: &str,
+    audience: &mut O,
+) -> Result<(), AllocError> {
     for index in 0..account.runners.len() {
         let runs = &account.runners[index];
-        if is_said(runs, account.wants_all) {
-            let line = line_of(account.alloc, index + 1, runs, is_all)?;
+        if is_said(runs, told) {
+            let line = line_of(account.alloc, index + 1, runs, of)?;
             audience.hear(line.as_str());
         }
     }
     Ok(())
 }
 
-/// Says which keys the rule asks for and nothing puts, where all serial orders were gone through.
+/// Says which keys the rule asks for and nothing puts.
 fn tell_unput<O: Audience>(account: &Account, audience: &mut O) -> Result<(), AllocError> {
-    if account.left == 0 {
-        return Ok(());
-    }
     let alloc = account.alloc;
     for key in account.unput.as_slice() {
         let key = shown_text(alloc, key)?;
         let line = format!(in alloc;
-            "the rule asks for the key {key}, which is not there and which nothing puts"
+            "the rule asks for the key {key}, which is not there and which nothing puts in any serial order"
         )?;
         audience.hear(line.as_str());
     }
     Ok(())
+}
+
+/// Says what an account of serial orders has: nothing of keys where not all orders were gone through.
+fn tell_orders<O: Audience>(account: &Account, audience: &mut O) -> Result<(), AllocError> {
+    if account.left == 0 {
+        return tell_runs(account, account.told, OF_SOME_ORDERS, audience);
+    }
+    tell_runs(account, account.told, OF_ALL_ORDERS, audience)?;
+    tell_unput(account, audience)
 }
 
 /// The account of no run, about a rule.
@@ -280,10 +318,10 @@ fn account_before(
     world: &World,
     others: &[WorldEvent],
     rule: &Program,
-    wants_all: bool,
+    told: Told,
 ) -> Result<Account, AllocError> {
     let unput = unput_keys(alloc, rule, world, others)?;
-    Account::new(alloc, world.runner_count(), unput, wants_all)
+    Account::new(alloc, world.runner_count(), unput, told)
 }
 
 /// Makes an account, and says it.
@@ -293,32 +331,33 @@ fn make_account<O: Audience>(
     others: &[WorldEvent],
     programs: &[Program],
     rule: &Program,
+    told: Told,
     audience: &mut O,
 ) -> Result<(), AllocError>
     requires { AreProgramsOf programs.now world.now.runners }
 {
-    let mut account = account_before(alloc, world, others, rule, audience.wants_all())?;
+    let mut account = account_before(alloc, world, others, rule, told)?;
     go_through_orders(alloc, world, others, programs, &mut account)?;
     if account.is_cut {
         return Err(AllocError);
     }
-    tell_runs(&account, audience)?;
-    tell_unput(&account, audience)
+    tell_orders(&account, audience)
 }
 
-/// Says which runners never committed, each program run alone in every serial order, and which keys the rule asks for that are not there and that
-/// nothing puts; where all is wanted, how the runs of each runner ended. Or it says that an allocation failed for it.
+/// Says how the runs ended of the runners of which it is told, each program run alone in every serial order, and which keys the rule asks for that are not
+/// there and that nothing puts. Or it says that an allocation failed for it.
 pub(crate) fn tell_account<O: Audience>(
     alloc: Global,
     world: &World,
     others: &[WorldEvent],
     programs: &[Program],
     rule: &Program,
+    told: Told,
     audience: &mut O,
 )
     requires { AreProgramsOf programs.now world.now.runners }
 {
-    if let Err(_) = make_account(alloc, world, others, programs, rule, audience) {
-        audience.hear("out of memory: what the answer covers is not known");
+    if let Err(_) = make_account(alloc, world, others, programs, rule, told, audience) {
+        audience.hear(NO_MEMORY);
     }
 }

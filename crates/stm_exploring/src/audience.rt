@@ -1,7 +1,7 @@
 //! Who is told of a search.
 
 use std::alloc::{AllocError, Global};
-use stm_explore::{Nobody, Observer, Wait};
+use stm_explore::{Nobody, Observer};
 
 /// Who is notified of how far a search is, and told what is said of it.
 pub trait Audience: Observer {
@@ -52,27 +52,9 @@ pub(crate) fn tell_parts<O: Audience>(
     }
 }
 
-/// Says of each wait for a runner that there is none such. Nothing is said where an allocation fails for it.
-pub(crate) fn tell_strangers<O: Audience>(
-    alloc: Global,
-    waits: &[Wait],
-    count: usize,
-    audience: &mut O,
-) {
-    for wait in waits {
-        if wait.first > count as u64 {
-            tell_stranger(alloc, wait, count, audience);
-        }
-    }
-}
-
-/// Says that the runner is not there for which this one waits.
-fn tell_stranger<O: Audience>(alloc: Global, wait: &Wait, count: usize, audience: &mut O) {
-    let runner = wait.runner;
-    let first = wait.first;
-    if let Ok(line) = format!(in alloc;
-        "runner {runner} waits for runner {first}, and there are {count}"
-    ) {
+/// Says how many runners a scenario has, one of whose waits is for another. Nothing is said where an allocation fails for it.
+pub(crate) fn tell_count<O: Audience>(alloc: Global, count: u64, audience: &mut O) {
+    if let Ok(line) = format!(in alloc; "runners that the scenario starts: {count}") {
         audience.hear(line.as_str());
     }
 }

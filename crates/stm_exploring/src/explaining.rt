@@ -33,7 +33,9 @@ fn rule_explanation<S, R>(
     match fault {
         ExploreFault::BadScenario(bad) => scenario.explanation(alloc, Input::Scenario, bad),
         ExploreFault::BadProgram(bad) => keeps.explanation(alloc, Input::Program, bad),
-        ExploreFault::OutOfMemory | ExploreFault::Device => String::new(alloc),
+        ExploreFault::BadWait(_) | ExploreFault::OutOfMemory | ExploreFault::Device => {
+            String::new(alloc)
+        }
     }
 }
 

@@ -7,6 +7,7 @@ use crate::audience::Audience;
 use crate::printed::Printed;
 use crate::reading::{ExploreFault, program_of, scenario_of};
 use crate::searching::search;
+use crate::waits::check_waits;
 use std::alloc::Global;
 use stm_devices::Source;
 use stm_explore::{Budget, Wait};
@@ -17,7 +18,8 @@ use stm_program::Level;
 ///
 /// Of the schedules those alone are looked at in which the runners wait for others, as `waits` says. The steps of the scenario are left out. Each start is taken at the level that is named, where one is. At most as many events are taken as `budget` has left, and its observer is notified
 /// of how far the search is. Neither source has failed before. It fails as `BadScenario` with the scenario's first fault,
-/// and then the program is not read; as `BadProgram` with the program's first fault; as `OutOfMemory` where an allocation failed; and as
+/// and then the program is not read; as `BadProgram` with the program's first fault; as `BadWait` with the first wait for which the scenario does not have
+/// the runners; as `OutOfMemory` where an allocation failed; and as
 /// `Device` exactly where a source has failed. At most 16777217 bytes of each are read, in at most that many reads of each.
 pub fn explore_sources<S: Source, R: Source, O: Audience>(
     alloc: Global,
@@ -40,6 +42,7 @@ pub fn explore_sources<S: Source, R: Source, O: Audience>(
 {
     let scenario = scenario_of(alloc, scenario, level, &mut budget.observer)?;
     let keeps = program_of(alloc, keeps)?;
+    check_waits(alloc, &scenario, waits, &mut budget.observer)?;
     match search(alloc, &scenario, waits, &keeps, budget) {
         Ok(printed) => Ok(printed),
         Err(_) => Err(ExploreFault::OutOfMemory),

@@ -25,6 +25,7 @@ mod searching;
 mod setup;
 mod unput;
 mod waits;
+mod watching;
 
 pub use audience::Audience;
 pub use command::{explore_to, outcomes_to};
@@ -40,4 +41,4 @@ pub use stm_explain::{Input, KeptSource};
 pub use stm_explore::{Budget, Nobody, Observer, Wait};
 pub use stm_json::BadInput;
 pub use stm_program::Level;
-pub use waits::waits_in;
+pub use waits::{BadWaits, waits_in};

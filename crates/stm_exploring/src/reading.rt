@@ -7,7 +7,7 @@ ghost use Rattle.stm_exploring.specs.Exploring.{asked_in, ReadsScenario, ReadsPr
 
 use crate::asking::ask;
 use crate::audience::{Audience, tell_left_out};
-use std::alloc::Global;
+use std::alloc::{AllocError, Global};
 use stm_devices::{ReadFault, Source, read_all};
 use stm_json::{BadInput, ReadError};
 use stm_program::{Level, Program};
@@ -27,9 +27,23 @@ pub enum ExploreFault {
     /// The second input is no program: its first fault.
     #[error("bad program {0}")]
     BadProgram(BadInput),
+    /// A runner that the scenario does not have is to wait, or to be waited for: the wait as it is spelled, with the cause `Range`.
+    #[error("bad wait {0}")]
+    BadWait(BadInput),
     /// A device failed.
     #[error("device fault")]
     Device,
+}
+
+impl From<AllocError> for ExploreFault {
+    ghost use Rattle.std.specs.Prelude.{◌≡◌};
+    ghost use Rattle.stm_exploring.specs.declared.reading.ExploreFault.TheVariants.{OutOfMemory};
+
+    ghost from_gives = { λ _ fault. fault ≡ OutOfMemory };
+
+    fn from(_error: AllocError) -> ExploreFault {
+        ExploreFault::OutOfMemory
+    }
 }
 
 impl From<ReadFault> for ExploreFault {

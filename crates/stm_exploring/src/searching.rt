@@ -2,28 +2,26 @@
 ghost use Rattle.std.specs.Prelude.{◌≡◌, true, [], ◌∷◌, length, IfOk, string_bytes};
 ghost use Rattle.stm_report_lines.specs.Text.{line_text, lines_text};
 ghost use Rattle.stm_texts.specs.Writing.{written_scenario};
-ghost use Rattle.stm_explore.specs.declared.exploring.Explored.{Explored as ExploredValue};
-ghost use Rattle.stm_explore.specs.Waiting.{IsExploredPatiently};
 ghost use Rattle.stm_schedules.specs.Outcomes.{after_replies};
 ghost use Rattle.stm_world.specs.World.{opened, replies_to, world_after};
 ghost use Rattle.stm_serial.specs.Serial.{IsComparing};
 ghost use Rattle.stm_serial_search.specs.Search.{AreProgramsOf};
 ghost use Rattle.stm_serial_search.specs.Started.{HaveNoStep};
-ghost use Rattle.stm_exploring.specs.Asking.{ends_of, opening_of, place_of, scheduled};
+ghost use Rattle.stm_exploring.specs.Asking.{opening_of, place_of, scheduled};
 ghost use Rattle.stm_exploring.specs.Exploring.{printed, IsPrinted};
-ghost use Rattle.stm_exploring.specs.declared.judging.Answer.TheVariants.{BySchedules};
-ghost use Rattle.stm_exploring.specs.Judging.{always_line, answer_text, IsAnswer, IsFound, verdict_of, verdict_of_explored};
+ghost use Rattle.stm_exploring.specs.Judging.{always_line, answer_text, IsAnswer, IsFound, IsFoundFrom, verdict_of, verdict_of_explored};
 ghost use Rattle.stm_exploring.specs.Lines.{broken_line, explored_lines};
 
-use crate::accounts::tell_account;
-use crate::audience::{Audience, tell_parts, tell_strangers};
+use crate::accounts::{tell_account, told_of};
+use crate::audience::{Audience, tell_parts};
 use crate::judging::{Answer, judge_comparing, judge_schedules};
 use crate::lines::{count_text, push_always, push_broken};
 use crate::printed::{Printed, SearchAnswer};
 use crate::schedule_lines::push_scheduled;
 use crate::setup::{run_setup, setup_and_others};
+use crate::watching::judge_waiting;
 use std::alloc::{AllocError, Global};
-use stm_explore::{Budget, Explored, Observer, Wait, explore_waiting};
+use stm_explore::{Budget, Explored, Observer, RunnerEnd, Wait};
 use stm_history::Text;
 use stm_meaning::End;
 use stm_program::Program;
@@ -139,7 +137,7 @@ fn judge<O: Observer>(
     judge_schedules(alloc, world, others, keeps, budget)
 }
 
-/// The same, and it is said what that covers, where the rule is always kept or all is wanted.
+/// The same, and it is said what that covers.
 fn judge_and_tell<O: Audience>(
     alloc: Global,
     world: &World,
@@ -154,13 +152,38 @@ fn judge_and_tell<O: Audience>(
     ensures { IfOk result (IsAnswer keeps.now (record { world = world.now; others = others.now })) }
 {
     let answer = judge(alloc, world, others, programs, comparing, keeps, budget)?;
-    if budget.observer.wants_all() || verdict_of(&answer) == SearchAnswer::Kept {
-        tell_account(alloc, world, others, programs, keeps, &mut budget.observer);
-    }
+    let audience = &mut budget.observer;
+    let told = told_of(
+        audience.wants_all(),
+        verdict_of(&answer) == SearchAnswer::Kept,
+    );
+    tell_account(alloc, world, others, programs, keeps, told, audience);
     Ok(answer)
 }
 
-/// Whether a program keeps its rule after every schedule, once these events were run in a world, which start these programs.
+/// Whether a program keeps its rule after every schedule in which these runners wait, of whose ends this is known.
+fn judge_beside<O: Audience>(
+    alloc: Global,
+    world: &World,
+    others: &[WorldEvent],
+    ends: &[Option<RunnerEnd>],
+    programs: &[Program],
+    comparing: bool,
+    waits: &[Wait],
+    keeps: &Program,
+    budget: &mut Budget<O>,
+) -> Result<Answer, AllocError>
+    requires programs { AreProgramsOf programs.now world.now.runners }
+    requires comparing { comparing ≡ true → IsComparing (record { world = world.now; others = others.now }) }
+    ensures { IfOk result (IsFoundFrom waits.now keeps.now (record { world = world.now; others = others.now }) ends.now) }
+{
+    match waits {
+        [] => judge_and_tell(alloc, world, others, programs, comparing, keeps, budget),
+        [_, ..] => judge_waiting(alloc, world, others, ends, programs, waits, keeps, budget),
+    }
+}
+
+/// Whether a program keeps its rule after every schedule in which these runners wait, once these events were run in a world, which start these programs.
 fn explore_from<O: Audience>(
     alloc: Global,
     world: &mut World,
@@ -168,16 +191,21 @@ fn explore_from<O: Audience>(
     others: &[WorldEvent],
     programs: &[Program],
     comparing: bool,
+    waits: &[Wait],
     keeps: &Program,
     budget: &mut Budget<O>,
 ) -> Result<Answer, AllocError>
     requires programs { AreProgramsOf programs.now (world_after setup.now world.old).runners }
     requires comparing { comparing ≡ true → IsComparing (record { world = world_after setup.now world.old; others = others.now }) }
-    ensures { IfOk result (IsAnswer keeps.now (record { world = world_after setup.now world.old; others = others.now })) }
+    ensures { IfOk result (IsFoundFrom waits.now keeps.now (record { world = world_after setup.now world.old; others = others.now })
+        (after_replies (replies_to setup.now world.old) [])) }
 {
-    let _ends = run_setup(alloc, world, setup)?;
+    let ends = run_setup(alloc, world, setup)?;
     tell_parts(alloc, setup.len(), others.len(), &mut budget.observer);
-    judge_and_tell(alloc, world, others, programs, comparing, keeps, budget)
+    let known = ends.as_slice();
+    judge_beside(
+        alloc, world, others, known, programs, comparing, waits, keeps, budget,
+    )
 }
 
 /// The world of a scenario before its first event.
@@ -189,22 +217,23 @@ fn world_of(alloc: Global, scenario: &Scenario) -> Result<World, AllocError>
     Ok(world)
 }
 
-/// Whether a program keeps its rule after every schedule of a scenario whose runners have these programs.
+/// Whether a program keeps its rule after every schedule of a scenario in which these runners wait. The runners have these programs.
 fn explore_programs<O: Audience>(
     alloc: Global,
     scenario: &Scenario,
     programs: &[Program],
+    waits: &[Wait],
     keeps: &Program,
     budget: &mut Budget<O>,
 ) -> Result<Answer, AllocError>
     requires programs { AreProgramsOf programs.now (place_of scenario.now).world.runners }
-    ensures { IfOk result (IsAnswer keeps.now (place_of scenario.now)) }
+    ensures { IfOk result (IsFound waits.now keeps.now scenario.now) }
 {
     let (setup, others) = setup_and_others(scenario.events.as_slice());
     let comparing = are_orderly(scenario.events.as_slice());
     let mut world = world_of(alloc, scenario)?;
     let answer = explore_from(
-        alloc, &mut world, setup, others, programs, comparing, keeps, budget,
+        alloc, &mut world, setup, others, programs, comparing, waits, keeps, budget,
     );
     drop(world);
     answer
@@ -220,89 +249,21 @@ fn programs_of(alloc: Global, scenario: &Scenario) -> Result<Vec<Program>, Alloc
     Ok(programs)
 }
 
-/// Whether a program keeps its rule after every schedule of a scenario.
+/// Whether a program keeps its rule after every schedule of a scenario in which these runners wait.
 fn explore_scenario<O: Audience>(
     alloc: Global,
     scenario: &Scenario,
+    waits: &[Wait],
     keeps: &Program,
     budget: &mut Budget<O>,
 ) -> Result<Answer, AllocError>
     requires stepless { HaveNoStep scenario.now.events }
-    ensures { IfOk result (IsAnswer keeps.now (place_of scenario.now)) }
-{
-    let programs = programs_of(alloc, scenario)?;
-    let answer = explore_programs(alloc, scenario, programs.as_slice(), keeps, budget);
-    drop(programs);
-    answer
-}
-
-/// Whether a program keeps its rule after every schedule in which runners wait, once these events were run in a world.
-fn explore_waiting_from<O: Audience>(
-    alloc: Global,
-    world: &mut World,
-    setup: &[WorldEvent],
-    others: &[WorldEvent],
-    waits: &[Wait],
-    keeps: &Program,
-    budget: &mut Budget<O>,
-) -> Result<Explored, AllocError>
-    ensures { IfOk result (IsExploredPatiently waits.now keeps.now (record { world = world_after setup.now world.old; others = others.now })
-        (after_replies (replies_to setup.now world.old) [])) }
-{
-    let ends = run_setup(alloc, world, setup)?;
-    tell_parts(alloc, setup.len(), others.len(), &mut budget.observer);
-    let count = world.runner_count();
-    tell_strangers(alloc, waits, count, &mut budget.observer);
-    explore_waiting(alloc, world, others, ends.as_slice(), waits, keeps, budget)
-}
-
-/// Whether a program keeps its rule after every schedule of a scenario in which runners wait.
-fn explore_patiently<O: Audience>(
-    alloc: Global,
-    scenario: &Scenario,
-    waits: &[Wait],
-    keeps: &Program,
-    budget: &mut Budget<O>,
-) -> Result<Explored, AllocError>
-    ensures { IfOk result (IsExploredPatiently waits.now keeps.now (place_of scenario.now) (ends_of scenario.now)) }
-{
-    let (setup, others) = setup_and_others(scenario.events.as_slice());
-    let mut world = world_of(alloc, scenario)?;
-    let explored = explore_waiting_from(alloc, &mut world, setup, others, waits, keeps, budget);
-    drop(world);
-    explored
-}
-
-/// The same, as an answer.
-fn answer_patiently<O: Audience>(
-    alloc: Global,
-    scenario: &Scenario,
-    waits: &[Wait],
-    keeps: &Program,
-    budget: &mut Budget<O>,
-) -> Result<Answer, AllocError>
-    ensures { IfOk result (λ answer. (explored : ExploredValue) × (answer ≡ BySchedules explored)
-        × IsExploredPatiently waits.now keeps.now (place_of scenario.now) (ends_of scenario.now) explored) }
-{
-    let explored = explore_patiently(alloc, scenario, waits, keeps, budget)?;
-    Ok(Answer::BySchedules(explored))
-}
-
-/// What is known of a rule about a scenario in which these runners wait.
-fn answer_about<O: Audience>(
-    alloc: Global,
-    scenario: &Scenario,
-    waits: &[Wait],
-    keeps: &Program,
-    budget: &mut Budget<O>,
-) -> Result<Answer, AllocError>
-    requires { HaveNoStep scenario.now.events }
     ensures { IfOk result (IsFound waits.now keeps.now scenario.now) }
 {
-    match waits {
-        [] => explore_scenario(alloc, scenario, keeps, budget),
-        [_, ..] => answer_patiently(alloc, scenario, waits, keeps, budget),
-    }
+    let programs = programs_of(alloc, scenario)?;
+    let answer = explore_programs(alloc, scenario, programs.as_slice(), waits, keeps, budget);
+    drop(programs);
+    answer
 }
 
 /// What is printed of a search about a scenario in which these runners wait.
@@ -316,6 +277,6 @@ pub(crate) fn search<O: Audience>(
     requires stepless { HaveNoStep scenario.now.events }
     ensures { IfOk result (IsPrinted waits.now scenario.now keeps.now) }
 {
-    let answer = answer_about(alloc, scenario, waits, keeps, budget)?;
+    let answer = explore_scenario(alloc, scenario, waits, keeps, budget)?;
     print(alloc, scenario, &answer)
 }

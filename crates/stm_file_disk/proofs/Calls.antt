@@ -1,11 +1,11 @@
 -- Calls in their order, and what a call that was not made leaves.
-use Rattle.std.proofs.Common.{◌≡◌, ◌⊎◌, ◌≤◌, ◌<◌, ℕ, ◌+◌, suc, max, List, [], ◌∷◌, ◌++◌, map, reverse, length, take, drop, Result, Ok, Err, refl, sym, ap, subst, inl, inr, arith, take_all}
+use Rattle.std.proofs.Common.{◌≡◌, ◌⊎◌, ℕ, ◌+◌, List, [], ◌∷◌, ◌++◌, map, length, Result, Ok, Err, refl, sym, ap, subst, inl, arith, take_all}
 use Rattle.std.proofs.lemmas.List.{reverse-append}
 use Rattle.stm_records.specs.Disk.{Elapses, Follows, Torn, Cut, HasCause}
 use Rattle.stm_records.specs.declared.fault.DiskFault.{DiskFault}
 use Rattle.stm_records.specs.declared.fault.DiskFault.TheVariants.{OutOfMemory, Failed, Full, Damaged}
 use Rattle.stm_file_disk.specs.declared.call.Call.{Call}
-use Rattle.stm_file_disk.specs.Event.{Event, event_of, events_of}
+use Rattle.stm_file_disk.specs.Event.{event_of, events_of}
 use Rattle.stm_file_disk.specs.Replay.{replay, LeftSince}
 
 -- the call that was kept last is the newest

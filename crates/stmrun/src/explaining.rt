@@ -15,7 +15,7 @@ use stm_explain::is_hidden;
 use stm_exploring::{Level, Wait, explore_explained_to, outcomes_explained_to};
 
 /// Whether a path has a character that does something to a terminal.
-fn has_hidden(path: &str) -> bool {
+pub(crate) fn has_hidden(path: &str) -> bool {
     path.chars().any(is_hidden)
 }
 

@@ -10,30 +10,37 @@ mod explaining;
 mod files;
 mod noting;
 mod sources;
+mod storing;
 mod terminals;
 mod threading;
+mod waits;
 
 use explaining::{name_of, say_unread, say_unwritten};
 use files::open;
 use noting::Noting;
 use sources::{ScenarioFile, run_compile, scenario_at};
+use std::alloc::{AllocError, Global};
 use std::process::ExitCode;
 use std::sync::Wait;
 use std::thread::Threads;
 use stm_arguments::{
-    Asked, PlainWords, asked_of, plain_words, print_topic, read_level, read_words, refuse_waits,
-    topic_of,
+    Asked, CutWords, PlainWords, asked_of, cut_words, plain_words, print_topic, read_level,
+    read_words, topic_of,
 };
 use stm_commands::{Format, RecipeWords, Shown, Std, no_format_to};
 pub use stm_commands::{
     check_explained_to, check_to, check_whole_explained_to, check_whole_to, recipe_to,
     script_as_to, script_explained_to, script_to, show_to,
 };
-use stm_exploring::{Level, Wait as RunnerWait, waits_in};
+use stm_compiling::Part;
+use stm_exploring::{Level, Wait as RunnerWait};
 pub use stm_exploring::{explore_explained_to, explore_to, outcomes_explained_to, outcomes_to};
+use stm_store_arguments::is_of_store;
 pub use stm_threading::{threads_as_to, threads_to};
+use storing::run_stored;
 use terminals::{close, is_shown, shown_budget};
 use threading::{printing_of, run_threads};
+use waits::read_waits;
 
 /// The path of an input that may be named: that of standard input where it is not.
 fn path_of(named: Option<&str>) -> &str {
@@ -156,28 +163,6 @@ fn run_outcomes(
     status
 }
 
-/// The waits that are spelled, none where nothing is; or the status where they are spelled wrongly, or there is no rule to look for.
-fn read_waits(
-    rt: &HostRuntime,
-    after: Option<&str>,
-    has_rule: bool,
-) -> Result<Vec<RunnerWait>, u8> {
-    let Some(text) = after else {
-        return Ok(Vec::new(rt.alloc()));
-    };
-    if !has_rule {
-        return Err(refuse_waits(rt));
-    }
-    match waits_in(rt.alloc(), text) {
-        Ok(Some(waits)) => Ok(waits),
-        Ok(None) => Err(refuse_waits(rt)),
-        Err(_) => {
-            let _ = rt.eprintln("stmrun: out of memory");
-            Err(3)
-        }
-    }
-}
-
 /// Looks through the interleavings of a scenario, for one that breaks a rule, where there is one, or for what they come to.
 fn search(
     rt: &HostRuntime,
@@ -261,13 +246,26 @@ fn run_show(rt: &HostRuntime, path: &str, program: bool, is_silent: bool) -> u8 
     status
 }
 
+/// What of a source is printed: the program of a name with these words as its arguments, or its scenario, where no program is named.
+fn part_of<'a>(program: Option<&'a str>, words: &'a [String]) -> Part<'a> {
+    match program {
+        Some(name) => Part::Program { name, words },
+        None => Part::Scenario,
+    }
+}
+
 /// Whether faults are explained: where they are to be, or where standard error is a terminal, unless they are not to be.
 fn is_explained(rt: &HostRuntime, is_silent: bool, explain: bool) -> bool {
     !is_silent && (explain || is_shown(rt))
 }
 
-/// Does what these words ask for, and gives the status. A run of jobs starts threads and waits for them.
-fn answer<T: Threads + Wait + Sync>(rt: &HostRuntime, threads: &T, plain: &PlainWords) -> u8 {
+/// Does what these words ask for, with the arguments behind them, and gives the status. A run of jobs starts threads and waits for them.
+fn answer<T: Threads + Wait + Sync>(
+    rt: &HostRuntime,
+    threads: &T,
+    plain: &PlainWords,
+    arguments: &[String],
+) -> u8 {
     let is_silent = plain.is_silent;
     match asked_of(rt, rt.alloc(), plain.words.as_slice()) {
         Asked::Script {
@@ -311,12 +309,23 @@ fn answer<T: Threads + Wait + Sync>(rt: &HostRuntime, threads: &T, plain: &Plain
             run_explore(rt, scenario, keeps, level, after, budget, explain)
         }
         Asked::Show { input, program } => run_show(rt, path_of(input), program, is_silent),
-        Asked::Compile { source, explain } => {
+        Asked::Compile {
+            source,
+            program,
+            explain,
+        } => {
             let explain = is_explained(rt, is_silent, explain);
-            run_compile(rt, path_of(source), explain)
+            run_compile(rt, path_of(source), part_of(program, arguments), explain)
         }
         Asked::Nothing(status) => status,
     }
+}
+
+/// The words of a command line as they are read, and the arguments behind them of a program that is compiled. It fails where an allocation failed.
+fn plain_of(alloc: Global, words: Vec<String>) -> Result<(PlainWords, Vec<String>), AllocError> {
+    let CutWords { words, arguments } = cut_words(words)?;
+    let plain = plain_words(alloc, words)?;
+    Ok((plain, arguments))
 }
 
 /// Does what the command line asks for, and gives the status.
@@ -325,14 +334,19 @@ fn run<T: Threads + Wait + Sync>(rt: &HostRuntime, threads: &T) -> u8 {
         Ok(words) => words,
         Err(status) => return status,
     };
+    if is_of_store(words.as_slice()) {
+        return run_stored(rt, words.as_slice());
+    }
     if let Some(topic) = topic_of(words.as_slice()) {
         return print_topic(rt, topic);
     }
-    let Ok(plain) = plain_words(rt.alloc(), words) else {
-        let _ = rt.eprintln("stmrun: out of memory");
-        return 3;
-    };
-    answer(rt, threads, &plain)
+    match plain_of(rt.alloc(), words) {
+        Ok((plain, arguments)) => answer(rt, threads, &plain, arguments.as_slice()),
+        Err(_) => {
+            let _ = rt.eprintln("stmrun: out of memory");
+            3
+        }
+    }
 }
 
 fn main(rt: HostRuntime) -> ExitCode {

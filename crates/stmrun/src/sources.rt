@@ -7,7 +7,7 @@ use crate::noting::Noting;
 use std::io::Input;
 use std::rt::Files;
 use stm_commands::Std;
-use stm_compiling::{compile_to, compiled};
+use stm_compiling::{Part, compile_to, compiled};
 use stm_history::Text;
 
 /// What the names of sources end in.
@@ -33,6 +33,7 @@ fn compiled_line(rt: &HostRuntime, path: &str, explain: bool) -> Result<Text, u8
     let mut err = Std::new(rt.stderr());
     let line = compiled(
         rt.alloc(),
+        Part::Scenario,
         explained_name(path, explain),
         &mut input,
         &mut err,
@@ -81,13 +82,14 @@ impl ScenarioFile<'_> {
     }
 }
 
-/// Prints the scenario of a path's source. A fault is explained, or is not.
-pub(crate) fn run_compile(rt: &HostRuntime, path: &str, explain: bool) -> u8 {
+/// Prints a part of a path's source. A fault is explained, or is not.
+pub(crate) fn run_compile(rt: &HostRuntime, path: &str, part: Part<'_>, explain: bool) -> u8 {
     let mut input = Std::new(Noting::new(open(rt, path)));
     let mut out = Std::new(Noting::new(rt.stdout()));
     let mut err = Std::new(rt.stderr());
     let status = compile_to(
         rt.alloc(),
+        part,
         explained_name(path, explain),
         &mut input,
         &mut out,

@@ -1,4 +1,4 @@
-use Rattle.std.proofs.Common.{◌≡◌, ◌∙◌, ap}
+use Rattle.std.proofs.Common.{◌∙◌, ap}
 use Rattle.std.proofs.lemmas.Result.{IfOk-weaker}
 use Rattle.clap.specs.Words.{AddsSubcommand, App, with_subcommand}
 use Rattle.stm_arguments.specs.CommandLine.{check_app, compile_app, explore_app, recipe_app, script_app, show_app, threads_app}

@@ -1,4 +1,4 @@
-use Rattle.std.proofs.Common.{◌≡◌, ◌∙◌, ◌∷◌, ℕ, List, [], fold, length, map, string_bytes, refl, sym, ap, arith}
+use Rattle.std.proofs.Common.{◌≡◌, ◌∙◌, ◌∷◌, List, [], fold, length, map, string_bytes, refl, sym, ap, arith}
 use Rattle.std.specs.Vec.Iter.{into_iter_items}
 use Rattle.stm_arguments.specs.Wording.{seen, taken}
 use Rattle.stm_arguments.proofs.plain.plain_words.Goals as goal

@@ -1,11 +1,12 @@
 use Rattle.std.proofs.Common.{◌≡◌, List, refl, subst}
 use Rattle.std.specs.Prelude.{IfOk}
 use Rattle.stm_events.specs.declared.event.WorldEvent.{WorldEvent}
+use Rattle.stm_schedules.specs.Outcomes.{Ends}
 use Rattle.stm_schedules.specs.Places.{Place}
 use Rattle.stm_texts.specs.declared.scenario.Scenario.{Scenario}
-use Rattle.stm_exploring.specs.Asking.{opening_of, place_of}
-use Rattle.stm_exploring.specs.Judging.{IsAnswer}
-use Rattle.stm_exploring.proofs.PlaceLemmas.{placed, placed_is, programs_placed, comparing_placed}
+use Rattle.stm_exploring.specs.Asking.{opening_of, place_of, ends_of}
+use Rattle.stm_exploring.specs.Judging.{IsFoundFrom}
+use Rattle.stm_exploring.proofs.PlaceLemmas.{placed, placed_is, ends_are, programs_placed, comparing_placed}
 use Rattle.stm_exploring.proofs.searching.explore_programs.Goals as goal
 
 pub explore_from-answer-requires : goal.explore_from-answer-requires
@@ -30,4 +31,8 @@ returns g c =
     let at : placed setup others c.in_ok-world.world ≡ place_of s =
     placed_is s setup others c.as_slice.result.now (opening_of s) c.in_ok-world.world c.setup_and_others.ensures.setup c.setup_and_others.ensures.others
     c.as_slice.ensures c.in_ok-world.ensures refl in
-    subst (λ (p : Place). IfOk c.explore_from-answer.result (IsAnswer c.args.keeps.now p)) at c.explore_from-answer.ensures
+    let ends = ends_are s setup c.as_slice.result.now (opening_of s) c.in_ok-world.world c.setup_and_others.ensures.setup c.as_slice.ensures
+    c.in_ok-world.ensures refl in
+    let found = IsFoundFrom c.args.waits.now c.args.keeps.now in
+    subst (λ (p : Place). IfOk c.explore_from-answer.result (found p (ends_of s))) at
+    (subst (λ (e : Ends). IfOk c.explore_from-answer.result (found (placed setup others c.in_ok-world.world) e)) ends c.explore_from-answer.ensures)

@@ -1,0 +1,36 @@
+-- Where the arguments of a program begin, by the words of which a command line has the texts.
+use Rattle.std.proofs.Common.{◌≡◌, ◌+◌, ◌-◌, take_all, ◌<◌, ◌≤◌, ℕ, suc, List, [], ◌∷◌, ◌∙◌, length, map, take, drop, slice_index_or, true, false, bytes_eq, codes, refl, sym, ap, ap₂, subst, arith}
+use Rattle.std.proofs.lemmas.List.{take-map, drop-map, length-drop, length-map}
+use Rattle.stm_arguments.specs.Cutting.{before_arguments, cut, up_to_name, up_to_place}
+
+pub behind : {A : Type 0} (words : List A) (file : ℕ) → take (length words - file) (drop file words) ≡ drop file words
+behind words file = take_all (length words - file) (drop file words) (let short = length-drop file words in omega (arith, short))
+
+module _ {A : Type 0} (text : A → List ℕ) where
+  pub named : (words : List A) (file : ℕ) → file ≡ up_to_place (map text words) → file + up_to_place (map text (drop file words)) ≡ up_to_name (map text words)
+  named words file is =
+      ap (λ rest. file + up_to_place rest) (sym (drop-map text file words))
+      ∙ subst (λ (n : ℕ). n + up_to_place (drop n (map text words)) ≡ up_to_name (map text words)) (sym is) refl
+
+  pub fewer : (words : List A) → length words < 2 → before_arguments (map text words) ≡ length words
+  fewer [] few = refl
+  fewer (a ∷ []) few = refl
+  fewer (a ∷ (b ∷ rest)) few = absurd (omega (arith, few))
+
+  pub compiled : (words : List A) (d : A) → 2 ≤ length words → bytes_eq (text (slice_index_or words 1 d)) (codes "compile") ≡ true
+      → before_arguments (map text words) ≡ 2 + up_to_name (map text (drop 2 words))
+  compiled [] d two is = absurd (omega (arith, two))
+  compiled (a ∷ []) d two is = absurd (omega (arith, two))
+  compiled (a ∷ (b ∷ rest)) d two is = rw is refl
+
+  pub other : (words : List A) (d : A) → 2 ≤ length words → bytes_eq (text (slice_index_or words 1 d)) (codes "compile") ≡ false
+      → before_arguments (map text words) ≡ length words
+  other [] d two is = absurd (omega (arith, two))
+  other (a ∷ []) d two is = absurd (omega (arith, two))
+  other (a ∷ (b ∷ rest)) d two is = rw is (ap (λ (n : ℕ). suc (suc n)) (length-map rest text))
+
+  pub halves : (words : List A) (count : ℕ) → count ≡ before_arguments (map text words) → (front back : List A) → front ≡ take count words → back ≡ drop count words
+      → (map text front, map text back) ≡ cut (map text words)
+  halves words count is front back front_is back_is =
+      ap₂ (λ (x y : List (List ℕ)). (x, y)) (ap (map text) front_is ∙ sym (take-map text count words)) (ap (map text) back_is ∙ sym (drop-map text count words))
+      ∙ subst (λ (n : ℕ). (take n (map text words), drop n (map text words)) ≡ cut (map text words)) (sym is) refl

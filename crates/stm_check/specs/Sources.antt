@@ -47,8 +47,8 @@ pub record Sources : Type 0 where
 abbrev pub NoneFailed : Sources → Type 0
 NoneFailed d = (d.scenario_failed ≡ false) × (d.report_failed ≡ false)
 
--- What a check of two sources did, by its answer. The scenario is read and judged before the report. A failed source is
--- answered exactly where one has failed.
+-- What a check of two sources did, by its answer. The scenario is read and judged before the report, so that a report which cannot be read is
+-- answered only beside a good scenario. A failed source is answered exactly where one has failed.
 abbrev pub Judges : Sources → Result Checked CheckFault → Type 0
 Judges d (Ok checked) =
     NoneFailed d × (s : Scenario) × (r : Report) × IfSome d.scenario (λ all. scenario_in all ≡ Ok s)
@@ -57,4 +57,6 @@ Judges d (Err OutOfMemory) = NoneFailed d
 Judges d (Err (BadScenario fault)) = NoneFailed d × IfSome d.scenario (λ all. scenario_in all ≡ Err fault)
 Judges d (Err (BadReport fault)) =
     NoneFailed d × (s : Scenario) × IfSome d.scenario (λ all. scenario_in all ≡ Ok s) × IfSome d.report (λ all. report_in all ≡ Err fault)
-Judges d (Err Device) = (d.scenario_failed ≡ true) ⊎ ((d.scenario_failed ≡ false) × (d.report_failed ≡ true))
+Judges d (Err Device) =
+    (d.scenario_failed ≡ true)
+    ⊎ ((d.scenario_failed ≡ false) × (d.report_failed ≡ true) × (s : Scenario) × IfSome d.scenario (λ all. scenario_in all ≡ Ok s))

@@ -19,16 +19,36 @@ pub(crate) fn said_of_function(name: &str) -> &'static str {
     }
 }
 
+/// Whether a name stands among those of the runners that a start waits for.
+fn is_awaited(spot: Spot<'_>) -> bool {
+    for token in spot.before.iter().rev() {
+        if token.kind.is_named("after") {
+            return true;
+        }
+        if token.kind.is_named("as") || token.kind.is_named("start") {
+            return false;
+        }
+    }
+    false
+}
+
+/// Whether a name is to be given to a program, or to what stands beside the starts.
+fn is_of_a_program(spot: Spot<'_>) -> bool {
+    spot.is_behind_word(0, Word::Program)
+        || spot.is_behind_word(0, Word::Rule)
+        || spot.is_behind_word(0, Word::Finally)
+}
+
 /// What is said of a name that stands outside of programs.
 fn said_in_event(spot: Spot<'_>) -> &'static str {
-    if spot.is_behind(0, "start") {
+    if spot.is_behind(0, "start") || spot.is_behind_symbol(0, Symbol::Assign) {
         return "is no program above: program NAME(PARAMETER, ..) { .. } stands before what starts it";
     }
-    if spot.event() == Some(Event::Step) {
-        return "is no runner above: a runner has the name that its start gives it by as NAME, or its number";
+    if is_of_a_program(spot) {
+        return "cannot be given here: another one has this name, or it is one of v0 to v15";
     }
-    if spot.is_behind_word(0, Word::Program) {
-        return "cannot be given here: another program has this name, or it is one of v0 to v15";
+    if spot.event() == Some(Event::Step) || is_awaited(spot) {
+        return "is no runner above: a runner has the name that its start gives it by as NAME, or its number";
     }
     "cannot be given here: another runner has this name"
 }

@@ -9,5 +9,6 @@ pub mod ShownLemmas
 pub mod LeaseLog
 pub mod SameRevisions
 pub mod AlikeStores
+pub mod FirstSteps
 pub mod PatientSchedules
 pub mod WaitingPlaces

@@ -1,15 +1,18 @@
 //! The places of a scenario, with what they show where no move can be made.
-ghost use Rattle.std.specs.Prelude.{◌≡◌, true, IfOk, OnOk};
+ghost use Rattle.std.specs.Prelude.{◌≡◌, [], ◌∷◌, true, IfOk, IfSome, OnOk};
+ghost use Rattle.stm_retry.specs.AtBase.{NextIsAtBase};
+ghost use Rattle.stm_schedules.specs.declared.moves.Move.TheVariants.{Step as StepOf};
 ghost use Rattle.stm_explore.specs.Spots.{outcome_steps, ShowTheSame};
 ghost use Rattle.stm_explore.specs.AlikeSpots.{outcomes_respected};
 
 use crate::alike::{hint_of, is_alike};
 use crate::ends::{are_same_ends, copy_of_ends};
-use crate::moving::{moves_at, rest_of, taken_after};
+use crate::moving::{find_at_base, moves_at, rest_of, taken_after};
 use crate::places::{ReportedPlace, WorldPlace};
 use crate::reporting::describe_move;
 use std::alloc::{AllocError, Global};
 use stm_history::Sequence;
+use stm_retry::SharedWorld;
 use stm_schedules::{Move, Outcome};
 use stm_visited::System;
 use stm_world::WorldEvent;
@@ -19,6 +22,29 @@ use stm_world::WorldEvent;
 pub(crate) struct Gathered<'a> {
     pub(crate) alloc: Global,
     pub(crate) others: &'a [WorldEvent],
+}
+
+/// A runner whose step is enough, if one is known: it fetches a key at the base of its attempt, and the others have nothing left to bring.
+fn first_of(world: &SharedWorld, rest: &[WorldEvent]) -> Option<u64>
+    ensures none_left { IfSome result (λ id. rest.now ≡ []) }
+    ensures at_base { IfSome result (λ id. NextIsAtBase id world.now) }
+{
+    match rest {
+        [] => {
+            let runner = find_at_base(world)?;
+            Some(runner)
+        }
+        _ => None,
+    }
+}
+
+/// The step of a runner, and no other move.
+fn step_alone(alloc: Global, runner: u64) -> Result<Vec<Move>, AllocError>
+    ensures { IfOk result (λ few. few.items ≡ StepOf runner ∷ []) }
+{
+    let mut few = Vec::with_capacity(alloc, 1)?;
+    few.push(Move::Step { runner })?;
+    Ok(few)
 }
 
 impl<'a> System for Gathered<'a> {
@@ -38,6 +64,14 @@ impl<'a> System for Gathered<'a> {
             &place.at.world,
             rest_of(self.others, place.at.taken),
         )
+    }
+
+    fn enough(&self, place: &ReportedPlace) -> Result<Vec<Move>, AllocError> {
+        let rest = rest_of(self.others, place.at.taken);
+        match first_of(&place.at.world, rest) {
+            None => moves_at(self.alloc, &place.at.world, rest),
+            Some(runner) => step_alone(self.alloc, runner),
+        }
     }
 
     fn moved(&self, place: &ReportedPlace, chosen: Move) -> Result<ReportedPlace, AllocError> {

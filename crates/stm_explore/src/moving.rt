@@ -1,11 +1,12 @@
 //! Moves from a place: which can be made, and where each leads to.
-ghost use Rattle.std.specs.Prelude.{◌≡◌, true, drop, IfOk};
+ghost use Rattle.std.specs.Prelude.{◌≡◌, true, drop, IfOk, IfSome};
 ghost use Rattle.std.specs.List.{list_any};
 ghost use Rattle.stm_events.specs.declared.event.WorldEvent.TheVariants.{Step};
 ghost use Rattle.stm_world.specs.World.{step, world_after};
 ghost use Rattle.stm_schedules.specs.declared.moves.Move.TheVariants.{Other};
 ghost use Rattle.stm_schedules.specs.Places.{moves, event_of};
 ghost use Rattle.stm_retry.specs.Returns.{IsStep};
+ghost use Rattle.stm_retry.specs.AtBase.{NextIsAtBase};
 ghost use Rattle.stm_explore.specs.Spots.{taken_after};
 
 use std::alloc::{AllocError, Global};
@@ -32,6 +33,19 @@ pub(crate) fn moves_at(
         left.push(Move::Other)?;
     }
     Ok(left)
+}
+
+/// A runner whose next step fetches a key at the base of its attempt, if one is known.
+pub(crate) fn find_at_base(world: &SharedWorld) -> Option<u64>
+    ensures { IfSome result (λ id. NextIsAtBase id world.now) }
+{
+    for index in 0..world.runner_count() {
+        let runner = index as u64 + 1;
+        if world.fetches_at_base(runner) {
+            return Some(runner);
+        }
+    }
+    None
 }
 
 /// Whether there is a move among these.

@@ -54,10 +54,12 @@ abbrev pub IsExpected : Sources → List ℕ → Type 0
 IsExpected d report = IfSome d.scenario (λ all. IsReportOf (scenario_in all) report)
 
 -- What a check of a whole report did, by its answer: a comparison of the text with the report that a script writes of the scenario. The scenario
--- is read and judged before the text. A failed source is answered exactly where one has failed.
+-- is read and judged before the text, so that a text which cannot be read is answered only beside a good scenario. A failed source is answered
+-- exactly where one has failed.
 abbrev pub Judges : Sources → Result WholeChecked CheckFault → Type 0
 Judges d (Err OutOfMemory) = NoneFailed d
 Judges d (Err (BadScenario fault)) = NoneFailed d × IfSome d.scenario (λ all. scenario_in all ≡ Err fault)
-Judges d (Err Device) = (d.scenario_failed ≡ true) ⊎ ((d.scenario_failed ≡ false) × (d.report_failed ≡ true))
+Judges d (Err Device) =
+    (d.scenario_failed ≡ true) ⊎ ((d.scenario_failed ≡ false) × (d.report_failed ≡ true) × (report : List ℕ) × IsExpected d report)
 Judges d result =
     NoneFailed d × ((report : List ℕ) × IsExpected d report × IfSome d.report (λ all. JudgesText report all result))

@@ -13,10 +13,12 @@ use Rattle.stm_world.proofs.Sound.{step_is_sound}
 use Rattle.stm_events.specs.declared.event.WorldEvent.{WorldEvent}
 use Rattle.stm_retry.specs.Returns.{IsStep, OutOfMemoryReturns, Returns, is_out_of_memory, ran_out}
 use Rattle.stm_retry.proofs.WorldLemmas.{refusal_cases}
+use Rattle.stm_retry.specs.Quiet.{is_commit}
 use Rattle.stm_retry.specs.Kept.{whole_world, IsKeptBy, BasesAreReached}
 use Rattle.stm_retry.specs.WorldOf.{world_of, with_places}
 use Rattle.stm_retry.specs.declared.step_outcome.StepOutcome.{StepOutcome}
 use Rattle.stm_retry.specs.RunnerReturns.{workplace, Leaves, reply_in, slot_after}
+use Rattle.stm_retry.proofs.StepDoes.{quiet_keeps}
 use Rattle.stm_retry.proofs.StepLemmas.{outcome_reports}
 use Rattle.stm_retry.proofs.KeptWorlds.{step_leaves, bases_are_reached}
 
@@ -85,3 +87,26 @@ pub quiet_is_sound : (id : ℕ) (w : World) (o : Option Reply) (reply : Reply) (
 quiet_is_sound id w o reply old new is sound made =
     stepped_is_sound id reply (with_places old w) (with_places new w) sound
     (subst (λ (p : Option Reply). IfSome p (λ reply. IsStep (step (Step id) (with_places old w)) (Ok reply) (with_places new w))) is made)
+
+-- ---- after a step that does not commit
+
+-- the world after it shares the store
+pub shares : (id : ℕ) (event : WorldEvent) (w next : World) (reply : Result Reply Denied) → event ≡ Step id → IsStep (step event w) reply next → is_commit reply ≡ false →
+    next ≡ with_places next.runners w
+shares id event w next reply is made quiet =
+    let step_made : IsStep (step (Step id) w) reply next = subst (λ (e : WorldEvent). IsStep (step e w) reply next) is made in
+    sym step_made.next_is ∙ quiet_keeps id w (ap is_commit step_made.reply_is ∙ quiet) ∙ ap (λ (v : World). with_places v.runners w) step_made.next_is
+
+pub shared_is_sound : (id : ℕ) (event : WorldEvent) (w next : World) (reply : Result Reply Denied) → event ≡ Step id → IsSound w → IsStep (step event w) reply next →
+    is_commit reply ≡ false → IsSound (with_places next.runners w)
+shared_is_sound id event w next reply is sound made quiet =
+    subst IsSound (made.next_is ∙ shares id event w next reply is made quiet) (step_is_sound event w sound)
+
+pub shared_step : (id : ℕ) (event : WorldEvent) (w next shared : World) (reply : Result Reply Denied) → event ≡ Step id → IsStep (step event w) reply next →
+    is_commit reply ≡ false → shared ≡ with_places next.runners w → IsStep (step event w) reply shared
+shared_step id event w next shared reply is made quiet with_runners =
+    record { reply_is = made.reply_is; next_is = made.next_is ∙ shares id event w next reply is made quiet ∙ sym with_runners }
+
+-- a world that has the runners of another
+pub other_places : (base w : World) (here places : List Slot) → with_places here base ≡ w → with_places places w ≡ with_places places base
+other_places base w here places is = ap (with_places places) (sym is)

@@ -5,5 +5,7 @@ pub mod CallReturns
 pub mod StepReturns
 pub mod Kept
 pub mod RunnerView
+pub mod AtBase
+pub mod Quiet
 pub mod RunnerReturns
 pub use Rattle.stm_journal.specs.StateOf

@@ -5,6 +5,7 @@
 //! transaction: the fetch of its program's list or of the key that it wants, or its commit.
 #![tactic(auto)]
 
+mod ahead;
 mod alike;
 mod copies;
 mod kept_world;

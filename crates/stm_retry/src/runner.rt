@@ -11,7 +11,9 @@ ghost use Rattle.stm_attempt.specs.AttemptState.{begun};
 ghost use Rattle.stm_attempt.specs.Next.{key_asked, list_asked};
 ghost use Rattle.stm_world.specs.World.{begin};
 ghost use Rattle.stm_retry.specs.RunnerView.{task_of, AreNamed, next_for, with_answer, with_answers, begun_again};
+ghost use Rattle.stm_retry.specs.AtBase.{IsAhead};
 
+use crate::ahead::{Ahead, ahead_of};
 use crate::alike::{is_same_level, is_same_program, mix};
 use std::alloc::{AllocError, Global};
 use std::marker::Model;
@@ -133,6 +135,17 @@ impl Runner {
         // No key of a list is empty.
         self.program.prefetch();
         self.attempt.advance(&self.program)
+    }
+
+    /// Looks at the next step: the program goes on as far as the answers take it. The runner is the same.
+    ///
+    /// Out of memory is the only refusal.
+    pub(crate) fn look_ahead(&mut self) -> Result<Ahead, AllocError>
+        ensures same { self.new.runner ≡ self.old.runner }
+        ensures ahead { IfOk result (λ ahead. IsAhead ahead self.old.runner) }
+    {
+        let next = self.attempt.advance(&self.program)?;
+        Ok(ahead_of(&next, self.attempt.reads()))
     }
 
     /// Takes the answer that the runner waits for.

@@ -353,21 +353,27 @@ pub(crate) fn step_live_quietly(
     }
 }
 
-/// Puts a runner back after its step, or notes the end of its run, and returns the reply.
-fn put_back(runners: &mut Vec<Slot>, id: u64, outcome: StepOutcome, runner: SharedRunner) -> Reply
+/// Puts a runner back after its step, or notes the end of its run, and returns the reply. One that goes on looks at its next step.
+fn put_back(
+    runners: &mut Vec<Slot>,
+    id: u64,
+    outcome: StepOutcome,
+    mut runner: SharedRunner,
+) -> Result<Reply, AllocError>
     requires { (0 < id) × (id ≤ vec_len runners.old) }
-    ensures slots { runners.new.items ≡ with_slot id (slot_after outcome runner.runner) runners.old.items }
-    ensures reply { result ≡ reply_in outcome }
+    ensures slots { OnOk result (runners.new.items ≡ with_slot id (slot_after outcome runner.runner) runners.old.items) }
+    ensures reply { IfOk result (λ reply. reply ≡ reply_in outcome) }
 {
     match outcome {
         StepOutcome::GoesOn(reply) => {
+            runner.look_ahead()?;
             put_slot(runners, id, Slot::live(runner));
-            reply
+            Ok(reply)
         }
         StepOutcome::Ends(reply) => {
             drop(runner);
             put_slot(runners, id, Slot::over());
-            reply
+            Ok(reply)
         }
     }
 }
@@ -392,7 +398,10 @@ fn step_among(
             drop(runner);
             Ok(None)
         }
-        Some(outcome) => Ok(Some(put_back(runners, id, outcome, runner))),
+        Some(outcome) => {
+            let reply = put_back(runners, id, outcome, runner)?;
+            Ok(Some(reply))
+        }
     }
 }
 

@@ -5,7 +5,9 @@ ghost use Rattle.stm_history.specs.History.{now};
 ghost use Rattle.stm_attempt.specs.Fetches.{at_of};
 ghost use Rattle.stm_world.specs.World.{step_live};
 ghost use Rattle.stm_retry.specs.RunnerReturns.{workplace, Leaves};
+ghost use Rattle.stm_retry.specs.AtBase.{FetchesAtBase};
 
+use crate::ahead::Ahead;
 use crate::runner::Runner;
 use crate::runner_steps::{step_live, step_live_quietly};
 use crate::step_outcome::StepOutcome;
@@ -20,6 +22,8 @@ use stm_journal::Journal;
 #[derive(Drop)]
 pub(crate) struct SharedRunner {
     runner: Arc<Runner>,
+    /// What is known of its next step.
+    ahead: Ahead,
 }
 
 impl Model for SharedRunner {
@@ -32,6 +36,10 @@ impl Model for SharedRunner {
     ghost coded = { Prim.hlevel (codes, coded_program) };
 
     ghost view = { λ s. s.runner.value };
+
+    ghost use Rattle.stm_retry.specs.AtBase.{IsAhead};
+
+    ghost invariant = { λ s. IsAhead s.ahead s.runner.value.runner };
 }
 
 impl SharedRunner {
@@ -51,7 +59,10 @@ impl SharedRunner {
         ensures { IfOk result (λ s. s ≡ runner) }
     {
         let runner = Arc::new(alloc, runner)?;
-        Ok(SharedRunner { runner })
+        Ok(SharedRunner {
+            runner,
+            ahead: Ahead::Unknown,
+        })
     }
 
     /// Makes one step of the runner. A runner with other owners is copied first, and they keep it as it was.
@@ -65,6 +76,7 @@ impl SharedRunner {
         ensures { Leaves id result (workplace journal.old self.old.runner)
             (workplace journal.new self.new.runner) (step_live id self.old.runner) }
     {
+        self.ahead = Ahead::Unknown;
         match Arc::make_mut(&mut self.runner) {
             Ok(runner) => step_live(alloc, journal, id, runner),
             Err(error) => Err(error),
@@ -82,10 +94,36 @@ impl SharedRunner {
         ensures { IfOk result (λ o. IfSome o (λ outcome. Leaves id (Ok outcome) (workplace journal.now self.old.runner)
             (workplace journal.now self.new.runner) (step_live id self.old.runner))) }
     {
+        self.ahead = Ahead::Unknown;
         match Arc::make_mut(&mut self.runner) {
             Ok(runner) => step_live_quietly(alloc, journal, id, runner),
             Err(error) => Err(error),
         }
+    }
+
+    /// Looks at the next step of the runner, which stays as it is. A runner with other owners is copied first.
+    pub(crate) fn look_ahead(&mut self) -> Result<(), AllocError>
+        ensures { self.new.runner ≡ self.old.runner }
+    {
+        self.ahead = Ahead::Unknown;
+        let ahead = match Arc::make_mut(&mut self.runner) {
+            Ok(runner) => runner.look_ahead()?,
+            Err(error) => return Err(error),
+        };
+        self.ahead = ahead;
+        Ok(())
+    }
+
+    /// Whether the next step is known to fetch a key at the base of the attempt.
+    pub(crate) fn fetches_at_base(&self) -> bool
+        ensures { result ≡ true → FetchesAtBase self.now.runner }
+    {
+        self.ahead == Ahead::FetchesAtBase
+    }
+
+    /// Whether the next step is known to send the commit. No contract says so.
+    pub(crate) fn commits(&self) -> bool {
+        self.ahead == Ahead::Commits
     }
 }
 
@@ -95,6 +133,9 @@ impl Clone for SharedRunner {
 
     fn clone(&self) -> Result<SharedRunner, AllocError> {
         let runner = self.runner.clone()?;
-        Ok(SharedRunner { runner })
+        Ok(SharedRunner {
+            runner,
+            ahead: self.ahead,
+        })
     }
 }

@@ -11,10 +11,12 @@ ghost use Rattle.stm_world.specs.Sound.{IsSound};
 ghost use Rattle.stm_world.specs.World.{runner_at, step};
 ghost use Rattle.stm_retry.specs.Returns.{IsStep};
 ghost use Rattle.stm_retry.specs.WorldOf.{with_places};
+ghost use Rattle.stm_retry.specs.AtBase.{NextIsAtBase};
+ghost use Rattle.stm_retry.specs.Quiet.{is_commit};
 
 use crate::alike::{are_slots_alike, hint_of};
 use crate::kept_world::copy_runners;
-use crate::slots::{Slot, is_running};
+use crate::slots::{Slot, commits, fetches_at_base, is_running};
 use crate::world::{World, is_out_of_memory};
 use std::alloc::{AllocError, Global};
 use std::marker::Model;
@@ -58,6 +60,16 @@ fn over(base: Arc<World>, runners: Vec<Slot>) -> SharedWorld
     ensures { result ≡ with_places runners.items base.value }
 {
     SharedWorld { base, runners }
+}
+
+/// Whether a reply says that a runner committed.
+fn has_committed(reply: &Result<Reply, Denied>) -> bool
+    ensures { result ≡ is_commit reply.now }
+{
+    match reply {
+        Ok(Reply::Committed { .. }) => true,
+        _ => false,
+    }
 }
 
 impl SharedWorld {
@@ -110,7 +122,40 @@ impl SharedWorld {
         Ok((after, reply))
     }
 
-    /// The world after a step of a runner, and the reply.
+    /// The world after a step of a runner that is taken in a copy of this one, and the reply. Unless it committed, the store is still shared.
+    fn after_loud_step(
+        &self,
+        alloc: Global,
+        event: &WorldEvent,
+        id: u64,
+    ) -> Result<(SharedWorld, Result<Reply, Denied>), AllocError>
+        requires { event.now ≡ Step id }
+        ensures { IfOk result (λ p. IsStep (step event.now self.now) p.1 p.0) }
+    {
+        self.know_sound();
+        let (after, reply) = self.after_in_copy(alloc, event)?;
+        if has_committed(&reply) {
+            return Ok((after, reply));
+        }
+        let shared = self.with_runners_of(after)?;
+        Ok((shared, reply))
+    }
+
+    /// A world that shares this one's store, with the runners of another. It takes no memory.
+    fn with_runners_of(&self, other: SharedWorld) -> Result<SharedWorld, AllocError>
+        requires { IsSound (with_places other.runners self.now) }
+        ensures { IfOk result (λ shared. shared ≡ with_places other.runners self.now) }
+    {
+        let base = self.base.clone()?;
+        let SharedWorld {
+            base: others,
+            runners,
+        } = other;
+        drop(others);
+        Ok(over(base, runners))
+    }
+
+    /// The world after a step of a runner, and the reply. Where the step is known to send a commit, it is taken in a copy at once.
     fn after_step(
         &self,
         alloc: Global,
@@ -120,16 +165,19 @@ impl SharedWorld {
         requires { event.now ≡ Step id }
         ensures { IfOk result (λ p. IsStep (step event.now self.now) p.1 p.0) }
     {
+        if commits(self.runners.as_slice(), id) {
+            return self.after_loud_step(alloc, event, id);
+        }
         match self.after_quiet_step(id)? {
             Some((after, reply)) => Ok((after, Ok(reply))),
-            None => self.after_in_copy(alloc, event),
+            None => self.after_loud_step(alloc, event, id),
         }
     }
 
     /// The world after an event, and the reply.
     ///
-    /// After the fetch of a key, an abort or a fault the worlds share their store; any other event is taken in a copy of the world. It fails only
-    /// when out of memory.
+    /// After a step of a runner that does not commit the worlds share their store; any other event is taken in a copy of the world. It fails only when out
+    /// of memory.
     pub fn after(
         &self,
         alloc: Global,
@@ -194,6 +242,27 @@ impl SharedWorld {
         ensures { result ≡ length self.now.runners }
     {
         self.runners.len()
+    }
+
+    /// True only where the next step of the runner with this number fetches a key at the base of its attempt, and the store was never compacted: then what the
+    /// step shows does not depend on when it is made. It may be false where that is so.
+    pub fn fetches_at_base(&self, runner: u64) -> bool
+        ensures { result ≡ true → NextIsAtBase runner self.now }
+    {
+        self.know_sound();
+        let floor = self.store().floor();
+        if floor != 0 {
+            return false;
+        }
+        fetches_at_base(self.runners.as_slice(), runner)
+    }
+
+    /// Does nothing: each world is sound.
+    fn know_sound(&self)
+        ensures { IsSound self.now }
+    {
+        // (the world's type says so)
+        let _runners = &self.runners;
     }
 
     /// Whether the runner with this number was started and has not ended.

@@ -3,6 +3,7 @@ ghost use Rattle.stm_alike.specs.Seen.{seen_slot};
 ghost use Rattle.std.specs.Prelude.{true, ◌≡◌, ◌-◌, ◌<◌, ◌≤◌, ◌^◌, None, Some, is_some, option_map, slice_get, IfNone, OnSome, vec_len};
 ghost use Rattle.stm_world.specs.World.{live_in, runner_at, with_slot, Over as Left, Live as Stands};
 ghost use Rattle.stm_retry.specs.RunnerView.{RunnerView, slot_of};
+ghost use Rattle.stm_retry.specs.AtBase.{FetchesIn};
 
 use crate::shared_runner::SharedRunner;
 use std::alloc::AllocError;
@@ -72,6 +73,24 @@ impl Slot {
         self.runner.is_some()
     }
 
+    /// Whether the next step of the runner that stands here is known to fetch a key at the base of its attempt.
+    fn fetches_at_base(&self) -> bool
+        ensures { result ≡ true → FetchesIn (live_in (Some self.now)) }
+    {
+        match &self.runner {
+            None => false,
+            Some(runner) => runner.fetches_at_base(),
+        }
+    }
+
+    /// Whether its next step is known to send the commit. No contract says so.
+    fn commits(&self) -> bool {
+        match &self.runner {
+            None => false,
+            Some(runner) => runner.commits(),
+        }
+    }
+
     /// Takes the runner away, if one stands here.
     fn take(&mut self) -> Option<SharedRunner>
         ensures taken { slot_of result ≡ self.old }
@@ -127,6 +146,26 @@ impl Clone for Slot {
             None => Ok(Slot::over()),
             Some(runner) => Ok(Slot::live(runner.clone()?)),
         }
+    }
+}
+
+/// Whether the next step of the runner with this number is known to fetch a key at the base of its attempt.
+pub(crate) fn fetches_at_base(slots: &[Slot], id: u64) -> bool
+    ensures { result ≡ true → FetchesIn (runner_at id slots.now) }
+{
+    if 1 <= id && id <= slots.len() as u64 {
+        slots[(id - 1) as usize].fetches_at_base()
+    } else {
+        false
+    }
+}
+
+/// Whether the next step of the runner with this number is known to send its commit. No contract says so.
+pub(crate) fn commits(slots: &[Slot], id: u64) -> bool {
+    if 1 <= id && id <= slots.len() as u64 {
+        slots[(id - 1) as usize].commits()
+    } else {
+        false
     }
 }
 

@@ -1,8 +1,8 @@
 -- What is found first among the things of a list.
 use Rattle.std.proofs.Common.{◌≡◌, ℕ, zero, suc, ◌+◌, ◌<◌, Bool, true, false, ◌||◌, List, [], ◌∷◌, ◌++◌, length, get_or, map, Contains, Option, Some, None}
-use Rattle.std.proofs.Common.{option_map, flat_map, refl, sym, ◌∙◌, ap, subst, arith}
+use Rattle.std.proofs.Common.{option_map, flat_map, inl, inr, refl, sym, ◌∙◌, ap, subst, arith}
 use Rattle.std.proofs.lemmas.Grind.{flat_map-append}
-use Rattle.std.proofs.lemmas.List.Elements.{Contains-append_left, Contains-append_right}
+use Rattle.std.proofs.lemmas.List.Elements.{Contains-append_left, Contains-append_right, Contains-append_cases}
 use Rattle.std.specs.List.{list_any}
 use Rattle.std.specs.Option.{option_or}
 use Rattle.stm_visited.specs.Search.{first_of, total}
@@ -128,6 +128,33 @@ in_flat_at f (z ∷ xs) x (suc k) within is y c = Contains-append_right (f z) (f
 
 pub in_flat : {A B : Type 0} (f : A → List B) (xs : List A) (x : A) → Contains xs x → (y : B) → Contains (f x) y → Contains (flat_map f xs) y
 in_flat f xs x c y has = in_flat_at f xs x c.0 c.1 c.2 y has
+
+-- what is gathered comes from one of them
+pub of_flat : {A B : Type 0} (f : A → List B) (xs : List A) (y : B) → Contains (flat_map f xs) y → (x : A) × Contains xs x × Contains (f x) y
+of_flat f [] y c = absurd (let none : c.0 < 0 = c.1 in omega (arith, none))
+of_flat f (x ∷ xs) y c = elim (Contains-append_cases (f x) (flat_map f xs) y c) [
+  | inl here ↦ (x, (0, omega arith, refl), here)
+  | inr there ↦ let rest = of_flat f xs y there in (rest.0, (suc rest.1.0, let within : rest.1.0 < length xs = rest.1.1 in omega (arith, within), rest.1.2), rest.2)
+]
+
+mapped_at : {A B : Type 0} (f : A → B) (xs : List A) (y : B) (k : ℕ) → k < length (map f xs) → get_or (map f xs) k y ≡ y → (x : A) × Contains xs x × (f x ≡ y)
+mapped_at f [] y k within is = absurd (omega (arith, within))
+mapped_at f (x ∷ xs) y zero within is = (x, (0, omega arith, refl), is)
+mapped_at f (x ∷ xs) y (suc k) within is =
+    let rest = mapped_at f xs y k (omega (arith, within)) is in
+    (rest.0, (suc rest.1.0, let there : rest.1.0 < length xs = rest.1.1 in omega (arith, there), rest.1.2), rest.2)
+
+pub of_mapped : {A B : Type 0} (f : A → B) (xs : List A) (y : B) → Contains (map f xs) y → (x : A) × Contains xs x × (f x ≡ y)
+of_mapped f xs y c = mapped_at f xs y c.0 c.1 c.2
+
+is_mapped_at : {A B : Type 0} (f : A → B) (xs : List A) (x : A) (k : ℕ) → k < length xs → get_or xs k x ≡ x → Contains (map f xs) (f x)
+is_mapped_at f [] x k within is = absurd (omega (arith, within))
+is_mapped_at f (z ∷ zs) x zero within is = (0, omega arith, ap f is)
+is_mapped_at f (z ∷ zs) x (suc k) within is =
+    let rest = is_mapped_at f zs x k (omega (arith, within)) is in (suc rest.0, let there : rest.0 < length (map f zs) = rest.1 in omega (arith, there), rest.2)
+
+pub is_mapped : {A B : Type 0} (f : A → B) (xs : List A) (x : A) → Contains xs x → Contains (map f xs) (f x)
+is_mapped f xs x c = is_mapped_at f xs x c.0 c.1 c.2
 
 -- ---- totals
 

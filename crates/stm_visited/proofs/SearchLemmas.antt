@@ -10,10 +10,10 @@ use Rattle.stm_visited.specs.declared.visited.Visited.{Visited}
 use Rattle.stm_visited.specs.declared.visited.Visited.TheVariants.{Always, Broken}
 use Rattle.stm_visited.specs.Search.{Steps, first_of, bad_at, first_bad, goes_on, total, count_at, count_up_to}
 use Rattle.stm_visited.specs.Alike.{Respects}
-use Rattle.stm_visited.specs.Layers.{Reached, bad_among, on_among, count_among, StandFor, moved_from, moved_from_each, IsLayer}
+use Rattle.stm_visited.specs.Layers.{Reached, bad_among, on_among, count_among, StandFor, AreEnough, reached_by_each, moved_from, moved_from_each, IsLayer}
 use Rattle.stm_visited.specs.Answers.{IsVisited}
 use Rattle.stm_visited.proofs.Founds.{total_append, total_ones}
-use Rattle.stm_visited.proofs.LayerLemmas.{layers_go_on}
+use Rattle.stm_visited.proofs.LayerLemmas.{joined, layers_go_on}
 
 pub some_there : {A : Type 0} (xs : List A) (b : Bool) → b ≡ (length xs == 0) → not b ≡ list_any (λ x. true) xs
 some_there [] true is = refl
@@ -184,10 +184,6 @@ ended {P} {M} {O} s start k rs next come stand kept end =
 
 -- ---- how many moves are made
 
--- one for each that can be made at a place
-pub count_here : {P M O : Type 0} (s : Steps P M O) (r : Reached P M) → count_among s 1 (r ∷ []) ≡ length (s.moves r.place)
-count_here s r = let e : total (λ m. 1) (s.moves r.place) ≡ length (s.moves r.place) = total_ones (s.moves r.place) in omega (arith, e)
-
 take_more : {A : Type 0} (xs : List A) (i : ℕ) (x : A) → i < length xs → x ≡ get_or xs i x → take (i + 1) xs ≡ take i xs ++ x ∷ []
 take_more xs i x within is = let e : i + 1 ≡ suc i = omega arith in rw e (rw (take-suc xs i x within) (ap (λ y. take i xs ++ y ∷ []) (sym is)))
 
@@ -212,11 +208,28 @@ count_next s start k rs old left more layer before spent =
     let e : count_at s (k + 1) start ≡ count_at s (suc k) start = (let one : k + 1 ≡ suc k = omega arith in ap (λ j. count_at s j start) one) in
     omega (arith, before, spent, there, e)
 
--- so many of the moves at a place are made
-pub made_here : {P M O : Type 0} (s : Steps P M O) (r : Reached P M) (choices : List M) (i old left : ℕ) → choices ≡ s.moves r.place → left + i ≡ old → i ≤ length choices →
+-- so many of the moves that are enough at a place are made
+pub made_here : {P M O : Type 0} (s : Steps P M O) (r : Reached P M) (choices : List M) (i old left : ℕ) → AreEnough P M O s r.place choices → left + i ≡ old → i ≤ length choices →
     old ≤ left + count_among s 1 (r ∷ [])
-made_here {P} {M} {O} s r choices i old left is made within =
-    let all : count_among s 1 (r ∷ []) ≡ length choices = count_here s r ∙ ap (λ (ms : List M). length ms) (sym is) in omega (arith, made, within, all)
+made_here {P} {M} {O} s r choices i old left enough made within =
+    let all : length choices ≤ count_among s 1 (r ∷ []) =
+    (let few : total (λ m. 1) choices ≤ count_at s 1 r.place = enough.fewer 0 in
+    let each : total (λ m. 1) choices ≡ length choices = total_ones choices in omega (arith, few, each)) in
+    omega (arith, made, within, all)
+
+whole_list : {A : Type 0} (xs : List A) (i : ℕ) → length xs ≤ i → take i xs ≡ xs
+whole_list [] zero within = refl
+whole_list [] (suc i) within = refl
+whole_list (x ∷ xs) zero within = absurd (omega (arith, within))
+whole_list (x ∷ xs) (suc i) within = ap (λ ys. x ∷ ys) (whole_list xs i (omega (arith, within)))
+
+-- all of them are made: what stands for where they lead to stands for where all moves lead to
+pub all_made : {P M O : Type 0} (s : Steps P M O) (others next : List (Reached P M)) (r : Reached P M) (choices : List M) (i : ℕ) → AreEnough P M O s r.place choices →
+    length choices ≤ i → StandFor P M O s next (others ++ reached_by_each s r (take i choices)) → StandFor P M O s next (others ++ moved_from s r)
+all_made {P} {M} {O} s others next r choices i enough all stand =
+    joined s next (others ++ reached_by_each s r choices) (others ++ moved_from s r)
+    (subst (λ (ms : List M). StandFor P M O s next (others ++ reached_by_each s r ms)) (whole_list choices i all) stand)
+    ((layers_go_on s (λ p q. p ≡ q) (alike_to_itself s)).enough others r choices enough)
 
 -- one place of a layer more
 pub made_more : {P M O : Type 0} (s : Steps P M O) (rs : List (Reached P M)) (i old left more : ℕ) (r : Reached P M) → i < length rs → r ≡ get_or rs i r →

@@ -1,7 +1,7 @@
 -- What a search goes through: places, the moves that can be made at each, where each move leads to, whether a place keeps a rule, and what it shows.
 --
 -- Nothing here knows what a place is.
-use Rattle.std.specs.Prelude.{ℕ, zero, suc, ◌+◌, Bool, true, if◌then◌else◌, List, [], ◌∷◌, Option, None, Some, option_map}
+use Rattle.std.specs.Prelude.{◌≡◌, ℕ, zero, suc, ◌+◌, Bool, true, if◌then◌else◌, List, [], ◌∷◌, Option, None, Some, option_map, Contains}
 use Rattle.std.specs.List.{list_any, flat_map}
 use Rattle.std.specs.Option.{option_or}
 
@@ -11,6 +11,11 @@ pub record Steps (P M O : Type 0) : Type 0 where
   pub after : M → P → P
   pub keeps : P → Bool
   pub shows : P → O
+
+-- these moves can be made one after another from a place, and lead to this one
+abbrev pub Leads : {P M O : Type 0} → Steps P M O → List M → P → P → Type 0
+Leads s [] p q = q ≡ p
+Leads s (m ∷ ms) p q = Contains (s.moves p) m × Leads s ms (s.after m p) q
 
 -- the first thing that is found at one of these
 abbrev pub first_of : {A B : Type 0} → (A → Option B) → List A → Option B

@@ -71,7 +71,7 @@ fn add<S: System>(
     Ok(())
 }
 
-/// Adds the places to which one move leads from a place.
+/// Adds the places to which one move leads from a place: of the moves those that are enough.
 fn add_moved<S: System, O: Observer>(
     alloc: Global,
     system: &S,
@@ -87,8 +87,8 @@ fn add_moved<S: System, O: Observer>(
     ensures within { budget.new.left ≤ budget.old.left }
     ensures made { budget.old.left ≤ budget.new.left + count_among (S.steps system.now) 1 (from.now ∷ []) }
 {
-    let all = system.moves(&from.place)?;
-    let choices = all.as_slice();
+    let few = system.enough(&from.place)?;
+    let choices = few.as_slice();
     for chosen in choices {
         budget.spend()?;
         let r = reach(alloc, system, from, *chosen)?;
@@ -109,7 +109,8 @@ pub fn opening_layer<P: Drop, M: Copy + Drop>(
     Ok(layer)
 }
 
-/// The layer after this one: of the places that one move leads to the first of those that are alike, in the order of the schedules to them.
+/// The layer after this one: of the places that one move leads to the first of those that are alike, in the order of the schedules to them. Of the moves
+/// from a place those are made that the system calls enough.
 ///
 /// `Halt::Spent` says that the budget was used up, and that some move more can be made; `Halt::OutOfMemory` that an allocation failed. No more moves are
 /// made than lead from the layer.

@@ -1,5 +1,5 @@
 //! A place, with the moves by which it was reached.
-ghost use Rattle.std.specs.Prelude.{◌≡◌, [], IfOk};
+ghost use Rattle.std.specs.Prelude.{◌≡◌, [], ◌∷◌, ◌++◌, IfOk};
 ghost use Rattle.stm_visited.specs.Layers.{reached_by};
 
 use crate::system::System;
@@ -51,6 +51,16 @@ impl<P, M: Copy + Drop> Reached<P, M> {
     }
 }
 
+/// A path with one move more. It takes no more memory than its moves need.
+fn longer_path<M: Copy + Drop>(alloc: Global, path: &[M], chosen: M) -> Result<Vec<M>, AllocError>
+    ensures { IfOk result (λ longer. longer.items ≡ path.now ++ chosen ∷ []) }
+{
+    let mut longer = Vec::with_capacity(alloc, path.len().saturating_add(1))?;
+    longer.extend_from_slice(path)?;
+    longer.push(chosen)?;
+    Ok(longer)
+}
+
 /// Where one move more leads to.
 pub(crate) fn reach<S: System>(
     alloc: Global,
@@ -60,8 +70,7 @@ pub(crate) fn reach<S: System>(
 ) -> Result<Reached<S::Place, S::Move>, AllocError>
     ensures { IfOk result (λ r. r ≡ reached_by (S.steps system.now) from.now chosen) }
 {
-    let mut path = Vec::from_slice(alloc, from.path.as_slice())?;
-    path.push(chosen)?;
+    let path = longer_path(alloc, from.path.as_slice(), chosen)?;
     let place = system.moved(&from.place, chosen)?;
     Ok(Reached { place, path })
 }

@@ -2,6 +2,7 @@
 ghost use Rattle.std.specs.Prelude.{◌≡◌, true, IfOk};
 ghost use Rattle.stm_visited.specs.Search.{Steps};
 ghost use Rattle.stm_visited.specs.Alike.{Respects};
+ghost use Rattle.stm_visited.specs.Layers.{AreEnough};
 
 use std::alloc::AllocError;
 
@@ -24,6 +25,13 @@ pub trait System {
     /// The moves that can be made at a place, in their order.
     fn moves(&self, place: &Self::Place) -> Result<Vec<Self::Move>, AllocError>
         ensures { IfOk result (λ all. all.items ≡ (steps self.now).moves place.now) };
+
+    /// Moves that are enough to go on with from a place: all that can be made, unless a system knows that some are.
+    fn enough(&self, place: &Self::Place) -> Result<Vec<Self::Move>, AllocError>
+        ensures { IfOk result (λ few. AreEnough Self.Place Self.Move Self.Shown (steps self.now) place.now few.items) }
+    {
+        self.moves(place)
+    }
 
     /// The place that a move leads to.
     fn moved(&self, place: &Self::Place, chosen: Self::Move) -> Result<Self::Place, AllocError>

@@ -1,4 +1,8 @@
 //! Files and standard input as readers.
+ghost use Rattle.std.specs.Prelude.{◌≡◌, None, IsErr};
+ghost use Rattle.std.specs.Io.{ReadsAtMost};
+ghost use Rattle.std.specs.Io.KnownBytes.{ReadConsumes};
+ghost use Rattle.stmrun.specs.declared.files.Opened.TheVariants.{Missing};
 
 use std::fs;
 use std::io::{self, Input, Read};
@@ -40,7 +44,11 @@ pub(crate) fn open<R: Files + Input>(
 }
 
 impl<F: Read, I: Read, C: Read> Read for Opened<F, I, C> {
-    fn read(&mut self, buffer: &mut [u8]) -> io::Result<usize> {
+    fn read(&mut self, buffer: &mut [u8]) -> io::Result<usize>
+        ensures bound { ReadsAtMost result buffer.new }
+        ensures bytes { ReadConsumes None None result buffer.new }
+        ensures missing { (error : _) → self.old ≡ Missing error → IsErr result }
+    {
         match self {
             Opened::File(file) => file.read(buffer),
             Opened::Standard(input) => input.read(buffer),

@@ -15,7 +15,9 @@ mod terminals;
 mod threading;
 mod waits;
 
+use explaining::{name_of, say_unread, say_unwritten};
 use files::open;
+use noting::Noting;
 use sources::{ScenarioFile, run_compile, scenario_at};
 use std::alloc::{AllocError, Global};
 use std::process::ExitCode;
@@ -225,17 +227,23 @@ fn run_recipe(rt: &HostRuntime, words: &RecipeWords<'_>) -> u8 {
     recipe_to(rt.alloc(), words, &mut out, &mut err)
 }
 
-/// Prints the source of a path's scenario or program, or of that on standard input.
-fn run_show(rt: &HostRuntime, input: Option<&str>, program: bool) -> u8 {
+/// Prints the source of a path's scenario or program, or of that on standard input. On a terminal it is said why a file failed, unless nothing is
+/// to be explained.
+fn run_show(rt: &HostRuntime, path: &str, program: bool, is_silent: bool) -> u8 {
     let shown = if program {
         Shown::Program
     } else {
         Shown::Scenario
     };
-    let mut input = Std::new(open(rt, path_of(input)));
-    let mut out = Std::new(rt.stdout());
+    let mut input = Std::new(Noting::new(open(rt, path)));
+    let mut out = Std::new(Noting::new(rt.stdout()));
     let mut err = Std::new(rt.stderr());
-    show_to(rt.alloc(), shown, &mut input, &mut out, &mut err)
+    let status = show_to(rt.alloc(), shown, &mut input, &mut out, &mut err);
+    if is_explained(rt, is_silent, false) {
+        say_unread(rt, name_of(path), input.device.failure);
+        say_unwritten(rt, out.device.failure);
+    }
+    status
 }
 
 /// What of a source is printed: the program of a name with these words as its arguments, or its scenario, where no program is named.
@@ -300,7 +308,7 @@ fn answer<T: Threads + Wait + Sync>(
             let explain = is_explained(rt, is_silent, explain);
             run_explore(rt, scenario, keeps, level, after, budget, explain)
         }
-        Asked::Show { input, program } => run_show(rt, input, program),
+        Asked::Show { input, program } => run_show(rt, path_of(input), program, is_silent),
         Asked::Compile {
             source,
             program,

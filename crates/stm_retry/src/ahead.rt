@@ -1,0 +1,46 @@
+//! What is known of a runner's next step.
+ghost use Rattle.std.specs.Prelude.{◌≡◌, ◌≤◌, true, List, ◌∷◌};
+ghost use Rattle.stm_history.specs.declared.key_state.ReadAnswer.{ReadAnswer as Answer};
+ghost use Rattle.stm_world.specs.World.{Runner as LiveRunner};
+ghost use Rattle.stm_retry.specs.RunnerView.{next_for};
+ghost use Rattle.stm_retry.specs.AtBase.{IsAhead};
+
+use stm_attempt::Next;
+use stm_history::ReadAnswer;
+
+/// What is known of a runner's next step.
+#[derive(Clone, Copy, Debug, PartialEq, Eq)]
+pub(crate) enum Ahead {
+    /// Nothing.
+    Unknown,
+    /// It fetches a key at the base of the attempt.
+    FetchesAtBase,
+    /// It sends the commit. This is a hint.
+    Commits,
+}
+
+/// Whether the first of these answers carries no later revision than the one that it shows.
+fn is_own_base(reads: &[ReadAnswer]) -> bool
+    ensures { result ≡ true → ((first : Answer) × (rest : List Answer) × (reads.now ≡ first ∷ rest) × (first.revision ≤ first.of_rev)) }
+{
+    match reads {
+        [] => false,
+        [first, ..] => first.revision <= first.of_rev,
+    }
+}
+
+/// What is known of the next step of a runner that has read these answers, by what its program comes to on them.
+pub(crate) fn ahead_of(next: &Next, reads: &[ReadAnswer]) -> Ahead
+    ensures { (r : LiveRunner) → next.now ≡ next_for r → reads.now ≡ r.known.reads → IsAhead result r }
+{
+    match next {
+        Next::Fetch { at, .. } => {
+            if *at != 0 && is_own_base(reads) {
+                return Ahead::FetchesAtBase;
+            }
+            Ahead::Unknown
+        }
+        Next::Ready(_) => Ahead::Commits,
+        _ => Ahead::Unknown,
+    }
+}

@@ -1,0 +1,7 @@
+use Rattle.std.proofs.lemmas.Result.{IfOk-weaker}
+use Rattle.stm_visited.proofs.LayerLemmas.{all_are_enough}
+use Rattle.stm_visited.proofs.system.System.enough.Goals as goal
+
+pub returns : goal.returns
+returns g c =
+    IfOk-weaker c.moves.result _ _ (λ all is. all_are_enough (g.Self.System.steps c.args.self.now) c.args.place.now all.items is) c.moves.ensures

@@ -1,5 +1,5 @@
 -- What a final asks of the ends of runners: keys that are looked up, of texts that say how a runner ended, why, and what it put out.
-use Rattle.std.specs.Prelude.{ℕ, ◌-◌, List, [], ◌++◌, Option, Some, None, Ok, Err, bytes_eq, slice_get, nat_le, if◌then◌else◌, codes, decimal}
+use Rattle.std.specs.Prelude.{ℕ, ◌-◌, List, [], ◌∷◌, ◌++◌, Option, Some, None, Ok, Err, bytes_eq, slice_get, nat_le, if◌then◌else◌, codes, decimal}
 use Rattle.std.specs.List.{position}
 use Rattle.stm_json.specs.Parts.{same}
 use Rattle.stm_history.specs.declared.revisions.TheConstants.{HIGHEST_NUMBER}
@@ -15,6 +15,7 @@ use Rattle.stm_terms.specs.declared.kinds.Valued.{Valued}
 use Rattle.stm_terms.specs.declared.scope.Scope.{Scope}
 use Rattle.stm_terms.specs.Cursor.{place, unexpected, after_symbol, expect_symbol, open_bracket, next_number, next_name}
 use Rattle.stm_terms.specs.Kinds.{valued}
+use Rattle.stm_terms.specs.LookUps.{look_up_as}
 use Rattle.stm_terms.specs.Outcome.{Read, bad, ◌>>=◌}
 
 unfoldable pub ending_of : List ℕ → Option Ending
@@ -63,24 +64,24 @@ key_of End runner tokens = Ok (codes "#end/" ++ decimal runner, tokens)
 key_of Why runner tokens = Ok (codes "#why/" ++ decimal runner, tokens)
 key_of Out runner tokens = expect_symbol symbol.Comma tokens >>= λ behind. whole_at behind >>= λ n. Ok (out_key runner n.0, n.1)
 
--- behind its word
-abbrev pub ending_at : ℕ → Scope → Runners → Ending → List Token → Read Valued
-ending_at levels scope runners e tokens =
+-- behind its word, which begins at a byte
+abbrev pub ending_at : ℕ → Scope → ℕ → Runners → Ending → List Token → Read Valued
+ending_at levels scope at runners e tokens =
     open_bracket levels tokens >>= λ inner.
     runner_at runners inner >>= λ runner.
     key_of e runner.0 runner.1 >>= λ key.
-    expect_symbol symbol.RightParenthesis key.1 >>= λ rest. Ok (valued scope (Get (Text key.0)) kinds.Text, rest)
+    expect_symbol symbol.RightParenthesis key.1 >>= λ rest. Ok (valued scope (Get (Text key.0)) kinds.Text (look_up_as at None ∷ []), rest)
 
 -- ---- whether a name asks: in a final, where a bracket follows
 
-abbrev pub ending_or : ℕ → Scope → Runners → Ending → Read Valued → List Token → Option (List Token) → Read Valued
-ending_or levels scope runners e named rest None = named
-ending_or levels scope runners e named rest (Some inner) = ending_at levels scope runners e rest
+abbrev pub ending_or : ℕ → Scope → ℕ → Runners → Ending → Read Valued → List Token → Option (List Token) → Read Valued
+ending_or levels scope at runners e named rest None = named
+ending_or levels scope at runners e named rest (Some inner) = ending_at levels scope at runners e rest
 
-abbrev pub asked_ending : ℕ → Scope → Runners → Read Valued → List Token → Option Ending → Read Valued
-asked_ending levels scope runners named rest None = named
-asked_ending levels scope runners named rest (Some e) = ending_or levels scope runners e named rest (after_symbol symbol.LeftParenthesis rest)
+abbrev pub asked_ending : ℕ → Scope → ℕ → Runners → Read Valued → List Token → Option Ending → Read Valued
+asked_ending levels scope at runners named rest None = named
+asked_ending levels scope at runners named rest (Some e) = ending_or levels scope at runners e named rest (after_symbol symbol.LeftParenthesis rest)
 
-abbrev pub asked_of : ℕ → Scope → List ℕ → Read Valued → List Token → Option Runners → Read Valued
-asked_of levels scope name named rest None = named
-asked_of levels scope name named rest (Some runners) = asked_ending levels scope runners named rest (ending_of name)
+abbrev pub asked_of : ℕ → Scope → ℕ → List ℕ → Read Valued → List Token → Option Runners → Read Valued
+asked_of levels scope at name named rest None = named
+asked_of levels scope at name named rest (Some runners) = asked_ending levels scope at runners named rest (ending_of name)

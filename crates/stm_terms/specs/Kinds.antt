@@ -5,6 +5,7 @@ use Rattle.stm_terms.specs.declared.faults.SourceCause.TheVariants as cause
 use Rattle.stm_terms.specs.declared.kinds.Kind.{Kind}
 use Rattle.stm_terms.specs.declared.kinds.Kind.TheVariants.{Either, Text, Number}
 use Rattle.stm_terms.specs.declared.kinds.Valued.{Valued}
+use Rattle.stm_terms.specs.declared.look_ups.LookUp.{LookUp}
 use Rattle.stm_terms.specs.declared.scope.Scope.{Scope}
 use Rattle.stm_terms.specs.Outcome.{Outcome, bad}
 
@@ -18,8 +19,8 @@ agrees Number Either = true
 agrees Number Text = false
 agrees Number Number = true
 
-abbrev pub valued : Scope → Expression → Kind → Valued
-valued scope e k = record { expression = e; kind = if scope.looks_at_kinds then k else Either }
+abbrev pub valued : Scope → Expression → Kind → List LookUp → Valued
+valued scope e k ls = record { expression = e; kind = if scope.looks_at_kinds then k else Either; look_ups = ls }
 
 -- variables that are called by their numbers may be either
 abbrev pub kind_of : Scope → ℕ → Kind

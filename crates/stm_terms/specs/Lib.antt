@@ -5,6 +5,7 @@ pub mod Conditions
 pub mod Cursor
 pub mod Endings
 pub mod Kinds
+pub mod LookUps
 pub mod Outcome
 pub mod Room
 pub mod Scope

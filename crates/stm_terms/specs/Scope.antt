@@ -89,11 +89,17 @@ abbrev pub not_numbered : List Token → Bool
 not_numbered [] = false
 not_numbered (a ∷ rest) = not (is_numbered a.kind)
 
+-- behind a bracket: an `else` of a look-up, for which variables are taken
+abbrev pub begins_else : List Token → Bool
+begins_else [] = false
+begins_else (a ∷ rest) = is_word word.Else a.kind
+
 -- what a token says of the program: that its variables have names, that they are numbered, or nothing
 abbrev pub says : Token → List Token → Option Bool
 says t ts =
     if is_numbered t.kind then Some true
-    else (if is_word word.Let t.kind || (is_word word.For t.kind && counts ts && not_numbered ts) then Some false else None)
+    else (if is_word word.Let t.kind || (is_word word.For t.kind && counts ts && not_numbered ts) || (is_symbol symbol.RightParenthesis t.kind && begins_else ts)
+    then Some false else None)
 
 -- how many braces are open behind a token, besides the body's own; none, where that is closed
 abbrev pub one_less : ℕ → Option ℕ

@@ -1,5 +1,5 @@
 -- Values: the expression that tokens spell, or the first fault. A reader is given how many brackets may still be opened.
-use Rattle.std.specs.Prelude.{ℕ, zero, suc, ◌+◌, ◌^◌, pos, neg_ℤ, List, [], ◌∷◌, length, Option, Some, None, Ok, Err, nat_eq, nat_le, nat_lt, if◌then◌else◌}
+use Rattle.std.specs.Prelude.{ℕ, zero, suc, ◌+◌, ◌^◌, pos, neg_ℤ, List, [], ◌∷◌, ◌++◌, length, Option, Some, None, Ok, Err, nat_eq, nat_le, nat_lt, if◌then◌else◌}
 use Rattle.stm_tokens.specs.declared.token.Token.{Token}
 use Rattle.stm_tokens.specs.declared.token.TokenKind.{TokenKind}
 use Rattle.stm_tokens.specs.declared.token.TokenKind.TheVariants as kind
@@ -23,7 +23,10 @@ use Rattle.stm_terms.specs.declared.values.Call.TheVariants as call
 use Rattle.stm_terms.specs.declared.values.Join.{Join}
 use Rattle.stm_terms.specs.declared.values.Join.TheVariants as join
 use Rattle.stm_terms.specs.Outcome.{Read, bad, ◌>>=◌}
-use Rattle.stm_terms.specs.Cursor.{place, unexpected, expect_symbol, next_number}
+use Rattle.stm_terms.specs.Cursor.{place, unexpected, after_word, expect_symbol, next_number}
+use Rattle.stm_terms.specs.declared.look_ups.LookUp.{LookUp}
+use Rattle.stm_terms.specs.declared.look_ups.Other.{Other}
+use Rattle.stm_terms.specs.LookUps.{look_up_as}
 use Rattle.stm_terms.specs.declared.arguments.Argument.{Argument}
 use Rattle.stm_terms.specs.declared.arguments.Argument.TheVariants as argument
 use Rattle.stm_terms.specs.declared.arguments.Given.{Given}
@@ -34,13 +37,13 @@ use Rattle.stm_terms.specs.declared.limits.TheConstants.{MOST_JOINS}
 -- ---- operands
 
 abbrev pub literal : Scope → ℕ → List ℕ → List Token → Read Valued
-literal scope at text rest = if nat_le (length text) MAX_TEXT then Ok (valued scope (Text text) value_kind.Text, rest) else bad at cause.TooLong
+literal scope at text rest = if nat_le (length text) MAX_TEXT then Ok (valued scope (Text text) value_kind.Text [], rest) else bad at cause.TooLong
 
 abbrev pub positive : Scope → ℕ → ℕ → List Token → Read Valued
-positive scope at n rest = if nat_lt n (2 ^ 63) then Ok (valued scope (Number (pos n)) value_kind.Number, rest) else bad at cause.Range
+positive scope at n rest = if nat_lt n (2 ^ 63) then Ok (valued scope (Number (pos n)) value_kind.Number [], rest) else bad at cause.Range
 
 abbrev pub negative : Scope → ℕ → ℕ → List Token → Read Valued
-negative scope at n rest = if nat_le n (2 ^ 63) then Ok (valued scope (Number (neg_ℤ (pos n))) value_kind.Number, rest) else bad at cause.Range
+negative scope at n rest = if nat_le n (2 ^ 63) then Ok (valued scope (Number (neg_ℤ (pos n))) value_kind.Number [], rest) else bad at cause.Range
 
 -- behind a minus sign
 abbrev pub negation : Scope → List Token → Option (ℕ × List Token) → Read Valued
@@ -49,13 +52,13 @@ negation scope tokens (Some p) = negative scope (place tokens) p.0 p.1
 
 -- where either may come, an argument is not known yet: the empty text stands for it
 abbrev pub argument_value : Scope → ℕ → Argument → List Token → Read Valued
-argument_value scope at argument.Either rest = Ok (valued scope (Text []) value_kind.Either, rest)
+argument_value scope at argument.Either rest = Ok (valued scope (Text []) value_kind.Either [], rest)
 argument_value scope at (argument.Text s) rest = literal scope at s rest
-argument_value scope at (argument.Number z) rest = Ok (valued scope (Number z) value_kind.Number, rest)
+argument_value scope at (argument.Number z) rest = Ok (valued scope (Number z) value_kind.Number [], rest)
 
 -- a name is that of a variable, or a parameter
 abbrev pub named : Scope → ℕ → Option ℕ → Option Given → List Token → Read Valued
-named scope at (Some v) given rest = Ok (valued scope (Variable v) (kind_of scope v), rest)
+named scope at (Some v) given rest = Ok (valued scope (Variable v) (kind_of scope v) [], rest)
 named scope at None (Some g) rest = argument_value scope g.at g.argument rest
 named scope at None None rest = bad at cause.Name
 
@@ -91,10 +94,43 @@ call_kind call.TextOf = value_kind.Text
 abbrev pub Bracketed : Type 0
 Bracketed = Kind → List Token → Read Valued
 
+-- the value behind an `else`: a text, or a name
+abbrev pub other_kind : Scope → TokenKind → List Token → List Token → Read Valued
+other_kind scope (kind.Text s) tokens rest = literal scope (place tokens) s rest
+other_kind scope (kind.Number n) tokens rest = positive scope (place tokens) n rest
+other_kind scope (kind.Name n) tokens rest = named scope (place tokens) (variable_of scope n) (given_named scope.arguments n) rest
+other_kind scope (kind.Word w) tokens rest = Err (unexpected tokens)
+other_kind scope (kind.Symbol s) tokens rest = Err (unexpected tokens)
+other_kind scope kind.Wrong tokens rest = Err (unexpected tokens)
+other_kind scope kind.End tokens rest = Err (unexpected tokens)
+
+unfoldable pub other_value : Scope → List Token → Read Valued
+other_value scope [] = Err (unexpected [])
+other_value scope (t ∷ ts) = other_kind scope t.kind (t ∷ ts) ts
+
+-- behind an `else`, which begins at a byte. Where variables are called by their numbers, none is free for it
+abbrev pub other_behind : Scope → List Token → List Token → Read (Option Other)
+other_behind scope tokens behind =
+    if scope.numbered then Err (unexpected tokens)
+    else (other_value scope behind >>= λ x.
+    want scope value_kind.Text x.0.kind (place behind) >>= λ u. Ok (Some (record { at = place tokens; value = x.0.expression }), x.1))
+
+abbrev pub other_by : Scope → List Token → Option (List Token) → Read (Option Other)
+other_by scope tokens None = Ok (None, tokens)
+other_by scope tokens (Some behind) = other_behind scope tokens behind
+
+-- the look-ups of something computed, which begins at a byte, of a value with these
+abbrev pub call_look_ups : Scope → Call → ℕ → List LookUp → List Token → Read (List LookUp)
+call_look_ups scope call.Get at ls tokens = other_by scope tokens (after_word word.Else tokens) >>= λ o. Ok (ls ++ look_up_as at o.0 ∷ [], o.1)
+call_look_ups scope call.Rev at ls tokens = Ok (ls ++ look_up_as at None ∷ [], tokens)
+call_look_ups scope call.NumOf at ls tokens = Ok (ls, tokens)
+call_look_ups scope call.TextOf at ls tokens = Ok (ls, tokens)
+
 abbrev pub call_by : Bracketed → Scope → List Token → List Token → Option Call → Read Valued
 call_by bracketed scope tokens rest None = Err (unexpected tokens)
 call_by bracketed scope tokens rest (Some c) =
-    bracketed (argument_kind c) rest >>= λ x. Ok (valued scope (called c x.0.expression) (call_kind c), x.1)
+    bracketed (argument_kind c) rest >>= λ x.
+    call_look_ups scope c (place tokens) x.0.look_ups x.1 >>= λ ls. Ok (valued scope (called c x.0.expression) (call_kind c) ls.0, ls.1)
 
 -- a value in brackets, a number below 0; a condition has no place here
 abbrev pub signed : Bracketed → Scope → Symbol → List Token → List Token → Read Valued
@@ -108,7 +144,7 @@ abbrev pub operand_kind : ℕ → Bracketed → Scope → TokenKind → List Tok
 operand_kind levels bracketed scope (kind.Text s) tokens rest = literal scope (place tokens) s rest
 operand_kind levels bracketed scope (kind.Number n) tokens rest = positive scope (place tokens) n rest
 operand_kind levels bracketed scope (kind.Name n) tokens rest =
-    asked_of levels scope n (named scope (place tokens) (variable_of scope n) (given_named scope.arguments n) rest) rest scope.runners
+    asked_of levels scope (place tokens) n (named scope (place tokens) (variable_of scope n) (given_named scope.arguments n) rest) rest scope.runners
 operand_kind levels bracketed scope (kind.Word w) tokens rest = call_by bracketed scope tokens rest (call_of w)
 operand_kind levels bracketed scope (kind.Symbol s) tokens rest = signed bracketed scope s tokens rest
 operand_kind levels bracketed scope kind.Wrong tokens rest = Err (unexpected tokens)
@@ -163,7 +199,7 @@ next_join tier (t ∷ ts) = with_rest ts (join_in tier t.kind)
 
 -- a chain with more operators than this is too deep, whatever follows
 abbrev pub joined_up : Scope → ℕ → Join → Valued → Valued → Valued
-joined_up scope done j l r = if nat_lt done MOST_JOINS then valued scope (joined j l.expression r.expression) (join_kind j) else l
+joined_up scope done j l r = if nat_lt done MOST_JOINS then valued scope (joined j l.expression r.expression) (join_kind j) (l.look_ups ++ r.look_ups) else l
 
 -- the right side of an operator behind so many, and what it and the left one, which begins at a byte, are joined to
 abbrev pub joined_right : Scope → ℕ → (List Token → Read Valued) → ℕ → Join → Valued → List Token → Read Valued
@@ -225,9 +261,8 @@ abbrev pub value_at : ℕ → Scope → List Token → Read Valued
 value_at levels scope tokens = tier_at levels scope 3 tokens
 
 -- a value of a kind
-abbrev pub value_of : ℕ → Scope → Kind → List Token → Read Expression
-value_of levels scope wanted tokens =
-    value_at levels scope tokens >>= λ x. want scope wanted x.0.kind (place tokens) >>= λ u. Ok (x.0.expression, x.1)
+abbrev pub value_of : ℕ → Scope → Kind → List Token → Read Valued
+value_of levels scope wanted tokens = value_at levels scope tokens >>= λ x. want scope wanted x.0.kind (place tokens) >>= λ u. Ok x
 
 -- the rest of a value behind its first operand, which begins at a byte
 abbrev pub value_behind : ℕ → Scope → ℕ → Valued → List Token → Read Valued

@@ -1,14 +1,16 @@
 //! What a final asks of the ends of runners.
-ghost use Rattle.std.specs.Prelude.{◌≡◌, IfOk, string_bytes};
+ghost use Rattle.std.specs.Prelude.{◌≡◌, [], ◌∷◌, None, IfOk, string_bytes};
 ghost use Rattle.stm_program.specs.Syntax as tree;
 ghost use Rattle.stm_terms.specs.declared.kinds.Kind.TheVariants as kinds;
 ghost use Rattle.stm_terms.specs.Endings as spec;
 ghost use Rattle.stm_terms.specs.Kinds.{valued};
+ghost use Rattle.stm_terms.specs.LookUps.{look_up_as};
 ghost use Rattle.stm_terms.specs.Outcome.{Returns};
 
 use crate::cursor::{expect_symbol, next_name, next_number, open_bracket, place, unexpected};
 use crate::faults::{SourceCause, SourceError, fault};
 use crate::kinds::{Kind, Valued};
+use crate::look_ups::one_more;
 use crate::names::Names;
 use crate::scope::Scope;
 use std::alloc::{AllocError, Global};
@@ -129,31 +131,34 @@ fn key_of<'a>(
     }
 }
 
-/// The look-up of a key.
-fn look_up(alloc: Global, scope: &Scope, key: String) -> Result<Valued, AllocError>
-    ensures { IfOk result (λ x. x ≡ valued scope.now (tree.Get (tree.Text (string_bytes key))) kinds.Text) }
+/// The look-up of a key, which begins at a byte.
+fn look_up(alloc: Global, scope: &Scope, at: usize, key: String) -> Result<Valued, AllocError>
+    ensures { IfOk result (λ x. x ≡ valued scope.now (tree.Get (tree.Text (string_bytes key))) kinds.Text (look_up_as at None ∷ [])) }
 {
+    let mut look_ups = Sequence::new(alloc);
+    one_more(&mut look_ups, at, None)?;
     let node = ExprNode::Text(Text::new(key));
     let key = Arc::new(alloc, Expr { node })?;
     let node = ExprNode::Get(key);
-    Ok(scope.valued(Expr { node }, Kind::Text))
+    Ok(scope.valued_with(Expr { node }, Kind::Text, look_ups))
 }
 
-/// What is asked of the end of a runner, behind its word.
+/// What is asked of the end of a runner, behind its word, which begins at a byte.
 pub(crate) fn ending_at<'a>(
     alloc: Global,
     scope: &Scope,
     levels: usize,
+    at: usize,
     runners: &Runners,
     ending: Ending,
     tokens: &'a [Token],
 ) -> Result<(Valued, &'a [Token]), SourceError>
-    ensures { Returns (λ x. (x.0, x.1.now)) result (spec.ending_at levels scope.now runners.now ending tokens.now) }
+    ensures { Returns (λ x. (x.0, x.1.now)) result (spec.ending_at levels scope.now at runners.now ending tokens.now) }
 {
     let inner = open_bracket(levels, tokens)?;
     let (runner, rest) = runner(runners, inner)?;
     let (key, rest) = key_of(alloc, ending, runner, rest)?;
     let rest = expect_symbol(rest, Symbol::RightParenthesis)?;
-    let value = look_up(alloc, scope, key)?;
+    let value = look_up(alloc, scope, at, key)?;
     Ok((value, rest))
 }

@@ -1,10 +1,13 @@
 //! Whether values are texts or numbers.
-ghost use Rattle.std.specs.Prelude.{◌≡◌};
+ghost use Rattle.std.specs.Prelude.{◌≡◌, []};
 ghost use Rattle.stm_terms.specs.Kinds as spec;
 ghost use Rattle.stm_terms.specs.Outcome.{Returns};
 
 use crate::faults::{SourceCause, SourceError, fault};
+use crate::look_ups::LookUp;
 use crate::scope::Scope;
+use std::alloc::Global;
+use stm_history::Sequence;
 use stm_program::Expr;
 
 /// What a value is.
@@ -25,6 +28,8 @@ pub struct Valued {
     pub expression: Expr,
     /// What it is.
     pub kind: Kind,
+    /// Its look-ups, in the order in which they are evaluated.
+    pub look_ups: Sequence<LookUp>,
 }
 
 impl Kind {
@@ -41,16 +46,32 @@ impl Kind {
 }
 
 impl Scope {
-    /// A value of a kind: of either, where kinds are not looked at.
-    pub(crate) fn valued(&self, expression: Expr, kind: Kind) -> Valued
-        ensures { result ≡ spec.valued self.now expression kind }
+    /// A value of a kind that looks nothing up.
+    pub(crate) fn valued(&self, alloc: Global, expression: Expr, kind: Kind) -> Valued
+        ensures { result ≡ spec.valued self.now expression kind [] }
+    {
+        self.valued_with(expression, kind, Sequence::new(alloc))
+    }
+
+    /// A value of a kind with its look-ups: of either kind, where kinds are not looked at.
+    pub(crate) fn valued_with(
+        &self,
+        expression: Expr,
+        kind: Kind,
+        look_ups: Sequence<LookUp>,
+    ) -> Valued
+        ensures { result ≡ spec.valued self.now expression kind look_ups }
     {
         let kind = if self.looks_at_kinds {
             kind
         } else {
             Kind::Either
         };
-        Valued { expression, kind }
+        Valued {
+            expression,
+            kind,
+            look_ups,
+        }
     }
 
     /// The kind of a variable.

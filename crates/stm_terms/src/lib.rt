@@ -12,6 +12,7 @@ mod endings;
 mod faults;
 mod kinds;
 mod limits;
+mod look_ups;
 mod names;
 mod room;
 mod scope;
@@ -19,7 +20,7 @@ mod shared;
 mod values;
 
 pub use arguments::{Argument, Arguments, Given, GivenText, argument_number};
-pub use conditions::condition;
+pub use conditions::{Tested, condition};
 pub use cursor::{
     after_name, after_symbol, after_word, expect_name, expect_symbol, expect_text, expect_word,
     next_name, next_number, next_text, number_up_to, open_bracket, place, skip_semicolon,
@@ -29,6 +30,7 @@ pub use endings::{Ending, Runners};
 pub use faults::{BadSource, SourceCause, SourceError, fault};
 pub use kinds::{Kind, Valued};
 pub use limits::MOST_BRACKETS;
+pub use look_ups::{Fronted, FrontedPair, LookUp, Other, fronted, fronted_pair, set};
 pub use names::Names;
 pub use room::statements_room;
 pub use scope::{Scope, are_numbered, braces_behind, numbered_variable};

@@ -215,6 +215,16 @@ fn is_not_numbered(tokens: &[Token]) -> bool
     }
 }
 
+/// Whether the next token is an `else`.
+fn begins_else(tokens: &[Token]) -> bool
+    ensures { result ≡ spec.begins_else tokens.now }
+{
+    match tokens.first() {
+        Some(token) => token.kind.is_word(Word::Else),
+        None => false,
+    }
+}
+
 /// What a token says of the program that it stands in, by the tokens behind it: that its variables are numbered, or that they are not, or nothing.
 fn says(token: &Token, rest: &[Token]) -> Option<bool>
     ensures { result ≡ spec.says token.now rest.now }
@@ -226,6 +236,9 @@ fn says(token: &Token, rest: &[Token]) -> Option<bool>
         return Some(false);
     }
     if token.kind.is_word(Word::For) && counts(rest) && is_not_numbered(rest) {
+        return Some(false);
+    }
+    if token.kind.is_symbol(Symbol::RightParenthesis) && begins_else(rest) {
         return Some(false);
     }
     None

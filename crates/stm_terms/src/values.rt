@@ -1,6 +1,7 @@
 //! Reading values.
 ghost use Rattle.std.specs.Prelude.{◌≡◌, ◌≤◌, ◌+◌, [], length, option_map, IfOk};
 ghost use Rattle.stm_program.specs.Syntax as tree;
+ghost use Rattle.stm_tokens.specs.declared.token.Word.TheVariants.{Else};
 ghost use Rattle.stm_terms.specs.Endings.{asked_of};
 ghost use Rattle.stm_terms.specs.Kinds.{valued};
 ghost use Rattle.stm_terms.specs.declared.kinds.Kind.TheVariants as kinds;
@@ -11,15 +12,16 @@ ghost use Rattle.stm_terms.specs.Scope.{variable_of};
 ghost use Rattle.stm_terms.specs.Values as spec;
 
 use crate::arguments::{Argument, Given};
-use crate::cursor::{after_symbol, expect_symbol, next_number, place, unexpected};
+use crate::cursor::{after_symbol, after_word, expect_symbol, next_number, place, unexpected};
 use crate::endings::{ending_at, ending_of};
 use crate::faults::{SourceCause, SourceError, fault};
 use crate::kinds::{Kind, Valued};
 use crate::limits::MOST_JOINS;
+use crate::look_ups::{LookUp, Other, both, one_more};
 use crate::scope::Scope;
 use std::alloc::{AllocError, Global};
 use std::sync::Arc;
-use stm_history::Text;
+use stm_history::{Sequence, Text};
 use stm_program::{Expr, ExprNode, MAX_TEXT, Operator, Variable};
 use stm_tokens::{Symbol, Token, TokenKind, Word};
 
@@ -57,21 +59,22 @@ fn literal<'a>(
     if text.len() <= MAX_TEXT {
         let text = Text::copy_of(alloc, text)?;
         let node = ExprNode::Text(text);
-        Ok((scope.valued(Expr { node }, Kind::Text), rest))
+        Ok((scope.valued(alloc, Expr { node }, Kind::Text), rest))
     } else {
         Err(fault(at, SourceCause::TooLong))
     }
 }
 
 /// A number.
-fn number_of(scope: &Scope, number: i64) -> Valued
-    ensures { result ≡ valued scope.now (tree.Number number) kinds.Number }
+fn number_of(alloc: Global, scope: &Scope, number: i64) -> Valued
+    ensures { result ≡ valued scope.now (tree.Number number) kinds.Number [] }
 {
     let node = ExprNode::Number(number);
-    scope.valued(Expr { node }, Kind::Number)
+    scope.valued(alloc, Expr { node }, Kind::Number)
 }
 
 fn positive<'a>(
+    alloc: Global,
     scope: &Scope,
     at: usize,
     number: u64,
@@ -80,7 +83,7 @@ fn positive<'a>(
     ensures { Returns (λ x. (x.0, x.1.now)) result (spec.positive scope.now at number rest.now) }
 {
     if number < 1 << 63 {
-        Ok((number_of(scope, number as i64), rest))
+        Ok((number_of(alloc, scope, number as i64), rest))
     } else {
         Err(fault(at, SourceCause::Range))
     }
@@ -88,6 +91,7 @@ fn positive<'a>(
 
 /// The number behind a minus sign.
 fn negative<'a>(
+    alloc: Global,
     scope: &Scope,
     at: usize,
     number: u64,
@@ -96,31 +100,35 @@ fn negative<'a>(
     ensures { Returns (λ x. (x.0, x.1.now)) result (spec.negative scope.now at number rest.now) }
 {
     if number < 1 << 63 {
-        Ok((number_of(scope, -(number as i64)), rest))
+        Ok((number_of(alloc, scope, -(number as i64)), rest))
     } else if number == 1 << 63 {
-        Ok((number_of(scope, i64::MIN), rest))
+        Ok((number_of(alloc, scope, i64::MIN), rest))
     } else {
         Err(fault(at, SourceCause::Range))
     }
 }
 
 /// What follows a minus sign: a number.
-fn negation<'a>(scope: &Scope, tokens: &'a [Token]) -> Result<(Valued, &'a [Token]), SourceError>
+fn negation<'a>(
+    alloc: Global,
+    scope: &Scope,
+    tokens: &'a [Token],
+) -> Result<(Valued, &'a [Token]), SourceError>
     ensures { Returns (λ x. (x.0, x.1.now)) result (spec.negation scope.now tokens.now (cursor.next_number tokens.now)) }
 {
     match next_number(tokens) {
-        Some((number, rest)) => negative(scope, place(tokens), number, rest),
+        Some((number, rest)) => negative(alloc, scope, place(tokens), number, rest),
         None => Err(unexpected(tokens)),
     }
 }
 
 /// A text that stands for an argument which is not known.
 fn unknown(alloc: Global, scope: &Scope) -> Result<Valued, AllocError>
-    ensures { IfOk result (λ x. x ≡ valued scope.now (tree.Text []) kinds.Either) }
+    ensures { IfOk result (λ x. x ≡ valued scope.now (tree.Text []) kinds.Either []) }
 {
     let text = Text::copy_of(alloc, "")?;
     let node = ExprNode::Text(text);
-    Ok(scope.valued(Expr { node }, Kind::Either))
+    Ok(scope.valued(alloc, Expr { node }, Kind::Either))
 }
 
 /// The value of an argument.
@@ -138,7 +146,7 @@ fn argument_value<'a>(
             Ok((value, rest))
         }
         Argument::Text(text) => literal(alloc, scope, given.at, text.as_str(), rest),
-        Argument::Number(number) => Ok((number_of(scope, *number), rest)),
+        Argument::Number(number) => Ok((number_of(alloc, scope, *number), rest)),
     }
 }
 
@@ -156,7 +164,7 @@ fn named<'a>(
     if let Some(number) = scope.variable(name) {
         let node = ExprNode::Variable(Variable::new(number as u8));
         let kind = scope.kind_of(number);
-        return Ok((scope.valued(Expr { node }, kind), rest));
+        return Ok((scope.valued(alloc, Expr { node }, kind), rest));
     }
     match scope.arguments.get().named(name) {
         Some(given) => argument_value(alloc, scope, given, rest),
@@ -174,7 +182,7 @@ fn named_operand<'a>(
     rest: &'a [Token],
 ) -> Result<(Valued, &'a [Token]), SourceError>
     ensures { Returns (λ x. (x.0, x.1.now)) result
-        (asked_of levels scope.now name.now (spec.named scope.now at (variable_of scope.now name.now) (given_named scope.now.arguments name.now) rest.now)
+        (asked_of levels scope.now at name.now (spec.named scope.now at (variable_of scope.now name.now) (given_named scope.now.arguments name.now) rest.now)
         rest.now scope.now.runners) }
 {
     let Some(runners) = &scope.runners else {
@@ -184,7 +192,7 @@ fn named_operand<'a>(
         return named(alloc, scope, at, name, rest);
     };
     match after_symbol(rest, Symbol::LeftParenthesis) {
-        Some(_) => ending_at(alloc, scope, levels, runners.get(), asked, rest),
+        Some(_) => ending_at(alloc, scope, levels, at, runners.get(), asked, rest),
         None => named(alloc, scope, at, name, rest),
     }
 }
@@ -223,6 +231,92 @@ fn call_kind(call: Call) -> Kind
     match call {
         Call::Get | Call::TextOf => Kind::Text,
         Call::Rev | Call::NumOf => Kind::Number,
+    }
+}
+
+/// The value behind an `else`: a text, or a name.
+#[tactic(auto, unfolding(crate::specs::Values::other_value))]
+fn other_value<'a>(
+    alloc: Global,
+    scope: &Scope,
+    tokens: &'a [Token],
+) -> Result<(Valued, &'a [Token]), SourceError>
+    ensures { Returns (λ x. (x.0, x.1.now)) result (spec.other_value scope.now tokens.now) }
+{
+    let Some((first, rest)) = tokens.split_first() else {
+        return Err(unexpected(tokens));
+    };
+    match &first.kind {
+        TokenKind::Text(text) => literal(alloc, scope, first.at, text.as_str(), rest),
+        TokenKind::Number(number) => positive(alloc, scope, first.at, *number, rest),
+        TokenKind::Name(name) => named(alloc, scope, first.at, name.as_str(), rest),
+        TokenKind::Word(_) => Err(unexpected(tokens)),
+        TokenKind::Symbol(_) => Err(unexpected(tokens)),
+        TokenKind::Wrong => Err(unexpected(tokens)),
+        TokenKind::End => Err(unexpected(tokens)),
+    }
+}
+
+/// What stands for a look-up, behind the `else` that begins these tokens.
+fn other_behind<'a>(
+    alloc: Global,
+    scope: &Scope,
+    tokens: &[Token],
+    behind: &'a [Token],
+) -> Result<(Option<Other>, &'a [Token]), SourceError>
+    ensures { Returns (λ x. (x.0, x.1.now)) result (spec.other_behind scope.now tokens.now behind.now) }
+{
+    if scope.numbered {
+        return Err(unexpected(tokens));
+    }
+    let (value, rest) = other_value(alloc, scope, behind)?;
+    let Valued {
+        expression: value,
+        kind,
+        ..
+    } = value;
+    scope.want(Kind::Text, kind, place(behind))?;
+    let at = place(tokens);
+    Ok((Some(Other { at, value }), rest))
+}
+
+/// What stands for a look-up, if an `else` follows it.
+fn other<'a>(
+    alloc: Global,
+    scope: &Scope,
+    tokens: &'a [Token],
+) -> Result<(Option<Other>, &'a [Token]), SourceError>
+    ensures { Returns (λ x. (x.0, x.1.now)) result (spec.other_by scope.now tokens.now (cursor.after_word Else tokens.now)) }
+{
+    match after_word(tokens, Word::Else) {
+        Some(behind) => other_behind(alloc, scope, tokens, behind),
+        None => Ok((None, tokens)),
+    }
+}
+
+/// The look-ups of what is computed, which begins at a byte, of a value with these.
+fn call_look_ups<'a>(
+    alloc: Global,
+    scope: &Scope,
+    call: Call,
+    at: usize,
+    look_ups: Sequence<LookUp>,
+    tokens: &'a [Token],
+) -> Result<(Sequence<LookUp>, &'a [Token]), SourceError>
+    ensures { Returns (λ x. (x.0, x.1.now)) result (spec.call_look_ups scope.now call at look_ups tokens.now) }
+{
+    let mut look_ups = look_ups;
+    match call {
+        Call::Get => {
+            let (other, rest) = other(alloc, scope, tokens)?;
+            one_more(&mut look_ups, at, other)?;
+            Ok((look_ups, rest))
+        }
+        Call::Rev => {
+            one_more(&mut look_ups, at, None)?;
+            Ok((look_ups, tokens))
+        }
+        Call::NumOf | Call::TextOf => Ok((look_ups, tokens)),
     }
 }
 
@@ -273,15 +367,18 @@ fn joined_up(
     if done < MOST_JOINS {
         let Valued {
             expression: left,
+            look_ups,
             ..
         } = left;
         let Valued {
             expression: right,
+            look_ups: more,
             ..
         } = right;
         let left = Arc::new(alloc, left)?;
         let right = Arc::new(alloc, right)?;
-        Ok(scope.valued(join_node(join, left, right), join_kind(join)))
+        let look_ups = both(look_ups, more)?;
+        Ok(scope.valued_with(join_node(join, left, right), join_kind(join), look_ups))
     } else {
         Ok(left)
     }
@@ -365,7 +462,7 @@ fn operand<'a>(
     };
     match &first.kind {
         TokenKind::Text(text) => literal(alloc, scope, first.at, text.as_str(), rest),
-        TokenKind::Number(number) => positive(scope, first.at, *number, rest),
+        TokenKind::Number(number) => positive(alloc, scope, first.at, *number, rest),
         TokenKind::Name(name) => {
             named_operand(alloc, scope, levels, first.at, name.as_str(), rest)
         }
@@ -394,10 +491,15 @@ fn computed<'a>(
     let (part, rest) = bracketed(alloc, scope, levels, argument_kind(call), rest)?;
     let Valued {
         expression: part,
+        look_ups,
         ..
     } = part;
+    let (look_ups, rest) = call_look_ups(alloc, scope, call, place(tokens), look_ups, rest)?;
     let part = Arc::new(alloc, part)?;
-    Ok((scope.valued(call_node(call, part), call_kind(call)), rest))
+    Ok((
+        scope.valued_with(call_node(call, part), call_kind(call), look_ups),
+        rest,
+    ))
 }
 
 /// What begins with a symbol.
@@ -415,7 +517,7 @@ fn signed<'a>(
     if symbol.is(Symbol::LeftParenthesis) {
         bracketed(alloc, scope, levels, Kind::Either, tokens)
     } else if symbol.is(Symbol::Subtract) {
-        negation(scope, rest)
+        negation(alloc, scope, rest)
     } else if symbol.is(Symbol::Not) {
         Err(fault(place(tokens), SourceCause::Sort))
     } else {
@@ -590,13 +692,12 @@ pub fn value_of<'a>(
     levels: usize,
     wanted: Kind,
     tokens: &'a [Token],
-) -> Result<(Expr, &'a [Token]), SourceError>
+) -> Result<(Valued, &'a [Token]), SourceError>
     ensures { Returns (λ x. (x.0, x.1.now)) result (spec.value_of levels scope.now wanted tokens.now) }
 {
     let (value, rest) = value(alloc, scope, levels, tokens)?;
-    let Valued { expression, kind } = value;
-    scope.want(wanted, kind, place(tokens))?;
-    Ok((expression, rest))
+    scope.want(wanted, value.kind, place(tokens))?;
+    Ok((value, rest))
 }
 
 /// The first operand of a value.

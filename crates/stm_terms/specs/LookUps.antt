@@ -15,6 +15,9 @@ use Rattle.stm_terms.specs.Outcome.{Outcome, bad, ◌>>=◌}
 
 -- ---- which look-ups are set in front: those up to the last that has an `else`, each in the next variable that nothing has
 
+abbrev pub other_as : ℕ → Expression → Other
+other_as at e = record { at = at; value = e }
+
 abbrev pub look_up_as : ℕ → Option Other → LookUp
 look_up_as at other = record { at = at; other = other }
 

@@ -26,7 +26,7 @@ use Rattle.stm_terms.specs.Outcome.{Read, bad, ◌>>=◌}
 use Rattle.stm_terms.specs.Cursor.{place, unexpected, after_word, expect_symbol, next_number}
 use Rattle.stm_terms.specs.declared.look_ups.LookUp.{LookUp}
 use Rattle.stm_terms.specs.declared.look_ups.Other.{Other}
-use Rattle.stm_terms.specs.LookUps.{look_up_as}
+use Rattle.stm_terms.specs.LookUps.{look_up_as, other_as}
 use Rattle.stm_terms.specs.declared.arguments.Argument.{Argument}
 use Rattle.stm_terms.specs.declared.arguments.Argument.TheVariants as argument
 use Rattle.stm_terms.specs.declared.arguments.Given.{Given}
@@ -113,7 +113,7 @@ abbrev pub other_behind : Scope → List Token → List Token → Read (Option O
 other_behind scope tokens behind =
     if scope.numbered then Err (unexpected tokens)
     else (other_value scope behind >>= λ x.
-    want scope value_kind.Text x.0.kind (place behind) >>= λ u. Ok (Some (record { at = place tokens; value = x.0.expression }), x.1))
+    want scope value_kind.Text x.0.kind (place behind) >>= λ u. Ok (Some (other_as (place tokens) x.0.expression), x.1))
 
 abbrev pub other_by : Scope → List Token → Option (List Token) → Read (Option Other)
 other_by scope tokens None = Ok (None, tokens)

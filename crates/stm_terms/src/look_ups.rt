@@ -1,5 +1,5 @@
 //! What a value looks up, and what is set in front of its statement where a look-up has an `else`.
-ghost use Rattle.std.specs.Prelude.{◌≡◌, ◌∷◌, ◌++◌, [], IfOk, OnOk, slice_get, option_copied};
+ghost use Rattle.std.specs.Prelude.{◌≡◌, ◌<◌, ◌∷◌, ◌++◌, [], length, IfOk, IfSome, OnOk, slice_get, option_copied};
 ghost use Rattle.stm_program.specs.BlockView.{block_of};
 ghost use Rattle.stm_program.specs.Syntax as tree;
 ghost use Rattle.stm_terms.specs.LookUps as spec;
@@ -115,14 +115,24 @@ pub(crate) fn one_more(
     Ok(())
 }
 
+/// The value behind an `else`, if there is one.
+fn value_in(other: &Option<Other>) -> Result<Option<Expr>, AllocError>
+    ensures { IfOk result (λ value. value ≡ spec.value_in other.now) }
+{
+    match other {
+        Some(other) => {
+            let value = other.value.clone()?;
+            Ok(Some(value))
+        }
+        None => Ok(None),
+    }
+}
+
 /// How a look-up is set in front, to a variable.
 fn lift_of(variable: Variable, look_up: &LookUp) -> Result<Lift, AllocError>
     ensures { IfOk result (λ l. l ≡ spec.lift_of variable look_up.now) }
 {
-    let other = match &look_up.other {
-        Some(other) => Some(other.value.clone()?),
-        None => None,
-    };
+    let other = value_in(&look_up.other)?;
     Ok(Lift { variable, other })
 }
 
@@ -218,7 +228,8 @@ fn push_front(
 
 /// The one that a plan has at a place.
 fn lift_at(plan: &[Lift], place: usize) -> Option<&Lift>
-    ensures { option_copied result ≡ slice_get plan.now place }
+    ensures is { option_copied result ≡ slice_get plan.now place }
+    ensures within { IfSome result (λ lift. place < length plan.now) }
 {
     if place < plan.len() {
         Some(&plan[place])

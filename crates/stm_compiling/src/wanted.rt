@@ -16,9 +16,9 @@ const EVENTS: [&str; 15] = [
 ];
 
 /// What may stand behind the program of a start.
-const OPTIONS: [&str; 15] = [
-    "as", "at", "limit", "start", "step", "txn", "grant", "keep", "revoke", "advance", "watch",
-    "poll", "cancel", "compact", "begin",
+const OPTIONS: [&str; 16] = [
+    "as", "at", "limit", "after", "start", "step", "txn", "grant", "keep", "revoke", "advance",
+    "watch", "poll", "cancel", "compact", "begin",
 ];
 
 const ORDERS: [&str; 4] = ["==", "!=", "<", ">"];

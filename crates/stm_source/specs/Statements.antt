@@ -17,7 +17,7 @@ use Rattle.stm_terms.specs.declared.faults.SourceCause.TheVariants as cause
 use Rattle.stm_terms.specs.declared.scope.Scope.{Scope}
 use Rattle.stm_program.specs.BlockView.{block_of}
 use Rattle.stm_terms.specs.declared.look_ups.Fronted.{Fronted}
-use Rattle.stm_terms.specs.LookUps.{fronted, fronted_pair}
+use Rattle.stm_terms.specs.LookUps.{with_front, pair_with_front}
 use Rattle.stm_terms.specs.declared.values.Join.{Join}
 use Rattle.stm_terms.specs.declared.values.Join.TheVariants as join
 use Rattle.stm_source.specs.declared.statements.TheConstants.{MOST_STATEMENTS}
@@ -57,7 +57,7 @@ behind_front front s = front ++ s ∷ []
 -- behind its word
 abbrev pub simple_at : ℕ → Scope → Simple → List Token → Read (List Statement)
 simple_at levels scope s tokens =
-    bracketed_at levels scope (simple_kind s) tokens >>= λ x. fronted scope x.0 >>= λ f. Ok (behind_front f.front (simple_of s f.expression), x.1)
+    bracketed_at levels scope (simple_kind s) tokens >>= λ x. with_front scope x.0 >>= λ f. Ok (behind_front f.front (simple_of s f.expression), x.1)
 
 abbrev pub lease_behind : Arguments → List Token → Option (List Token) → Read ℕ
 lease_behind arguments tokens None = Ok (0, tokens)
@@ -73,7 +73,7 @@ put_at levels scope tokens =
     value_of (levels - 1) scope value_kind.Text inner >>= λ key.
     expect_symbol symbol.Comma key.1 >>= λ behind.
     value_of (levels - 1) scope value_kind.Text behind >>= λ value.
-    fronted_pair scope key.0 value.0 >>= λ f.
+    pair_with_front scope key.0 value.0 >>= λ f.
     lease_at scope value.1 >>= λ lease.
     expect_symbol symbol.RightParenthesis lease.1 >>= λ rest. Ok (behind_front f.front (Put f.left f.right lease.0), rest)
 
@@ -113,7 +113,7 @@ assigned_kind (Some j) k = join_kind j
 abbrev pub set_at : ℕ → Scope → ℕ → Option Join → List Token → Read (List Statement)
 set_at levels scope v j rest =
     value_of levels scope (assigned_kind j (kind_of scope v)) rest >>= λ x.
-    fronted scope x.0 >>= λ f. Ok (behind_front f.front (Set v (assigned j v f.expression)), x.1)
+    with_front scope x.0 >>= λ f. Ok (behind_front f.front (Set v (assigned j v f.expression)), x.1)
 
 abbrev pub set_by : ℕ → Scope → ℕ → Option ℕ → Option Join → List Token → Read (List Statement)
 set_by levels scope at None j rest = bad at cause.Name
@@ -146,7 +146,7 @@ set_new v f = if is_variable v f.expression then f.front else behind_front f.fro
 abbrev pub new_variable : ℕ → Scope → ℕ → List ℕ → List Token → ReadStatement
 new_variable levels scope v name tokens =
     expect_symbol symbol.Assign tokens >>= λ value.
-    value_at levels scope value >>= λ x. fronted scope x.0 >>= λ f. Ok (set_new v f, with_name scope name x.0.kind, x.1)
+    value_at levels scope value >>= λ x. with_front scope x.0 >>= λ f. Ok (set_new v f, with_name scope name x.0.kind, x.1)
 
 abbrev pub named_by : ℕ → Scope → ℕ → List Token → Option (List ℕ × List Token) → ReadStatement
 named_by levels scope v tokens None = Err (unexpected tokens)
@@ -239,7 +239,7 @@ zero_behind tokens (Some p) = if nat_eq p.0 0 then Ok p.1 else Err (unexpected t
 abbrev pub counted_by : Blocks → ℕ → Scope → ℕ → Scope → List Token → Read (List Statement)
 counted_by block levels scope v inner tokens =
     value_of levels scope value_kind.Number tokens >>= λ count.
-    fronted scope count.0 >>= λ f.
+    with_front scope count.0 >>= λ f.
     limit_at scope f.expression tokens count.1 >>= λ limit.
     block inner limit.1 >>= λ body. Ok (behind_front f.front (For v f.expression limit.0 body.0), body.1)
 

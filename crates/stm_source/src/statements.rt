@@ -19,7 +19,7 @@ use stm_program::{
 use stm_terms::{
     Fronted, FrontedPair, Given, Join, Kind, MOST_BRACKETS, Scope, SourceCause, SourceError,
     Tested, after_name, after_symbol, after_word, argument_number, bracketed, condition,
-    expect_symbol, expect_word, fault, fronted, fronted_pair, join_kind, join_node, next_name,
+    expect_symbol, expect_word, fault, with_front, pair_with_front, join_kind, join_node, next_name,
     next_number, numbered_variable, open_bracket, place, set, skip_semicolon, unexpected, value,
     value_of,
 };
@@ -68,7 +68,7 @@ fn simple_statement<'a>(
     ensures { Returns (λ x. (x.0, x.1.now)) result (spec.simple_at levels scope.now simple tokens.now) }
 {
     let (value, rest) = bracketed(alloc, scope, levels, simple_kind(simple), tokens)?;
-    let Fronted { front, expression } = fronted(alloc, scope, value)?;
+    let Fronted { front, expression } = with_front(alloc, scope, value)?;
     let value = Arc::new(alloc, expression)?;
     let node = match simple {
         Simple::Del => StmtNode::Del(value),
@@ -107,7 +107,7 @@ fn put<'a>(
         left,
         right,
         ..
-    } = fronted_pair(alloc, scope, key, value)?;
+    } = pair_with_front(alloc, scope, key, value)?;
     let (lease, rest) = lease(scope, rest)?;
     let rest = expect_symbol(rest, Symbol::RightParenthesis)?;
     let key = Arc::new(alloc, left)?;
@@ -196,7 +196,7 @@ fn set_to<'a>(
     let variable = Variable::new(number as u8);
     let wanted = assigned_kind(join, scope.kind_of(number));
     let (value, rest) = value_of(alloc, scope, levels, wanted, rest)?;
-    let Fronted { front, expression } = fronted(alloc, scope, value)?;
+    let Fronted { front, expression } = with_front(alloc, scope, value)?;
     let value = assigned(alloc, join, variable, expression)?;
     let statement = set(alloc, variable, value)?;
     let all = behind(front, statement)?;
@@ -261,7 +261,7 @@ fn new_variable<'a>(
     let rest = expect_symbol(rest, Symbol::Assign)?;
     let (value, rest) = value(alloc, scope, levels, rest)?;
     let kind = value.kind;
-    let value = fronted(alloc, scope, value)?;
+    let value = with_front(alloc, scope, value)?;
     let all = set_new(alloc, variable, value)?;
     scope.give(alloc, name, kind)?;
     Ok((all, rest))
@@ -518,7 +518,7 @@ fn counted_loop<'a>(
     ensures { Returns (λ x. (x.0, x.1.now)) result (spec.counted_by (spec.block_at levels) levels scope.now variable inner.now tokens.now) }
 {
     let (count, rest) = value_of(alloc, scope, levels, Kind::Number, tokens)?;
-    let Fronted { front, expression } = fronted(alloc, scope, count)?;
+    let Fronted { front, expression } = with_front(alloc, scope, count)?;
     let (limit, rest) = limit(scope, &expression, tokens, rest)?;
     let (body, rest) = block(alloc, inner, levels, rest)?;
     let count = Arc::new(alloc, expression)?;

@@ -18,7 +18,7 @@ use Rattle.stm_terms.specs.declared.conditions.Connective.TheVariants as connect
 use Rattle.stm_terms.specs.declared.limits.TheConstants.{MOST_JOINS}
 use Rattle.stm_terms.specs.Outcome.{Outcome, Read, bad, ◌>>=◌}
 use Rattle.stm_terms.specs.Comparisons.{compared, next_comparison}
-use Rattle.stm_terms.specs.LookUps.{fronted_pair}
+use Rattle.stm_terms.specs.LookUps.{pair_with_front}
 use Rattle.stm_terms.specs.Cursor.{place, unexpected, after_symbol, expect_symbol}
 use Rattle.stm_terms.specs.Values.{operand_at, value_of, value_behind}
 
@@ -33,15 +33,15 @@ abbrev pub condition_by : (List Token → Read ValueOrCondition) → List Token 
 condition_by read tokens = read tokens >>= λ x. wanted (place tokens) x.0 >>= λ c. Ok (c, x.1)
 
 -- a comparison; what is set in front of it stands in front of the statement that it is a condition of
-abbrev pub tested : Comparison → FrontedPair → Tested
-tested c x = record { front = x.front; condition = compared c x.left x.right; else_at = x.else_at }
+abbrev pub test_of : Comparison → FrontedPair → Tested
+test_of c x = record { front = x.front; condition = compared c x.left x.right; else_at = x.else_at }
 
 -- behind a value: the left side of a comparison, if one follows
 abbrev pub compared_with : ℕ → Scope → Valued → List Token → Option (Comparison × List Token) → Read ValueOrCondition
 compared_with levels scope left rest None = Ok (found.Value left, rest)
 compared_with levels scope left rest (Some p) =
     value_of levels scope left.kind p.1 >>= λ right.
-    fronted_pair scope left right.0 >>= λ x. Ok (found.Condition (tested p.0 x), right.1)
+    pair_with_front scope left right.0 >>= λ x. Ok (found.Condition (test_of p.0 x), right.1)
 
 -- behind the first operand of a value, which begins at a byte
 abbrev pub behind_operand : ℕ → Scope → ℕ → Valued → List Token → Read ValueOrCondition

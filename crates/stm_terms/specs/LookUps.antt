@@ -91,8 +91,8 @@ abbrev pub fronted_by : Expression × Fronts → Fronted
 fronted_by x = record { front = x.1.statements; expression = x.0 }
 
 -- the value of a statement, before which these names are in sight
-abbrev pub fronted : Scope → Valued → Outcome Fronted
-fronted scope x =
+abbrev pub with_front : Scope → Valued → Outcome Fronted
+with_front scope x =
     if has_else x.look_ups then (planned [] (length scope.names) x.look_ups >>= λ plan. Ok (fronted_by (lifted plan x.expression no_fronts)))
     else Ok (record { front = []; expression = x.expression })
 
@@ -107,5 +107,5 @@ pair_by scope l r ls None = Ok (record { front = []; else_at = None; left = l; r
 pair_by scope l r ls (Some at) = planned [] (length scope.names) ls >>= λ plan. Ok (paired (Some at) plan r (lifted plan l no_fronts))
 
 -- its two values
-abbrev pub fronted_pair : Scope → Valued → Valued → Outcome FrontedPair
-fronted_pair scope x y = pair_by scope x.expression y.expression (x.look_ups ++ y.look_ups) (first_else (x.look_ups ++ y.look_ups))
+abbrev pub pair_with_front : Scope → Valued → Valued → Outcome FrontedPair
+pair_with_front scope x y = pair_by scope x.expression y.expression (x.look_ups ++ y.look_ups) (first_else (x.look_ups ++ y.look_ups))

@@ -11,7 +11,7 @@ use crate::cursor::{after_symbol, expect_symbol, place, unexpected};
 use crate::faults::{SourceCause, SourceError, fault};
 use crate::kinds::Valued;
 use crate::limits::MOST_JOINS;
-use crate::look_ups::{FrontedPair, fronted_pair};
+use crate::look_ups::{FrontedPair, pair_with_front};
 use crate::scope::Scope;
 use crate::values::{first_operand, value_behind, value_of};
 use std::alloc::{AllocError, Global};
@@ -60,8 +60,8 @@ fn wanted(at: usize, found: ValueOrCondition) -> Result<Tested, SourceError>
 }
 
 /// A comparison, behind what is set in front of its statement.
-fn tested(alloc: Global, comparison: Comparison, pair: FrontedPair) -> Result<Tested, AllocError>
-    ensures { IfOk result (λ t. t ≡ spec.tested comparison pair) }
+fn test_of(alloc: Global, comparison: Comparison, pair: FrontedPair) -> Result<Tested, AllocError>
+    ensures { IfOk result (λ t. t ≡ spec.test_of comparison pair) }
 {
     let FrontedPair {
         front,
@@ -91,8 +91,8 @@ fn compared_with<'a>(
         return Ok((ValueOrCondition::Value(left), tokens));
     };
     let (right, rest) = value_of(alloc, scope, levels, left.kind, rest)?;
-    let pair = fronted_pair(alloc, scope, left, right)?;
-    let tested = tested(alloc, comparison, pair)?;
+    let pair = pair_with_front(alloc, scope, left, right)?;
+    let tested = test_of(alloc, comparison, pair)?;
     Ok((ValueOrCondition::Condition(tested), rest))
 }
 

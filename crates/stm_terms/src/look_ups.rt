@@ -354,8 +354,8 @@ fn paired(
 /// The value of a statement, before which these names are in sight: where a look-up of it has an `else`, that and those before it are set in front.
 ///
 /// Where these want a seventeenth variable, the fault is `TooMany` at the look-up.
-pub fn fronted(alloc: Global, scope: &Scope, value: Valued) -> Result<Fronted, SourceError>
-    ensures { Returns (λ x. x) result (spec.fronted scope.now value) }
+pub fn with_front(alloc: Global, scope: &Scope, value: Valued) -> Result<Fronted, SourceError>
+    ensures { Returns (λ x. x) result (spec.with_front scope.now value) }
 {
     let Valued {
         expression,
@@ -370,18 +370,18 @@ pub fn fronted(alloc: Global, scope: &Scope, value: Valued) -> Result<Fronted, S
     }
     let mut planned = Sequence::new(alloc);
     plan(scope.names.len() as u64, look_ups.as_slice(), &mut planned)?;
-    let fronted = fronted_by(alloc, planned.as_slice(), &expression)?;
-    Ok(fronted)
+    let found = fronted_by(alloc, planned.as_slice(), &expression)?;
+    Ok(found)
 }
 
 /// The two values of a statement, in the same way.
-pub fn fronted_pair(
+pub fn pair_with_front(
     alloc: Global,
     scope: &Scope,
     first: Valued,
     second: Valued,
 ) -> Result<FrontedPair, SourceError>
-    ensures { Returns (λ x. x) result (spec.fronted_pair scope.now first second) }
+    ensures { Returns (λ x. x) result (spec.pair_with_front scope.now first second) }
 {
     let Valued {
         expression: left,

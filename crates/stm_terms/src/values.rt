@@ -281,7 +281,7 @@ fn other_behind<'a>(
 }
 
 /// What stands for a look-up, if an `else` follows it.
-fn other<'a>(
+fn other_of<'a>(
     alloc: Global,
     scope: &Scope,
     tokens: &'a [Token],
@@ -308,7 +308,7 @@ fn call_look_ups<'a>(
     let mut look_ups = look_ups;
     match call {
         Call::Get => {
-            let (other, rest) = other(alloc, scope, tokens)?;
+            let (other, rest) = other_of(alloc, scope, tokens)?;
             one_more(&mut look_ups, at, other)?;
             Ok((look_ups, rest))
         }

@@ -19,9 +19,9 @@ use stm_program::{
 use stm_terms::{
     Fronted, FrontedPair, Given, Join, Kind, MOST_BRACKETS, Scope, SourceCause, SourceError,
     Tested, after_name, after_symbol, after_word, argument_number, bracketed, condition,
-    expect_symbol, expect_word, fault, with_front, pair_with_front, join_kind, join_node, next_name,
-    next_number, numbered_variable, open_bracket, place, set, skip_semicolon, unexpected, value,
-    value_of,
+    expect_symbol, expect_word, fault, join_kind, join_node, next_name, next_number,
+    numbered_variable, open_bracket, pair_with_front, place, set, skip_semicolon, unexpected,
+    value, value_of, with_front,
 };
 use stm_tokens::{Symbol, Token, TokenKind, Word};
 

@@ -30,7 +30,7 @@ pub use endings::{Ending, Runners};
 pub use faults::{BadSource, SourceCause, SourceError, fault};
 pub use kinds::{Kind, Valued};
 pub use limits::MOST_BRACKETS;
-pub use look_ups::{Fronted, FrontedPair, LookUp, Other, with_front, pair_with_front, set};
+pub use look_ups::{Fronted, FrontedPair, LookUp, Other, pair_with_front, set, with_front};
 pub use names::Names;
 pub use room::statements_room;
 pub use scope::{Scope, are_numbered, braces_behind, numbered_variable};

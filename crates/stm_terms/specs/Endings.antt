@@ -1,5 +1,5 @@
 -- What a final asks of the ends of runners: keys that are looked up, of texts that say how a runner ended, why, and what it put out.
-use Rattle.std.specs.Prelude.{ℕ, ◌-◌, List, [], ◌∷◌, ◌++◌, Option, Some, None, Ok, Err, bytes_eq, slice_get, nat_le, if◌then◌else◌, codes, decimal}
+use Rattle.std.specs.Prelude.{ℕ, List, [], ◌∷◌, ◌++◌, Option, Some, None, Ok, Err, bytes_eq, slice_get, nat_le, if◌then◌else◌, codes, decimal}
 use Rattle.std.specs.List.{position}
 use Rattle.stm_json.specs.Parts.{same}
 use Rattle.stm_history.specs.declared.revisions.TheConstants.{HIGHEST_NUMBER}

@@ -1,5 +1,5 @@
 -- What a value is: a text, a number, or either, where it is not known or not looked at.
-use Rattle.std.specs.Prelude.{ℕ, List, Bool, true, false, Option, Some, None, Ok, get_or, unwrap_or, if◌then◌else◌}
+use Rattle.std.specs.Prelude.{ℕ, List, Bool, true, false, Ok, get_or, unwrap_or, if◌then◌else◌}
 use Rattle.stm_program.specs.Syntax.{Expression}
 use Rattle.stm_terms.specs.declared.faults.SourceCause.TheVariants as cause
 use Rattle.stm_terms.specs.declared.kinds.Kind.{Kind}

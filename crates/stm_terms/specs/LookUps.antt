@@ -1,5 +1,5 @@
 -- The look-ups of a value, in the order in which they are evaluated, and what is set in front of its statement where one has an `else`.
-use Rattle.std.specs.Prelude.{ℕ, ◌+◌, List, [], ◌∷◌, ◌++◌, length, Bool, true, false, Option, Some, None, is_some, Ok, slice_get, nat_lt, if◌then◌else◌}
+use Rattle.std.specs.Prelude.{ℕ, ◌+◌, List, [], ◌∷◌, ◌++◌, length, Bool, Option, Some, None, is_some, Ok, slice_get, nat_lt, if◌then◌else◌}
 use Rattle.stm_program.specs.declared.limits.TheConstants.{MAX_VARIABLE}
 use Rattle.stm_program.specs.Syntax.{Expression, Text, Number, Variable, Get, Rev, Arithmetic, Cat, TextOf, NumOf, Equal, Statement, Set, If, End, Then}
 use Rattle.stm_terms.specs.declared.faults.SourceCause.TheVariants as cause

@@ -141,8 +141,21 @@ fn is_comparison(symbol: Symbol) -> bool {
     )
 }
 
+/// Whether an `else` stands where it would be that of a look-up.
+fn is_else_of_look_up(spot: Spot<'_>) -> bool {
+    match spot.kind() {
+        Some(kind) => {
+            kind.is_word(Word::Else) && spot.is_behind_symbol(0, Symbol::RightParenthesis)
+        }
+        None => false,
+    }
+}
+
 /// What is said of a symbol or a word that has its place elsewhere; nothing of others.
 fn said_of_symbol(spot: Spot<'_>) -> &'static str {
+    if is_else_of_look_up(spot) {
+        return "an else of a look-up stands behind the ) of its get; not behind && or ||, and not beside v0 to v15";
+    }
     if spot.is_before_a_block() {
         return "";
     }

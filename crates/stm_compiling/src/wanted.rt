@@ -264,8 +264,16 @@ fn in_parentheses(spot: Spot<'_>) -> Wanted {
     Wanted::OperatorOr(behind_value(spot))
 }
 
+/// Whether what stands before a place is the `else` of a look-up.
+fn is_behind_else_of_look_up(spot: Spot<'_>) -> bool {
+    spot.is_behind_word(0, Word::Else) && spot.is_behind_symbol(1, Symbol::RightParenthesis)
+}
+
 /// What is wanted in a place.
 pub(crate) fn wanted_at(spot: Spot<'_>) -> Wanted {
+    if is_behind_else_of_look_up(spot) {
+        return Wanted::Said("a text, or a name that stands for one,");
+    }
     match spot.place() {
         Place::Events => in_event(spot),
         Place::Statements => in_program(spot),

@@ -11,7 +11,7 @@ use stm_compiling::{Part, compile_to, compiled};
 use stm_history::Text;
 
 /// What the names of sources end in.
-const ENDING: &str = ".stm";
+pub(crate) const ENDING: &str = ".stm";
 
 /// The scenario of a path.
 #[derive(Drop)]

@@ -6,12 +6,14 @@ ghost use Rattle.stm_file_disk.specs.Replay.{replay};
 use crate::explaining::{say_unread, say_unwritten};
 use crate::files::open as open_input;
 use crate::noting::Noting;
+use crate::refusing::not_yet;
+use crate::sources::ENDING;
 use std::fs;
+use stm_arguments::{RunWords, ScriptWords, Shown, StoreWords, Which};
 use stm_commands::{Format, Std};
 use stm_file_disk::{FileDisk, open};
-use stm_store_arguments::{StoreAsked, store_asked_of};
 use stm_storing::{
-    HIGHEST_REVISION, Level, Manner, RecordFile, StoreFault, Text, Watched, check_kept, read_input,
+    HIGHEST_REVISION, Manner, RecordFile, StoreFault, Text, Watched, check_kept, read_input,
     read_program, run_kept, script_kept, show_at, show_kept, show_since,
 };
 
@@ -101,35 +103,6 @@ fn run_script(
     }
 }
 
-/// The level of a name: `SerializableSnapshot`, where there is none.
-fn level_of(rt: &HostRuntime, word: Option<&str>) -> Result<Level, u8> {
-    match word {
-        None | Some("SerializableSnapshot") => Ok(Level::SerializableSnapshot),
-        Some("Serializable") => Ok(Level::Serializable),
-        Some("RepeatableReads") => Ok(Level::RepeatableReads),
-        Some("ReadCommitted") => Ok(Level::ReadCommitted),
-        Some(_) => {
-            let _ = rt.eprintln(
-                "error: unknown level for '--level <LEVEL>'\n  [possible values: SerializableSnapshot, Serializable, RepeatableReads, ReadCommitted]",
-            );
-            Err(2)
-        }
-    }
-}
-
-/// How many commits a run may send: 1, where no number is named.
-fn attempts_of(rt: &HostRuntime, word: Option<&str>) -> Result<u32, u8> {
-    let attempts = match word {
-        None => 1,
-        Some(word) => word.parse::<u32>().unwrap_or(0),
-    };
-    if attempts == 0 {
-        let _ = rt.eprintln("error: '--attempts <N>' is from 1 to 4294967295");
-        return Err(2);
-    }
-    Ok(attempts)
-}
-
 /// Runs the program of a path, or that on standard input, over the store of a file.
 fn run_program(
     rt: &HostRuntime,
@@ -155,19 +128,6 @@ fn run_program(
         Ok(false) => Err(1),
         Err(fault) => Err(say_fault(rt, store, &fault)),
     }
-}
-
-/// Runs the program of a path, at the level of a name and with as many attempts as a word says.
-fn run_program_at(
-    rt: &HostRuntime,
-    store: &str,
-    program: Option<&str>,
-    level: Option<&str>,
-    attempts: Option<&str>,
-) -> Result<(), u8> {
-    let level = level_of(rt, level)?;
-    let attempts = attempts_of(rt, attempts)?;
-    run_program(rt, store, program, Manner { level, attempts })
 }
 
 /// Prints what the store of a file has.
@@ -217,17 +177,11 @@ fn copied(rt: &HostRuntime, word: &str) -> Result<Text, u8> {
 }
 
 /// The keys whose events are asked for: none where all are.
-fn watched_of(
-    rt: &HostRuntime,
-    key: Option<&str>,
-    range: Option<(&str, &str)>,
-) -> Result<Option<Watched>, u8> {
-    if let Some(key) = key {
-        return Ok(Some(Watched::Key(copied(rt, key)?)));
-    }
-    match range {
-        None => Ok(None),
-        Some((first, end)) => {
+fn watched_of(rt: &HostRuntime, which: Which<'_>) -> Result<Option<Watched>, u8> {
+    match which {
+        Which::All => Ok(None),
+        Which::Key(key) => Ok(Some(Watched::Key(copied(rt, key)?))),
+        Which::Range(first, end) => {
             let first = copied(rt, first)?;
             let end = copied(rt, end)?;
             Ok(Some(Watched::Range { first, end }))
@@ -236,16 +190,12 @@ fn watched_of(
 }
 
 /// Prints the events of the store of a file from the revision of a word on, those of these keys.
-fn show_events(
-    rt: &HostRuntime,
-    store: &str,
-    word: &str,
-    wanted: &Option<Watched>,
-) -> Result<(), u8> {
+fn show_events(rt: &HostRuntime, store: &str, word: &str, which: Which<'_>) -> Result<(), u8> {
+    let wanted = watched_of(rt, which)?;
     let from = revision_of(rt, word)?;
     let (mut records, bytes) = opened_there(rt, store)?;
     let mut out = Std::new(Noting::new(rt.stdout()));
-    let shown = show_since(&mut records, bytes, from, wanted, &mut out);
+    let shown = show_since(&mut records, bytes, from, &wanted, &mut out);
     say_unwritten(rt, out.device.failure);
     match shown {
         Ok(()) => Ok(()),
@@ -274,36 +224,49 @@ fn check(rt: &HostRuntime, store: &str) -> Result<(), u8> {
     if said { Ok(()) } else { Err(3) }
 }
 
-/// Does what these words ask for, and gives the status.
-pub(crate) fn run_stored(rt: &HostRuntime, words: &[String]) -> u8 {
-    let done = match store_asked_of(rt, rt.alloc(), words) {
-        StoreAsked::Script {
-            store,
-            scenario,
-            format,
-        } => run_script(rt, store, scenario, format),
-        StoreAsked::Run {
-            store,
-            program,
-            level,
-            attempts,
-        } => run_program_at(rt, store, program, level, attempts),
-        StoreAsked::Show { store } => show(rt, store),
-        StoreAsked::At { store, revision } => show_past(rt, store, revision),
-        StoreAsked::Since {
-            store,
-            revision,
-            key,
-            range,
-        } => match watched_of(rt, key, range) {
-            Ok(wanted) => show_events(rt, store, revision, &wanted),
-            Err(status) => Err(status),
-        },
-        StoreAsked::Check { store } => check(rt, store),
-        StoreAsked::Nothing(status) => return status,
-    };
+/// The status of what was done, or was not.
+fn status_of(done: Result<(), u8>) -> u8 {
     match done {
         Ok(()) => 0,
         Err(status) => status,
     }
+}
+
+/// Whether a path is that of a source, where one is named.
+fn is_source(path: Option<&str>) -> bool {
+    match path {
+        Some(path) => path.ends_with(ENDING),
+        None => false,
+    }
+}
+
+/// Goes on with a scenario over the store of a file, and gives the status.
+pub(crate) fn run_stored_script(rt: &HostRuntime, store: &str, words: &ScriptWords<'_>) -> u8 {
+    if is_source(words.scenario) {
+        return not_yet(rt, "a source over a store that lasts");
+    }
+    status_of(run_script(rt, store, words.scenario, words.format))
+}
+
+/// Runs a program over the store of a file, and gives the status.
+pub(crate) fn run_stored_program(rt: &HostRuntime, words: &RunWords<'_>) -> u8 {
+    if is_source(words.input) || words.program.is_some() {
+        return not_yet(rt, "a program of a source over a store that lasts");
+    }
+    let manner = Manner {
+        level: words.level,
+        attempts: words.attempts,
+    };
+    status_of(run_program(rt, words.store, words.input, manner))
+}
+
+/// Prints what of the store of a file is asked for, and gives the status.
+pub(crate) fn run_shown(rt: &HostRuntime, words: &StoreWords<'_>) -> u8 {
+    let store = words.store;
+    status_of(match words.shown {
+        Shown::Now => show(rt, store),
+        Shown::At(revision) => show_past(rt, store, revision),
+        Shown::Since(revision, which) => show_events(rt, store, revision, which),
+        Shown::Whole => check(rt, store),
+    })
 }

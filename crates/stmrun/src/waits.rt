@@ -1,10 +1,9 @@
 //! Which runners wait for which others, as the command line has it.
 
 use crate::explaining::has_hidden;
-use stm_arguments::refuse_waits;
 use stm_exploring::{BadWaits, Wait, waits_in};
 
-/// What stands after a fault of an option's value.
+/// What stands after a fault of an option.
 const USAGE: &str = "
 Usage: stmrun explore [OPTIONS] <SCENARIO>
 
@@ -47,7 +46,13 @@ pub(crate) fn read_waits(
 ) -> Result<Vec<Wait>, u8> {
     match after {
         None => Ok(Vec::new(rt.alloc())),
-        Some(_) if !has_rule => Err(refuse_waits(rt)),
+        Some(_) if !has_rule => {
+            let _ = rt.eprintln(
+                "error: '--after <RUNNER:FIRST,..>' is for a search with '--keeps <PROGRAM>'",
+            );
+            let _ = rt.eprintln(USAGE);
+            Err(2)
+        }
         Some(text) => waits_of(rt, text),
     }
 }

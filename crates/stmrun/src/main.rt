@@ -7,6 +7,7 @@ ghost use Rattle.stm_report.specs.declared.format.Format.TheVariants.{Lines};
 ghost use Rattle.stm_report.specs.Format.{format_named};
 
 mod explaining;
+mod exploring;
 mod files;
 mod noting;
 mod sources;
@@ -16,9 +17,10 @@ mod threading;
 mod waits;
 
 use explaining::{name_of, say_unread, say_unwritten};
+use exploring::search;
 use files::open;
 use noting::Noting;
-use sources::{ScenarioFile, run_compile, scenario_at};
+use sources::{JsonFile, run_compile, scenario_at};
 use std::alloc::{AllocError, Global};
 use std::process::ExitCode;
 use std::sync::Wait;
@@ -33,14 +35,12 @@ pub use stm_commands::{
     script_as_to, script_explained_to, script_to, show_to,
 };
 use stm_compiling::Part;
-use stm_exploring::{Level, Wait as RunnerWait};
 pub use stm_exploring::{explore_explained_to, explore_to, outcomes_explained_to, outcomes_to};
 use stm_store_arguments::is_of_store;
 pub use stm_threading::{threads_as_to, threads_to};
 use storing::run_stored;
-use terminals::{close, is_shown, shown_budget};
+use terminals::is_shown;
 use threading::{printing_of, run_threads};
-use waits::read_waits;
 
 /// The path of an input that may be named: that of standard input where it is not.
 fn path_of(named: Option<&str>) -> &str {
@@ -48,7 +48,7 @@ fn path_of(named: Option<&str>) -> &str {
 }
 
 /// Runs a scenario.
-fn run_script(rt: &HostRuntime, scenario: &ScenarioFile<'_>, format: Format) -> u8 {
+fn run_script(rt: &HostRuntime, scenario: &JsonFile<'_>, format: Format) -> u8 {
     let mut input = Std::new(scenario.open(rt));
     let mut out = Std::new(rt.stdout());
     let mut err = Std::new(rt.stderr());
@@ -79,7 +79,7 @@ fn run_script_in(rt: &HostRuntime, path: Option<&str>, word: Option<&str>, expla
 }
 
 /// Checks the report of a path beside a scenario: each line, where it is to be whole.
-fn check_report(rt: &HostRuntime, scenario: &ScenarioFile<'_>, report: &str, whole: bool) -> u8 {
+fn check_report(rt: &HostRuntime, scenario: &JsonFile<'_>, report: &str, whole: bool) -> u8 {
     let mut scenario = Std::new(scenario.open(rt));
     let mut report = Std::new(open(rt, report));
     let mut out = Std::new(rt.stdout());
@@ -104,102 +104,6 @@ fn run_check(rt: &HostRuntime, path: &str, report: &str, whole: bool, explain: b
     }
 }
 
-/// Looks through the interleavings of a scenario for one that breaks the rule of a path. A fault is explained, or is not.
-fn run_rule(
-    rt: &HostRuntime,
-    scenario: &ScenarioFile<'_>,
-    keeps: &str,
-    waits: &[RunnerWait],
-    level: Option<Level>,
-    budget: u64,
-    explain: bool,
-) -> u8 {
-    if explain {
-        return explaining::run_rule(rt, scenario, keeps, waits, level, budget);
-    }
-    let mut scenario = Std::new(scenario.open(rt));
-    let mut keeps = Std::new(open(rt, keeps));
-    let mut out = Std::new(rt.stdout());
-    let mut err = Std::new(rt.stderr());
-    let mut budget = shown_budget(rt, budget, false);
-    let status = explore_to(
-        rt.alloc(),
-        &mut scenario,
-        &mut keeps,
-        waits,
-        level,
-        &mut budget,
-        &mut out,
-        &mut err,
-    );
-    close(&mut budget);
-    status
-}
-
-/// Goes through the interleavings of a scenario. A fault is explained, or is not.
-fn run_outcomes(
-    rt: &HostRuntime,
-    scenario: &ScenarioFile<'_>,
-    level: Option<Level>,
-    budget: u64,
-    explain: bool,
-) -> u8 {
-    if explain {
-        return explaining::run_outcomes(rt, scenario, level, budget);
-    }
-    let mut scenario = Std::new(scenario.open(rt));
-    let mut out = Std::new(rt.stdout());
-    let mut err = Std::new(rt.stderr());
-    let mut budget = shown_budget(rt, budget, false);
-    let status = outcomes_to(
-        rt.alloc(),
-        &mut scenario,
-        level,
-        &mut budget,
-        &mut out,
-        &mut err,
-    );
-    close(&mut budget);
-    status
-}
-
-/// Looks through the interleavings of a scenario, for one that breaks a rule, where there is one, or for what they come to.
-fn search(
-    rt: &HostRuntime,
-    scenario: &ScenarioFile<'_>,
-    keeps: Option<&str>,
-    waits: &[RunnerWait],
-    level: Option<Level>,
-    budget: u64,
-    explain: bool,
-) -> u8 {
-    match keeps {
-        Some(keeps) => run_rule(rt, scenario, keeps, waits, level, budget, explain),
-        None => run_outcomes(rt, scenario, level, budget, explain),
-    }
-}
-
-/// Looks through the interleavings of a path's scenario, for one that breaks a rule or for what they come to. Only one of the scenario and the rule
-/// can be standard input.
-fn search_file(
-    rt: &HostRuntime,
-    path: &str,
-    keeps: Option<&str>,
-    waits: &[RunnerWait],
-    level: Option<Level>,
-    budget: u64,
-    explain: bool,
-) -> u8 {
-    if path == "-" && keeps == Some("-") {
-        let _ = rt.eprintln("stmrun: standard input can be only one of SCENARIO and PROGRAM");
-        return 2;
-    }
-    match scenario_at(rt, path, explain) {
-        Ok(scenario) => search(rt, &scenario, keeps, waits, level, budget, explain),
-        Err(status) => status,
-    }
-}
-
 /// Looks through the interleavings of a path's scenario, for one that breaks a rule or for what they come to, where the words name a level and waits.
 fn run_explore(
     rt: &HostRuntime,
@@ -214,10 +118,7 @@ fn run_explore(
         Ok(level) => level,
         Err(status) => return status,
     };
-    match read_waits(rt, after, keeps.is_some()) {
-        Ok(waits) => search_file(rt, path, keeps, waits.as_slice(), level, budget, explain),
-        Err(status) => status,
-    }
+    search(rt, path, keeps, after, level, budget, explain)
 }
 
 /// Prints the program of the recipe that these words name.

@@ -6,6 +6,8 @@ ghost use Rattle.stm_file_disk.specs.Replay.{replay};
 use crate::explaining::{say_unread, say_unwritten};
 use crate::files::open as open_input;
 use crate::noting::Noting;
+use crate::sources::scenario_at;
+use crate::terminals::is_shown;
 use std::fs;
 use stm_commands::{Format, Std};
 use stm_file_disk::{FileDisk, open};
@@ -82,14 +84,11 @@ fn run_script(
     word: Option<&str>,
 ) -> Result<(), u8> {
     let format = format_of(rt, word)?;
-    let mut input = Std::new(Noting::new(open_input(rt, scenario.unwrap_or("-"))));
+    let file = scenario_at(rt, scenario.unwrap_or("-"), is_shown(rt))?;
+    let mut input = Std::new(Noting::new(file.open(rt)));
     let mut err = Std::new(rt.stderr());
     let read = read_input(rt.alloc(), &mut input, &mut err);
-    say_unread(
-        rt,
-        scenario.unwrap_or("standard input"),
-        input.device.failure,
-    );
+    say_unread(rt, file.name(), input.device.failure);
     let (text, scenario) = read?;
     let (mut records, bytes) = opened(rt, store)?;
     let mut out = Std::new(Noting::new(rt.stdout()));

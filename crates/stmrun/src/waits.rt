@@ -1,7 +1,6 @@
 //! Which runners wait for which others, as the command line has it.
 
 use crate::explaining::has_hidden;
-use stm_arguments::refuse_waits;
 use stm_exploring::{BadWaits, Wait, waits_in};
 
 /// What stands after a fault of an option's value.
@@ -39,15 +38,10 @@ fn waits_of(rt: &HostRuntime, text: &str) -> Result<Vec<Wait>, u8> {
     }
 }
 
-/// The waits that are spelled, none where nothing is; or the status where they are spelled wrongly, or there is no rule to look for.
-pub(crate) fn read_waits(
-    rt: &HostRuntime,
-    after: Option<&str>,
-    has_rule: bool,
-) -> Result<Vec<Wait>, u8> {
+/// The waits that are spelled, none where nothing is; or the status where they are spelled wrongly.
+pub(crate) fn read_waits(rt: &HostRuntime, after: Option<&str>) -> Result<Vec<Wait>, u8> {
     match after {
         None => Ok(Vec::new(rt.alloc())),
-        Some(_) if !has_rule => Err(refuse_waits(rt)),
         Some(text) => waits_of(rt, text),
     }
 }

@@ -1,4 +1,4 @@
--- Answers about rules, as a loop comes to them.
+-- Answers about rules and at levels, as loops come to them.
 use Rattle.std.proofs.Common.{◌≡◌, ℕ, suc, ◌+◌, ◌<◌, List, [], ◌∷◌, ◌++◌, length, map, take, get_or, All, sym, ap, ap₂, ◌∙◌, subst, arith}
 use Rattle.std.proofs.lemmas.List.{map-append}
 use Rattle.std.proofs.lemmas.List.Elements.{All-push}
@@ -10,15 +10,15 @@ use Rattle.stm_exploring.specs.declared.rules.Rule.{Rule}
 use Rattle.stm_exploring.specs.declared.rules.RuleAnswer.{RuleAnswer}
 use Rattle.stm_exploring.specs.Judging.{IsFoundFrom}
 
--- one rule more has its answer
-pub rules_more : (answers : List RuleAnswer) (a : RuleAnswer) (rules : List Rule) (i : ℕ) (d : Rule) → i < length rules → a.rule ≡ get_or rules i d
-    → map (λ (x : RuleAnswer). x.rule) answers ≡ take i rules → map (λ (x : RuleAnswer). x.rule) (answers ++ a ∷ []) ≡ take (i + 1) rules
-rules_more answers a rules i d within is so_far =
+-- one more of those that are gone through has its answer
+pub listed_more : {A B : Type 0} (of : A → B) (answers : List A) (a : A) (all : List B) (i : ℕ) (d : B) → i < length all → of a ≡ get_or all i d
+    → map of answers ≡ take i all → map of (answers ++ a ∷ []) ≡ take (i + 1) all
+listed_more of answers a all i d within is so_far =
     let step : i + 1 ≡ suc i = omega arith in
-    map-append (λ (x : RuleAnswer). x.rule) answers (a ∷ [])
-    ∙ ap₂ (λ (xs : List Rule) (x : Rule). xs ++ x ∷ []) so_far is
-    ∙ sym (take-suc rules i d within)
-    ∙ sym (ap (λ (n : ℕ). take n rules) step)
+    map-append of answers (a ∷ [])
+    ∙ ap₂ (λ xs x. xs ++ x ∷ []) so_far is
+    ∙ sym (take-suc all i d within)
+    ∙ sym (ap (λ (n : ℕ). take n all) step)
 
 module _ (waits : List Wait) (p : Place) (ends : Ends) where
   abbrev Holds : RuleAnswer → Type 0

@@ -1,6 +1,7 @@
 pub mod AskingLemmas
 pub mod LineLemmas
 pub mod NoFloats
+pub mod RuleLemmas
 pub mod ReadingLemmas
 pub mod PlaceLemmas
 pub mod ScheduledSpells

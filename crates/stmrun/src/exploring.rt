@@ -1,19 +1,20 @@
 //! The command `explore` on the files of paths.
 
-use crate::explaining::{self, name_of};
-use crate::sources::{
-    JsonFile, is_source, out_of_memory, program_at, rules_at, say_unasked, source_at,
-};
+use crate::explaining;
+use crate::rules::{is_json, named_in, push_rules, rules_named};
+use crate::ruling::run_rules;
+use crate::sources::{JsonFile, is_source, out_of_memory, say_unasked, source_at};
 use crate::terminals::{close, shown_budget};
 use crate::waits::read_waits;
 use std::alloc::AllocError;
 use std::slice;
 use stm_arguments::refuse_waits;
 use stm_commands::Std;
-use stm_compiling::{Beside, Rule, Wait as SourceWait};
+use stm_compiling::{Beside, Rule as SourceRule, Wait as SourceWait};
 use stm_exploring::{Level, Wait, explore_to, outcomes_to};
+use stm_history::Sequence;
 
-/// Looks through the interleavings of a scenario for one that breaks a rule. A fault is explained, or is not.
+/// Looks through the interleavings of a scenario for one that breaks the rule of a path. A fault is explained, or is not.
 fn run_rule(
     rt: &HostRuntime,
     scenario: &JsonFile<'_>,
@@ -72,96 +73,25 @@ fn run_outcomes(
     status
 }
 
-/// The name of the only rule among these, of the source of a path; or the status, once it was said how many there are.
-fn only_rule(rt: &HostRuntime, path: &str, rules: &[Rule]) -> Result<String, u8> {
-    match rules {
-        [rule] => match String::from_str(rt.alloc(), rule.name.as_str()) {
-            Ok(name) => Ok(name),
-            Err(_) => Err(out_of_memory(rt)),
-        },
-        _ => {
-            let path = name_of(path);
-            let count = rules.len();
-            let _ = eprintln!(rt;
-                "stmrun: {path} has {count} rules: --keeps {path}:NAME asks the rule or program of that name"
-            );
-            Err(2)
-        }
+/// Whether a word names this rule of the source of a path, or all rules of it.
+fn is_named(word: &str, path: &str, rule: &SourceRule) -> bool {
+    match named_in(word) {
+        Some((front, name)) => front == path && name == rule.name.as_str(),
+        None => word == path,
     }
 }
 
-/// Refuses a final, which is no rule to ask at every place.
-fn refuse_final(rt: &HostRuntime, rules: &[Rule], name: &str) -> Result<(), u8> {
-    for rule in rules {
-        if rule.is_final && rule.name.as_str() == name {
-            say_unasked(rt, slice::from_ref(rule), &[])?;
-            let _ = rt.eprintln("stmrun: explore asks no final");
-            return Err(2);
-        }
-    }
-    Ok(())
-}
-
-/// The rule or program of a name, of the source of a path.
-fn named_rule<'a>(
+/// Says which rules of the source of a path are not asked, where words name those that are.
+fn say_others(
     rt: &HostRuntime,
     path: &str,
-    name: &str,
-    rules: &[Rule],
-    explain: bool,
-) -> Result<JsonFile<'a>, u8> {
-    refuse_final(rt, rules, name)?;
-    program_at(rt, path, name, &[], explain)
-}
-
-/// The rule that a word names: a file of JSON, the only rule of a source, or the rule or program of a source whose name stands behind a colon.
-fn rule_at<'a>(rt: &HostRuntime, word: &'a str, explain: bool) -> Result<JsonFile<'a>, u8> {
-    if is_source(word) {
-        let rules = rules_at(rt, word, explain)?;
-        let name = only_rule(rt, word, rules.as_slice())?;
-        return named_rule(rt, word, name.as_str(), rules.as_slice(), explain);
-    }
-    match word.rsplit_once(':') {
-        Some((path, name)) if is_source(path) => {
-            let rules = rules_at(rt, path, explain)?;
-            named_rule(rt, path, name, rules.as_slice(), explain)
-        }
-        _ => Ok(JsonFile::Json(word)),
-    }
-}
-
-/// Whether a word names this rule of the source of a path.
-fn is_named(word: &str, path: &str, rule: &Rule) -> bool {
-    match word.rsplit_once(':') {
-        Some((front, name)) => front == path && name == rule.name.as_str(),
-        None => false,
-    }
-}
-
-/// Says which rules of the source of a path are not asked, where a word names the one that is.
-fn say_others(rt: &HostRuntime, path: &str, word: &str, rules: &[Rule]) -> Result<(), u8> {
+    words: &[&str],
+    rules: &[SourceRule],
+) -> Result<(), u8> {
     for rule in rules {
-        if !is_named(word, path, rule) {
+        if !words.iter().any(|word| is_named(word, path, rule)) {
             say_unasked(rt, slice::from_ref(rule), &[])?;
         }
-    }
-    Ok(())
-}
-
-/// Refuses what a source has that is not asked where no rule is named, after it was said what that is.
-fn refuse_unasked(rt: &HostRuntime, beside: &Beside) -> Result<(), u8> {
-    let rules = beside.rules.as_slice();
-    let waits = beside.waits.as_slice();
-    say_unasked(rt, rules, waits)?;
-    if !rules.is_empty() {
-        let _ = rt.eprintln("stmrun: explore asks a rule where it is named: --keeps FILE.stm:NAME");
-        return Err(2);
-    }
-    if !waits.is_empty() {
-        let _ = rt.eprintln(
-            "stmrun: explore lets runners wait where a rule is named: --keeps FILE.stm:NAME",
-        );
-        return Err(2);
     }
     Ok(())
 }
@@ -178,40 +108,93 @@ fn push_waits(waits: &mut Vec<Wait>, more: &[SourceWait]) -> Result<(), AllocErr
     Ok(())
 }
 
-/// Looks through the interleavings of a path's scenario for one that breaks the rule that a word names.
-fn search_rule(
+/// The waits that a text spells, and those of a source behind them.
+fn waits_beside(
+    rt: &HostRuntime,
+    spelled: Vec<Wait>,
+    more: &[SourceWait],
+) -> Result<Vec<Wait>, u8> {
+    let mut waits = spelled;
+    match push_waits(&mut waits, more) {
+        Ok(()) => Ok(waits),
+        Err(_) => Err(out_of_memory(rt)),
+    }
+}
+
+/// Refuses runners that wait where no rule is asked, after it was said which do not.
+fn refuse_waiting(rt: &HostRuntime, waits: &[SourceWait]) -> Result<(), u8> {
+    if waits.is_empty() {
+        return Ok(());
+    }
+    say_unasked(rt, &[], waits)?;
+    let _ = rt.eprintln("stmrun: explore lets runners wait where a rule is asked");
+    Err(2)
+}
+
+/// Looks through the interleavings of a path's scenario for one that breaks a rule that words name.
+fn search_named(
     rt: &HostRuntime,
     path: &str,
-    word: &str,
-    after: Option<&str>,
+    words: &[&str],
+    spelled: Vec<Wait>,
     level: Option<Level>,
     budget: u64,
     explain: bool,
 ) -> Result<u8, u8> {
-    if path == "-" && word == "-" {
-        let _ = rt.eprintln("stmrun: standard input can be only one of SCENARIO and PROGRAM");
-        return Err(2);
-    }
-    let mut waits = read_waits(rt, after)?;
     let (scenario, beside) = source_at(rt, path, explain)?;
-    say_others(rt, path, word, beside.rules.as_slice())?;
-    if push_waits(&mut waits, beside.waits.as_slice()).is_err() {
-        return Err(out_of_memory(rt));
+    say_others(rt, path, words, beside.rules.as_slice())?;
+    let waits = waits_beside(rt, spelled, beside.waits.as_slice())?;
+    let waits = waits.as_slice();
+    match words {
+        [word] if is_json(word) => Ok(run_rule(
+            rt,
+            &scenario,
+            &JsonFile::Json(word),
+            waits,
+            level,
+            budget,
+            explain,
+        )),
+        _ => {
+            let rules = rules_named(rt, words, explain)?;
+            Ok(run_rules(
+                rt,
+                &scenario,
+                rules.as_slice(),
+                waits,
+                level,
+                budget,
+                explain,
+            ))
+        }
     }
-    let rule = rule_at(rt, word, explain)?;
-    Ok(run_rule(
+}
+
+/// Looks through the interleavings of a scenario for one that breaks a rule of its source.
+fn search_rules(
+    rt: &HostRuntime,
+    scenario: &JsonFile<'_>,
+    rules: Sequence<SourceRule>,
+    waits: &[Wait],
+    level: Option<Level>,
+    budget: u64,
+    explain: bool,
+) -> Result<u8, u8> {
+    let mut asked = Vec::new(rt.alloc());
+    push_rules(rt, &mut asked, rules)?;
+    Ok(run_rules(
         rt,
-        &scenario,
-        &rule,
-        waits.as_slice(),
+        scenario,
+        asked.as_slice(),
+        waits,
         level,
         budget,
         explain,
     ))
 }
 
-/// Looks through the interleavings of a path's scenario for what they come to.
-fn search_outcomes(
+/// Looks through the interleavings of a path's scenario for one that breaks a rule of its source, or where there is none for what they come to.
+fn search_own(
     rt: &HostRuntime,
     path: &str,
     after: Option<&str>,
@@ -219,31 +202,60 @@ fn search_outcomes(
     budget: u64,
     explain: bool,
 ) -> Result<u8, u8> {
-    if after.is_some() {
+    if after.is_some() && !is_source(path) {
         return Err(refuse_waits(rt));
     }
+    let spelled = read_waits(rt, after)?;
     let (scenario, beside) = source_at(rt, path, explain)?;
-    refuse_unasked(rt, &beside)?;
-    Ok(run_outcomes(rt, &scenario, level, budget, explain))
+    let Beside { rules, waits, .. } = beside;
+    if rules.as_slice().is_empty() {
+        if after.is_some() {
+            return Err(refuse_waits(rt));
+        }
+        refuse_waiting(rt, waits.as_slice())?;
+        return Ok(run_outcomes(rt, &scenario, level, budget, explain));
+    }
+    let waits = waits_beside(rt, spelled, waits.as_slice())?;
+    search_rules(
+        rt,
+        &scenario,
+        rules,
+        waits.as_slice(),
+        level,
+        budget,
+        explain,
+    )
 }
 
-/// Looks through the interleavings of a path's scenario, for one that breaks a rule, where a word names one, or for what they come to. Only one of the
-/// scenario and the rule can be standard input.
+/// How often standard input stands among these words.
+fn count_of_inputs(words: &[&str]) -> usize {
+    words.iter().filter(|word| **word == "-").count()
+}
+
+/// Whether standard input is to be the scenario of a path or a rule, and not both, nor two rules.
+fn has_one_input(path: &str, words: &[&str]) -> bool {
+    let count = count_of_inputs(words);
+    count == 0 || (count == 1 && path != "-")
+}
+
+/// Looks through the interleavings of a path's scenario for one that breaks a rule, one that words name, or where there are none one of its source, or
+/// where that has none for what they come to. Only one of the scenario and the rules can be standard input.
 pub(crate) fn search(
     rt: &HostRuntime,
     path: &str,
-    keeps: Option<&str>,
+    words: &[&str],
     after: Option<&str>,
     level: Option<Level>,
     budget: u64,
     explain: bool,
-) -> u8 {
-    let done = match keeps {
-        Some(word) => search_rule(rt, path, word, after, level, budget, explain),
-        None => search_outcomes(rt, path, after, level, budget, explain),
-    };
-    match done {
-        Ok(status) => status,
-        Err(status) => status,
+) -> Result<u8, u8> {
+    if words.is_empty() {
+        return search_own(rt, path, after, level, budget, explain);
     }
+    if !has_one_input(path, words) {
+        let _ = rt.eprintln("stmrun: standard input can be only one of SCENARIO and PROGRAM");
+        return Err(2);
+    }
+    let spelled = read_waits(rt, after)?;
+    search_named(rt, path, words, spelled, level, budget, explain)
 }

@@ -10,6 +10,8 @@ mod explaining;
 mod exploring;
 mod files;
 mod noting;
+mod rules;
+mod ruling;
 mod sources;
 mod storing;
 mod terminals;
@@ -118,7 +120,14 @@ fn run_explore(
         Ok(level) => level,
         Err(status) => return status,
     };
-    search(rt, path, keeps, after, level, budget, explain)
+    let searched = match keeps {
+        Some(word) => search(rt, path, &[word], after, level, budget, explain),
+        None => search(rt, path, &[], after, level, budget, explain),
+    };
+    match searched {
+        Ok(status) => status,
+        Err(status) => status,
+    }
 }
 
 /// Prints the program of the recipe that these words name.

@@ -19,7 +19,7 @@ mod threading;
 mod waits;
 
 use explaining::{name_of, say_unread, say_unwritten};
-use exploring::search;
+use exploring::{Search, search};
 use files::open;
 use noting::Noting;
 use sources::{JsonFile, run_compile, scenario_at};
@@ -110,7 +110,7 @@ fn run_check(rt: &HostRuntime, path: &str, report: &str, whole: bool, explain: b
 fn run_explore(
     rt: &HostRuntime,
     path: &str,
-    keeps: Option<&str>,
+    keeps: &[&str],
     word: Option<&str>,
     after: Option<&str>,
     budget: u64,
@@ -120,10 +120,17 @@ fn run_explore(
         Ok(level) => level,
         Err(status) => return status,
     };
-    let searched = match keeps {
-        Some(word) => search(rt, path, &[word], after, level, budget, explain),
-        None => search(rt, path, &[], after, level, budget, explain),
-    };
+    let searched = search(
+        rt,
+        &Search {
+            path,
+            keeps,
+            after,
+            level,
+            budget,
+            explain,
+        },
+    );
     match searched {
         Ok(status) => status,
         Err(status) => status,
@@ -216,7 +223,10 @@ fn answer<T: Threads + Wait + Sync>(
             explain,
         } => {
             let explain = is_explained(rt, is_silent, explain);
-            run_explore(rt, scenario, keeps, level, after, budget, explain)
+            match keeps {
+                Some(word) => run_explore(rt, scenario, &[word], level, after, budget, explain),
+                None => run_explore(rt, scenario, &[], level, after, budget, explain),
+            }
         }
         Asked::Show { input, program } => run_show(rt, path_of(input), program, is_silent),
         Asked::Compile {

@@ -37,7 +37,7 @@ fn push_rule(rt: &HostRuntime, asked: &mut Vec<Rule>, rule: Rule) -> Result<(), 
 }
 
 /// Adds the rules of a source.
-pub(crate) fn push_rules(
+fn push_rules(
     rt: &HostRuntime,
     asked: &mut Vec<Rule>,
     rules: Sequence<SourceRule>,
@@ -47,6 +47,13 @@ pub(crate) fn push_rules(
         push_rule(rt, asked, rule)?;
     }
     Ok(())
+}
+
+/// The rules of a source, to be asked.
+pub(crate) fn rules_of(rt: &HostRuntime, rules: Sequence<SourceRule>) -> Result<Vec<Rule>, u8> {
+    let mut asked = Vec::new(rt.alloc());
+    push_rules(rt, &mut asked, rules)?;
+    Ok(asked)
 }
 
 /// The program that is read as JSON; or the status, once what is wrong with it was said. It is explained, or is not.

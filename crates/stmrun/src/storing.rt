@@ -6,15 +6,15 @@ ghost use Rattle.stm_file_disk.specs.Replay.{replay};
 use crate::explaining::{say_unread, say_unwritten};
 use crate::files::open as open_input;
 use crate::noting::Noting;
-use crate::sources::scenario_at;
+use crate::sources::{out_of_memory, scenario_at};
 use crate::terminals::is_shown;
 use std::fs;
 use stm_commands::{Format, Std};
 use stm_file_disk::{FileDisk, open};
 use stm_store_arguments::{StoreAsked, store_asked_of};
 use stm_storing::{
-    HIGHEST_REVISION, Level, Manner, RecordFile, StoreFault, Text, Watched, check_kept, read_input,
-    read_program, run_kept, script_kept, show_at, show_kept, show_since,
+    HIGHEST_REVISION, Level, Manner, Program, RecordFile, StoreFault, Text, Watched, check_kept,
+    read_input, read_program, run_anew, run_kept, script_kept, show_at, show_kept, show_since,
 };
 
 /// Says of the file of a store why a command failed, and gives the status.
@@ -129,7 +129,31 @@ fn attempts_of(rt: &HostRuntime, word: Option<&str>) -> Result<u32, u8> {
     Ok(attempts)
 }
 
-/// Runs the program of a path, or that on standard input, over the store of a file.
+/// Whether no file has this path.
+fn is_missing(rt: &HostRuntime, path: &str) -> bool {
+    matches!(fs::exists(rt, path), Ok(false))
+}
+
+/// Runs a program over the store of a file that is not there, which is not made: whether it would commit. Where it would not, its line was printed.
+fn would_commit(
+    rt: &HostRuntime,
+    store: &str,
+    program: &Program,
+    manner: Manner,
+) -> Result<bool, u8> {
+    let Ok(copy) = program.clone() else {
+        return Err(out_of_memory(rt));
+    };
+    let mut out = Std::new(Noting::new(rt.stdout()));
+    let would = run_anew(rt.alloc(), copy, manner, &mut out);
+    say_unwritten(rt, out.device.failure);
+    match would {
+        Ok(would) => Ok(would),
+        Err(fault) => Err(say_fault(rt, store, &fault)),
+    }
+}
+
+/// Runs the program of a path, or that on standard input, over the store of a file, which is made only where the program commits.
 fn run_program(
     rt: &HostRuntime,
     store: &str,
@@ -145,6 +169,9 @@ fn run_program(
         input.device.failure,
     );
     let (text, program) = read?;
+    if is_missing(rt, store) && !would_commit(rt, store, &program, manner)? {
+        return Err(1);
+    }
     let (mut records, bytes) = opened(rt, store)?;
     let mut out = Std::new(Noting::new(rt.stdout()));
     let ran = run_kept(&mut records, bytes, &text, program, manner, &mut out);

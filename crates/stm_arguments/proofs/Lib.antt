@@ -1,4 +1,3 @@
-pub mod CommandLemmas
-pub mod WholeCommands
 pub mod CuttingLemmas
+pub mod NumberLemmas
 pub mod TopicLemmas

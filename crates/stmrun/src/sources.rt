@@ -13,7 +13,7 @@ use stm_compiling::{
 use stm_history::{Sequence, Text};
 
 /// What the names of sources end in.
-const ENDING: &str = ".stm";
+pub(crate) const ENDING: &str = ".stm";
 
 /// What is read as JSON.
 #[derive(Drop)]

@@ -6,7 +6,7 @@ use std::alloc::{AllocError, Global};
 use stm_compiling::{Beside, Wait as SourceWait};
 use stm_exploring::{BadWaits, Wait, waits_in};
 
-/// What stands after a fault of an option's value.
+/// What stands after a fault of an option.
 const USAGE: &str = "
 Usage: stmrun explore [OPTIONS] <SCENARIO>
 
@@ -115,4 +115,13 @@ pub(crate) fn read_waits(
         Ok(()) => Ok(waits),
         Err(_) => Err(out_of_memory(rt)),
     }
+}
+
+/// Refuses waits where no rule is asked, and gives the status.
+pub(crate) fn refuse_waits(rt: &HostRuntime) -> u8 {
+    let _ = rt.eprintln(
+        "error: '--after <RUNNER:FIRST,..>' is for a search with '--keeps <PROGRAM>'",
+    );
+    let _ = rt.eprintln(USAGE);
+    2
 }

@@ -3,7 +3,7 @@ use Rattle.std.proofs.Common.{◌≡◌, ℕ, List, take, IfSome, Some, None, Bo
 use Rattle.stm_devices.specs.declared.transfer.TheConstants.{MOST_READ}
 use Rattle.stm_terms.specs.Outcome.{Outcome}
 use Rattle.stm_compiling.specs.Faults.{SaysWrong}
-use Rattle.stm_compiling.specs.Command.{Answers, Gives, HasBytes}
+use Rattle.stm_compiling.specs.Command.{Answers, Gives, IsUnread}
 use Rattle.stm_compiling.specs.declared.fault.CompileFault.{CompileFault}
 use Rattle.stm_compiling.specs.declared.fault.CompileFault.TheVariants.{OutOfMemory, Bad, Device}
 use Rattle.stm_compiling.proofs.Fronts.{RefusesLong, Ok-front, SaysWrong-front}
@@ -24,8 +24,8 @@ module _ {A : Type 0} (read : List ℕ → Outcome A) (text : List ℕ → List 
   Gives-from_Answers name input failed source (Err Device) works is answers = absurd answers
 
   -- an input that was not read
-  pub Gives-from_unread : {X : Type 0} (view : X → List ℕ) (name input : Option (List ℕ)) (failed : Bool) (fault : CompileFault)
-      → HasBytes view input failed (Err fault) → Gives read text name input failed (Err fault)
-  Gives-from_unread view name input failed OutOfMemory has = has
-  Gives-from_unread view name input failed (Bad said) has = absurd has
-  Gives-from_unread view name input failed Device has = has
+  pub Gives-from_unread : (name input : Option (List ℕ)) (failed : Bool) (fault : CompileFault) → IsUnread failed fault
+      → Gives read text name input failed (Err fault)
+  Gives-from_unread name input failed OutOfMemory is = is
+  Gives-from_unread name input failed (Bad said) is = absurd is
+  Gives-from_unread name input failed Device is = is

@@ -38,12 +38,15 @@ Answers name text reading (Err OutOfMemory) = Unit {0}
 Answers name text reading (Err (Bad said)) = SaysWrong name text reading said
 Answers name text reading (Err Device) = ⊥
 
--- the bytes of an input, or why there are none, by whether it has failed
+-- why there are no bytes of an input, by whether it has failed
+abbrev pub IsUnread : Bool → CompileFault → Type 0
+IsUnread failed OutOfMemory = failed ≡ false
+IsUnread failed (Bad said) = ⊥
+IsUnread failed Device = failed ≡ true
+
 abbrev pub HasBytes : {X : Type 0} → (X → List ℕ) → Option (List ℕ) → Bool → Result X CompileFault → Type 0
 HasBytes view input failed (Ok source) = (failed ≡ false) × IfSome input (λ all. view source ≡ take MOST_READ all)
-HasBytes view input failed (Err OutOfMemory) = failed ≡ false
-HasBytes view input failed (Err (Bad said)) = ⊥
-HasBytes view input failed (Err Device) = failed ≡ true
+HasBytes view input failed (Err fault) = IsUnread failed fault
 
 -- what is answered of the source that an input has, by whether that has failed: how it is read, and in which text its fault stands
 abbrev pub Gives : {A : Type 0} → (List ℕ → Outcome A) → (List ℕ → List ℕ) → Option (List ℕ) → Option (List ℕ) → Bool → Result A CompileFault → Type 0

@@ -14,23 +14,22 @@ fn word_of(rule: &Rule) -> &'static str
     if rule.is_final { "finally " } else { "rule " }
 }
 
-/// Adds a line that a rule is not asked.
-fn push_rule_note(notes: &mut String, rule: &Rule) -> Result<(), AllocError>
-    ensures { OnOk result (string_bytes notes.new ≡ string_bytes notes.old ++ spec.rule_note rule.now) }
+/// The line that a rule is not asked.
+fn rule_note(alloc: Global, rule: &Rule) -> Result<String, AllocError>
+    ensures { IfOk result (λ note. string_bytes note ≡ spec.rule_note rule.now) }
 {
-    notes.push_str("stmrun: ")?;
-    notes.push_str(word_of(rule))?;
-    notes.push_str(rule.name.as_str())?;
-    notes.push_str(" is not asked\n")?;
-    Ok(())
+    let word = word_of(rule);
+    let name = rule.name.as_str();
+    format!(in alloc; "stmrun: {word}{name} is not asked\n")
 }
 
 /// Adds a line for each rule, that it is not asked.
-fn push_rule_notes(notes: &mut String, rules: &[Rule]) -> Result<(), AllocError>
+fn push_rule_notes(alloc: Global, notes: &mut String, rules: &[Rule]) -> Result<(), AllocError>
     ensures { OnOk result (string_bytes notes.new ≡ string_bytes notes.old ++ joined (map spec.rule_note rules.now)) }
 {
     for rule in rules {
-        push_rule_note(notes, rule)?;
+        let note = rule_note(alloc, rule)?;
+        notes.push_str(note.as_str())?;
     }
     Ok(())
 }
@@ -60,7 +59,7 @@ pub fn notes_of(alloc: Global, rules: &[Rule], waits: &[Wait]) -> Result<Text, A
     ensures { IfOk result (λ notes. notes ≡ spec.notes_of rules.now waits.now) }
 {
     let mut notes = String::new(alloc);
-    push_rule_notes(&mut notes, rules)?;
+    push_rule_notes(alloc, &mut notes, rules)?;
     push_wait_notes(alloc, &mut notes, waits)?;
     Ok(Text::new(notes))
 }

@@ -12,5 +12,5 @@ returns-in-Ok-clause-given g c =
 
 pub returns-in-Err-clause-given : goal.returns-in-Err-clause-given
 returns-in-Err-clause-given g c =
-    Gives-from_unread (printed_by c.args.part) (text_by c.args.part) (printed_by-long c.args.part) (λ v. v.items) (option_map (λ n. n.now) c.args.name) (g.S.Source.left c.args.input.now)
+    Gives-from_unread (printed_by c.args.part) (text_by c.args.part) (printed_by-long c.args.part) (option_map (λ n. n.now) c.args.name) (g.S.Source.left c.args.input.now)
     (g.S.Source.failed c.bytes_from.new.input) c.in-Err.fault c.in-Err.ensures.has

@@ -1,8 +1,8 @@
-use Rattle.std.proofs.Common.{map, option_map, string_bytes, Ok, refl}
+use Rattle.std.proofs.Common.{map, option_map, string_bytes, Ok}
 use Rattle.stm_compiling.specs.Parts.{line_alone}
 use Rattle.stm_compiling.specs.Programs.{program_line_in, started, text_read}
 use Rattle.stm_compiling.specs.Wholes.{rules_in}
-use Rattle.stm_compiling.proofs.Answering.{next, none}
+use Rattle.stm_compiling.proofs.Answering.{none}
 use Rattle.stm_compiling.proofs.command.printed_program.Goals as goal
 
 pub returns-in-Err : goal.returns-in-Err

@@ -4,7 +4,7 @@ ghost use Rattle.serde_json.specs.Data.{null, string};
 ghost use Rattle.serde_json.specs.View.{view};
 ghost use Rattle.stm_report_lines.specs.LineData.{list, whole};
 ghost use Rattle.stm_report_lines.specs.Text.{line_text};
-ghost use Rattle.stm_exploring.specs.Judging.{answer_line, answer_parts, answer_text, explored_parts, name_parts};
+ghost use Rattle.stm_exploring.specs.Judging.{answer_line, answer_parts, answer_text, explored_parts, name_parts, named_parts};
 ghost use Rattle.stm_exploring.specs.Lines.{count_line, end_data};
 
 use crate::judging::Answer;
@@ -126,12 +126,20 @@ fn push_name(alloc: Global, parts: &mut Vec<Json>, name: &Option<Text>) -> Resul
     }
 }
 
+/// The elements of the line of an answer, and the name of its rule.
+pub(crate) fn named_parts(alloc: Global, a: &RuleAnswer) -> Result<Vec<Json>, AllocError>
+    ensures { IfOk result (λ parts. map view parts.items ≡ named_parts a.now) }
+{
+    let mut parts = answer_parts(alloc, &a.answer)?;
+    push_name(alloc, &mut parts, &a.rule.name)?;
+    Ok(parts)
+}
+
 /// The line of an answer, as JSON.
 fn answer_json(alloc: Global, a: &RuleAnswer) -> Result<Json, AllocError>
     ensures { IfOk result (λ v. view v ≡ answer_line a.now) }
 {
-    let mut parts = answer_parts(alloc, &a.answer)?;
-    push_name(alloc, &mut parts, &a.rule.name)?;
+    let parts = named_parts(alloc, a)?;
     Ok(Json::Array(parts))
 }
 

@@ -1,5 +1,5 @@
 -- What is known of rules at each of the four levels, and what is printed of that.
-use Rattle.std.specs.Prelude.{◌≡◌, ℕ, nat_lt, List, [], ◌∷◌, ◌++◌, map, All, Bool, true, false, ◌&&◌, ◌||◌, if◌then◌else◌, Option, None, Some, Result, Ok, Err, IfSome, codes}
+use Rattle.std.specs.Prelude.{◌≡◌, ℕ, nat_lt, List, [], ◌∷◌, ◌++◌, map, All, Bool, true, false, if◌then◌else◌, Option, None, Some, Result, Ok, Err, IfSome, codes}
 use Rattle.std.specs.List.{concat, list_all, list_any}
 use Rattle.serde_json.specs.Data.{Data, null, string}
 use Rattle.stm_report_lines.specs.LineData.{list}
@@ -19,7 +19,7 @@ use Rattle.stm_exploring.specs.declared.reading.ExploreFault.TheVariants.{OutOfM
 use Rattle.stm_exploring.specs.declared.rules.Rule.{Rule}
 use Rattle.stm_exploring.specs.declared.rules.RuleAnswer.{RuleAnswer}
 use Rattle.stm_exploring.specs.Exploring.{asked_in}
-use Rattle.stm_exploring.specs.Judging.{AreFound, answer_parts, is_broken, is_kept, name_parts}
+use Rattle.stm_exploring.specs.Judging.{AreFound, is_broken, is_kept, named_parts}
 use Rattle.stm_exploring.specs.Waits.{first_stranger, IsWaitFault}
 
 -- the levels, the weakest first
@@ -79,7 +79,7 @@ enough (a ∷ at) = if list_all all_kept (a ∷ at) then Some a.level else enoug
 
 -- the line of an answer, and at its end the level
 abbrev pub level_line : Level → RuleAnswer → Data
-level_line level a = list (answer_parts a.answer ++ name_parts a.rule.name ++ string (level_text level) ∷ [])
+level_line level a = list (named_parts a ++ string (level_text level) ∷ [])
 
 abbrev pub level_line_text : Level → RuleAnswer → List ℕ
 level_line_text level a = line_text (level_line level a)

@@ -108,7 +108,7 @@ fn answer_parts(alloc: Global, answer: &Answer) -> Result<Vec<Json>, AllocError>
 }
 
 /// Adds a text to the elements of a line.
-fn push_word(alloc: Global, parts: &mut Vec<Json>, word: &str) -> Result<(), AllocError>
+pub(crate) fn push_word(alloc: Global, parts: &mut Vec<Json>, word: &str) -> Result<(), AllocError>
     ensures { OnOk result (map view parts.new.items ≡ map view parts.old.items ++ string word.now ∷ []) }
 {
     let word = json!(in alloc; word)?;

@@ -62,7 +62,8 @@ fn count_parts(alloc: Global, word: &str, count: u64) -> Result<Vec<Json>, Alloc
 {
     let word = json!(in alloc; word)?;
     let count = json!(in alloc; count)?;
-    vec![in alloc; word, count]
+    let parts = vec![in alloc; word, count]?;
+    Ok(parts)
 }
 
 /// The elements of the line of a rule that is always kept, without the length of the longest schedule.
@@ -70,7 +71,8 @@ fn always_parts(alloc: Global) -> Result<Vec<Json>, AllocError>
     ensures { IfOk result (λ parts. map view parts.items ≡ string (codes "always") ∷ null ∷ []) }
 {
     let word = json!(in alloc; "always")?;
-    vec![in alloc; word, Json::Null]
+    let parts = vec![in alloc; word, Json::Null]?;
+    Ok(parts)
 }
 
 /// The elements of the line of a rule that is not kept after this many moves.
@@ -80,7 +82,8 @@ fn broken_parts(alloc: Global, moves: u64, end: &End) -> Result<Vec<Json>, Alloc
     let word = json!(in alloc; "broken")?;
     let moves = json!(in alloc; moves)?;
     let end = end_json(alloc, end)?;
-    vec![in alloc; word, moves, end]
+    let parts = vec![in alloc; word, moves, end]?;
+    Ok(parts)
 }
 
 /// The elements of the line of what a search through schedules came to.

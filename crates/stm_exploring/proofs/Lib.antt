@@ -1,4 +1,5 @@
 pub mod AskingLemmas
+pub mod LevelLemmas
 pub mod LineLemmas
 pub mod NoFloats
 pub mod RuleLemmas

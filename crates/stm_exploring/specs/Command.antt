@@ -12,6 +12,7 @@ use Rattle.stm_exploring.specs.declared.reading.ExploreFault.TheVariants.{OutOfM
 use Rattle.stm_explore.specs.declared.waits.Wait.{Wait}
 use Rattle.stm_exploring.specs.declared.rules.Rule.{Rule}
 use Rattle.stm_exploring.specs.Exploring.{Sources, ReadsProgram, Searches, SearchesFor, Gathers}
+use Rattle.stm_exploring.specs.Levels.{SearchesLevels}
 use Rattle.stm_explain.specs.Saying.{bad_input, memory_fault, device_fault, Reports}
 
 -- ---- answers and faults
@@ -81,6 +82,11 @@ ReadsRule known failed err (Err status) =
 abbrev pub ExploresFor : List Wait → Option Level → List Rule → Option (List ℕ) → Bool → Sunk → Sunk → ℕ → Type 0
 ExploresFor waits level rules known failed out err status =
     (searched : Result Printed ExploreFault) × SearchesFor waits level rules known failed searched × Finishes searched out err status
+
+-- with these at each level
+abbrev pub ExploresLevels : List Wait → List Rule → Option (List ℕ) → Bool → Sunk → Sunk → ℕ → Type 0
+ExploresLevels waits rules known failed out err status =
+    (searched : Result Printed ExploreFault) × SearchesLevels waits rules known failed searched × Finishes searched out err status
 
 -- without one
 abbrev pub GoesThrough : Option Level → Option (List ℕ) → Bool → Sunk → Sunk → ℕ → Type 0

@@ -18,6 +18,7 @@ use Rattle.stm_exploring.specs.declared.reading.ExploreFault.TheVariants.{BadSce
 use Rattle.stm_explore.specs.declared.waits.Wait.{Wait}
 use Rattle.stm_exploring.specs.declared.rules.Rule.{Rule}
 use Rattle.stm_exploring.specs.Exploring.{Sources, ReadsProgram, Searches, SearchesFor, Gathers}
+use Rattle.stm_exploring.specs.Levels.{SearchesLevels}
 use Rattle.stm_exploring.specs.Command.{Sunk, Writes, verdict_status, fault_status, fault_message}
 
 -- an input's name, and the text as which it was kept
@@ -103,6 +104,11 @@ ReadsRule rule known failed err (Err status) =
 abbrev pub ExploresFor : List Wait → Option Level → List Rule → KeptInput → Option (List ℕ) → Bool → Sunk → Sunk → ℕ → Type 0
 ExploresFor waits level rules scenario known failed out err status =
     (searched : Result Printed ExploreFault) × SearchesFor waits level rules known failed searched × Finishes scenario searched out err status
+
+-- with these at each level
+abbrev pub ExploresLevels : List Wait → List Rule → KeptInput → Option (List ℕ) → Bool → Sunk → Sunk → ℕ → Type 0
+ExploresLevels waits rules scenario known failed out err status =
+    (searched : Result Printed ExploreFault) × SearchesLevels waits rules known failed searched × Finishes scenario searched out err status
 
 -- without one
 abbrev pub GoesThrough : Option Level → KeptInput → Option (List ℕ) → Bool → Sunk → Sunk → ℕ → Type 0

@@ -104,9 +104,12 @@ abbrev pub name_parts : Option (List ℕ) → List Data
 name_parts None = []
 name_parts (Some name) = string name ∷ []
 
--- the line of an answer, and at its end the name of its rule
+-- the same, and the name of its rule
+abbrev pub named_parts : RuleAnswer → List Data
+named_parts a = answer_parts a.answer ++ name_parts a.rule.name
+
 abbrev pub answer_line : RuleAnswer → Data
-answer_line a = list (answer_parts a.answer ++ name_parts a.rule.name)
+answer_line a = list (named_parts a)
 
 abbrev pub answer_text : RuleAnswer → List ℕ
 answer_text a = line_text (answer_line a)

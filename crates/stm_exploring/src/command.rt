@@ -2,10 +2,11 @@
 ghost use Rattle.std.specs.Prelude.{◌≡◌, ◌≤◌, ◌+◌, ◌++◌, false};
 ghost use Rattle.stm_devices.specs.declared.transfer.TheConstants.{MOST_READ};
 ghost use Rattle.stm_explain.specs.Saying.{status_of as code_of, text_of, Reports};
-ghost use Rattle.stm_exploring.specs.Command.{verdict_status, fault_status, fault_message, SaysOf, Writes, Finishes, Explores, ExploresFor, GoesThrough, ReadsRule};
+ghost use Rattle.stm_exploring.specs.Command.{verdict_status, fault_status, fault_message, SaysOf, Writes, Finishes, Explores, ExploresFor, ExploresLevels, GoesThrough, ReadsRule};
 
 use crate::audience::Audience;
 use crate::exploring::{explore_sources, search_for};
+use crate::leveled::search_at_levels;
 use crate::outcomes::outcomes_of_source;
 use crate::printed::{Printed, SearchAnswer};
 use crate::reading::{ExploreFault, program_of};
@@ -187,6 +188,39 @@ pub fn explore_rules_to<S: Source, W: Sink, E: Sink, O: Audience>(
 {
     finish(
         search_for(alloc, scenario, rules, waits, level, budget),
+        out,
+        err,
+    )
+}
+
+/// Looks through the interleavings of the scenario of `scenario` with its starts at each of the four levels, the weakest first, for each of these rules,
+/// and writes to `out` what that came to.
+///
+/// There are the lines of each level, as `explore_rules_to` writes them, with the level as a last element and without a schedule; and then
+/// `["enough",LEVEL]`, the first level from which on every schedule keeps every rule, or `["enough",null]`. Status 1 is for a rule that is broken at a level
+/// at which it is to be kept, else 4 for one of which that was not decided, else 0. At each level as many events may be taken for each rule as `budget` has
+/// left.
+///
+/// All else is as with `explore_rules_to`.
+pub fn explore_levels_to<S: Source, W: Sink, E: Sink, O: Audience>(
+    alloc: Global,
+    scenario: &mut S,
+    rules: &[Rule],
+    waits: &[Wait],
+    budget: &mut Budget<O>,
+    out: &mut W,
+    err: &mut E,
+) -> u8
+    requires scenario_works { S.failed scenario.old ≡ false }
+    requires out_works { W.failed out.old ≡ false }
+    requires err_works { E.failed err.old ≡ false }
+    ensures ends { ExploresLevels waits.now rules.now (S.left scenario.old) (S.failed scenario.new)
+        (record { before = W.held out.old; after = W.held out.new; failed = W.failed out.new })
+        (record { before = E.held err.old; after = E.held err.new; failed = E.failed err.new }) result }
+    ensures bounded { S.reads scenario.new ≤ S.reads scenario.old + MOST_READ }
+{
+    finish(
+        search_at_levels(alloc, scenario, rules, waits, budget),
         out,
         err,
     )

@@ -5,11 +5,12 @@ ghost use Rattle.stm_explain.specs.Saying.{Says};
 ghost use Rattle.stm_texts.specs.Reading.{scenario_in};
 ghost use Rattle.stm_faulted_runs.specs.Rules.{ExplainsRule};
 ghost use Rattle.stm_exploring.specs.Command.{verdict_status};
-ghost use Rattle.stm_exploring.specs.Explaining.{ExplainsFault, ExplainsProgram, ExplainsScenario, SaysMoreOf, SaysOfVerdict, schedule_in, ExplainsOnSchedule, ExplainsSearched, Explores, ExploresFor, GoesThrough, ReadsRule};
+ghost use Rattle.stm_exploring.specs.Explaining.{ExplainsFault, ExplainsProgram, ExplainsScenario, SaysMoreOf, SaysOfVerdict, schedule_in, ExplainsOnSchedule, ExplainsSearched, Explores, ExploresFor, ExploresLevels, GoesThrough, ReadsRule};
 
 use crate::audience::Audience;
 use crate::command::{report_with, status_of, write};
 use crate::exploring::{explore_sources, search_for};
+use crate::leveled::search_at_levels;
 use crate::outcomes::outcomes_of_source;
 use crate::printed::{Printed, SearchAnswer};
 use crate::reading::{ExploreFault, program_of};
@@ -259,6 +260,32 @@ pub fn explore_rules_explained_to<S: Source, W: Sink, E: Sink, O: Audience>(
     ensures bounded { S.reads scenario.new.source ≤ S.reads scenario.old.source + MOST_READ }
 {
     let searched = search_for(alloc, scenario, rules, waits, level, budget);
+    match write(out, searched) {
+        Ok(verdict) => status_of(verdict),
+        Err(fault) => report_search_fault(alloc, scenario, &fault, err),
+    }
+}
+
+/// Does what `explore_levels_to` does, with that status and that output. After what is said of a bad scenario stands its explanation, as a line
+/// `NAME:LINE:COLUMN: WORDS`, or nothing where an allocation failed for it.
+pub fn explore_levels_explained_to<S: Source, W: Sink, E: Sink, O: Audience>(
+    alloc: Global,
+    scenario: &mut KeptSource<'_, S>,
+    rules: &[Rule],
+    waits: &[Wait],
+    budget: &mut Budget<O>,
+    out: &mut W,
+    err: &mut E,
+) -> u8
+    requires scenario_works { S.failed scenario.old.source ≡ false }
+    requires out_works { W.failed out.old ≡ false }
+    requires err_works { E.failed err.old ≡ false }
+    ensures ends { ExploresLevels waits.now rules.now (record { name = scenario.new.name.now; text = scenario.new.bytes.items }) (S.left scenario.old.source) (S.failed scenario.new.source)
+        (record { before = W.held out.old; after = W.held out.new; failed = W.failed out.new })
+        (record { before = E.held err.old; after = E.held err.new; failed = E.failed err.new }) result }
+    ensures bounded { S.reads scenario.new.source ≤ S.reads scenario.old.source + MOST_READ }
+{
+    let searched = search_at_levels(alloc, scenario, rules, waits, budget);
     match write(out, searched) {
         Ok(verdict) => status_of(verdict),
         Err(fault) => report_search_fault(alloc, scenario, &fault, err),

@@ -4,7 +4,7 @@ ghost use Rattle.serde_json.specs.Data.{null, string};
 ghost use Rattle.serde_json.specs.View.{view};
 ghost use Rattle.stm_report_lines.specs.LineData.{list, whole};
 ghost use Rattle.stm_report_lines.specs.Text.{line_text};
-ghost use Rattle.stm_exploring.specs.Judging.{answer_line, answer_parts, answer_text, explored_parts, name_parts};
+ghost use Rattle.stm_exploring.specs.Judging.{answer_line, answer_parts, answer_text, explored_parts, name_parts, named_parts};
 ghost use Rattle.stm_exploring.specs.Lines.{count_line, end_data};
 
 use crate::judging::Answer;
@@ -62,7 +62,8 @@ fn count_parts(alloc: Global, word: &str, count: u64) -> Result<Vec<Json>, Alloc
 {
     let word = json!(in alloc; word)?;
     let count = json!(in alloc; count)?;
-    vec![in alloc; word, count]
+    let parts = vec![in alloc; word, count]?;
+    Ok(parts)
 }
 
 /// The elements of the line of a rule that is always kept, without the length of the longest schedule.
@@ -70,7 +71,8 @@ fn always_parts(alloc: Global) -> Result<Vec<Json>, AllocError>
     ensures { IfOk result (λ parts. map view parts.items ≡ string (codes "always") ∷ null ∷ []) }
 {
     let word = json!(in alloc; "always")?;
-    vec![in alloc; word, Json::Null]
+    let parts = vec![in alloc; word, Json::Null]?;
+    Ok(parts)
 }
 
 /// The elements of the line of a rule that is not kept after this many moves.
@@ -80,7 +82,8 @@ fn broken_parts(alloc: Global, moves: u64, end: &End) -> Result<Vec<Json>, Alloc
     let word = json!(in alloc; "broken")?;
     let moves = json!(in alloc; moves)?;
     let end = end_json(alloc, end)?;
-    vec![in alloc; word, moves, end]
+    let parts = vec![in alloc; word, moves, end]?;
+    Ok(parts)
 }
 
 /// The elements of the line of what a search through schedules came to.
@@ -108,7 +111,7 @@ fn answer_parts(alloc: Global, answer: &Answer) -> Result<Vec<Json>, AllocError>
 }
 
 /// Adds a text to the elements of a line.
-fn push_word(alloc: Global, parts: &mut Vec<Json>, word: &str) -> Result<(), AllocError>
+pub(crate) fn push_word(alloc: Global, parts: &mut Vec<Json>, word: &str) -> Result<(), AllocError>
     ensures { OnOk result (map view parts.new.items ≡ map view parts.old.items ++ string word.now ∷ []) }
 {
     let word = json!(in alloc; word)?;
@@ -126,12 +129,20 @@ fn push_name(alloc: Global, parts: &mut Vec<Json>, name: &Option<Text>) -> Resul
     }
 }
 
+/// The elements of the line of an answer, and the name of its rule.
+pub(crate) fn named_parts(alloc: Global, a: &RuleAnswer) -> Result<Vec<Json>, AllocError>
+    ensures { IfOk result (λ parts. map view parts.items ≡ named_parts a.now) }
+{
+    let mut parts = answer_parts(alloc, &a.answer)?;
+    push_name(alloc, &mut parts, &a.rule.name)?;
+    Ok(parts)
+}
+
 /// The line of an answer, as JSON.
 fn answer_json(alloc: Global, a: &RuleAnswer) -> Result<Json, AllocError>
     ensures { IfOk result (λ v. view v ≡ answer_line a.now) }
 {
-    let mut parts = answer_parts(alloc, &a.answer)?;
-    push_name(alloc, &mut parts, &a.rule.name)?;
+    let parts = named_parts(alloc, a)?;
     Ok(Json::Array(parts))
 }
 

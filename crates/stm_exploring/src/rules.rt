@@ -89,7 +89,7 @@ fn verdict_of(answer: &Answer) -> SearchAnswer
 }
 
 /// Whether a rule is always kept.
-fn is_kept(a: &RuleAnswer) -> bool
+pub(crate) fn is_kept(a: &RuleAnswer) -> bool
     ensures { result ≡ is_kept a.now }
 {
     match verdict_of(&a.answer) {
@@ -99,7 +99,7 @@ fn is_kept(a: &RuleAnswer) -> bool
 }
 
 /// Whether a rule is broken.
-fn is_broken(a: &RuleAnswer) -> bool
+pub(crate) fn is_broken(a: &RuleAnswer) -> bool
     ensures { result ≡ is_broken a.now }
 {
     match verdict_of(&a.answer) {
@@ -109,7 +109,7 @@ fn is_broken(a: &RuleAnswer) -> bool
 }
 
 /// Whether each of these rules is always kept.
-fn are_kept(answers: &[RuleAnswer]) -> bool
+pub(crate) fn are_kept(answers: &[RuleAnswer]) -> bool
     ensures { result ≡ list_all is_kept answers.now }
 {
     answers.iter().all(is_kept)

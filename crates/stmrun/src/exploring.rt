@@ -1,12 +1,14 @@
 //! The command `explore` on the files of paths.
 
 use crate::explaining;
-use crate::rules::{is_json, named_in, rules_named, rules_of};
+use crate::refusing::not_yet;
+use crate::rules::{is_json, named_in, rules_named, rules_of, unnamed_rule};
 use crate::ruling::run_rules;
 use crate::sources::{JsonFile, say_unasked, source_at};
 use crate::terminals::{close, shown_budget};
 use crate::waits::{read_waits, refuse_waits};
 use std::slice;
+use stm_arguments::Levels;
 use stm_commands::Std;
 use stm_compiling::{Beside, Rule as SourceRule, Wait as SourceWait};
 use stm_exploring::{Level, Rule, Wait, explore_to, outcomes_to};
@@ -20,24 +22,25 @@ pub(crate) struct Search<'a> {
     pub(crate) keeps: &'a [&'a str],
     /// Which runners wait for which others, as it is spelled.
     pub(crate) after: Option<&'a str>,
-    /// The level at which each start is taken, where one is named.
-    pub(crate) level: Option<Level>,
+    /// The levels at which the starts are taken.
+    pub(crate) levels: Levels,
     /// At most so many events are taken.
     pub(crate) budget: u64,
     /// Whether a fault is explained.
     pub(crate) explain: bool,
 }
 
-/// Looks through the interleavings of a scenario for one that breaks the rule of a path.
+/// Looks through the interleavings of a scenario for one that breaks the rule of a file, at a level, or at each start's own.
 fn run_rule(
     rt: &HostRuntime,
     search: &Search<'_>,
     scenario: &JsonFile<'_>,
     rule: &JsonFile<'_>,
     waits: &[Wait],
+    level: Option<Level>,
 ) -> u8 {
     if search.explain {
-        return explaining::run_rule(rt, scenario, rule, waits, search.level, search.budget);
+        return explaining::run_rule(rt, scenario, rule, waits, level, search.budget);
     }
     let mut scenario = Std::new(scenario.open(rt));
     let mut rule = Std::new(rule.open(rt));
@@ -49,7 +52,7 @@ fn run_rule(
         &mut scenario,
         &mut rule,
         waits,
-        search.level,
+        level,
         &mut budget,
         &mut out,
         &mut err,
@@ -67,18 +70,23 @@ fn ask(
     waits: &[Wait],
 ) -> u8 {
     let Search {
-        level,
+        levels,
         budget,
         explain,
         ..
     } = *search;
-    run_rules(rt, scenario, rules, waits, level, budget, explain)
+    run_rules(rt, scenario, rules, waits, levels, budget, explain)
 }
 
-/// Goes through the interleavings of a scenario.
-fn run_outcomes(rt: &HostRuntime, search: &Search<'_>, scenario: &JsonFile<'_>) -> u8 {
+/// Goes through the interleavings of a scenario, at a level, or at each start's own.
+fn run_outcomes(
+    rt: &HostRuntime,
+    search: &Search<'_>,
+    scenario: &JsonFile<'_>,
+    level: Option<Level>,
+) -> u8 {
     if search.explain {
-        return explaining::run_outcomes(rt, scenario, search.level, search.budget);
+        return explaining::run_outcomes(rt, scenario, level, search.budget);
     }
     let mut scenario = Std::new(scenario.open(rt));
     let mut out = Std::new(rt.stdout());
@@ -87,13 +95,45 @@ fn run_outcomes(rt: &HostRuntime, search: &Search<'_>, scenario: &JsonFile<'_>) 
     let status = outcomes_to(
         rt.alloc(),
         &mut scenario,
-        search.level,
+        level,
         &mut budget,
         &mut out,
         &mut err,
     );
     close(&mut budget);
     status
+}
+
+/// Goes through the interleavings of a scenario; all levels are refused.
+fn search_outcomes(
+    rt: &HostRuntime,
+    search: &Search<'_>,
+    scenario: &JsonFile<'_>,
+) -> Result<u8, u8> {
+    match search.levels {
+        Levels::Own => Ok(run_outcomes(rt, search, scenario, None)),
+        Levels::One(level) => Ok(run_outcomes(rt, search, scenario, Some(level))),
+        Levels::All => Err(not_yet(rt, "--level all without a rule")),
+    }
+}
+
+/// Looks through the interleavings of a scenario for one that breaks the rule of a path.
+fn search_rule(
+    rt: &HostRuntime,
+    search: &Search<'_>,
+    scenario: &JsonFile<'_>,
+    path: &str,
+    waits: &[Wait],
+) -> Result<u8, u8> {
+    let rule = JsonFile::Json(path);
+    match search.levels {
+        Levels::Own => Ok(run_rule(rt, search, scenario, &rule, waits, None)),
+        Levels::One(level) => Ok(run_rule(rt, search, scenario, &rule, waits, Some(level))),
+        Levels::All => {
+            let rule = unnamed_rule(rt, &rule, search.explain)?;
+            Ok(ask(rt, search, scenario, slice::from_ref(&rule), waits))
+        }
+    }
 }
 
 /// Whether a word names this rule of the source of a path, or all rules of it.
@@ -141,10 +181,7 @@ fn search_named(
     let waits = read_waits(rt, search.after, beside)?;
     say_others(rt, search, beside.rules.as_slice())?;
     match search.keeps {
-        [word] if is_json(word) => {
-            let rule = JsonFile::Json(word);
-            Ok(run_rule(rt, search, scenario, &rule, waits.as_slice()))
-        }
+        [word] if is_json(word) => search_rule(rt, search, scenario, word, waits.as_slice()),
         words => {
             let rules = rules_named(rt, words, search.explain)?;
             Ok(ask(rt, search, scenario, rules.as_slice(), waits.as_slice()))
@@ -161,7 +198,7 @@ fn search_own(
 ) -> Result<u8, u8> {
     if beside.rules.as_slice().is_empty() {
         refuse_waiting(rt, search, beside.waits.as_slice())?;
-        return Ok(run_outcomes(rt, search, scenario));
+        return search_outcomes(rt, search, scenario);
     }
     let waits = read_waits(rt, search.after, &beside)?;
     let Beside { rules, .. } = beside;

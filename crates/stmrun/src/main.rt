@@ -31,8 +31,8 @@ use std::process::ExitCode;
 use std::sync::Wait;
 use std::thread::Threads;
 use stm_arguments::{
-    Asked, CheckWords, CompileWords, CutWords, ExploreWords, Levels, PlainWords, ScriptWords,
-    ShowWords, ThreadsWords, asked_of, cut_words, plain_words, print_topic, read_words, topic_of,
+    Asked, CheckWords, CompileWords, CutWords, ExploreWords, PlainWords, ScriptWords, ShowWords,
+    ThreadsWords, asked_of, cut_words, plain_words, print_topic, read_words, topic_of,
 };
 use stm_commands::{Format, RecipeWords, Shown, Std, no_format_to};
 pub use stm_commands::{
@@ -108,32 +108,17 @@ fn run_check(rt: &HostRuntime, words: &CheckWords<'_>, explain: bool) -> u8 {
     }
 }
 
-/// The level of every start, where there is one, or the status where all are asked for.
-fn level_of(rt: &HostRuntime, levels: Levels) -> Result<Option<Level>, u8> {
-    match levels {
-        Levels::Own => Ok(None),
-        Levels::One(level) => Ok(Some(level)),
-        Levels::All => Err(not_yet(rt, "--level all")),
-    }
-}
-
-/// Looks through the interleavings of a scenario, for one that breaks a rule or for what they come to. The status is an error where that is refused.
-fn try_explore(rt: &HostRuntime, words: &ExploreWords<'_>, explain: bool) -> Result<u8, u8> {
-    let level = level_of(rt, words.levels)?;
+/// Looks through the interleavings of a scenario, and gives the status.
+fn run_explore(rt: &HostRuntime, words: &ExploreWords<'_>, explain: bool) -> u8 {
     let wanted = Search {
         path: words.scenario,
         keeps: words.keeps.as_slice(),
         after: words.after,
-        level,
+        levels: words.levels,
         budget: words.budget,
         explain,
     };
-    search(rt, &wanted)
-}
-
-/// Looks through the interleavings of a scenario, and gives the status.
-fn run_explore(rt: &HostRuntime, words: &ExploreWords<'_>, explain: bool) -> u8 {
-    match try_explore(rt, words, explain) {
+    match search(rt, &wanted) {
         Ok(status) => status,
         Err(status) => status,
     }

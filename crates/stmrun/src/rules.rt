@@ -68,6 +68,20 @@ fn read_program(rt: &HostRuntime, file: &JsonFile<'_>, explain: bool) -> Result<
     read_rule_to(rt.alloc(), &mut Std::new(file.open(rt)), &mut err)
 }
 
+/// The rule of a program that is read as JSON, without a name.
+pub(crate) fn unnamed_rule(
+    rt: &HostRuntime,
+    file: &JsonFile<'_>,
+    explain: bool,
+) -> Result<Rule, u8> {
+    let program = read_program(rt, file, explain)?;
+    Ok(Rule {
+        name: None,
+        program,
+        from: Level::ReadCommitted,
+    })
+}
+
 /// The rule of a program that is read as JSON, under a name.
 fn read_rule(rt: &HostRuntime, file: &JsonFile<'_>, name: &str, explain: bool) -> Result<Rule, u8> {
     let program = read_program(rt, file, explain)?;

@@ -8,9 +8,12 @@ use Rattle.stm_source.specs.declared.story.Rule.{Rule}
 abbrev pub rule_word : Bool → List ℕ
 rule_word is_final = if is_final then codes "finally " else codes "rule "
 
+abbrev pub unasked : List ℕ → List ℕ → List ℕ
+unasked word name = codes "stmrun: " ++ word ++ name ++ codes " is not asked\n"
+
 -- a rule that is not asked
 abbrev pub rule_note : Rule → List ℕ
-rule_note rule = codes "stmrun: " ++ rule_word rule.is_final ++ rule.name ++ codes " is not asked\n"
+rule_note rule = unasked (rule_word rule.is_final) rule.name
 
 -- a runner that begins behind the end of another one, where nothing makes it wait
 abbrev pub wait_note : Wait → List ℕ

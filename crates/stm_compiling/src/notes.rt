@@ -14,13 +14,18 @@ fn word_of(rule: &Rule) -> &'static str
     if rule.is_final { "finally " } else { "rule " }
 }
 
+/// The line that what begins with a word and has a name is not asked.
+fn unasked(alloc: Global, word: &str, name: &str) -> Result<String, AllocError>
+    ensures { IfOk result (λ note. string_bytes note ≡ spec.unasked word.now name.now) }
+{
+    format!(in alloc; "stmrun: {word}{name} is not asked\n")
+}
+
 /// The line that a rule is not asked.
 fn rule_note(alloc: Global, rule: &Rule) -> Result<String, AllocError>
     ensures { IfOk result (λ note. string_bytes note ≡ spec.rule_note rule.now) }
 {
-    let word = word_of(rule);
-    let name = rule.name.as_str();
-    format!(in alloc; "stmrun: {word}{name} is not asked\n")
+    unasked(alloc, word_of(rule), rule.name.as_str())
 }
 
 /// Adds a line for each rule, that it is not asked.

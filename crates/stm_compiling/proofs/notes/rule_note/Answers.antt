@@ -1,6 +1,4 @@
-use Rattle.std.proofs.Common.{◌∙◌, append_assoc}
-use Rattle.std.proofs.lemmas.Result.{IfOk-weaker}
 use Rattle.stm_compiling.proofs.notes.rule_note.Goals as goal
 
 pub returns : goal.returns
-returns c = IfOk-weaker c.format.result _ _ (λ s e. e ∙ simp append_assoc) c.format.ensures.ok
+returns c = rw (← c.word_of.ensures, ← c.as_str.ensures) c.unasked.ensures

@@ -214,7 +214,7 @@ fn has_one_input(path: &str, words: &[&str]) -> bool {
 
 /// Looks through the interleavings of a path's scenario for one that breaks a rule, one that words name, or where there are none one of its source, or
 /// where that has none for what they come to. Only one of the scenario and the rules can be standard input.
-pub(crate) fn search(rt: &HostRuntime, search: &Search<'_>) -> Result<u8, u8> {
+pub(crate) fn run_search(rt: &HostRuntime, search: &Search<'_>) -> Result<u8, u8> {
     if !has_one_input(search.path, search.keeps) {
         let _ = rt.eprintln("stmrun: standard input can be only one of SCENARIO and PROGRAM");
         return Err(2);

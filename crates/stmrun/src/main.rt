@@ -21,7 +21,7 @@ mod threading;
 mod waits;
 
 use explaining::{name_of, say_unread, say_unwritten};
-use exploring::{Search, search};
+use exploring::{Search, run_search};
 use files::open;
 use noting::Noting;
 use refusing::not_yet;
@@ -118,7 +118,7 @@ fn run_explore(rt: &HostRuntime, words: &ExploreWords<'_>, explain: bool) -> u8 
         budget: words.budget,
         explain,
     };
-    match search(rt, &wanted) {
+    match run_search(rt, &wanted) {
         Ok(status) => status,
         Err(status) => status,
     }

@@ -5,8 +5,9 @@ use crate::sources::{JsonFile, is_source, out_of_memory, program_at, rules_at, s
 use std::slice;
 use stm_commands::Std;
 use stm_compiling::Rule as SourceRule;
-use stm_exploring::{Level, Program, Rule, read_rule_explained_to, read_rule_to};
+use stm_exploring::{Level, Rule, read_rule_explained_to, read_rule_to};
 use stm_history::{Sequence, Text};
+use stm_storing::Program;
 
 /// A rule of a source, under its name. A final is refused.
 fn rule_of(rt: &HostRuntime, rule: SourceRule) -> Result<Rule, u8> {

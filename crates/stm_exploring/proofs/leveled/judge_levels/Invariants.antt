@@ -8,7 +8,9 @@ use Rattle.stm_exploring.proofs.leveled.judge_levels.Given as goal
 
 -- the answers so far are those at the levels so far, and at a level the scenario is what it was there before
 abbrev pub invariant-loop-level : goal.invariant-loop-level
-invariant-loop-level g l =
-    ((k : Level) → leveled k l.scenario ≡ leveled k l.fn.scenario) × HaveNoStep l.scenario.events
-    × (map (λ (a : LevelAnswers). a.level) l.at.items ≡ take l.level-index l.levels)
-    × All (λ (a : LevelAnswers). AreFound l.waits l.rules (leveled a.level l.fn.scenario) a.answers) l.at.items
+invariant-loop-level g l = record {
+  same : (k : Level) → leveled k l.scenario ≡ leveled k l.fn.scenario;
+  stepless : HaveNoStep l.scenario.events;
+  listed : map (λ (a : LevelAnswers). a.level) l.at.items ≡ take l.level-index l.levels;
+  found : All (λ (a : LevelAnswers). AreFound l.waits l.rules (leveled a.level l.fn.scenario) a.answers) l.at.items;
+}

@@ -21,7 +21,7 @@ use std::alloc::{AllocError, Global};
 use stm_recipe_lines::RecipeWords;
 
 /// What a command line asks for.
-#[derive(Debug, Drop)]
+#[derive(Drop)]
 pub enum Asked<'a> {
     /// `script`: a scenario is run, and its report is printed.
     Script(ScriptWords<'a>),

@@ -39,7 +39,7 @@ Statuses: 0 all promises are kept, 1 one is broken, or commits are missing, 2 ba
 failed device.";
 
 /// The words of `audit`.
-#[derive(Clone, Copy, Debug, PartialEq, Eq)]
+#[derive(Clone, Copy)]
 pub struct AuditWords<'a> {
     /// The path of the trace; standard input, where there is none.
     pub trace: Option<&'a str>,

@@ -29,7 +29,7 @@ prints yes. Where r.txt has another value in the line of key a, it prints no 3 F
 Statuses: 0 yes, 1 no, 2 bad input or usage, 3 out of memory or a failed device.";
 
 /// The words of `check`.
-#[derive(Clone, Copy, Debug, PartialEq, Eq)]
+#[derive(Clone, Copy)]
 pub struct CheckWords<'a> {
     /// The path of the scenario.
     pub scenario: &'a str,

@@ -44,7 +44,7 @@ With --explain, or where standard error is a terminal, one more line says what w
 Statuses: 0 done, 2 bad input or usage, 3 out of memory or a failed device.";
 
 /// The words of `compile`.
-#[derive(Clone, Copy, Debug, PartialEq, Eq)]
+#[derive(Clone, Copy)]
 pub struct CompileWords<'a> {
     /// The path of the source; standard input, where there is none.
     pub source: Option<&'a str>,

@@ -50,7 +50,7 @@ Statuses: 0 always, or all outcomes were found, 1 broken, 2 bad input or usage, 
 4 open.";
 
 /// The words of `explore`.
-#[derive(Debug, Drop)]
+#[derive(Drop)]
 pub struct ExploreWords<'a> {
     /// The path of the scenario.
     pub scenario: &'a str,

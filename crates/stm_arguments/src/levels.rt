@@ -23,7 +23,7 @@ pub(crate) const SEARCH_LEVELS: &[&str] = &[
 ];
 
 /// At which levels a search takes the starts of a scenario.
-#[derive(Clone, Copy, Debug, PartialEq, Eq)]
+#[derive(Clone, Copy)]
 pub enum Levels {
     /// Each start at its own.
     Own,

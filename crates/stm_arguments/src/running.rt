@@ -24,7 +24,7 @@ compile FILE NAME takes them. Another FILE has an array of statements, as stmrun
 Statuses: 0 committed, 1 not committed, 2 bad input or usage, 3 out of memory, a failed disk or device, or a store that another process has open.";
 
 /// The words of `run`.
-#[derive(Clone, Copy, Debug, PartialEq, Eq)]
+#[derive(Clone, Copy)]
 pub struct RunWords<'a> {
     /// The path of the store.
     pub store: &'a str,

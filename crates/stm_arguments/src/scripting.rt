@@ -50,7 +50,7 @@ begin with [\"begin\",..] only where the store is new. stmrun store --help has m
 Statuses: 0 done, 2 bad input or usage, 3 out of memory, a failed disk or device, or a store that another process has open.";
 
 /// The words of `script`.
-#[derive(Clone, Copy, Debug, PartialEq, Eq)]
+#[derive(Clone, Copy)]
 pub struct ScriptWords<'a> {
     /// The path of the store that the scenario goes on from, where it is one that lasts.
     pub store: Option<&'a str>,

@@ -27,7 +27,7 @@ With --program the input is a program, as stmrun recipe prints one, and what is 
 Statuses: 0 done, 2 bad input or usage, 3 out of memory or a failed device.";
 
 /// The words of `show`.
-#[derive(Clone, Copy, Debug, PartialEq, Eq)]
+#[derive(Clone, Copy)]
 pub struct ShowWords<'a> {
     /// The path of the scenario or of the program; standard input, where there is none.
     pub input: Option<&'a str>,

@@ -1,5 +1,5 @@
 //! The command line of `store`.
-ghost use Rattle.std.specs.Prelude.{◌≡◌, codes, IfOk, option_map};
+ghost use Rattle.std.specs.Prelude.{◌≡◌, codes, IfOk, map, option_map};
 ghost use Rattle.clap.specs.Words.{found_of, rows_of};
 ghost use Rattle.stm_arguments.specs.Asking.{IsStore, IsShown, IsWhich, range_in, words_at};
 
@@ -34,7 +34,7 @@ Statuses: 0 done or yes, 1 no, 2 usage or no such revision, 3 out of memory, a f
 const RANGE: &[&str] = &["FIRST", "END"];
 
 /// The words of `store`.
-#[derive(Clone, Copy, Debug, PartialEq, Eq)]
+#[derive(Clone, Copy)]
 pub struct StoreWords<'a> {
     /// The path of the store.
     pub store: &'a str,
@@ -43,7 +43,7 @@ pub struct StoreWords<'a> {
 }
 
 /// What of a store that is kept is printed.
-#[derive(Clone, Copy, Debug, PartialEq, Eq)]
+#[derive(Clone, Copy)]
 pub enum Shown<'a> {
     /// What it has now.
     Now,
@@ -56,7 +56,7 @@ pub enum Shown<'a> {
 }
 
 /// Of which keys the events are printed.
-#[derive(Clone, Copy, Debug, PartialEq, Eq)]
+#[derive(Clone, Copy)]
 pub enum Which<'a> {
     /// Of every key.
     All,
@@ -117,15 +117,25 @@ pub(crate) fn store_command<'a>(alloc: Global) -> Result<Command<'a>, AllocError
     with_past(alloc, command)
 }
 
-/// The first key of a range, and the one that ends it, where they are named.
-fn range_of<'a>(found: &ArgMatches<'a>) -> Option<(&'a str, &'a str)>
-    ensures { option_map (λ keys. (keys.0.now, keys.1.now)) result ≡ range_in (words_at (codes "range") (rows_of (found_of found.now))) }
+/// The two keys of a range, where there are two words.
+#[tactic(auto, using(crate::proofs::RangeLemmas::of_two, crate::proofs::RangeLemmas::of_others))]
+fn range_in<'a>(words: &[&'a str]) -> Option<(&'a str, &'a str)>
+    ensures { option_map (λ keys. (keys.0.now, keys.1.now)) result ≡ range_in (map (λ word. word.now) words.now) }
 {
-    let words = found.get_strs("range")?;
     if words.len() == 2 {
         Some((words[0], words[1]))
     } else {
         None
+    }
+}
+
+/// The first key of a range, and the one that ends it, where they are named.
+fn range_of<'a>(found: &ArgMatches<'a>) -> Option<(&'a str, &'a str)>
+    ensures { option_map (λ keys. (keys.0.now, keys.1.now)) result ≡ range_in (words_at (codes "range") (rows_of (found_of found.now))) }
+{
+    match found.get_strs("range") {
+        Some(words) => range_in(words),
+        None => None,
     }
 }
 

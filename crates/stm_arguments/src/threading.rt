@@ -41,7 +41,7 @@ Which job goes first is not said, nor that the run ends. Statuses: 0 done, 2 bad
 memory, a failed device, no thread, or a job whose end is not what the store says (audit JOB).";
 
 /// The words of `threads`.
-#[derive(Clone, Copy, Debug, PartialEq, Eq)]
+#[derive(Clone, Copy)]
 pub struct ThreadsWords<'a> {
     /// The path of the scenario; standard input, where there is none.
     pub scenario: Option<&'a str>,

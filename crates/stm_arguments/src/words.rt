@@ -50,7 +50,7 @@ pub(crate) fn explain<'a>(alloc: Global) -> Arg<'a> {
 }
 
 /// Why nothing is asked for by what was found.
-#[derive(Clone, Copy, Debug, PartialEq, Eq)]
+#[derive(Clone, Copy)]
 pub(crate) enum Unasked {
     /// An allocation failed.
     OutOfMemory,
@@ -82,7 +82,7 @@ pub(crate) fn required_word<'a>(found: &ArgMatches<'a>, name: &str) -> Result<&'
     }
 }
 
-/// The words in the places of an argument that may be there several times, in their order.
+/// The words of an argument that may have several, in their order.
 pub(crate) fn words_of<'a>(
     alloc: Global,
     found: &ArgMatches<'a>,

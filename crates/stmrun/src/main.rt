@@ -8,9 +8,12 @@ ghost use Rattle.stm_report.specs.declared.format.Format.TheVariants.{Lines};
 ghost use Rattle.stm_report.specs.Format.{format_named};
 
 mod explaining;
+mod exploring;
 mod files;
 mod noting;
 mod refusing;
+mod rules;
+mod ruling;
 mod sources;
 mod storing;
 mod terminals;
@@ -18,17 +21,18 @@ mod threading;
 mod waits;
 
 use explaining::{name_of, say_unread, say_unwritten};
+use exploring::{Search, run_search};
 use files::open;
 use noting::Noting;
 use refusing::not_yet;
-use sources::{ScenarioFile, run_compile, scenario_at};
+use sources::{JsonFile, run_compile, scenario_at};
 use std::alloc::{AllocError, Global};
 use std::process::ExitCode;
 use std::sync::Wait;
 use std::thread::Threads;
 use stm_arguments::{
-    Asked, CheckWords, CompileWords, CutWords, ExploreWords, Levels, PlainWords, ScriptWords,
-    ShowWords, ThreadsWords, asked_of, cut_words, plain_words, print_topic, read_words, topic_of,
+    Asked, CheckWords, CompileWords, CutWords, ExploreWords, PlainWords, ScriptWords, ShowWords,
+    ThreadsWords, asked_of, cut_words, plain_words, print_topic, read_words, topic_of,
 };
 use stm_commands::{Format, RecipeWords, Shown, Std, no_format_to};
 pub use stm_commands::{
@@ -36,13 +40,11 @@ pub use stm_commands::{
     script_as_to, script_explained_to, script_to, show_to,
 };
 use stm_compiling::Part;
-use stm_exploring::{Level, Wait as RunnerWait};
 pub use stm_exploring::{explore_explained_to, explore_to, outcomes_explained_to, outcomes_to};
 pub use stm_threading::{threads_as_to, threads_to};
 use storing::{run_shown, run_stored_program, run_stored_script};
-use terminals::{close, is_shown, shown_budget};
+use terminals::is_shown;
 use threading::{printing_of, run_threads};
-use waits::read_waits;
 
 /// The path of an input that may be named: that of standard input where it is not.
 fn path_of(named: Option<&str>) -> &str {
@@ -50,7 +52,7 @@ fn path_of(named: Option<&str>) -> &str {
 }
 
 /// Runs a scenario.
-fn run_script(rt: &HostRuntime, scenario: &ScenarioFile<'_>, format: Format) -> u8 {
+fn run_script(rt: &HostRuntime, scenario: &JsonFile<'_>, format: Format) -> u8 {
     let mut input = Std::new(scenario.open(rt));
     let mut out = Std::new(rt.stdout());
     let mut err = Std::new(rt.stderr());
@@ -81,7 +83,7 @@ fn run_script_in(rt: &HostRuntime, path: Option<&str>, word: Option<&str>, expla
 }
 
 /// Checks the report of a path beside a scenario: each line, where it is to be whole.
-fn check_report(rt: &HostRuntime, scenario: &ScenarioFile<'_>, report: &str, whole: bool) -> u8 {
+fn check_report(rt: &HostRuntime, scenario: &JsonFile<'_>, report: &str, whole: bool) -> u8 {
     let mut scenario = Std::new(scenario.open(rt));
     let mut report = Std::new(open(rt, report));
     let mut out = Std::new(rt.stdout());
@@ -106,133 +108,17 @@ fn run_check(rt: &HostRuntime, words: &CheckWords<'_>, explain: bool) -> u8 {
     }
 }
 
-/// Looks through the interleavings of a scenario for one that breaks the rule of a path. A fault is explained, or is not.
-fn run_rule(
-    rt: &HostRuntime,
-    scenario: &ScenarioFile<'_>,
-    keeps: &str,
-    waits: &[RunnerWait],
-    level: Option<Level>,
-    budget: u64,
-    explain: bool,
-) -> u8 {
-    if explain {
-        return explaining::run_rule(rt, scenario, keeps, waits, level, budget);
-    }
-    let mut scenario = Std::new(scenario.open(rt));
-    let mut keeps = Std::new(open(rt, keeps));
-    let mut out = Std::new(rt.stdout());
-    let mut err = Std::new(rt.stderr());
-    let mut budget = shown_budget(rt, budget, false);
-    let status = explore_to(
-        rt.alloc(),
-        &mut scenario,
-        &mut keeps,
-        waits,
-        level,
-        &mut budget,
-        &mut out,
-        &mut err,
-    );
-    close(&mut budget);
-    status
-}
-
-/// Goes through the interleavings of a scenario. A fault is explained, or is not.
-fn run_outcomes(
-    rt: &HostRuntime,
-    scenario: &ScenarioFile<'_>,
-    level: Option<Level>,
-    budget: u64,
-    explain: bool,
-) -> u8 {
-    if explain {
-        return explaining::run_outcomes(rt, scenario, level, budget);
-    }
-    let mut scenario = Std::new(scenario.open(rt));
-    let mut out = Std::new(rt.stdout());
-    let mut err = Std::new(rt.stderr());
-    let mut budget = shown_budget(rt, budget, false);
-    let status = outcomes_to(
-        rt.alloc(),
-        &mut scenario,
-        level,
-        &mut budget,
-        &mut out,
-        &mut err,
-    );
-    close(&mut budget);
-    status
-}
-
-/// Looks through the interleavings of a scenario, for one that breaks a rule, where there is one, or for what they come to.
-fn search(
-    rt: &HostRuntime,
-    scenario: &ScenarioFile<'_>,
-    keeps: Option<&str>,
-    waits: &[RunnerWait],
-    level: Option<Level>,
-    budget: u64,
-    explain: bool,
-) -> u8 {
-    match keeps {
-        Some(keeps) => run_rule(rt, scenario, keeps, waits, level, budget, explain),
-        None => run_outcomes(rt, scenario, level, budget, explain),
-    }
-}
-
-/// Looks through the interleavings of a path's scenario, for one that breaks a rule or for what they come to. Only one of the scenario and the rule
-/// can be standard input.
-fn search_file(
-    rt: &HostRuntime,
-    path: &str,
-    keeps: Option<&str>,
-    waits: &[RunnerWait],
-    level: Option<Level>,
-    budget: u64,
-    explain: bool,
-) -> u8 {
-    if path == "-" && keeps == Some("-") {
-        let _ = rt.eprintln("stmrun: standard input can be only one of SCENARIO and PROGRAM");
-        return 2;
-    }
-    match scenario_at(rt, path, explain) {
-        Ok(scenario) => search(rt, &scenario, keeps, waits, level, budget, explain),
-        Err(status) => status,
-    }
-}
-
-/// The rule that a search is asked for, where there is one, or the status where it asks for several, or for one of a source.
-fn rule_of<'a>(rt: &HostRuntime, keeps: &[&'a str]) -> Result<Option<&'a str>, u8> {
-    match keeps {
-        [] => Ok(None),
-        [rule] if rule.contains(".stm") => Err(not_yet(rt, "a source as a rule")),
-        [rule] => Ok(Some(*rule)),
-        _ => Err(not_yet(rt, "a search for several rules")),
-    }
-}
-
-/// The level of every start, where there is one, or the status where all are asked for.
-fn level_of(rt: &HostRuntime, levels: Levels) -> Result<Option<Level>, u8> {
-    match levels {
-        Levels::Own => Ok(None),
-        Levels::One(level) => Ok(Some(level)),
-        Levels::All => Err(not_yet(rt, "--level all")),
-    }
-}
-
-/// Looks through the interleavings of a scenario, for one that breaks a rule or for what they come to. The status is an error where that is refused.
-fn try_explore(rt: &HostRuntime, words: &ExploreWords<'_>, explain: bool) -> Result<u8, u8> {
-    let keeps = rule_of(rt, words.keeps.as_slice())?;
-    let level = level_of(rt, words.levels)?;
-    let waits = read_waits(rt, words.after, keeps.is_some())?;
-    let (path, budget) = (words.scenario, words.budget);
-    Ok(search_file(rt, path, keeps, waits.as_slice(), level, budget, explain))
-}
-
 /// Looks through the interleavings of a scenario, and gives the status.
 fn run_explore(rt: &HostRuntime, words: &ExploreWords<'_>, explain: bool) -> u8 {
-    match try_explore(rt, words, explain) {
+    let wanted = Search {
+        path: words.scenario,
+        keeps: words.keeps.as_slice(),
+        after: words.after,
+        levels: words.levels,
+        budget: words.budget,
+        explain,
+    };
+    match run_search(rt, &wanted) {
         Ok(status) => status,
         Err(status) => status,
     }
@@ -280,7 +166,7 @@ fn explains(rt: &HostRuntime, plain: &PlainWords, explain: bool) -> bool {
 /// Runs a scenario: over the store that it goes on from, where one is named, or by itself.
 fn run_scenario(rt: &HostRuntime, words: &ScriptWords<'_>, explain: bool) -> u8 {
     match words.store {
-        Some(store) => run_stored_script(rt, store, words),
+        Some(store) => run_stored_script(rt, store, words, explain),
         None => run_script_in(rt, words.scenario, words.format, explain),
     }
 }
@@ -323,7 +209,7 @@ fn answer<T: Threads + Wait + Sync>(
         Ok(Asked::Audit(_)) => not_yet(rt, "audit"),
         Ok(Asked::Show(words)) => run_show(rt, &words, plain.is_silent),
         Ok(Asked::Compile(words)) => run_part(rt, &words, explains(rt, plain, words.explain)),
-        Ok(Asked::Run(words)) => run_stored_program(rt, &words),
+        Ok(Asked::Run(words)) => run_stored_program(rt, &words, explains(rt, plain, words.explain)),
         Ok(Asked::Store(words)) => run_shown(rt, &words),
         Err(status) => status,
     }

@@ -3,18 +3,16 @@ ghost use Rattle.std.specs.Prelude.{◌≡◌, List, ℕ, IfOk, IsTrue};
 ghost use Rattle.stm_file_disk.specs.Event.{events_of};
 ghost use Rattle.stm_file_disk.specs.Replay.{replay};
 
-use crate::explaining::{say_unread, say_unwritten};
-use crate::files::open as open_input;
+use crate::explaining::{name_of, say_unread, say_unwritten};
 use crate::noting::Noting;
-use crate::refusing::not_yet;
-use crate::sources::ENDING;
+use crate::sources::{JsonFile, is_source, out_of_memory, program_at, scenario_at};
 use std::fs;
 use stm_arguments::{RunWords, ScriptWords, Shown, StoreWords, Which};
 use stm_commands::{Format, Std};
 use stm_file_disk::{FileDisk, open};
 use stm_storing::{
-    HIGHEST_REVISION, Manner, RecordFile, StoreFault, Text, Watched, check_kept, read_input,
-    read_program, run_kept, script_kept, show_at, show_kept, show_since,
+    HIGHEST_REVISION, Manner, Program, RecordFile, StoreFault, Text, Watched, check_kept,
+    read_input, read_program, run_anew, run_kept, script_kept, show_at, show_kept, show_since,
 };
 
 /// Says of the file of a store why a command failed, and gives the status.
@@ -80,18 +78,15 @@ fn format_of(rt: &HostRuntime, word: Option<&str>) -> Result<Format, u8> {
 fn run_script(
     rt: &HostRuntime,
     store: &str,
-    scenario: Option<&str>,
-    word: Option<&str>,
+    words: &ScriptWords<'_>,
+    explain: bool,
 ) -> Result<(), u8> {
-    let format = format_of(rt, word)?;
-    let mut input = Std::new(Noting::new(open_input(rt, scenario.unwrap_or("-"))));
+    let format = format_of(rt, words.format)?;
+    let file = scenario_at(rt, words.scenario.unwrap_or("-"), explain)?;
+    let mut input = Std::new(Noting::new(file.open(rt)));
     let mut err = Std::new(rt.stderr());
     let read = read_input(rt.alloc(), &mut input, &mut err);
-    say_unread(
-        rt,
-        scenario.unwrap_or("standard input"),
-        input.device.failure,
-    );
+    say_unread(rt, file.name(), input.device.failure);
     let (text, scenario) = read?;
     let (mut records, bytes) = opened(rt, store)?;
     let mut out = Std::new(Noting::new(rt.stdout()));
@@ -103,22 +98,45 @@ fn run_script(
     }
 }
 
-/// Runs the program of a path, or that on standard input, over the store of a file.
+/// Whether no file has this path.
+fn is_missing(rt: &HostRuntime, path: &str) -> bool {
+    matches!(fs::exists(rt, path), Ok(false))
+}
+
+/// Runs a program over the store of a file that is not there, which is not made: whether it would commit. Where it would not, its line was printed.
+fn would_commit(
+    rt: &HostRuntime,
+    store: &str,
+    program: &Program,
+    manner: Manner,
+) -> Result<bool, u8> {
+    let Ok(copy) = program.clone() else {
+        return Err(out_of_memory(rt));
+    };
+    let mut out = Std::new(Noting::new(rt.stdout()));
+    let would = run_anew(rt.alloc(), copy, manner, &mut out);
+    say_unwritten(rt, out.device.failure);
+    match would {
+        Ok(would) => Ok(would),
+        Err(fault) => Err(say_fault(rt, store, &fault)),
+    }
+}
+
+/// Runs a program over the store of a file, which is made only where the program commits.
 fn run_program(
     rt: &HostRuntime,
     store: &str,
-    program: Option<&str>,
+    file: &JsonFile<'_>,
     manner: Manner,
 ) -> Result<(), u8> {
-    let mut input = Std::new(Noting::new(open_input(rt, program.unwrap_or("-"))));
+    let mut input = Std::new(Noting::new(file.open(rt)));
     let mut err = Std::new(rt.stderr());
     let read = read_program(rt.alloc(), &mut input, &mut err);
-    say_unread(
-        rt,
-        program.unwrap_or("standard input"),
-        input.device.failure,
-    );
+    say_unread(rt, file.name(), input.device.failure);
     let (text, program) = read?;
+    if is_missing(rt, store) && !would_commit(rt, store, &program, manner)? {
+        return Err(1);
+    }
     let (mut records, bytes) = opened(rt, store)?;
     let mut out = Std::new(Noting::new(rt.stdout()));
     let ran = run_kept(&mut records, bytes, &text, program, manner, &mut out);
@@ -128,6 +146,36 @@ fn run_program(
         Ok(false) => Err(1),
         Err(fault) => Err(say_fault(rt, store, &fault)),
     }
+}
+
+/// The program that is to be run: a file of JSON, that of a name of a source, or standard input.
+fn program_of<'a>(
+    rt: &HostRuntime,
+    words: &RunWords<'a>,
+    explain: bool,
+) -> Result<JsonFile<'a>, u8> {
+    let path = words.input.unwrap_or("-");
+    match words.program {
+        Some(name) => program_at(rt, path, name, words.arguments, explain),
+        None if is_source(path) => {
+            let path = name_of(path);
+            let _ = eprintln!(rt;
+                "stmrun: {path} is a source: stmrun run --store STORE {path} NAME ARGUMENT .. runs a program of it"
+            );
+            Err(2)
+        }
+        None => Ok(JsonFile::Json(path)),
+    }
+}
+
+/// Runs the program that words ask for.
+fn run_words(rt: &HostRuntime, words: &RunWords<'_>, explain: bool) -> Result<(), u8> {
+    let manner = Manner {
+        level: words.level,
+        attempts: words.attempts,
+    };
+    let file = program_of(rt, words, explain)?;
+    run_program(rt, words.store, &file, manner)
 }
 
 /// Prints what the store of a file has.
@@ -169,10 +217,7 @@ fn show_past(rt: &HostRuntime, store: &str, word: &str) -> Result<(), u8> {
 fn copied(rt: &HostRuntime, word: &str) -> Result<Text, u8> {
     match Text::copy_of(rt.alloc(), word) {
         Ok(text) => Ok(text),
-        Err(_) => {
-            let _ = rt.eprintln("stmrun: out of memory");
-            Err(3)
-        }
+        Err(_) => Err(out_of_memory(rt)),
     }
 }
 
@@ -232,32 +277,19 @@ fn status_of(done: Result<(), u8>) -> u8 {
     }
 }
 
-/// Whether a path is that of a source, where one is named.
-fn is_source(path: Option<&str>) -> bool {
-    match path {
-        Some(path) => path.ends_with(ENDING),
-        None => false,
-    }
-}
-
 /// Goes on with a scenario over the store of a file, and gives the status.
-pub(crate) fn run_stored_script(rt: &HostRuntime, store: &str, words: &ScriptWords<'_>) -> u8 {
-    if is_source(words.scenario) {
-        return not_yet(rt, "a source over a store that lasts");
-    }
-    status_of(run_script(rt, store, words.scenario, words.format))
+pub(crate) fn run_stored_script(
+    rt: &HostRuntime,
+    store: &str,
+    words: &ScriptWords<'_>,
+    explain: bool,
+) -> u8 {
+    status_of(run_script(rt, store, words, explain))
 }
 
 /// Runs a program over the store of a file, and gives the status.
-pub(crate) fn run_stored_program(rt: &HostRuntime, words: &RunWords<'_>) -> u8 {
-    if is_source(words.input) || words.program.is_some() {
-        return not_yet(rt, "a program of a source over a store that lasts");
-    }
-    let manner = Manner {
-        level: words.level,
-        attempts: words.attempts,
-    };
-    status_of(run_program(rt, words.store, words.input, manner))
+pub(crate) fn run_stored_program(rt: &HostRuntime, words: &RunWords<'_>, explain: bool) -> u8 {
+    status_of(run_words(rt, words, explain))
 }
 
 /// Prints what of the store of a file is asked for, and gives the status.

@@ -1,11 +1,12 @@
 //! When a rule is asked, and what it sees there of the ends of runners.
-ghost use Rattle.std.specs.Prelude.{◌≡◌, ◌++◌, Some, option_copied, IfOk, OnOk, bytes_eq};
+ghost use Rattle.std.specs.Prelude.{◌≡◌, ◌++◌, [], Some, option_copied, IfOk, OnOk, bytes_eq};
 ghost use Rattle.std.specs.List.{find};
 ghost use Rattle.stm_schedules.specs.declared.outcome.KeyValue.{KeyValue as KeyValueOf};
 ghost use Rattle.stm_explore.specs.declared.asking.When.TheVariants.{Each, Last};
 ghost use Rattle.stm_explore.specs.Asked.{end_word, end_reason, value_text, first_text, first_output, laid_of, laid, end_for, asks};
 
-use crate::keeping::{KeysNow, is_kept};
+use crate::judging::is_kept;
+use crate::keeping::{KeysNow, end_alone};
 use std::alloc::{AllocError, Global};
 use stm_history::Text;
 use stm_meaning::{Answered, End, Lookup, Value, run_answered};

@@ -1,4 +1,4 @@
-use Rattle.std.proofs.Common.{◌≡◌, ◌×◌, drop}
+use Rattle.std.proofs.Common.{◌≡◌, drop}
 use Rattle.stm_schedules.specs.Places.{Place}
 use Rattle.stm_schedules.specs.Schedules.{place_after}
 use Rattle.stm_schedules.specs.Outcomes.{ends_after}

@@ -1,5 +1,5 @@
 //! The program: runs scenarios of transactional programs over one store, by itself or by several threads, and reports what happened, checks
-//! reports, looks through the interleavings of a scenario, compiles sources, and prints the programs of recipes.
+//! reports, looks through the interleavings of a scenario, audits traces, compiles sources, and prints the programs of recipes.
 #![tactic(auto)]
 
 ghost use Rattle.std.specs.Prelude.{◌≡◌, ◌≤◌, List, ℕ, Some, None, option_map};
@@ -7,11 +7,11 @@ ghost use Rattle.stm_workers.specs.declared.run.TheConstants.{MOST_WORKERS};
 ghost use Rattle.stm_report.specs.declared.format.Format.TheVariants.{Lines};
 ghost use Rattle.stm_report.specs.Format.{format_named};
 
+mod auditing;
 mod explaining;
 mod exploring;
 mod files;
 mod noting;
-mod refusing;
 mod rules;
 mod ruling;
 mod sources;
@@ -20,11 +20,11 @@ mod terminals;
 mod threading;
 mod waits;
 
+use auditing::run_audit;
 use explaining::{name_of, say_unread, say_unwritten};
 use exploring::{Search, run_search};
 use files::open;
 use noting::Noting;
-use refusing::not_yet;
 use sources::{JsonFile, run_compile, scenario_at};
 use std::alloc::{AllocError, Global};
 use std::process::ExitCode;
@@ -34,6 +34,7 @@ use stm_arguments::{
     Asked, CheckWords, CompileWords, CutWords, ExploreWords, PlainWords, ScriptWords, ShowWords,
     ThreadsWords, asked_of, cut_words, plain_words, print_topic, read_words, topic_of,
 };
+pub use stm_audit::audit_to;
 use stm_commands::{Format, RecipeWords, Shown, Std, no_format_to};
 pub use stm_commands::{
     check_explained_to, check_to, check_whole_explained_to, check_whole_to, recipe_to,
@@ -206,7 +207,7 @@ fn answer<T: Threads + Wait + Sync>(
         }
         Ok(Asked::Recipe(words)) => run_recipe(rt, &words),
         Ok(Asked::Explore(words)) => run_explore(rt, &words, explains(rt, plain, words.explain)),
-        Ok(Asked::Audit(_)) => not_yet(rt, "audit"),
+        Ok(Asked::Audit(words)) => run_audit(rt, &words, plain.is_silent),
         Ok(Asked::Show(words)) => run_show(rt, &words, plain.is_silent),
         Ok(Asked::Compile(words)) => run_part(rt, &words, explains(rt, plain, words.explain)),
         Ok(Asked::Run(words)) => run_stored_program(rt, &words, explains(rt, plain, words.explain)),

@@ -1,7 +1,7 @@
 -- One step of a machine keeps what finishing comes to; where none is made, the machine stands.
 use Rattle.std.proofs.Common.{◌≡◌, refl, sym, ◌∙◌, ap, ℕ, List, [], ◌∷◌}
 use Rattle.std.specs.Prelude.{Option, None, Some, IsSome}
-use Rattle.stm_program.specs.declared.write.Write.{Write}
+use Rattle.stm_history.specs.declared.change.Change.{Change}
 use Rattle.stm_steps.specs.declared.value.Value.{Value}
 use Rattle.stm_steps.specs.declared.stop.Stop.TheVariants.{Wants}
 use Rattle.stm_steps.specs.declared.run.End.{End as RunEnd}
@@ -46,7 +46,7 @@ rev_answered-agrees : (key : List ℕ) (a b : Option Answer) (s t : Session) (x 
 rev_answered-agrees key None b s t x agree found = absurd (cc)
 rev_answered-agrees key (Some a) b s t x agree found = ap (λ o. rev_answered key o s) (agree a refl) ∙ found
 
-get_of-agrees : (look whole : Lookup) → AgreesWith look whole → (key : List ℕ) (w : Option Write) (s t : Session) (x : Value) →
+get_of-agrees : (look whole : Lookup) → AgreesWith look whole → (key : List ℕ) (w : Option Change) (s t : Session) (x : Value) →
     get_of look key w s ≡ Gives x t → get_of whole key w s ≡ Gives x t
 get_of-agrees look whole agree key (Some w) s t x found = found
 get_of-agrees look whole agree key None s t x found = get_answered-agrees key (look key) (whole key) s t x (agree key) found
@@ -112,7 +112,7 @@ rev_answered-stands : (frames : List Frame) (key : List ℕ) (a : Option Answer)
 rev_answered-stands frames key None s none = refl
 rev_answered-stands frames key (Some a) s none = absurd (cc)
 
-get_of-stands : (look : Lookup) (frames : List Frame) (key : List ℕ) (w : Option Write) (s : Session) → read_step frames (get_of look key w s) ≡ None →
+get_of-stands : (look : Lookup) (frames : List Frame) (key : List ℕ) (w : Option Change) (s : Session) → read_step frames (get_of look key w s) ≡ None →
     get_of look key w s ≡ Stops (Wants key) s
 get_of-stands look frames key (Some w) s none = absurd (cc)
 get_of-stands look frames key None s none = get_answered-stands frames key (look key) s none
@@ -196,7 +196,7 @@ rev_answered-unknown : (key : List ℕ) (a : Option Answer) (s : Session) → re
 rev_answered-unknown key None s stands = refl
 rev_answered-unknown key (Some a) s stands = absurd (cc)
 
-get_of-unknown : (look : Lookup) (key : List ℕ) (w : Option Write) (s : Session) → get_of look key w s ≡ Stops (Wants key) s → look key ≡ None
+get_of-unknown : (look : Lookup) (key : List ℕ) (w : Option Change) (s : Session) → get_of look key w s ≡ Stops (Wants key) s → look key ≡ None
 get_of-unknown look key (Some w) s stands = absurd (cc)
 get_of-unknown look key None s stands = get_answered-unknown key (look key) s stands
 

@@ -7,7 +7,7 @@ use Rattle.std.proofs.lemmas.Bool.{leb-true}
 use Rattle.stm_program.specs.Syntax as tree
 use Rattle.stm_program.specs.Syntax.{Expression, Condition, Statement, Block, End, Then}
 use Rattle.stm_program.specs.Size.{expression_nodes, condition_nodes}
-use Rattle.stm_program.specs.declared.write.Write.{Write}
+use Rattle.stm_history.specs.declared.change.Change.{Change}
 use Rattle.stm_steps.specs.declared.value.Value.{Value}
 use Rattle.stm_steps.specs.declared.value.Value.TheVariants.{Text, Number}
 use Rattle.stm_steps.specs.declared.fault.Fault.{Fault}
@@ -184,7 +184,7 @@ abort_falls : (r : Result (List ℕ) Fault) (frames : List Frame) → move_left 
 abort_falls (Ok t) frames = omega arith
 abort_falls (Err fault) frames = omega arith
 
-write_falls : (r : Result Write Fault) (s : Session) (frames : List Frame) → move_left (write_moved r s).move frames < 2 + stack_steps frames
+write_falls : (r : Result Change Fault) (s : Session) (frames : List Frame) → move_left (write_moved r s).move frames < 2 + stack_steps frames
 write_falls (Ok w) s frames = omega arith
 write_falls (Err fault) s frames = omega arith
 

@@ -12,7 +12,6 @@ use Rattle.stm_history.specs.Opening.{Opening, opened_state}
 use Rattle.stm_history.specs.History.{History, now, key_at, key_now, mod_of, number_of_last, change_of}
 use Rattle.stm_history.proofs.HistoryLaws.{mod_is_reached}
 use Rattle.stm_program.specs.Limits.{BlockInRange}
-use Rattle.stm_program.specs.declared.write.Write.{Write}
 use Rattle.stm_steps.specs.Answer.{Answer}
 use Rattle.stm_outcome.specs.declared.answer.FailedCompare.{FailedCompare}
 use Rattle.stm_outcome.specs.declared.answer.OpAnswer.{OpAnswer}
@@ -215,7 +214,7 @@ reads_seen : (answers : List ReadAnswer) → AnswersFit answers → AllSeenFit (
 reads_seen [] fits = tt
 reads_seen (a ∷ rest) fits = (inl fits.0.0, reads_seen rest fits.1)
 
-writes_seen : (first : ℕ) (writes : List Write) → AllSeenFit (map (seen_of_write first) writes)
+writes_seen : (first : ℕ) (writes : List Change) → AllSeenFit (map (seen_of_write first) writes)
 writes_seen first [] = tt
 writes_seen first (w ∷ ws) = (inr refl, writes_seen first ws)
 
@@ -256,7 +255,7 @@ pub record FailureFits (about : Seen) (failed : FailedCompare) : Type 0 where
   pub seen : Few about.mod_rev
   pub stands : Few failed.mod_rev
 
-pub failure_fits : (h : History) (reads : List ReadAnswer) (writes : List Write) (failed : FailedCompare) → HistoryFits h → AnswersFit reads →
+pub failure_fits : (h : History) (reads : List ReadAnswer) (writes : List Change) (failed : FailedCompare) → HistoryFits h → AnswersFit reads →
     IsConflict h reads writes failed → FailureFits (seen_in (slice_get (seen_by reads writes) failed.index)) failed
 failure_fits h reads writes failed fits answers c =
     let all : AllSeenFit (seen_by reads writes) =

@@ -9,7 +9,7 @@ use Rattle.std.proofs.lemmas.Slice.Eq.{bytes_eq-Decides}
 use Rattle.stm_history.specs.declared.key_state.ReadAnswer.{ReadAnswer}
 use Rattle.stm_history.specs.History.{History}
 use Rattle.stm_program.specs.Syntax.{ProgramTree}
-use Rattle.stm_program.specs.declared.write.Write.{Write}
+use Rattle.stm_history.specs.declared.change.Change.{Change}
 use Rattle.stm_program.specs.Writes.{last_write}
 use Rattle.stm_program.specs.Limits.{has_repeat}
 use Rattle.stm_program.proofs.WriteLemmas.{bytes_eq-flip}
@@ -141,7 +141,7 @@ rev_answered-listed keys answers key None s found is = is
 rev_answered-listed keys answers key (Some a) s found is =
     first_stays keys s.reads key (known_among keys answers s.reads key a is found) ∙ is
 
-get_of-listed : (keys : List (List ℕ)) (answers : List ReadAnswer) (key : List ℕ) (w : Option Write) (s : Session) → IsFirst keys answers s.reads →
+get_of-listed : (keys : List (List ℕ)) (answers : List ReadAnswer) (key : List ℕ) (w : Option Change) (s : Session) → IsFirst keys answers s.reads →
     IsFirst keys answers (session_of (get_of (look_up answers) key w s)).reads
 get_of-listed keys answers key (Some w) s is = is
 get_of-listed keys answers key None s is = get_answered-listed keys answers key (look_up answers key) s refl is

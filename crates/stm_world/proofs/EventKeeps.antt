@@ -1,6 +1,6 @@
 -- What an event makes of the store: what was true stays so, what watchers were notified of goes on, the opening stays, and nothing below the floor
 -- is pending for a watcher that is not lost.
-use Rattle.std.proofs.Common.{◌≡◌, ◌≤◌, ℕ, List, [], ◌∷◌, map, Option, Some, None, Ok, Err, refl, sym, ◌∙◌, subst, arith}
+use Rattle.std.proofs.Common.{◌≡◌, ◌≤◌, ℕ, List, [], ◌∷◌, Option, Some, None, Ok, Err, refl, sym, ◌∙◌, subst, arith}
 use Rattle.std.proofs.Math.Nat.{min-le_right}
 use Rattle.std.specs.Prelude.{Result}
 use Rattle.stm_history.specs.Opening.{opening_at}
@@ -17,7 +17,6 @@ use Rattle.stm_outcome.specs.Outcome.{Done}
 use Rattle.stm_outcome.specs.Terms.{most_operations}
 use Rattle.stm_txn.specs.Standing.{Standing, HasKept, with_history}
 use Rattle.stm_txn.specs.Standing.{Setup}
-use Rattle.stm_compile.specs.Now.{as_change}
 use Rattle.stm_entries.specs.Replayed.{Replayed, without_moment, replay_terms}
 use Rattle.stm_entries.specs.Alone.{seen_at, applied_run, history_left, left_by, left_by_run}
 use Rattle.stm_events.specs.declared.event.WorldEvent.{WorldEvent}
@@ -37,7 +36,7 @@ use Rattle.stm_world.proofs.Calls.{txn_goes_on, grant_follows, keep_follows, rev
 use Rattle.stm_world.proofs.WatchCalls.{watch_follows, poll_follows, cancel_follows, compact_follows}
 
 left_keeps : (r : Replayed) (run : Run) (o : Result Done StoreRefusal) → applied_run r run ≡ o → Keeps r.history (history_left r.history o)
-left_keeps r run (Ok done) is = grown_by (replay_terms r) (map as_change (latest_writes run.writes)) done is
+left_keeps r run (Ok done) is = grown_by (replay_terms r) (latest_writes run.writes) done is
 left_keeps r run (Err cause) is = keeps_same r.history
 
 end_keeps : (r : Replayed) (run : Run) (end : End) → Keeps r.history (left_by run end r).history
@@ -84,7 +83,7 @@ store_opens start (line ∷ older) =
 left_kept : (s : Standing) (run : Run) (o : Result Done StoreRefusal) → applied_run (without_moment s) run ≡ o → HasKept s →
     HasKept (with_history s (history_left s.history o))
 left_kept s run (Ok done) is k =
-    kept_by_writes s (replay_terms (without_moment s)) (map as_change (latest_writes run.writes)) done refl is k
+    kept_by_writes s (replay_terms (without_moment s)) (latest_writes run.writes) done refl is k
 left_kept s run (Err cause) is k = record { reached = k.reached; watchers = k.watchers }
 
 end_kept : (s : Standing) (run : Run) (end : End) → HasKept s → HasKept (with_history s (left_by run end (without_moment s)).history)

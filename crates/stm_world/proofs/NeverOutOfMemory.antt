@@ -1,5 +1,5 @@
 -- Nothing that is defined is refused as out of memory.
-use Rattle.std.proofs.Common.{◌≡◌, ◌≢◌, inl, inr, ℕ, Bool, true, false, cond, List, map, length, Option, Some, None, Result, Ok, Err, sym, ap, subst}
+use Rattle.std.proofs.Common.{◌≡◌, ◌≢◌, inl, inr, ℕ, Bool, true, false, cond, List, length, Option, Some, None, Result, Ok, Err, sym, ap, subst}
 use Rattle.std.specs.Prelude.{nat_eq, nat_le, nat_lt, not}
 use Rattle.std.specs.List.{list_any}
 use Rattle.std.specs.FinMap as finmap
@@ -31,7 +31,6 @@ use Rattle.stm_txn.specs.Standing.{Standing, Step as StoreStep, watch_step, poll
 use Rattle.stm_txn.specs.Standing.{transacted, granted, kept_alive, revoked, advanced, watched, polled, cancelled, raised}
 use Rattle.stm_txn.specs.Standing.{Setup}
 use Rattle.stm_outcome.specs.Terms.{Terms}
-use Rattle.stm_compile.specs.Now.{as_change}
 use Rattle.stm_compile.specs.Committed.{sends_too_many, conflict_now, judged, committed}
 use Rattle.stm_events.specs.declared.event.WorldEvent.{WorldEvent}
 use Rattle.stm_events.specs.declared.event.WorldEvent.TheVariants.{Start, Step, Txn, Grant, Keep, Revoke, Advance}
@@ -125,7 +124,7 @@ judged_never : (terms : Terms) (level : Level) (reads : List ReadAnswer) (run : 
     NeverWants (judged terms level reads run o)
 judged_never terms level reads run None =
     let h : History = terms.history in
-    let changes : List Change = map as_change (latest_writes run.writes) in
+    let changes : List Change = (latest_writes run.writes) in
     applied_for (list_any (is_on_dead_lease terms.is_live) changes) (is_used_up h (effective h changes)) _
 judged_never terms level reads run (Some failed) = tt
 

@@ -1,5 +1,5 @@
 -- What a log says of attempts that come to nothing: from the headline, line by line.
-use Rattle.std.proofs.Common.{cond, map, arith, Bool, false, refl, ◌∷◌, None, Option, ◌≡◌, ℕ, ◌≤◌, List, [], Some, Ok, Err, true, sym, ◌∙◌, ap, subst}
+use Rattle.std.proofs.Common.{cond, arith, Bool, false, refl, ◌∷◌, None, Option, ◌≡◌, ℕ, ◌≤◌, List, [], Some, Ok, Err, true, sym, ◌∙◌, ap, subst}
 use Rattle.std.specs.Prelude.{option_map, Result}
 use Rattle.stm_history.specs.declared.key_state.ReadAnswer.{ReadAnswer}
 use Rattle.stm_history.specs.History.{History, key_now, mod_of}
@@ -26,7 +26,6 @@ use Rattle.stm_outcome.specs.Terms.{Terms}
 use Rattle.stm_txn.specs.Standing.{terms_of}
 use Rattle.stm_txn.specs.Standing.{Setup}
 use Rattle.stm_compile.specs.Answers.{AreTrue}
-use Rattle.stm_compile.specs.Now.{as_change}
 use Rattle.stm_compile.specs.CommitTxn.{reread_keys}
 use Rattle.stm_compile.specs.Committed.{sends_too_many, conflict_now, judged}
 use Rattle.stm_compile.proofs.AgreeLemmas.{answers_of_one_revision}
@@ -66,7 +65,7 @@ judged_fails : (terms : Terms) (level : Level) (reads : List ReadAnswer) (run : 
     (failed : FailedCompare) → judged terms level reads run o ≡ Ok done → done.answer.failed ≡ Some failed → o ≡ Some failed
 judged_fails terms level reads run None done failed is some =
     let h : History = terms.history in
-    let changes : List Change = map as_change (latest_writes run.writes) in
+    let changes : List Change = latest_writes run.writes in
     absurd (applied_fails_none (list_any (is_on_dead_lease terms.is_live) changes) (is_used_up h (effective h changes)) _ done failed refl is some)
 judged_fails terms level reads run (Some first) done failed is some =
     let same : turned_down terms.history first (reread_keys level reads) ≡ done = cc in

@@ -37,7 +37,7 @@ use Rattle.stm_events.specs.declared.refusal.Denied.{Denied}
 use Rattle.stm_events.specs.Replies.{committed_read}
 use Rattle.stm_world.specs.Task.{Task, answer_at, after_fetch, after_conflict}
 use Rattle.stm_world.specs.World.{World, Runner, Slot, Over, Live, Stepped, live_in, runner_at, with_slot, begin, start_runner, replied, fetch, fetch_at, fetch_list, decided}
-use Rattle.stm_world.specs.World.{commit_reported, commit, finish, step_on, step_live, step_runner, called, quietly_called, step}
+use Rattle.stm_world.specs.World.{commit_reported, commit, finish, step_on, step_live, step_runner, after_call, after_quiet_call, step}
 use Rattle.stm_alike.specs.Levelled.{levelled}
 use Rattle.stm_alike.proofs.Levelling.{levelled_again, same_run, same_due, same_at, fetched_same, mapped_same, same_reread, same_seen, same_commit}
 use Rattle.stm_alike.specs.Seen.{seen_known, seen_runner, seen_slot}

@@ -50,7 +50,7 @@ use Rattle.stm_events.specs.declared.refusal.Denied.{Denied}
 use Rattle.stm_events.specs.Replies.{txn_reply, reply_to, store_after_call, advance_reply, store_after_poll}
 use Rattle.stm_world.specs.Task.{Task}
 use Rattle.stm_world.specs.World.{World, Runner, Slot, Stepped, runner_at, start_runner, replied, fetch, fetch_at, fetch_list, decided}
-use Rattle.stm_world.specs.World.{commit_reported, commit, finish, step_on, step_live, step_runner, called, quietly_called, step}
+use Rattle.stm_world.specs.World.{commit_reported, commit, finish, step_on, step_live, step_runner, after_call, after_quiet_call, step}
 use Rattle.stm_alike.specs.Seen.{IsNoWatch}
 
 -- a world without its watchers and entries
@@ -150,15 +150,15 @@ store_same s (Err cause) (Ok other) same = absurd same
 store_same s (Err one) (Err other) same = refl
 
 called_same : (reply1 reply2 : Result Reply Denied) (next1 next2 : Standing) (entries1 entries2 : List Entry) (w : World) → reply1 ≡ reply2 → unwatched next1 ≡ unwatched next2 →
-    Same (called reply1 next1 entries1 (plain_world w)) (called reply2 next2 entries2 w)
+    Same (after_call reply1 next1 entries1 (plain_world w)) (after_call reply2 next2 entries2 w)
 called_same reply1 reply2 next1 next2 entries1 entries2 w reply next = record {
   reply = reply;
   next = ap (λ (s : Standing). let seen : World = record { standing = s; runners = w.runners; entries = [] } in seen) next;
 }
 
 call_same : {A : Type 0} (report : A → Reply) (o1 o2 : Result (StoreStep A) StoreRefusal) (entries1 entries2 : List Entry) (w : World) → SameCall o1 o2 →
-    Same (called (reply_to report o1) (store_after_call (unwatched w.standing) o1) entries1 (plain_world w))
-    (called (reply_to report o2) (store_after_call w.standing o2) entries2 w)
+    Same (after_call (reply_to report o1) (store_after_call (unwatched w.standing) o1) entries1 (plain_world w))
+    (after_call (reply_to report o2) (store_after_call w.standing o2) entries2 w)
 call_same report o1 o2 entries1 entries2 w same =
     called_same (reply_to report o1) (reply_to report o2) (store_after_call (unwatched w.standing) o1) (store_after_call w.standing o2) entries1 entries2 w
     (reply_same report o1 o2 same) (store_same w.standing o1 o2 same)

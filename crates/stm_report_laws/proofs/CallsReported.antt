@@ -37,7 +37,7 @@ use Rattle.stm_events.specs.declared.reply.Reply.{Reply}
 use Rattle.stm_events.specs.declared.reply.Reply.TheVariants.{Granted, Kept, Revoked, Compacted, Lost}
 use Rattle.stm_events.specs.declared.refusal.Denied.{Denied}
 use Rattle.stm_events.specs.Replies.{txn_reply, event_refusal, denied, reply_to, store_after_call, store_after_poll, advance_reply, batch_reply, poll_reply}
-use Rattle.stm_world.specs.Log.{if_reported, expired_reported}
+use Rattle.stm_events.specs.Called.{if_reported, expired_reported}
 use Rattle.stm_check.specs.declared.runner.Runner.{Runner}
 use Rattle.stm_check.specs.Fits.{can_have}
 use Rattle.stm_check.specs.Point.{led_by, moment_after, standing_after, txn_entries, grant_entries, keep_entries, revoke_entries, advance_entries}

@@ -41,7 +41,7 @@ use Rattle.stm_events.specs.declared.reply.Reply.TheVariants.{Cancelled}
 use Rattle.stm_events.specs.declared.refusal.Denied.{Denied}
 use Rattle.stm_events.specs.Replies.{txn_reply, reply_to, store_after_call, advance_reply, poll_reply, store_after_poll}
 use Rattle.stm_world.specs.World.{World}
-use Rattle.stm_world.specs.World.{called, quietly_called}
+use Rattle.stm_world.specs.World.{after_call, after_quiet_call}
 use Rattle.stm_world.specs.Sound.{IsSound}
 use Rattle.stm_report_laws.proofs.SmallStores.{IsSmall, HistoryFits, outcome_fits, granted_in_range, with_small, ended_small, ExpiresSmall, advance_small}
 use Rattle.stm_report_laws.proofs.SmallStores.{WatcherFits, WatchersFit, watchers_more, watchers_set, watching_fits, upto_fits}
@@ -57,7 +57,7 @@ pub record CallFits (n : ℕ) (before after : Standing) (more : List Entry) : Ty
   pub entered : length more + finmap.len after.live ≤ finmap.len before.live + 2
 
 pub called_fits : (n : ℕ) (w : World) (reply : Result Reply Denied) (next : Standing) (more : List Entry) → WorldFits n w → AnswerToFits reply →
-    CallFits n w.standing next more → IsSound (called reply next more w).next → StepFits n (called reply next more w)
+    CallFits n w.standing next more → IsSound (after_call reply next more w).next → StepFits n (after_call reply next more w)
 called_fits n w reply next more fits one call sound =
     let started : length w.runners ≤ n = fits.started in
     let entries : length w.entries + finmap.len w.standing.live ≤ n + n = fits.entries in
@@ -77,7 +77,7 @@ called_fits n w reply next more fits one call sound =
     }
 
 pub quiet_fits : (n : ℕ) (w : World) (reply : Result Reply Denied) (next : Standing) → WorldFits n w → AnswerToFits reply →
-    CallFits n w.standing next [] → IsSound (quietly_called reply next w).next → StepFits n (quietly_called reply next w)
+    CallFits n w.standing next [] → IsSound (after_quiet_call reply next w).next → StepFits n (after_quiet_call reply next w)
 quiet_fits n w reply next fits one call sound =
     let started : length w.runners ≤ n = fits.started in
     let entries : length w.entries + finmap.len w.standing.live ≤ n + n = fits.entries in

@@ -23,7 +23,7 @@ use Rattle.stm_events.specs.declared.reply.Reply.{Reply}
 use Rattle.stm_events.specs.declared.reply.Reply.TheVariants.{Advanced}
 use Rattle.stm_events.specs.declared.refusal.Denied.{Denied}
 use Rattle.stm_events.specs.Replies.{txn_reply, event_refusal, denied, reply_to, store_after_call, advance_reply}
-use Rattle.stm_world.specs.World.{World, Slot, Stepped, called, step}
+use Rattle.stm_world.specs.World.{World, Slot, Stepped, after_call, step}
 use Rattle.stm_world.proofs.Wants.{NeverWants, NoOutOfMemory, advanced_never}
 use Rattle.stm_retry.specs.Returns.{IsStep, IsUnchanged, IsCutShort, OutOfMemoryReturns, RefusalReturns, Returns}
 use Rattle.stm_retry.specs.WorldOf.{world_of}
@@ -108,7 +108,7 @@ call_refused event report before after o cause reply call may never (refused, sa
 -- ---- which calls these are ----
 
 pub entry_is_call : {A : Type 0} (report : A → Reply) (j : JournalState) (runners : List Slot) (entry : Entry) (o : Result (StoreStep A) StoreRefusal) →
-    called (reply_to report o) (store_after_call j.standing o) (if_taken o entry) (world_of j runners) ≡ stepped_as report j runners (one_entry j entry o)
+    after_call (reply_to report o) (store_after_call j.standing o) (if_taken o entry) (world_of j runners) ≡ stepped_as report j runners (one_entry j entry o)
 entry_is_call report j runners entry (Ok done) = refl
 entry_is_call report j runners entry (Err cause) =
     ap (λ (l : List Entry). record { reply = denied (event_refusal cause); next = record { standing = j.standing; runners = runners; entries = l } })
@@ -127,7 +127,7 @@ none_changed s txn =
     ap (λ b. cond b (Foreign txn ∷ []) []) (no_lower (now s.history) (nat_lt (now s.history) (now s.history)) refl)
 
 pub txn_is_call : (j : JournalState) (txn : StoreTxn) (runners : List Slot) (o : Result (StoreStep TxnAnswer) StoreRefusal) →
-    called (reply_to txn_reply o) (store_after_call j.standing o) (if_changed j.standing (store_after_call j.standing o) txn) (world_of j runners)
+    after_call (reply_to txn_reply o) (store_after_call j.standing o) (if_changed j.standing (store_after_call j.standing o) txn) (world_of j runners)
     ≡ stepped_as txn_reply j runners (entered j txn o)
 txn_is_call j txn runners (Ok done) = refl
 txn_is_call j txn runners (Err cause) =

@@ -19,10 +19,10 @@ use Rattle.stm_events.specs.declared.reply.Reply.TheVariants.{Started, Prefetche
 use Rattle.stm_events.specs.declared.reply.Reply.TheVariants.{Txn as TxnDone, Granted, Kept, Revoked, Watching, Batch, Cancelled, Compacted, Lost}
 use Rattle.stm_events.specs.declared.refusal.Denied.{Denied}
 use Rattle.stm_events.specs.Replies.{advance_reply}
-use Rattle.stm_world.specs.Log.{expired_reported}
+use Rattle.stm_events.specs.Called.{expired_reported}
 use Rattle.stm_world.specs.World.{World, step, world_after, replies_to}
 use Rattle.stm_world.specs.Sound.{after_expiries}
-use Rattle.stm_events.proofs.Calls.{advance_ended, advance_due}
+use Rattle.stm_events.proofs.CallMeans.{advance_ended, advance_due}
 use Rattle.stm_retry.specs.declared.world.RunStop.{RunStop}
 use Rattle.stm_retry.proofs.CallLemmas.{world_with}
 use Rattle.stm_retry.specs.Returns.{IsUnchanged, IsCutShort, OutOfMemoryReturns, OutOfMemoryReturnsAt, IsRunStop}

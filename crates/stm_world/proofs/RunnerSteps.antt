@@ -56,7 +56,8 @@ use Rattle.stm_world.proofs.Bases.{IsWellRun, counter_some, list_runs, fetch_run
 use Rattle.stm_world.proofs.Carried.{kept_again}
 use Rattle.stm_world.proofs.Asked.{answers_are_the_reads}
 use Rattle.stm_world.proofs.Slots.{same_number}
-use Rattle.stm_world.proofs.Untouched.{runner_named, by_reply}
+use Rattle.stm_events.specs.Replies.{runner_named}
+use Rattle.stm_world.proofs.Untouched.{by_reply}
 use Rattle.stm_world.proofs.Following.{FollowsAt, FollowsStep, with_line, world_at, slot_touched}
 use Rattle.stm_world.proofs.CommitCases.{Fails, fails}
 use Rattle.stm_world.proofs.CommitEntries.{Takes, Taken, taken, commit_follows_entry}

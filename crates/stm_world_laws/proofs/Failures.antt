@@ -27,7 +27,8 @@ use Rattle.stm_world.specs.World.{World, opened, replies_to, step}
 use Rattle.stm_world.specs.Doomed.{FailedCommit, failed_commit, IsRealFailure, is_of_runner, since, failed_commits, FailuresMoveOn}
 use Rattle.stm_world.proofs.Slots.{equal_numbers, same_number}
 use Rattle.std.proofs.lemmas.List.{length-append}
-use Rattle.stm_world.proofs.Untouched.{runner_named, Untouched, IsFresh, by_reply, same_running, same_reported}
+use Rattle.stm_events.specs.Replies.{runner_named}
+use Rattle.stm_world.proofs.Untouched.{Untouched, IsFresh, by_reply, same_running, same_reported}
 use Rattle.stm_world.proofs.Following.{FollowsStep, with_line}
 use Rattle.stm_world.proofs.RunnerSteps.{CommitLaws}
 use Rattle.stm_world.proofs.Headlines.{Follows, step_follows, opened_follows}

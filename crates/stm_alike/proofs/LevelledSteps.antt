@@ -210,27 +210,9 @@ started_same task w = by_test (nat_eq task.limit 0) _ _ _ _
 pub next_levelled : (event : WorldEvent) (w : World) → levelled_world (step event (levelled_world w)).next ≡ levelled_world (step event w).next
 next_levelled (Start program level limit) w = (started_same (record { program = program; level = level; limit = limit }) w).next
 next_levelled (Step id) w = (step_same id w).next
-next_levelled (TxnEvent txn) w = in_store _ _ _ (slots_again w.runners)
-next_levelled (Grant id ttl) w = in_store _ _ _ (slots_again w.runners)
-next_levelled (Keep id) w = in_store _ _ _ (slots_again w.runners)
-next_levelled (Revoke id) w = in_store _ _ _ (slots_again w.runners)
-next_levelled (Advance moment) w = in_store _ _ _ (slots_again w.runners)
-next_levelled (WatchKey key from) w = in_store _ _ _ (slots_again w.runners)
-next_levelled (WatchRange first end from) w = in_store _ _ _ (slots_again w.runners)
-next_levelled (Poll watcher most) w = in_store _ _ _ (slots_again w.runners)
-next_levelled (Cancel watcher) w = in_store _ _ _ (slots_again w.runners)
-next_levelled (Compact revision) w = in_store _ _ _ (slots_again w.runners)
+next_levelled _ w = in_store _ _ _ (slots_again w.runners)
 
 pub told_levelled : (event : WorldEvent) (w : World) → (step event (levelled_world w)).reply ≡ (step event w).reply
 told_levelled (Start program level limit) w = (started_same (record { program = program; level = level; limit = limit }) w).reply
 told_levelled (Step id) w = (step_same id w).reply
-told_levelled (TxnEvent txn) w = refl
-told_levelled (Grant id ttl) w = refl
-told_levelled (Keep id) w = refl
-told_levelled (Revoke id) w = refl
-told_levelled (Advance moment) w = refl
-told_levelled (WatchKey key from) w = refl
-told_levelled (WatchRange first end from) w = refl
-told_levelled (Poll watcher most) w = refl
-told_levelled (Cancel watcher) w = refl
-told_levelled (Compact revision) w = refl
+told_levelled _ w = refl

@@ -221,10 +221,7 @@ replayed s runners (Keep id) replied = equal_replies _ replied
 replayed s runners (Revoke id) replied = equal_replies _ replied
 replayed s runners (Advance moment) replied = equal_replies _ replied
 replayed s runners (Compact revision) replied = equal_replies _ replied
-replayed s runners (WatchKey key from) replied = inl tt
-replayed s runners (WatchRange first end from) replied = inl tt
-replayed s runners (Poll watcher most) replied = inl tt
-replayed s runners (Cancel watcher) replied = inl tt
+replayed s runners _ replied = inl tt
 
 -- ---- lines
 

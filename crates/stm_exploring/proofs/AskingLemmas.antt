@@ -24,16 +24,7 @@ stepless (e ∷ es) = kept_stepless (is_step e) e (without_steps es) refl (stepl
 step_at : (level : Level) (e : WorldEvent) → is_step e ≡ false → is_step (at_level level e) ≡ false
 step_at level (Start program other limit) none = refl
 step_at level (Step runner) none = absurd (cc)
-step_at level (Txn txn) none = refl
-step_at level (Grant id ttl) none = refl
-step_at level (Keep id) none = refl
-step_at level (Revoke id) none = refl
-step_at level (Advance moment) none = refl
-step_at level (WatchKey key from) none = refl
-step_at level (WatchRange begin end from) none = refl
-step_at level (Poll watcher most) none = refl
-step_at level (Cancel watcher) none = refl
-step_at level (Compact revision) none = refl
+step_at level _ none = refl
 
 steps_at : (level : Level) (es : List WorldEvent) → HaveNoStep es → HaveNoStep (map (at_level level) es)
 steps_at level [] none = tt

@@ -40,10 +40,7 @@ key_value_data-no_float kv = refl
 
 runner_end_data-no_float : (end : RunnerEnd) → has_float (runner_end_data end) ≡ false
 runner_end_data-no_float (Committed output) = rw (each-no_float value_data value_data-no_float output) refl
-runner_end_data-no_float (GaveUp key) = refl
-runner_end_data-no_float (Aborted text) = refl
-runner_end_data-no_float (Faulted fault) = refl
-runner_end_data-no_float (Ended cause) = refl
+runner_end_data-no_float _ = refl
 
 pub outcome_line-no_float : (o : Outcome) → has_float (outcome_line o) ≡ false
 outcome_line-no_float o =

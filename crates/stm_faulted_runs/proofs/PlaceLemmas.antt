@@ -32,12 +32,7 @@ count_of (Then s b) = suc (count_of b)
 
 a_node : (s : Statement) → 1 ≤ statement_nodes s
 a_node (Set v e) = omega arith
-a_node (Put k e l) = omega arith
-a_node (Del k) = omega arith
-a_node (If c t e) = omega arith
-a_node (For v e n b) = omega arith
-a_node (Emit e) = omega arith
-a_node (Abort e) = omega arith
+a_node _ = omega arith
 
 few : (b : Block) → count_of b ≤ block_nodes b
 few End = omega arith

@@ -69,9 +69,7 @@ operand_steps RevFrame = 1
 operand_steps (ArithmeticLeft operator f) = 3 * expression_nodes f
 operand_steps (ArithmeticRight operator x) = 0
 operand_steps (CatLeft f) = 3 * expression_nodes f
-operand_steps (CatRight x) = 0
-operand_steps TextOf = 0
-operand_steps NumOf = 0
+operand_steps _ = 0
 
 abbrev compared_steps : ComparisonFrame → ℕ
 compared_steps (EqualLeft f) = 3 * expression_nodes f
@@ -129,33 +127,18 @@ move_left m frames = focus_steps m.focus + stack_steps (frames_after m frames)
 expression_falls : (e : Expression) (s : Session) (frames : List Frame) → move_left (begin_expression e s) frames < 3 * expression_nodes e + stack_steps frames
 unfolding begin_expression
 expression_falls (tree.Text t) s frames = omega arith
-expression_falls (tree.Number n) s frames = omega arith
-expression_falls (tree.Variable v) s frames = omega arith
-expression_falls (tree.Get e) s frames = omega arith
-expression_falls (tree.Rev e) s frames = omega arith
-expression_falls (tree.Arithmetic operator e f) s frames = omega arith
-expression_falls (tree.Cat e f) s frames = omega arith
-expression_falls (tree.TextOf e) s frames = omega arith
-expression_falls (tree.NumOf e) s frames = omega arith
+expression_falls _ s frames = omega arith
 
 condition_falls : (c : Condition) (frames : List Frame) → move_left (begin_condition c) frames < 3 * condition_nodes c + stack_steps frames
 unfolding begin_condition
 condition_falls (tree.Equal e f) frames = omega arith
-condition_falls (tree.Less e f) frames = omega arith
-condition_falls (tree.Not c) frames = omega arith
-condition_falls (tree.And c d) frames = omega arith
-condition_falls (tree.Or c d) frames = omega arith
+condition_falls _ frames = omega arith
 
 statement_falls : (p : Statement) (rest : Block) (frames : List Frame) →
     move_left (begin_statement p rest) frames < 2 + statement_steps p + block_steps rest + stack_steps frames
 unfolding begin_statement
 statement_falls (tree.Set v e) rest frames = omega arith
-statement_falls (tree.Put e f lease) rest frames = omega arith
-statement_falls (tree.Del e) rest frames = omega arith
-statement_falls (tree.If c then_block else_block) rest frames = omega arith
-statement_falls (tree.For v e limit body) rest frames = omega arith
-statement_falls (tree.Emit e) rest frames = omega arith
-statement_falls (tree.Abort e) rest frames = omega arith
+statement_falls _ rest frames = omega arith
 
 block_falls : (b : Block) (frames : List Frame) → move_left (begin_block b) frames < 2 + block_steps b + stack_steps frames
 unfolding begin_block
@@ -308,31 +291,16 @@ steps_fall look m n is = step_falls look m.focus m.frames m.session n is
 
 some_nodes : (e : Expression) → 1 ≤ expression_nodes e
 some_nodes (tree.Text t) = omega arith
-some_nodes (tree.Number n) = omega arith
-some_nodes (tree.Variable v) = omega arith
-some_nodes (tree.Get e) = omega arith
-some_nodes (tree.Rev e) = omega arith
-some_nodes (tree.Arithmetic operator e f) = omega arith
-some_nodes (tree.Cat e f) = omega arith
-some_nodes (tree.TextOf e) = omega arith
-some_nodes (tree.NumOf e) = omega arith
+some_nodes _ = omega arith
 
 some_steps : (statement : Statement) → 1 ≤ statement_steps statement
 some_steps (tree.Set v e) = omega arith
-some_steps (tree.Put e f lease) = omega arith
-some_steps (tree.Del e) = omega arith
-some_steps (tree.If c then_block else_block) = omega arith
-some_steps (tree.For v e limit body) = omega arith
-some_steps (tree.Emit e) = omega arith
-some_steps (tree.Abort e) = omega arith
+some_steps _ = omega arith
 
 few_steps : (focus : Focus) → IsPast focus → focus_steps focus ≤ 2
 few_steps (Evaluate e) past = absurd past
 few_steps (Test c) past = absurd past
-few_steps (Get key) past = omega arith
-few_steps (Rev key) past = omega arith
-few_steps (Give item) past = omega arith
-few_steps (Ended end) past = omega arith
+few_steps _ past = omega arith
 
 fewer_behind : (block left : Block) (first : Statement) → first_of block ≡ Some first → left ≡ behind_first block → block_steps left < block_steps block
 fewer_behind End left first is_first behind = absurd (cc)

@@ -63,11 +63,7 @@ unfolding whole_number
 whole_as null = refl
 whole_as (boolean b) = refl
 whole_as (number (unsigned m)) = small m (ltb m (2 ^ 63)) refl
-whole_as (number (negative z)) = refl
-whole_as (number (float x)) = refl
-whole_as (string s) = refl
-whole_as (array ds) = refl
-whole_as (object ms) = refl
+whole_as _ = refl
 
 tested : (p : List ℕ) (room : ℕ) (b : Bool) (z : ℤ) (rest : List Mark)
     → first_of_marks room (cond b [] (wrong p Range) ++ rest) ≡ after_number p room (cond b (Ok z) (bad Range)) rest

@@ -76,10 +76,7 @@ committed statements (Program program level answers output trace revision) r of 
       left = leads ∙ applied_history (replay_terms r) (latest_writes legal.run.writes) legal.done legal.applies;
     }
 committed statements (Foreign txn) r of legal = absurd of
-committed statements (Grant id ttl moment) r of legal = absurd of
-committed statements (Renew id moment) r of legal = absurd of
-committed statements (Revoke id) r of legal = absurd of
-committed statements (Expire id) r of legal = absurd of
+committed statements _ r of legal = absurd of
 
 -- what the entry of a commit says was emitted is what its run has emitted
 pub output_reported : (statements : Block) (e : Entry) (r : Replayed) → IsCommitOf statements e → IsLegal e r → (run : Run) →
@@ -94,7 +91,4 @@ output_reported statements (Program program level answers output trace revision)
     one_run : (x y : Run) → Ended x ≡ Ended y → x ≡ y
     one_run x y is = cc
 output_reported statements (Foreign txn) r of legal run ran = absurd of
-output_reported statements (Grant id ttl moment) r of legal run ran = absurd of
-output_reported statements (Renew id moment) r of legal run ran = absurd of
-output_reported statements (Revoke id) r of legal run ran = absurd of
-output_reported statements (Expire id) r of legal run ran = absurd of
+output_reported statements _ r of legal run ran = absurd of

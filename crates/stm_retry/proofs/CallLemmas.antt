@@ -36,18 +36,7 @@ pub refusal_reports : (event : WorldEvent) (d : Denied) (cause : StoreRefusal) (
     (cause ≡ OutOfMemory → OutOfMemoryReturns event d.expired old new) → (cause ≢ OutOfMemory → IsStep (step event old) (Err d) new) →
     RefusalReturns (event_refusal cause) event d old new
 refusal_reports event d OutOfMemory old new want other = want refl
-refusal_reports event d EmptyKey old new want other = other (λ e. absurd (cc))
-refusal_reports event d FutureRevision old new want other = other (λ e. absurd (cc))
-refusal_reports event d Compacted old new want other = other (λ e. absurd (cc))
-refusal_reports event d RevisionsUsedUp old new want other = other (λ e. absurd (cc))
-refusal_reports event d LeaseExists old new want other = other (λ e. absurd (cc))
-refusal_reports event d TtlOutOfRange old new want other = other (λ e. absurd (cc))
-refusal_reports event d LeaseIdOutOfRange old new want other = other (λ e. absurd (cc))
-refusal_reports event d LeaseNotFound old new want other = other (λ e. absurd (cc))
-refusal_reports event d NoWatcher old new want other = other (λ e. absurd (cc))
-refusal_reports event d TooManyOps old new want other = other (λ e. absurd (cc))
-refusal_reports event d DuplicateKey old new want other = other (λ e. absurd (cc))
-refusal_reports event d TimeGoesBack old new want other = other (λ e. absurd (cc))
+refusal_reports event d _ old new want other = other (λ e. absurd (cc))
 
 -- ---- a call that is entered ----
 

@@ -128,25 +128,7 @@ cut_repeats moment expired old new above cut =
 -- with nothing in front a reply is as it is
 none_in_front : (reply : Result Reply Denied) → with_expired [] reply ≡ reply
 none_in_front (Ok (Started runner)) = refl
-none_in_front (Ok (Prefetched runner revision reads)) = refl
-none_in_front (Ok (Fetched runner key mod_rev of_rev revision)) = refl
-none_in_front (Ok (Committed runner revision attempts output trace answers)) = refl
-none_in_front (Ok (Conflict runner key seen now)) = refl
-none_in_front (Ok (GaveUp runner attempts key seen now)) = refl
-none_in_front (Ok (Aborted runner text)) = refl
-none_in_front (Ok (Faulted runner fault)) = refl
-none_in_front (Ok (Ended runner cause)) = refl
-none_in_front (Ok (TxnDone succeeded revision answers)) = refl
-none_in_front (Ok (Granted id)) = refl
-none_in_front (Ok (Kept id)) = refl
-none_in_front (Ok (Revoked id revision)) = refl
-none_in_front (Ok (Advanced moment expired)) = refl
-none_in_front (Ok (Watching watcher)) = refl
-none_in_front (Ok (Batch watcher upto events)) = refl
-none_in_front (Ok (Cancelled watcher)) = refl
-none_in_front (Ok (Compacted revision)) = refl
-none_in_front (Ok (Lost watcher floor)) = refl
-none_in_front (Err denied) = refl
+none_in_front _ = refl
 
 none_before : (replies : List (Result Reply Denied)) → first_with_expired [] replies ≡ replies
 none_before [] = refl

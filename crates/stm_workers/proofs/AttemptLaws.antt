@@ -33,9 +33,7 @@ no_commit (Failed failed seen modified answers) key reported = refl
 -- and no stop is a giving up
 no_stop : (stop : Stop) (key : List ℕ) → job_end_reported stop ≡ Some (GaveUp key) → ⊥
 no_stop OutOfMemory key reported = absurd (cc)
-no_stop (Aborted text reads) key reported = absurd (cc)
-no_stop (Faulted fault reads) key reported = absurd (cc)
-no_stop (Refused refusal) key reported = absurd (cc)
+no_stop _ key reported = absurd (cc)
 
 all_made : (handed : JournalState) (job : Job) (seen : ℕ) (key : List ℕ) (after made : ℕ) → HasCome handed job seen (GaveUp key) after made → made ≡ job.limit
 all_made handed job seen key after made (inl came) = came.then_is.last (no_commit came.then_is.verdict key came.then_is.reported)

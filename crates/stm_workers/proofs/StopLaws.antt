@@ -73,15 +73,11 @@ some_of {A} x y is = ap (value_or x) is
 -- what reports an end reports no refusal
 no_fetch : (stop : Stop) (end : End) (cause : FetchRefusal) → end_reported stop ≡ Some end → fetch_refusal_reported stop ≡ Some cause → ⊥
 no_fetch OutOfMemory end cause reports reported = absurd (cc)
-no_fetch (Aborted text reads) end cause reports reported = absurd (cc)
-no_fetch (Faulted fault reads) end cause reports reported = absurd (cc)
-no_fetch (Refused refusal) end cause reports reported = absurd (cc)
+no_fetch _ end cause reports reported = absurd (cc)
 
 no_commit : (stop : Stop) (end : End) (cause : CommitRefusal) → end_reported stop ≡ Some end → commit_refusal_reported stop ≡ Some cause → ⊥
 no_commit OutOfMemory end cause reports reported = absurd (cc)
-no_commit (Aborted text reads) end cause reports reported = absurd (cc)
-no_commit (Faulted fault reads) end cause reports reported = absurd (cc)
-no_commit (Refused refusal) end cause reports reported = absurd (cc)
+no_commit _ end cause reports reported = absurd (cc)
 
 by_stop : (handed : JournalState) (job : Job) (at : JobState) (stop : Stop) (reads : List ReadAnswer) (end : End) → end_reported stop ≡ Some end →
     reads_reported stop ≡ Some reads →

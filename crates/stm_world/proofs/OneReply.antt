@@ -144,16 +144,7 @@ one_reply at (Ended runner cause) right =
     let reported : Ended runner cause ≡ Ended at.id (event_refusal ended.by_store) = (λ i. Ended (right.0 i) (ended.named i)) in
     reported ∙ sym (by_refusal at ended.by_store ended.refused)
 one_reply at (Started runner) right = absurd right
-one_reply at (TxnDone succeeded revision answers) right = absurd right
-one_reply at (Granted lease) right = absurd right
-one_reply at (Kept lease) right = absurd right
-one_reply at (Revoked lease revision) right = absurd right
-one_reply at (Advanced moment expired) right = absurd right
-one_reply at (Watching watcher) right = absurd right
-one_reply at (Batch watcher upto events) right = absurd right
-one_reply at (Cancelled watcher) right = absurd right
-one_reply at (Compacted revision) right = absurd right
-one_reply at (Lost watcher floor) right = absurd right
+one_reply at _ right = absurd right
 
 step_by : (at : Situation) (a : Result Reply Denied) → StepIsRight at a → a ≡ Ok (reply_at at)
 step_by at (Ok reply) right = ap (λ (r : Reply). Ok r) (one_reply at reply right)

@@ -111,23 +111,7 @@ reply_is_real start log id task (Ok (Conflict runner key seen now)) runs right =
 reply_is_real start log id task (Ok (GaveUp runner attempts key seen now)) runs right =
     real_failure start log id runner task key seen now runs right.0 right.3
 reply_is_real start log id task (Ok (Started runner)) runs right = tt
-reply_is_real start log id task (Ok (Prefetched runner revision reads)) runs right = tt
-reply_is_real start log id task (Ok (Fetched runner key mod_rev of_rev revision)) runs right = tt
-reply_is_real start log id task (Ok (Committed runner revision attempts output trace answers)) runs right = tt
-reply_is_real start log id task (Ok (Aborted runner text)) runs right = tt
-reply_is_real start log id task (Ok (Faulted runner fault)) runs right = tt
-reply_is_real start log id task (Ok (Ended runner cause)) runs right = tt
-reply_is_real start log id task (Ok (TxnDone succeeded revision answers)) runs right = tt
-reply_is_real start log id task (Ok (Granted lease)) runs right = tt
-reply_is_real start log id task (Ok (Kept lease)) runs right = tt
-reply_is_real start log id task (Ok (Revoked lease revision)) runs right = tt
-reply_is_real start log id task (Ok (Advanced moment expired)) runs right = tt
-reply_is_real start log id task (Ok (Watching watcher)) runs right = tt
-reply_is_real start log id task (Ok (Batch watcher upto events)) runs right = tt
-reply_is_real start log id task (Ok (Cancelled watcher)) runs right = tt
-reply_is_real start log id task (Ok (Compacted revision)) runs right = tt
-reply_is_real start log id task (Ok (Lost watcher floor)) runs right = tt
-reply_is_real start log id task (Err refusal) runs right = tt
+reply_is_real start log id task _ runs right = tt
 
 pub failures_are_conflicts : CommitLaws → FailuresAreConflicts
 failures_are_conflicts laws =
@@ -198,23 +182,7 @@ reply_is_of_one_state start log id task (Ok (Aborted runner text)) w f some runs
 reply_is_of_one_state start log id task (Ok (Faulted runner fault)) w f some runs right =
     of_one_state start log id runner task (FaultedEnd fault) w f some runs right.0 right.1
 reply_is_of_one_state start log id task (Ok (Started runner)) w f some runs right = tt
-reply_is_of_one_state start log id task (Ok (Prefetched runner revision reads)) w f some runs right = tt
-reply_is_of_one_state start log id task (Ok (Fetched runner key mod_rev of_rev revision)) w f some runs right = tt
-reply_is_of_one_state start log id task (Ok (Committed runner revision attempts output trace answers)) w f some runs right = tt
-reply_is_of_one_state start log id task (Ok (Conflict runner key seen now)) w f some runs right = tt
-reply_is_of_one_state start log id task (Ok (GaveUp runner attempts key seen now)) w f some runs right = tt
-reply_is_of_one_state start log id task (Ok (Ended runner cause)) w f some runs right = tt
-reply_is_of_one_state start log id task (Ok (TxnDone succeeded revision answers)) w f some runs right = tt
-reply_is_of_one_state start log id task (Ok (Granted lease)) w f some runs right = tt
-reply_is_of_one_state start log id task (Ok (Kept lease)) w f some runs right = tt
-reply_is_of_one_state start log id task (Ok (Revoked lease revision)) w f some runs right = tt
-reply_is_of_one_state start log id task (Ok (Advanced moment expired)) w f some runs right = tt
-reply_is_of_one_state start log id task (Ok (Watching watcher)) w f some runs right = tt
-reply_is_of_one_state start log id task (Ok (Batch watcher upto events)) w f some runs right = tt
-reply_is_of_one_state start log id task (Ok (Cancelled watcher)) w f some runs right = tt
-reply_is_of_one_state start log id task (Ok (Compacted revision)) w f some runs right = tt
-reply_is_of_one_state start log id task (Ok (Lost watcher floor)) w f some runs right = tt
-reply_is_of_one_state start log id task (Err refusal) w f some runs right = tt
+reply_is_of_one_state start log id task _ w f some runs right = tt
 
 pub stops_are_of_one_state : CommitLaws → StopsAreOfOneState
 stops_are_of_one_state laws =

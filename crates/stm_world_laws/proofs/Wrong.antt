@@ -130,16 +130,7 @@ another at (GaveUp r attempts key seen now) runner named right = let same : r �
 another at (Aborted r text) runner named right = let same : r ≡ runner = cc in sym same ∙ right.0
 another at (Faulted r fault) runner named right = let same : r ≡ runner = cc in sym same ∙ right.0
 another at (Ended r cause) runner named right = let same : r ≡ runner = cc in sym same ∙ right.0
-another at (TxnDone succeeded revision answers) runner named right = absurd right
-another at (Granted lease) runner named right = absurd right
-another at (Kept lease) runner named right = absurd right
-another at (Revoked lease revision) runner named right = absurd right
-another at (Advanced moment expired) runner named right = absurd right
-another at (WatchingReply watcher) runner named right = absurd right
-another at (Batch watcher upto events) runner named right = absurd right
-another at (Cancelled watcher) runner named right = absurd right
-another at (Compacted revision) runner named right = absurd right
-another at (Lost watcher floor) runner named right = absurd right
+another at _ runner named right = absurd right
 
 another_by : (start : Setup) (log : List Line) (id runner : ℕ) (o : Option Task) (reply : Reply) → runner_of reply ≡ Some runner → runner ≢ id
     → RunnerIsRight start log id o (Ok reply) → ⊥

@@ -112,22 +112,7 @@ known_small number id task h (Ok (Conflict runner key seen now)) known opens all
     small_by (nat_eq runner id) (after_conflict task h known) known
     (served_all IsSmall task (record { reads = []; prefetched = map (answer_now h) keys }) (tt, rereads_small h keys)) all
 known_small number id task h (Ok (Started runner)) known opens all = all
-known_small number id task h (Ok (Committed runner revision attempts output trace answers)) known opens all = all
-known_small number id task h (Ok (GaveUp runner attempts key seen now)) known opens all = all
-known_small number id task h (Ok (Aborted runner text)) known opens all = all
-known_small number id task h (Ok (Faulted runner fault)) known opens all = all
-known_small number id task h (Ok (Ended runner cause)) known opens all = all
-known_small number id task h (Ok (TxnDone succeeded revision answers)) known opens all = all
-known_small number id task h (Ok (Granted lease)) known opens all = all
-known_small number id task h (Ok (Kept lease)) known opens all = all
-known_small number id task h (Ok (Revoked lease revision)) known opens all = all
-known_small number id task h (Ok (Advanced moment expired)) known opens all = all
-known_small number id task h (Ok (Watching watcher)) known opens all = all
-known_small number id task h (Ok (Batch watcher upto events)) known opens all = all
-known_small number id task h (Ok (Cancelled watcher)) known opens all = all
-known_small number id task h (Ok (Compacted revision)) known opens all = all
-known_small number id task h (Ok (Lost watcher floor)) known opens all = all
-known_small number id task h (Err refusal) known opens all = all
+known_small number id task h _ known opens all = all
 
 reported_small : (start : Setup) (id : ℕ) (task : Task) (log : List Line) → KnowsAll IsSmall (known_after_log start id task log)
 reported_small start id task [] = (tt, tt)

@@ -17,13 +17,12 @@ use Rattle.clap.specs.Faults.{action_fault, bundle_fault, check_fault, bundle_st
 use Rattle.clap.specs.Faults.{level_fault, long_fault, option_fault, other_fault, positional_fault, react_fault, repeat_fault, settle_fault}
 use Rattle.clap.specs.Faults.{short_fault, step_fault, stray_fault, turn_fault, use_fault, values_fault, walk_fault, word_fault}
 use Rattle.clap.specs.Simple.{App, Shape, argument_words, built, entered, label_of, names_of, new_rule, new_shape, rows_at, subcommand_of}
-use Rattle.clap.specs.Walk.{Held, Names, Outcome, Row, Rule, Step, Text, Waiting, Walk, idle, option, positional, next, trailing, subcommand, value}
-use Rattle.clap.specs.Walk.{done, waits, plain, refused}
-use Rattle.clap.specs.Walk.{action_of, after_flag, after_step, answers_to, arg_by_id, arg_by_index, arg_by_long, arg_by_short, at_row, attached_value}
-use Rattle.clap.specs.Walk.{bundle, bundle_met, bundle_step, default_rows, finished, first_of, flag_met, has_long, has_row, has_short, is_pending}
-use Rattle.clap.specs.Walk.{long_met, long_or_other, more_values, most_values, nothing_held, option_met, option_word, plain_word, reacted, reading_by}
-use Rattle.clap.specs.Walk.{rows_after, settled, settled_rows, short_met, short_or_plain, subcommand_met, subcommand_or_other, takes_several}
-use Rattle.clap.specs.Walk.{takes_values, to_positional, used, used_as, used_by_id, values_or_missing, walk, walk_from, walked, walked_from}
+use Rattle.clap.specs.Walk.{Held, Names, Outcome, Row, Rule, Step, Text, Waiting, Walk, idle, option, positional, next, trailing, subcommand, value, done}
+use Rattle.clap.specs.Walk.{waits, plain, refused, action_of, after_flag, after_step, answers_to, arg_by_id, arg_by_index, arg_by_long, arg_by_short}
+use Rattle.clap.specs.Walk.{at_row, attached_value, bundle, bundle_met, bundle_step, default_rows, finished, first_of, flag_met, has_long, has_row}
+use Rattle.clap.specs.Walk.{has_short, is_pending, long_met, long_or_other, more_values, most_values, nothing_held, option_met, option_word, plain_word}
+use Rattle.clap.specs.Walk.{reacted, reading_by, rows_after, settled, settled_rows, short_met, short_or_plain, subcommand_met, subcommand_or_other}
+use Rattle.clap.specs.Walk.{takes_several, takes_values, to_positional, used, used_as, used_by_id, values_or_missing, walk, walk_from, walked, walked_from}
 use Rattle.clap.specs.Walk.{with_default, with_values, without, word_met}
 use Rattle.clap.specs.declared.builder.action.ArgAction.{ArgAction}
 use Rattle.clap.specs.declared.builder.action.ArgAction.TheVariants as action

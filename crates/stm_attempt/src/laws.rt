@@ -1,8 +1,7 @@
 //! The laws of attempts. Each function does nothing: its contract is the law.
-ghost use Rattle.stm_attempt.specs.Laws.{NothingServesTheSettled, SettledIsSettled, RepeatingAnswersTheSame, WhatServesIsTaken};
-ghost use Rattle.stm_attempt.specs.Laws.{SettlingAddsPrefetched, GoneOnIsGoneOn, ReadsBeginWithTheList, GoingOnKeepsTheBase};
-ghost use Rattle.stm_attempt.specs.Laws.{SuppliedListComesFirst, SuppliedKeyComesAfter, ReadyBeginsWithTheList};
-ghost use Rattle.stm_attempt.specs.Laws.{SettlingKeepsTheBase, FetchingKeepsTheBase, ReadyIsTheRun};
+ghost use Rattle.stm_attempt.specs.Laws.{NothingServesTheSettled, SettledIsSettled, RepeatingAnswersTheSame, WhatServesIsTaken, SettlingAddsPrefetched};
+ghost use Rattle.stm_attempt.specs.Laws.{GoneOnIsGoneOn, ReadsBeginWithTheList, GoingOnKeepsTheBase, SuppliedListComesFirst, SuppliedKeyComesAfter};
+ghost use Rattle.stm_attempt.specs.Laws.{ReadyBeginsWithTheList, SettlingKeepsTheBase, FetchingKeepsTheBase, ReadyIsTheRun};
 
 /// A key that an attempt wants after settling is served by no prefetched answer.
 #[tactic(auto, using(crate::proofs::SettleLemmas::nothing_serves_the_settled))]

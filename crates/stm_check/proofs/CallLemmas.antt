@@ -17,11 +17,9 @@ use Rattle.stm_outcome.specs.Checks.{fault_of}
 use Rattle.stm_outcome.specs.Compares.{first_failed}
 use Rattle.stm_outcome.specs.Branches.{begun, changes_of_branch, answers_after, branch_refusal}
 use Rattle.stm_outcome.specs.Outcome.{Done, outcome, chosen, unless, finished, is_used_up, with_changes, answer_of}
-use Rattle.stm_txn.specs.Standing.{Standing, Step, Advance, IsRefusalOf, IsCutShort, step_of, transacted, granted, kept_alive, revoked}
-use Rattle.stm_txn.specs.Standing.{expire_up_to, expire_all, at_moment, advanced}
-use Rattle.stm_outcome.specs.Terms.{Terms}
-use Rattle.stm_outcome.specs.Terms.{most_operations}
-use Rattle.stm_txn.specs.Standing.{terms_of, compaction_refusal, with_floor, floor_step, raised}
+use Rattle.stm_txn.specs.Standing.{Standing, Step, Advance, IsRefusalOf, IsCutShort, step_of, transacted, granted, kept_alive, revoked, expire_up_to}
+use Rattle.stm_txn.specs.Standing.{expire_all, at_moment, advanced, terms_of, compaction_refusal, with_floor, floor_step, raised}
+use Rattle.stm_outcome.specs.Terms.{Terms, most_operations}
 use Rattle.stm_entries.specs.declared.entry.Entry.{Entry}
 use Rattle.stm_entries.specs.Replayed.{without_moment}
 use Rattle.stm_entries.specs.declared.entry.Entry.TheVariants.{Foreign, Grant as GrantEntry, Renew, Revoke as RevokeEntry}

@@ -8,8 +8,7 @@ use Rattle.stm_outcome.specs.declared.advance.Expired.{Expired}
 use Rattle.stm_outcome.specs.declared.refusal.Refusal.{Refusal}
 use Rattle.stm_outcome.specs.declared.txn.Txn.{Txn}
 use Rattle.stm_outcome.specs.Terms.{most_operations}
-use Rattle.stm_txn.specs.Standing.{Standing, Setup, Step, transacted, granted, kept_alive, revoked, advanced}
-use Rattle.stm_txn.specs.Standing.{compaction_refusal, with_floor, floor_step}
+use Rattle.stm_txn.specs.Standing.{Standing, Setup, Step, transacted, granted, kept_alive, revoked, advanced, compaction_refusal, with_floor, floor_step}
 use Rattle.stm_entries.specs.declared.entry.Entry.{Entry}
 use Rattle.stm_entries.specs.declared.entry.Entry.TheVariants.{Foreign, Grant as GrantEntry, Renew, Revoke as RevokeEntry}
 use Rattle.stm_entries.specs.Replayed.{Replayed, without_moment}

@@ -8,13 +8,12 @@ use Rattle.stm_steps.specs.declared.run.End.{End as RunEnd}
 use Rattle.stm_steps.specs.declared.run.End.TheVariants.{Done, Aborted, Faulted}
 use Rattle.stm_steps.specs.declared.run.Run.{Run}
 use Rattle.stm_steps.specs.declared.run.Answered.TheVariants.{Ended as EndedRun, Wants as WantsKey}
-use Rattle.stm_steps.specs.Answer.{Answer, Lookup}
+use Rattle.stm_steps.specs.Answer.{Answer, Lookup, AgreesWith}
 use Rattle.stm_steps.specs.Session.{Session, fresh}
 use Rattle.stm_steps.specs.Outcome.{Outcome, Gives, Stops}
 use Rattle.stm_steps.specs.Steps.{get_answered, rev_answered, get_of, get_key, rev_key, run_of}
 use Rattle.stm_program.specs.Writes.{last_write}
 use Rattle.stm_steps.specs.Meaning.{answered, run_block, run_over}
-use Rattle.stm_steps.specs.Answer.{AgreesWith}
 use Rattle.stm_machine.specs.declared.focus.Item.{Item}
 use Rattle.stm_machine.specs.declared.focus.Focus.{Focus}
 use Rattle.stm_machine.specs.declared.focus.Focus.TheVariants.{Evaluate, Test, Get, Rev, Give, Ended}

@@ -34,13 +34,12 @@ use Rattle.stm_machine.specs.declared.frame.TruthFrame.{TruthFrame}
 use Rattle.stm_machine.specs.declared.frame.TruthFrame.TheVariants.{Not, And, Or, If}
 use Rattle.stm_machine.specs.declared.frame.NextFrame.{NextFrame}
 use Rattle.stm_machine.specs.declared.frame.NextFrame.TheVariants.{Rest, Loop}
-use Rattle.stm_machine.specs.Moves.{Move}
+use Rattle.stm_machine.specs.Moves.{Move, goes, at_value, at_truth, at_get, at_rev, at_abort, frames_after, begin_expression, begin_condition}
 use Rattle.stm_machine.specs.Parts.{first_of, behind_first, turns_from}
 use Rattle.stm_machine.specs.Direct.{IsPast, JumpsExpression, JumpsStatement}
 use Rattle.stm_machine.specs.State.{MachineState, state_of}
-use Rattle.stm_machine.specs.Moves.{goes, at_value, at_truth, at_get, at_rev, at_abort, frames_after, begin_expression, begin_condition, begin_statement}
-use Rattle.stm_machine.specs.Moves.{begin_block, take_operand, take_compared, take_truth, write_moved, begin_loop, take_argument, turn_moved, take_turn}
-use Rattle.stm_machine.specs.Moves.{take_nothing, take_item}
+use Rattle.stm_machine.specs.Moves.{begin_statement, begin_block, take_operand, take_compared, take_truth, write_moved, begin_loop, take_argument}
+use Rattle.stm_machine.specs.Moves.{turn_moved, take_turn, take_nothing, take_item}
 use Rattle.stm_machine.specs.Steps.{state_after, read_step, give_step, step_from, step_of}
 
 -- ---- what is left

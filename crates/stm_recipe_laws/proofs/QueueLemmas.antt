@@ -1,7 +1,6 @@
 -- Queues over entries: one entry keeps the items in order, and so do all.
-use Rattle.std.proofs.Common.{◌≡◌, ℕ, ◌+◌, ◌^◌, ◌<◌, ◌≤◌, List, [], ◌∷◌, ◌++◌, length, Option}
-use Rattle.std.proofs.Common.{Some, None, Bool, true, false, cond, Ok, Err, refl, sym, ◌∙◌, ap}
-use Rattle.std.proofs.Common.{subst, append_assoc, arith, codes}
+use Rattle.std.proofs.Common.{◌≡◌, ℕ, ◌+◌, ◌^◌, ◌<◌, ◌≤◌, List, [], ◌∷◌, ◌++◌, length, Option, Some, None, Bool, true, false, cond, Ok, Err, refl, sym, ◌∙◌}
+use Rattle.std.proofs.Common.{ap, subst, append_assoc, arith, codes}
 use Rattle.std.proofs.lemmas.List.{append-nil, length-append}
 use Rattle.std.specs.Prelude.{ℤ, pos, ◌+ℤ◌, bytes_eq, nat_le, if◌then◌else◌, Result}
 use Rattle.std.specs.Fmt.{decimal, digits}
@@ -28,8 +27,7 @@ use Rattle.stm_entries.specs.Replay.{replay, replay_entry}
 use Rattle.stm_entries.specs.Replayed.{Replayed}
 use Rattle.stm_recipes.specs.Names.{head_key, tail_key, items_key}
 use Rattle.stm_recipes.specs.Queues.{enqueue_program, dequeue_program}
-use Rattle.stm_recipes.specs.Alone.{Deed, deed_of, aborted, faulted, put_number, put_added, or_zero, put_at, emitting}
-use Rattle.stm_recipes.specs.Alone.{taken_or_refused}
+use Rattle.stm_recipes.specs.Alone.{Deed, deed_of, aborted, faulted, put_number, put_added, or_zero, put_at, emitting, taken_or_refused}
 use Rattle.stm_recipes.proofs.QueueRuns.{enqueue_alone, dequeue_alone}
 use Rattle.stm_recipe_laws.specs.Queues.{IsCount, Absent, Spelled, place_of, IsItem, AreItems, HoldsItems, IsEnqueue, IsDequeue, LeavesQueue, IsOfQueue, Enqueues}
 use Rattle.stm_recipe_laws.specs.Queues.{Dequeues, Leaves, texts_of, output_of, added_by, taken_by, all_added, all_taken, Kept}

@@ -1,6 +1,5 @@
 -- Slots over entries.
-use Rattle.std.proofs.Common.{◌≡◌, ℕ, ◌+◌, ◌<◌, List, [], ◌∷◌, length, Option, Some, None, Bool, true, false, cond, refl, ◌∙◌, ap, arith}
-use Rattle.std.proofs.Common.{inl, inr, codes}
+use Rattle.std.proofs.Common.{◌≡◌, ℕ, ◌+◌, ◌<◌, List, [], ◌∷◌, length, Option, Some, None, Bool, true, false, cond, refl, ◌∙◌, ap, arith, inl, inr, codes}
 use Rattle.std.specs.Prelude.{◌⊎◌, nat_eq, is_some}
 use Rattle.std.specs.Cmp.{unsigned_Decides}
 use Rattle.stm_history.specs.declared.key_state.KeyState.{KeyState}

@@ -25,9 +25,8 @@ use Rattle.stm_outcome.specs.declared.txn.Txn.{Txn as StoreTxn}
 use Rattle.stm_outcome.specs.Numbers.{EventsFit, AllExpiredFit}
 use Rattle.stm_outcome.specs.Outcome.{Done, outcome}
 use Rattle.stm_txn.specs.Grants.{grant_refusal_of}
-use Rattle.stm_txn.specs.Standing.{Standing, Step as StoreStep, terms_of, with_history, step_of, transacted, with_lease, without_lease}
-use Rattle.stm_txn.specs.Standing.{ended, with_revision, Advance, advanced, watch_step, poll_step}
-use Rattle.stm_txn.specs.Standing.{cancel_step, with_floor, floor_step, with_watchers}
+use Rattle.stm_txn.specs.Standing.{Standing, Step as StoreStep, terms_of, with_history, step_of, transacted, with_lease, without_lease, ended}
+use Rattle.stm_txn.specs.Standing.{with_revision, Advance, advanced, watch_step, poll_step, cancel_step, with_floor, floor_step, with_watchers}
 use Rattle.stm_txn.proofs.Fitting.{numbers_fit}
 use Rattle.stm_txn.proofs.Polling.{batch_fits}
 use Rattle.stm_txn.proofs.Ending.{ended_is}
@@ -36,12 +35,10 @@ use Rattle.stm_entries.specs.declared.entry.Entry.TheVariants.{Foreign, Grant as
 use Rattle.stm_entries.specs.Alone.{history_left}
 use Rattle.stm_entries.specs.Entered.{if_taken, if_changed, expiries}
 use Rattle.stm_events.specs.declared.reply.Reply.{Reply}
-use Rattle.stm_events.specs.declared.reply.Reply.TheVariants.{Granted, Kept, Revoked, Compacted, Watching as WatchingReply}
-use Rattle.stm_events.specs.declared.reply.Reply.TheVariants.{Cancelled}
+use Rattle.stm_events.specs.declared.reply.Reply.TheVariants.{Granted, Kept, Revoked, Compacted, Watching as WatchingReply, Cancelled}
 use Rattle.stm_events.specs.declared.refusal.Denied.{Denied}
 use Rattle.stm_events.specs.Replies.{txn_reply, reply_to, store_after_call, advance_reply, poll_reply, store_after_poll}
-use Rattle.stm_world.specs.World.{World}
-use Rattle.stm_world.specs.World.{after_call, after_quiet_call}
+use Rattle.stm_world.specs.World.{World, after_call, after_quiet_call}
 use Rattle.stm_world.specs.Sound.{IsSound}
 use Rattle.stm_report_laws.proofs.SmallStores.{IsSmall, HistoryFits, outcome_fits, granted_in_range, with_small, ended_small, ExpiresSmall, advance_small}
 use Rattle.stm_report_laws.proofs.SmallStores.{WatcherFits, WatchersFit, watchers_more, watchers_set, watching_fits, upto_fits}

@@ -40,8 +40,7 @@ use Rattle.stm_world.specs.Task.{modified_now}
 use Rattle.stm_world.specs.World.{World, Runner, Slot, Stepped, runner_at}
 use Rattle.stm_world.specs.Sound.{IsSound}
 use Rattle.stm_report_laws.proofs.SmallRuns.{ValuesFit, ItemsFit}
-use Rattle.stm_report_laws.proofs.SmallStores.{IsSmall, HistoryFits}
-use Rattle.stm_report_laws.proofs.SmallStores.{WatchersFit}
+use Rattle.stm_report_laws.proofs.SmallStores.{IsSmall, HistoryFits, WatchersFit}
 
 abbrev pub Few : ℕ → Type 0
 Few n = n ≤ HIGHEST_NUMBER

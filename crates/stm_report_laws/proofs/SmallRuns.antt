@@ -3,8 +3,7 @@ use Rattle.std.proofs.Common.{◌≡◌, ℕ, zero, suc, ◌+◌, ◌^◌, ◌<�
 use Rattle.std.proofs.Common.{subst, arith, length, Option, Some, None, Result, Ok, Err, lt-ltb}
 use Rattle.std.proofs.lemmas.Bool.{ltb-true, leb-true}
 use Rattle.std.proofs.lemmas.Int.{rem_below}
-use Rattle.std.specs.Prelude.{nat_eq, nat_lt, nat_le, slice_set, slice_index_or, neg_ℤ, ◌+ℤ◌, ◌-ℤ◌, ◌*ℤ◌, int_rem, int_div}
-use Rattle.std.specs.Prelude.{unsigned_abs}
+use Rattle.std.specs.Prelude.{nat_eq, nat_lt, nat_le, slice_set, slice_index_or, neg_ℤ, ◌+ℤ◌, ◌-ℤ◌, ◌*ℤ◌, int_rem, int_div, unsigned_abs}
 use Rattle.std.specs.Str.Parse.{digits_value}
 use Rattle.stm_history.specs.declared.revisions.TheConstants.{HIGHEST_NUMBER}
 use Rattle.stm_program.specs.declared.operator.Operator.{Operator}

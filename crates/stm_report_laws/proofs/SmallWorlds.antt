@@ -2,35 +2,28 @@
 use Rattle.std.proofs.Common.{◌≡◌, ℕ, suc, ◌+◌, ◌≤◌, List, [], ◌∷◌, length, Some, None, refl, sym, ◌∙◌, subst, arith}
 use Rattle.std.specs.Prelude.{Result, nat_eq}
 use Rattle.std.specs.FinMap as finmap
-use Rattle.stm_leases.specs.Live.{is_live_in, grant_refusal}
+use Rattle.stm_leases.specs.Live.{is_live_in, grant_refusal, Live}
 use Rattle.stm_watch.specs.declared.watched.Watched.TheVariants.{Key, Range}
 use Rattle.stm_watch.specs.Calls.{watcher_at}
 use Rattle.stm_watch.specs.Keys.{first_key}
 use Rattle.stm_outcome.specs.Outcome.{outcome}
-use Rattle.stm_txn.specs.Standing.{Standing, terms_of, transacted, granted}
-use Rattle.stm_txn.specs.Standing.{kept_alive, ended, revoked, Advance, advanced, watched, polled}
-use Rattle.stm_txn.specs.Standing.{cancelled, compaction_refusal, raised}
+use Rattle.stm_txn.specs.Standing.{Standing, terms_of, transacted, granted, kept_alive, ended, revoked, Advance, advanced, watched, polled, cancelled}
+use Rattle.stm_txn.specs.Standing.{compaction_refusal, raised, Setup}
 use Rattle.stm_entries.specs.declared.entry.Entry.TheVariants.{Grant as GrantEntry, Renew, Revoke as RevokeEntry}
 use Rattle.stm_entries.specs.Entered.{if_taken, if_changed, expiries}
 use Rattle.stm_events.specs.declared.event.WorldEvent.{WorldEvent}
 use Rattle.stm_events.specs.declared.event.WorldEvent.TheVariants.{Start, Step, Txn, Grant, Keep, Revoke, Advance as AdvanceTo}
 use Rattle.stm_events.specs.declared.event.WorldEvent.TheVariants.{WatchKey, WatchRange, Poll, Cancel, Compact}
 use Rattle.stm_events.specs.declared.reply.Reply.{Reply}
-use Rattle.stm_events.specs.declared.reply.Reply.TheVariants.{Granted, Kept, Revoked, Compacted, Watching as WatchingReply}
-use Rattle.stm_events.specs.declared.reply.Reply.TheVariants.{Cancelled}
+use Rattle.stm_events.specs.declared.reply.Reply.TheVariants.{Granted, Kept, Revoked, Compacted, Watching as WatchingReply, Cancelled}
 use Rattle.stm_events.specs.declared.refusal.Denied.{Denied}
 use Rattle.stm_events.specs.Replies.{txn_reply, reply_to, store_after_call, advance_reply, poll_reply, store_after_poll}
 use Rattle.std.specs.Ordering.{nat_cmp}
 use Rattle.stm_history.specs.declared.revisions.TheConstants.{HIGHEST_REVISION}
 use Rattle.stm_leases.specs.LeaseLog.{Term}
-use Rattle.stm_leases.specs.Live.{Live}
-use Rattle.stm_txn.specs.Standing.{Setup}
-use Rattle.stm_world.specs.World.{opened}
-use Rattle.stm_world.proofs.Sound.{opened_is_sound}
+use Rattle.stm_world.specs.World.{opened, World, runner_at, step, world_after, replies_to}
+use Rattle.stm_world.proofs.Sound.{opened_is_sound, step_is_sound}
 use Rattle.stm_world.proofs.Slots.{no_runner}
-use Rattle.stm_world.specs.World.{World, runner_at}
-use Rattle.stm_world.specs.World.{step, world_after, replies_to}
-use Rattle.stm_world.proofs.Sound.{step_is_sound}
 use Rattle.stm_report_laws.proofs.SmallReplies.{Few, RepliesFit, EventAsksFew, EventsAskFew, WorldFits, StepFits}
 use Rattle.stm_report_laws.proofs.SmallSteps.{runner_step, start_fits}
 use Rattle.stm_report_laws.proofs.SmallCalls.{called_fits, quiet_fits, txn_by, grant_by, keep_by, revoke_by, advance_fits, watch_fits, watcher_fits, poll_by, cancel_by, compact_by}

@@ -1,6 +1,5 @@
 -- What is kept of a world goes on as the whole world does.
-use Rattle.std.proofs.Common.{◌≡◌, ◌≢◌, ◌⊎◌, ◌∙◌, inl, inr, ℕ, ◌+◌, ◌-◌, ◌≤◌, Bool, true, false, cond, List, [], ◌∷◌, ◌++◌, length, map, Option, Some}
-use Rattle.std.proofs.Common.{None}
+use Rattle.std.proofs.Common.{◌≡◌, ◌≢◌, ◌⊎◌, ◌∙◌, inl, inr, ℕ, ◌+◌, ◌-◌, ◌≤◌, Bool, true, false, cond, List, [], ◌∷◌, ◌++◌, length, map, Option, Some, None}
 use Rattle.std.proofs.Common.{Result, Ok, Err, refl, sym, ap, subst, arith, append-nil, OnOk, OnErr}
 use Rattle.std.specs.Prelude.{nat_eq, nat_lt, slice_get, IsOk, IfOk}
 use Rattle.std.specs.declared.alloc.AllocError.{AllocError}
@@ -26,10 +25,8 @@ use Rattle.stm_outcome.specs.declared.advance.Expired.{Expired}
 use Rattle.stm_outcome.specs.declared.refusal.Refusal.{Refusal as StoreRefusal}
 use Rattle.stm_outcome.specs.declared.refusal.Refusal.TheVariants.{OutOfMemory, TooManyOps}
 use Rattle.stm_outcome.specs.Outcome.{Done}
-use Rattle.stm_txn.specs.Standing.{Standing, Step as StoreStep, Advance as StoreAdvance, HasKept, with_history, kept, terms_of, transacted, granted, kept_alive}
-use Rattle.stm_txn.specs.Standing.{revoked, advanced, watched, polled, cancelled, raised, IsStopped}
-use Rattle.stm_txn.specs.Standing.{IsCutShort as StoreCutShort}
-use Rattle.stm_txn.specs.Standing.{Setup}
+use Rattle.stm_txn.specs.Standing.{Standing, Step as StoreStep, Advance as StoreAdvance, HasKept, with_history, kept, terms_of, transacted, granted}
+use Rattle.stm_txn.specs.Standing.{kept_alive, revoked, advanced, watched, polled, cancelled, raised, IsStopped, IsCutShort as StoreCutShort, Setup}
 use Rattle.stm_compile.specs.CommitTxn.{reread_keys}
 use Rattle.stm_compile.specs.Committed.{committed}
 use Rattle.stm_compile.specs.Conflicts.{Seen, seen_by, seen_in}
@@ -58,8 +55,7 @@ use Rattle.stm_compaction.proofs.Compacting.{compacted_kept}
 use Rattle.stm_events.specs.declared.event.WorldEvent.{WorldEvent}
 use Rattle.stm_events.specs.declared.event.WorldEvent.TheVariants.{Start, Step, Txn, Grant, Keep, Revoke, Advance, WatchKey, WatchRange, Poll, Cancel, Compact}
 use Rattle.stm_events.specs.declared.reply.Reply.{Reply}
-use Rattle.stm_events.specs.declared.reply.Reply.TheVariants.{Started, Committed, Conflict, GaveUp}
-use Rattle.stm_events.specs.declared.reply.Reply.TheVariants.{Granted, Kept, Revoked, Watching, Cancelled, Compacted}
+use Rattle.stm_events.specs.declared.reply.Reply.TheVariants.{Started, Committed, Conflict, GaveUp, Granted, Kept, Revoked, Watching, Cancelled, Compacted}
 use Rattle.stm_events.specs.declared.refusal.EventRefusal.{EventRefusal}
 use Rattle.stm_events.specs.declared.refusal.EventRefusal.TheVariants.{OutOfMemory as RanOut, BadLimit}
 use Rattle.stm_events.specs.declared.refusal.Denied.{Denied}

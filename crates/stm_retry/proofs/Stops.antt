@@ -26,8 +26,7 @@ use Rattle.stm_events.proofs.CallMeans.{advance_ended, advance_due}
 use Rattle.stm_retry.specs.declared.world.RunStop.{RunStop}
 use Rattle.stm_retry.proofs.CallLemmas.{world_with}
 use Rattle.stm_retry.specs.Returns.{IsUnchanged, IsCutShort, OutOfMemoryReturns, OutOfMemoryReturnsAt, IsRunStop}
-use Rattle.stm_retry.specs.Stops.{with_expired, first_with_expired, RepeatsAlike, GoesOnAlike, Stop, AreStops, ComeToTheWhole}
-use Rattle.stm_retry.specs.Stops.{StopsGoOn, WrongStops}
+use Rattle.stm_retry.specs.Stops.{with_expired, first_with_expired, RepeatsAlike, GoesOnAlike, Stop, AreStops, ComeToTheWhole, StopsGoOn, WrongStops}
 
 -- ---- an advance ----
 

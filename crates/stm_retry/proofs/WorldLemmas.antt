@@ -1,7 +1,6 @@
 -- What the calls of a world keep and report.
-use Rattle.std.proofs.Common.{◌≡◌, ◌<◌, ◌∙◌, ◌⊎◌, inl, inr, ℕ, ◌+◌, List, [], ◌∷◌, ◌++◌, length, Option, Some, None, Result, Ok, Err, Bool}
-use Rattle.std.proofs.Common.{true, false, cond}
-use Rattle.std.proofs.Common.{refl, sym, ap, subst, get_or, drop, take, append_assoc, OnOk, OnErr}
+use Rattle.std.proofs.Common.{◌≡◌, ◌<◌, ◌∙◌, ◌⊎◌, inl, inr, ℕ, ◌+◌, List, [], ◌∷◌, ◌++◌, length, Option, Some, None, Result, Ok, Err, Bool, true, false}
+use Rattle.std.proofs.Common.{cond, refl, sym, ap, subst, get_or, drop, take, append_assoc, OnOk, OnErr}
 use Rattle.std.specs.Prelude.{IsOk, IsTrue, ◌↔◌, nat_eq, nat_lt, slice_get}
 use Rattle.std.specs.declared.alloc.AllocError.{AllocError}
 use Rattle.std.proofs.lemmas.List.{drop_more, take_more}
@@ -21,8 +20,7 @@ use Rattle.stm_outcome.specs.declared.refusal.Refusal.{Refusal as StoreRefusal}
 use Rattle.stm_outcome.specs.declared.refusal.Refusal.TheVariants.{Compacted}
 use Rattle.stm_outcome.specs.Commits.{revision_read}
 use Rattle.stm_outcome.specs.Outcome.{Done}
-use Rattle.stm_txn.specs.Standing.{terms_of}
-use Rattle.stm_txn.specs.Standing.{Setup}
+use Rattle.stm_txn.specs.Standing.{terms_of, Setup}
 use Rattle.stm_outcome.specs.Terms.{is_below_floor}
 use Rattle.stm_events.specs.declared.reply.Reply.TheVariants.{Ended}
 use Rattle.stm_compile.specs.Committed.{committed}
@@ -38,9 +36,8 @@ use Rattle.stm_events.specs.declared.refusal.EventRefusal.TheVariants.{OutOfMemo
 use Rattle.stm_events.specs.Replies.{event_refusal}
 use Rattle.stm_events.specs.declared.refusal.Denied.{Denied}
 use Rattle.stm_world.specs.Task.{Task}
-use Rattle.stm_world.specs.World.{World, Runner, Stepped, Over, runner_at, refused, replied, start_runner, fetch, fail_commit, decided, commit_reported, commit, finish}
-use Rattle.stm_world.specs.World.{fetch_list, step_on, step_live, step_runner}
-use Rattle.stm_world.specs.World.{step, world_after, replies_to}
+use Rattle.stm_world.specs.World.{World, Runner, Stepped, Over, runner_at, refused, replied, start_runner, fetch, fail_commit, decided, commit_reported}
+use Rattle.stm_world.specs.World.{commit, finish, fetch_list, step_on, step_live, step_runner, step, world_after, replies_to}
 use Rattle.stm_world.specs.Sound.{IsSound}
 use Rattle.stm_world.specs.Headline.{Holds}
 use Rattle.stm_compile.proofs.AgreeLemmas.{commit_is_the_run_now}

@@ -19,8 +19,7 @@ use Rattle.stm_json.specs.Parts.{same, on_text, text_of}
 use Rattle.stm_txn_json.specs.Words.{order_named, target_named}
 use Rattle.stm_txn_json.specs.Reading.{order_of, target_of, compare_parts, compare_of, get_of, put_of, del_of, operation_of}
 use Rattle.stm_txn_json.specs.Reading.{compares_of, operations_of, txn_parts, txn_of}
-use Rattle.stm_json.specs.Faults.{Sort, AnyText, WordOf, wrong, at, word_faults, faults_by, sorted_faults, worded_faults, list_faults, first_of}
-use Rattle.stm_json.specs.Faults.{any_number}
+use Rattle.stm_json.specs.Faults.{Sort, AnyText, WordOf, wrong, at, word_faults, faults_by, sorted_faults, worded_faults, list_faults, first_of, any_number}
 use Rattle.stm_txn_json.specs.FirstFault.{order_words, compare_table, operation_table, txn_sorts, txn_faults, first_fault}
 use Rattle.stm_json.proofs.FaultLemmas.{fault_of, wrong_is, part_then, made, text_faulted, list_faulted, number_reported}
 

@@ -32,22 +32,17 @@ use Rattle.stm_events.specs.declared.reply.Reply.TheVariants.{Started, Prefetche
 use Rattle.stm_events.specs.Called.{Asked, Starts, Steps, Calls, asked, entered}
 use Rattle.stm_world.specs.Task.{Task, answer_at, modified_now, after_list, after_fetch, after_conflict}
 use Rattle.stm_world.specs.World.{World, Runner, Slot, Over, Live, runner_at, with_slot, refused, replied, begin, start_runner, fetch, fetch_list, entry_of}
-use Rattle.stm_world.specs.World.{decided, commit_reported, commit, finish, step_on, step_live, step_runner}
-use Rattle.stm_world.specs.World.{step_asked, step}
+use Rattle.stm_world.specs.World.{decided, commit_reported, commit, finish, step_on, step_live, step_runner, step_asked, step, Stepped, world_after}
 use Rattle.stm_world.specs.Sound.{IsSound}
 use Rattle.stm_world.proofs.Entered.{EntriesFollow, nothing_follows}
 use Rattle.stm_world.proofs.Calls.{call_adds, call_follows}
 use Rattle.stm_world.proofs.CommitEntries.{Takes, taken, commit_follows_entry}
 use Rattle.std.proofs.Common.{append_assoc}
-use Rattle.std.proofs.lemmas.List.{append-nil}
 use Rattle.stm_compile.specs.Answers.{AreTrue}
 use Rattle.stm_compile.proofs.AgreeLemmas.{commit_is_the_run_now}
-use Rattle.stm_entries.proofs.Replaying.{replay_goes_on, all_legal}
-use Rattle.stm_events.specs.declared.reply.Reply.{Reply}
 use Rattle.stm_events.specs.declared.refusal.Denied.{Denied}
 use Rattle.stm_events.specs.Replies.{event_refusal, denied}
 use Rattle.stm_events.specs.declared.refusal.EventRefusal.TheVariants.{BadLimit, NoRunner, TooManyOps as TooManyOpsRefusal, Compacted as CompactedRefusal}
-use Rattle.stm_world.specs.World.{Stepped, world_after}
 use Rattle.stm_world.specs.Appended.{HasAppended, EventsAppend}
 use Rattle.stm_world.proofs.SoundSteps.{world_with}
 use Rattle.stm_world.proofs.Sound.{step_is_sound}

@@ -14,8 +14,7 @@ use Rattle.stm_meaning.specs.Meaning.{run_over}
 use Rattle.stm_outcome.specs.declared.refusal.Refusal.{Refusal as StoreRefusal}
 use Rattle.stm_outcome.specs.Outcome.{Done}
 use Rattle.stm_outcome.specs.Terms.{most_operations}
-use Rattle.stm_txn.specs.Standing.{Standing, HasKept, with_history}
-use Rattle.stm_txn.specs.Standing.{Setup}
+use Rattle.stm_txn.specs.Standing.{Standing, HasKept, with_history, Setup}
 use Rattle.stm_entries.specs.Replayed.{without_moment, replay_terms}
 use Rattle.stm_entries.specs.Alone.{seen_at, applied_run, history_left, left_by, left_by_run}
 use Rattle.stm_events.specs.declared.event.WorldEvent.{WorldEvent}

@@ -1,6 +1,5 @@
 -- The headline: each step leads to a world that follows its log.
-use Rattle.std.proofs.Common.{◌≡◌, ◌≢◌, ℕ, ◌+◌, ◌<◌, ◌≤◌, List, [], ◌∷◌, ◌++◌, length, Option, Some, None, Ok, Bool, true, false, cond}
-use Rattle.std.proofs.Common.{refl, sym, ◌∙◌, ap}
+use Rattle.std.proofs.Common.{◌≡◌, ◌≢◌, ℕ, ◌+◌, ◌<◌, ◌≤◌, List, [], ◌∷◌, ◌++◌, length, Option, Some, None, Ok, Bool, true, false, cond, refl, sym, ◌∙◌, ap}
 use Rattle.std.proofs.Common.{subst, arith}
 use Rattle.std.proofs.lemmas.List.{append-nil}
 use Rattle.std.specs.Prelude.{nat_eq, option_map}
@@ -21,9 +20,8 @@ use Rattle.stm_events.proofs.CallReplies.{entered_is}
 use Rattle.stm_world.specs.Task.{Task}
 use Rattle.stm_world.specs.Log.{Line, begun, running, started, store, store_after_asked, entries_asked, line_entries, entries_reported, known_after_log}
 use Rattle.stm_world.specs.Right.{RunnerIsRight, IsRightAsked}
-use Rattle.stm_world.specs.World.{World, Runner, Slot, Live, live_in, runner_at, begin, opened, refused, start_runner, step_runner}
-use Rattle.stm_world.specs.World.{make_call, step_asked, step}
-use Rattle.stm_world.specs.World.{world_after, replies_to}
+use Rattle.stm_world.specs.World.{World, Runner, Slot, Live, live_in, runner_at, begin, opened, refused, start_runner, step_runner, make_call, step_asked}
+use Rattle.stm_world.specs.World.{step, world_after, replies_to}
 use Rattle.stm_world.specs.Headline.{runner_for, runner_in_log, AreOfOneState, Headline, OneState, ReadOnce}
 use Rattle.stm_world.specs.Sound.{KnowsTruth}
 use Rattle.stm_world.proofs.Bases.{IsWellRun, begin_runs}

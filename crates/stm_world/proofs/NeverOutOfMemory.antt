@@ -26,9 +26,8 @@ use Rattle.stm_outcome.specs.declared.refusal.Refusal.TheVariants.{OutOfMemory, 
 use Rattle.stm_txn.specs.LeaseKeys.{deletions_of}
 use Rattle.stm_outcome.specs.Outcome.{Done, is_used_up}
 use Rattle.stm_outcome.specs.Commits.{is_on_dead_lease, effective}
-use Rattle.stm_txn.specs.Standing.{Standing, Step as StoreStep, watch_step, poll_step, cancel_step, with_floor, floor_step, terms_of}
-use Rattle.stm_txn.specs.Standing.{transacted, granted, kept_alive, revoked, advanced, watched, polled, cancelled, raised}
-use Rattle.stm_txn.specs.Standing.{Setup}
+use Rattle.stm_txn.specs.Standing.{Standing, Step as StoreStep, watch_step, poll_step, cancel_step, with_floor, floor_step, terms_of, transacted, granted}
+use Rattle.stm_txn.specs.Standing.{kept_alive, revoked, advanced, watched, polled, cancelled, raised, Setup}
 use Rattle.stm_outcome.specs.Terms.{Terms}
 use Rattle.stm_compile.specs.Committed.{sends_too_many, conflict_now, judged, committed}
 use Rattle.stm_events.specs.declared.event.WorldEvent.{WorldEvent}

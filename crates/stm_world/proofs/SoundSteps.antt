@@ -15,9 +15,8 @@ use Rattle.stm_outcome.specs.declared.answer.FailedCompare.{FailedCompare}
 use Rattle.stm_outcome.specs.declared.refusal.Refusal.{Refusal as StoreRefusal}
 use Rattle.stm_outcome.specs.Outcome.{Done}
 use Rattle.stm_outcome.specs.Commits.{revision_read}
-use Rattle.stm_txn.specs.Standing.{Standing, with_history}
+use Rattle.stm_txn.specs.Standing.{Standing, with_history, terms_of}
 use Rattle.stm_outcome.specs.Terms.{most_operations, is_below_floor}
-use Rattle.stm_txn.specs.Standing.{terms_of}
 use Rattle.stm_compile.specs.Committed.{committed}
 use Rattle.stm_compile.specs.Conflicts.{Seen, seen_by, seen_in}
 use Rattle.stm_compile.specs.Laws.{CommitIsTheRunNow}

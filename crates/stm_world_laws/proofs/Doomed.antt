@@ -2,20 +2,19 @@
 use Rattle.std.proofs.Common.{cond, arith, Bool, false, refl, ◌∷◌, None, Option, ◌≡◌, ℕ, ◌≤◌, List, [], Some, Ok, Err, true, sym, ◌∙◌, ap, subst}
 use Rattle.std.specs.Prelude.{option_map, Result}
 use Rattle.stm_history.specs.declared.key_state.ReadAnswer.{ReadAnswer}
-use Rattle.stm_history.specs.History.{History, key_now, mod_of}
+use Rattle.stm_history.specs.History.{History, key_now, mod_of, now}
 use Rattle.stm_steps.specs.declared.run.End.{End}
 use Rattle.stm_steps.specs.declared.run.End.TheVariants.{Aborted as AbortedEnd, Faulted as FaultedEnd}
 use Rattle.stm_steps.specs.declared.run.Answered.{Answered}
 use Rattle.stm_meaning.specs.Laws.{IsContinuedBy}
 use Rattle.stm_meaning.specs.Meaning.{run_over}
-use Rattle.stm_compile.specs.Answers.{state_as_of}
+use Rattle.stm_compile.specs.Answers.{state_as_of, AreTrue}
 use Rattle.stm_compile.specs.Conflicts.{IsChangedAbove}
 use Rattle.stm_program.specs.Levels.{is_serializable}
-use Rattle.stm_attempt.specs.Fetches.{base_of}
+use Rattle.stm_attempt.specs.Fetches.{base_of, HaveOneBase}
 use Rattle.std.specs.List.{list_any}
 use Rattle.std.proofs.lemmas.List.Elements.{All-from_recursion}
 use Rattle.stm_history.specs.declared.change.Change.{Change}
-use Rattle.stm_history.specs.History.{now}
 use Rattle.stm_program.specs.declared.level.Level.{Level}
 use Rattle.stm_steps.specs.declared.run.Run.{Run}
 use Rattle.stm_outcome.specs.declared.answer.FailedCompare.{FailedCompare}
@@ -23,13 +22,10 @@ use Rattle.stm_outcome.specs.declared.refusal.Refusal.TheVariants.{LeaseNotFound
 use Rattle.stm_outcome.specs.Outcome.{Done, is_used_up}
 use Rattle.stm_outcome.specs.Commits.{revision_read, turned_down, effective, is_on_dead_lease}
 use Rattle.stm_outcome.specs.Terms.{Terms}
-use Rattle.stm_txn.specs.Standing.{terms_of}
-use Rattle.stm_txn.specs.Standing.{Setup}
-use Rattle.stm_compile.specs.Answers.{AreTrue}
+use Rattle.stm_txn.specs.Standing.{terms_of, Setup}
 use Rattle.stm_compile.specs.CommitTxn.{reread_keys}
 use Rattle.stm_compile.specs.Committed.{sends_too_many, conflict_now, judged}
 use Rattle.stm_compile.proofs.AgreeLemmas.{answers_of_one_revision}
-use Rattle.stm_attempt.specs.Fetches.{HaveOneBase}
 use Rattle.stm_program.specs.Writes.{latest_writes}
 use Rattle.stm_attempt.specs.Settled.{run_on}
 use Rattle.stm_steps.specs.declared.run.Answered.TheVariants.{Ended as EndedRun}

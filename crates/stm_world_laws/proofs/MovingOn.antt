@@ -1,6 +1,5 @@
 -- A run's commits fail only as often as the store's revision grows since its start.
-use Rattle.std.proofs.Common.{◌≡◌, ℕ, ◌+◌, ◌<◌, ◌≤◌, zero, suc, List, [], ◌∷◌, ◌++◌, map, Some, Bool}
-use Rattle.std.proofs.Common.{true, false, cond, refl, sym, subst, arith}
+use Rattle.std.proofs.Common.{◌≡◌, ℕ, ◌+◌, ◌<◌, ◌≤◌, zero, suc, List, [], ◌∷◌, ◌++◌, map, Some, Bool, true, false, cond, refl, sym, subst, arith}
 use Rattle.std.specs.Prelude.{nat_eq, nat_lt, min, fold, ◌&&◌, ◌||◌, is_some, slice_get}
 use Rattle.std.specs.List.{AllByRecursion}
 use Rattle.std.proofs.lemmas.Bool.{ltb-true}

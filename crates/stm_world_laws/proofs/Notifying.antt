@@ -18,9 +18,7 @@ use Rattle.stm_watch.specs.Calls.{watcher_at, is_one_lost, cancelled as without_
 use Rattle.stm_watch.specs.declared.refusal.PollRefusal.TheVariants.{Compacted as LostToPoll}
 use Rattle.stm_outcome.specs.declared.refusal.Refusal.{Refusal as StoreRefusal}
 use Rattle.stm_outcome.specs.declared.refusal.Refusal.TheVariants.{Compacted as CompactedRefusal, FutureRevision}
-use Rattle.stm_txn.specs.Standing.{Standing, Step as StoreStep, with_watchers}
-use Rattle.stm_txn.specs.Standing.{watch_step, poll_step, cancel_step, with_floor, floor_step, IsKeptFor}
-use Rattle.stm_txn.specs.Standing.{Setup}
+use Rattle.stm_txn.specs.Standing.{Standing, Step as StoreStep, with_watchers, watch_step, poll_step, cancel_step, with_floor, floor_step, IsKeptFor, Setup}
 use Rattle.stm_events.specs.declared.event.WorldEvent.{WorldEvent}
 use Rattle.stm_events.specs.declared.event.WorldEvent.TheVariants.{Start, Step, Txn, Grant, Keep, Revoke, Advance}
 use Rattle.stm_events.specs.declared.event.WorldEvent.TheVariants.{WatchKey, WatchRange, Poll, Cancel, Compact}

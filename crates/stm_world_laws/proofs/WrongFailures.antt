@@ -46,8 +46,7 @@ use Rattle.stm_events.specs.declared.reply.Reply.TheVariants.{Txn as TxnDone, Gr
 use Rattle.stm_events.specs.declared.refusal.Denied.{Denied}
 use Rattle.stm_world.specs.Task.{Task, answer_at, after_list, after_fetch, after_conflict}
 use Rattle.stm_world.specs.Log.{Line, begun, running, store, known_after, known_after_log}
-use Rattle.stm_world.specs.Doomed.{FailedCommit, NamesAConflict, IsRealFailure, Stopped, IsEndOnOneState, IsRealStop, since, failed_commits}
-use Rattle.stm_world.specs.Doomed.{FailuresMoveOn}
+use Rattle.stm_world.specs.Doomed.{FailedCommit, NamesAConflict, IsRealFailure, Stopped, IsEndOnOneState, IsRealStop, since, failed_commits, FailuresMoveOn}
 use Rattle.stm_world.specs.World.{opened, replies_to}
 use Rattle.stm_world_laws.specs.WrongFailures.{reads_of, WrongFailures, WrongRuns}
 use Rattle.stm_world.proofs.EventKeeps.{store_opens}

@@ -309,8 +309,5 @@ told_same (Revoke id) w plain = reply_same (Revoked id) _ _ (revoked_same w.stan
 told_same (Advance moment) w plain =
     let a = advanced_same w.standing moment in
     ap (λ es. advance_reply moment es (advanced (unwatched w.standing) moment).cause) a.expired ∙ ap (advance_reply moment (advanced w.standing moment).expired) a.cause
-told_same (WatchKey key from) w plain = absurd plain
-told_same (WatchRange first end from) w plain = absurd plain
-told_same (Poll watcher most) w plain = absurd plain
-told_same (Cancel watcher) w plain = absurd plain
 told_same (Compact revision) w plain = reply_same (λ x. Compacted revision) _ _ (raised_by w.standing revision (compaction_refusal w.standing revision))
+told_same _ w plain = absurd plain

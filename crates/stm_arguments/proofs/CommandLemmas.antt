@@ -32,14 +32,8 @@ asks_something None status by = by
 asks_something (Some named) status by = by
 
 pub asks : (words : List Text) (asked : Asked) → faults_of words ≡ [] → AsksBy (subcommand_of stmrun_app words) asked → Asks words asked
-asks words (Script file format explain) none by = (none, by)
-asks words (Check scenario report whole explain) none by = (none, by)
-asks words (Threads file workers ends repeat explain) none by = (none, by)
-asks words (Recipe named) none by = (none, by)
-asks words (Explore scenario keeps level budget after explain) none by = (none, by)
-asks words (Show file program) none by = (none, by)
-asks words (Compile file program explain) none by = (none, by)
 asks words (Nothing status) none by = absurd (asks_something (subcommand_of stmrun_app words) status by)
+asks words _ none by = (none, by)
 
 -- ---- the number of threads, and that of runs
 

@@ -127,12 +127,10 @@ unfolding rev_key
 rev_stands look frames key s none = rev_answered-stands frames key (look key) s none
 
 none_stands : (look : Lookup) (focus : Focus) (frames : List Frame) (s : Session) → step_from look focus frames s ≡ None → StandsAt look focus s
-none_stands look (Evaluate e) frames s none = absurd (cc)
-none_stands look (Test c) frames s none = absurd (cc)
 none_stands look (Get key) frames s none = get_stands look frames key s none
 none_stands look (Rev key) frames s none = rev_stands look frames key s none
-none_stands look (Give item) frames s none = absurd (cc)
 none_stands look (Ended end) frames s none = tt
+none_stands look _ frames s none = absurd (cc)
 
 pub no_step_stands : NoStepStands
 no_step_stands look m none = none_stands look m.focus m.frames m.session none
@@ -141,27 +139,23 @@ no_step_stands look m none = none_stands look m.focus m.frames m.session none
 
 wants_from : (look : Lookup) (focus : Focus) (frames : List Frame) (s : Session) (key : List ℕ) → StandsAt look focus s → key_asked focus ≡ Some key →
     answered (finish_from look focus frames s) ≡ WantsKey key s.trace
-wants_from look (Evaluate e) frames s key stands asked = absurd stands
-wants_from look (Test c) frames s key stands asked = absurd stands
 wants_from look (Get k) frames s key stands asked =
     let same : k ≡ key = cc in
     ap (λ o. answered (on_value (onward_of look frames) o)) stands ∙ ap (λ (l : List ℕ). WantsKey l s.trace) same
 wants_from look (Rev k) frames s key stands asked =
     let same : k ≡ key = cc in
     ap (λ o. answered (on_value (onward_of look frames) o)) stands ∙ ap (λ (l : List ℕ). WantsKey l s.trace) same
-wants_from look (Give item) frames s key stands asked = absurd stands
 wants_from look (Ended end) frames s key stands asked = absurd (cc)
+wants_from look _ frames s key stands asked = absurd stands
 
 pub standing_at_a_key_wants_it : StandingAtAKeyWantsIt
 standing_at_a_key_wants_it look m key stands asked = wants_from look m.focus m.frames m.session key stands asked
 
 has_run_from : (look : Lookup) (focus : Focus) (s : Session) → StandsAt look focus s → key_asked focus ≡ None → IsSome (run_from focus s)
-has_run_from look (Evaluate e) s stands none = absurd stands
-has_run_from look (Test c) s stands none = absurd stands
 has_run_from look (Get key) s stands none = absurd (cc)
 has_run_from look (Rev key) s stands none = absurd (cc)
-has_run_from look (Give item) s stands none = absurd stands
 has_run_from look (Ended end) s stands none = refl
+has_run_from look _ s stands none = absurd stands
 
 pub standing_at_no_key_has_run : StandingAtNoKeyHasRun
 standing_at_no_key_has_run look m stands none = has_run_from look m.focus m.session stands none
@@ -173,14 +167,10 @@ ended_answers (Faulted fault) s = refl
 
 run_is : (look : Lookup) (focus : Focus) (frames : List Frame) (s : Session) (run : Run) → run_from focus s ≡ Some run →
     answered (finish_from look focus frames s) ≡ EndedRun run
-run_is look (Evaluate e) frames s run is = absurd (cc)
-run_is look (Test c) frames s run is = absurd (cc)
-run_is look (Get key) frames s run is = absurd (cc)
-run_is look (Rev key) frames s run is = absurd (cc)
-run_is look (Give item) frames s run is = absurd (cc)
 run_is look (Ended end) frames s run is =
     let same : run_of end s ≡ run = cc in
     ended_answers end s ∙ ap (λ (r : Run). EndedRun r) same
+run_is look _ frames s run is = absurd (cc)
 
 pub ended_machines_have_run : EndedMachinesHaveRun
 ended_machines_have_run look m run is = run_is look m.focus m.frames m.session run is
@@ -208,16 +198,14 @@ unfolding rev_key
 rev_unknown look key s stands = rev_answered-unknown key (look key) s stands
 
 unknown_at : (look : Lookup) (focus : Focus) (s : Session) (key : List ℕ) → StandsAt look focus s → key_asked focus ≡ Some key → look key ≡ None
-unknown_at look (Evaluate e) s key stands asked = absurd stands
-unknown_at look (Test c) s key stands asked = absurd stands
 unknown_at look (Get k) s key stands asked =
     let same : k ≡ key = cc in
     ap look (sym same) ∙ get_unknown look k s stands
 unknown_at look (Rev k) s key stands asked =
     let same : k ≡ key = cc in
     ap look (sym same) ∙ rev_unknown look k s stands
-unknown_at look (Give item) s key stands asked = absurd stands
 unknown_at look (Ended end) s key stands asked = absurd (cc)
+unknown_at look _ s key stands asked = absurd stands
 
 pub wanted_key_is_unknown : (look : Lookup) (m : MachineState) (key : List ℕ) → Stands look m → key_asked m.focus ≡ Some key → look key ≡ None
 wanted_key_is_unknown look m key stands asked = unknown_at look m.focus m.session key stands asked

@@ -77,13 +77,9 @@ compared_steps (LessLeft f) = 3 * expression_nodes f
 compared_steps (LessRight x) = 0
 
 abbrev argument_steps : ArgumentFrame → ℕ
-argument_steps (Set v) = 0
 argument_steps (PutKey f lease) = 3 * expression_nodes f
-argument_steps (PutValue x lease) = 0
-argument_steps Del = 0
 argument_steps (For v limit body) = 1 + loop_steps (block_steps body) limit
-argument_steps Emit = 0
-argument_steps Abort = 0
+argument_steps _ = 0
 
 abbrev truth_steps : TruthFrame → ℕ
 truth_steps Not = 0
@@ -223,13 +219,11 @@ loop_falls v body limit (Err fault) frames within = omega arith
 argument_falls : (f : ArgumentFrame) (x : Value) (s : Session) (frames : List Frame) →
     move_left (take_argument f x s).move frames < 2 + argument_steps f + stack_steps frames
 unfolding take_argument
-argument_falls (Set v) x s frames = omega arith
-argument_falls (PutKey f lease) x s frames = omega arith
 argument_falls (PutValue x lease) y s frames = write_falls (put_of x y lease) s frames
 argument_falls Del x s frames = write_falls (del_of x) s frames
 argument_falls (For v limit body) x s frames = omega (arith, loop_falls v body limit (turns_of x limit) frames (turns_within x limit))
-argument_falls Emit x s frames = omega arith
 argument_falls Abort x s frames = abort_falls (text_in x) frames
+argument_falls _ x s frames = omega arith
 
 turn_moved-falls : (v : ℕ) (body : Block) (i left : ℕ) (o : Outcome (Unit {0})) (frames : List Frame) →
     move_left (turn_moved v body (turns_from (suc i) left) o).move frames < 2 + loop_steps (block_steps body) (suc left) + stack_steps frames

@@ -501,18 +501,9 @@ advance_opens moment expired old new (inr cut) = cut_opens moment expired old ne
 
 want_opens : (event : WorldEvent) (expired : List Expired) (old new : World) → OutOfMemoryReturns event expired old new →
     new.standing.history.opening ≡ old.standing.history.opening
-want_opens (Start program level limit) expired old new want = unchanged_opens expired old new want.0
-want_opens (Step id) expired old new want = unchanged_opens expired old new want.0
-want_opens (Txn txn) expired old new want = unchanged_opens expired old new want.0
-want_opens (Grant id ttl) expired old new want = unchanged_opens expired old new want.0
-want_opens (Keep id) expired old new want = unchanged_opens expired old new want.0
-want_opens (Revoke id) expired old new want = unchanged_opens expired old new want.0
 want_opens (Advance moment) expired old new want = advance_opens moment expired old new want.1
-want_opens (WatchKey key from) expired old new want = unchanged_opens expired old new want.0
-want_opens (WatchRange first end from) expired old new want = unchanged_opens expired old new want.0
-want_opens (Poll watcher most) expired old new want = unchanged_opens expired old new want.0
-want_opens (Cancel watcher) expired old new want = unchanged_opens expired old new want.0
 want_opens (Compact revision) expired old new want = absurd want
+want_opens _ expired old new want = unchanged_opens expired old new want.0
 
 is_step_opens : (event : WorldEvent) (reply : Result Reply Denied) (old new : World) → IsSound old → IsStep (step event old) reply new →
     new.standing.history.opening ≡ old.standing.history.opening

@@ -238,18 +238,9 @@ advance_again moment expired old new above (inr cut) some same =
 
 event_again : (event : WorldEvent) (expired : List Expired) (old new : World) → OutOfMemoryReturns event expired old new → expired ≢ [] →
     (step event old).reply ≡ (step event new).reply → ⊥
-event_again (Start program level limit) expired old new want some same = some want.0.0
-event_again (Step id) expired old new want some same = some want.0.0
-event_again (Txn txn) expired old new want some same = some want.0.0
-event_again (Grant id ttl) expired old new want some same = some want.0.0
-event_again (Keep id) expired old new want some same = some want.0.0
-event_again (Revoke id) expired old new want some same = some want.0.0
 event_again (Advance moment) expired old new want some same = advance_again moment expired old new want.0 want.1 some same
-event_again (WatchKey key from) expired old new want some same = some want.0.0
-event_again (WatchRange first end from) expired old new want some same = some want.0.0
-event_again (Poll watcher most) expired old new want some same = some want.0.0
-event_again (Cancel watcher) expired old new want some same = some want.0.0
 event_again (Compact revision) expired old new want some same = absurd want
+event_again _ expired old new want some same = some want.0.0
 
 first_alike : (x y : Result Reply Denied) (xs ys : List (Result Reply Denied)) → x ∷ xs ≡ y ∷ ys → x ≡ y
 first_alike x y xs ys is = cc
@@ -287,18 +278,9 @@ advance_undone moment expired old new (inl unchanged) some same = some unchanged
 advance_undone moment expired old new (inr cut) some same = grown old.entries expired some (ap (λ (w : World). w.entries) (sym same ∙ cut.rest))
 
 event_undone : (event : WorldEvent) (expired : List Expired) (old new : World) → OutOfMemoryReturns event expired old new → expired ≢ [] → new ≡ old → ⊥
-event_undone (Start program level limit) expired old new want some same = some want.0.0
-event_undone (Step id) expired old new want some same = some want.0.0
-event_undone (Txn txn) expired old new want some same = some want.0.0
-event_undone (Grant id ttl) expired old new want some same = some want.0.0
-event_undone (Keep id) expired old new want some same = some want.0.0
-event_undone (Revoke id) expired old new want some same = some want.0.0
 event_undone (Advance moment) expired old new want some same = advance_undone moment expired old new want.1 some same
-event_undone (WatchKey key from) expired old new want some same = some want.0.0
-event_undone (WatchRange first end from) expired old new want some same = some want.0.0
-event_undone (Poll watcher most) expired old new want some same = some want.0.0
-event_undone (Cancel watcher) expired old new want some same = some want.0.0
 event_undone (Compact revision) expired old new want some same = absurd want
+event_undone _ expired old new want some same = some want.0.0
 
 stopped_undone : (o : Option WorldEvent) (expired : List Expired) (before new : World) → OutOfMemoryReturnsAt o expired before new → expired ≢ [] → new ≡ before → ⊥
 stopped_undone None expired before new want some same = absurd want

@@ -170,18 +170,9 @@ advance_sound moment expired old new sound (inl same) = unchanged_sound expired 
 advance_sound moment expired old new sound (inr cut) = cut_sound moment expired old new sound cut
 
 want_sound : (event : WorldEvent) (expired : List Expired) (old new : World) → IsSound old → OutOfMemoryReturns event expired old new → IsSound new
-want_sound (Start program level limit) expired old new sound want = unchanged_sound expired old new sound want.0
-want_sound (Step id) expired old new sound want = unchanged_sound expired old new sound want.0
-want_sound (Txn txn) expired old new sound want = unchanged_sound expired old new sound want.0
-want_sound (Grant id ttl) expired old new sound want = unchanged_sound expired old new sound want.0
-want_sound (Keep id) expired old new sound want = unchanged_sound expired old new sound want.0
-want_sound (Revoke id) expired old new sound want = unchanged_sound expired old new sound want.0
 want_sound (Advance moment) expired old new sound want = advance_sound moment expired old new sound want.1
-want_sound (WatchKey key from) expired old new sound want = unchanged_sound expired old new sound want.0
-want_sound (WatchRange first end from) expired old new sound want = unchanged_sound expired old new sound want.0
-want_sound (Poll watcher most) expired old new sound want = unchanged_sound expired old new sound want.0
-want_sound (Cancel watcher) expired old new sound want = unchanged_sound expired old new sound want.0
 want_sound (Compact revision) expired old new sound want = absurd want
+want_sound _ expired old new sound want = unchanged_sound expired old new sound want.0
 
 is_step_sound : (event : WorldEvent) (reply : Result Reply Denied) (old new : World) → IsSound old → IsStep (step event old) reply new → IsSound new
 is_step_sound event reply old new sound is = subst IsSound is.next_is (step_is_sound event old sound)

@@ -27,10 +27,5 @@ statement_deep levels room (Set v e) none = rw none refl
 statement_deep levels room _ none = rw none refl
 
 pub statement_full : (levels room : ℕ) (x : Statement) → 0 < levels → room ≡ 0 → statement_room levels room x ≡ Err TooManyNodes
-statement_full levels room (Set v e) some none = let t : nat_eq levels 0 ≡ false = grind (arith, nat_tests) in rw (t, none) refl
-statement_full levels room (Put k e l) some none = let t : nat_eq levels 0 ≡ false = grind (arith, nat_tests) in rw (t, none) refl
-statement_full levels room (Del e) some none = let t : nat_eq levels 0 ≡ false = grind (arith, nat_tests) in rw (t, none) refl
 statement_full levels room (If c t e) some none = let t : nat_eq levels 0 ≡ false = grind (arith, nat_tests) in rw (t, none) refl
-statement_full levels room (For v e n b) some none = let t : nat_eq levels 0 ≡ false = grind (arith, nat_tests) in rw (t, none) refl
-statement_full levels room (Emit e) some none = let t : nat_eq levels 0 ≡ false = grind (arith, nat_tests) in rw (t, none) refl
-statement_full levels room (Abort e) some none = let t : nat_eq levels 0 ≡ false = grind (arith, nat_tests) in rw (t, none) refl
+statement_full levels room _ some none = let t : nat_eq levels 0 ≡ false = grind (arith, nat_tests) in rw (t, none) refl

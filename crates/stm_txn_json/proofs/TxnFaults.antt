@@ -45,11 +45,8 @@ order_faulted p d = order_reported p (as_str d)
 
 -- the sort of the compare's side
 abbrev side_sort : TargetWord → Sort
-side_sort word.Version = any_number
-side_sort word.Create = any_number
-side_sort word.Mod = any_number
-side_sort word.Lease = any_number
 side_sort word.Value = AnyText
+side_sort _ = any_number
 
 target_faulted : (p : List ℕ) (w : TargetWord) (d : Data) → first_of (faults_by (side_sort w) p d) ≡ fault_of p (target_of w d)
 target_faulted p word.Version d = made p (number_up_to HIGHEST_NUMBER d) Version (faults_by any_number p d) (number_reported p d)

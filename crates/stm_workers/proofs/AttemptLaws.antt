@@ -40,12 +40,9 @@ all_made handed job seen key after made (inl came) = came.then_is.last (no_commi
 all_made handed job seen key after made (inr came) = absurd (no_stop came.then_is.stop key came.then_is.reported)
 
 if_gave_up : (handed : JournalState) (job : Job) (end : JobEnd) (made : ℕ) → HasSomeRun handed job end made → IfGaveUp end (made ≡ job.limit)
-if_gave_up handed job (CommittedJob index revision) made some = tt
-if_gave_up handed job (AbortedJob text reads) made some = tt
-if_gave_up handed job (FaultedJob fault reads) made some = tt
-if_gave_up handed job (RefusedJob cause) made some = tt
 if_gave_up handed job (GaveUp key) made some =
     ∥∥₁_elim some (numbers_set made job.limit) (λ came. all_made handed job came.0 key came.1 made came.2)
+if_gave_up handed job _ made some = tt
 
 counted : (handed : JournalState) (job : Job) (end : JobEnd) (made : ℕ) → HasSomeRun handed job end made → AreAttemptsOf job end made
 counted handed job end made some = record {

@@ -27,10 +27,8 @@ IsCurrent task known = is_comparing task.level ≡ false → KnowsAll IsOfItsMom
 -- ---- it stays so
 
 not_serializable : (level : Level) → is_comparing level ≡ false → is_serializable level ≡ false
-not_serializable SerializableSnapshot is = absurd (cc)
-not_serializable Serializable is = absurd (cc)
-not_serializable RepeatableReads is = absurd (cc)
 not_serializable ReadCommitted is = refl
+not_serializable _ is = absurd (cc)
 
 -- a fetch is of the current revision
 fetched_now : (h : History) (level : Level) (reads : List ReadAnswer) → is_serializable level ≡ false → revision_read h (at_of level reads) ≡ now h

@@ -1,11 +1,9 @@
 -- A step from a world without its watchers and entries.
-use Rattle.std.proofs.Common.{◌≡◌, ℕ, zero, suc, ◌+◌, Bool, true, false, cond, List, [], ◌∷◌, ◌++◌, length, map, Option, Some, None, Result, Ok, Err}
-use Rattle.std.proofs.Common.{refl, sym, ◌∙◌, ap, subst, arith}
-use Rattle.std.specs.Prelude.{nat_lt, nat_le, nat_eq, slice_get, IsOk}
+use Rattle.std.proofs.Common.{◌≡◌, ℕ, zero, suc, ◌+◌, Bool, true, false, cond, List, [], ◌∷◌, length, Option, Some, None, Result, Ok, Err}
+use Rattle.std.proofs.Common.{refl, sym, ◌∙◌, ap}
+use Rattle.std.specs.Prelude.{nat_lt, nat_eq}
 use Rattle.std.specs.FinMap as finmap
 use Rattle.stm_history.specs.declared.key_state.ReadAnswer.{ReadAnswer}
-use Rattle.stm_history.specs.History.{History, now, key_at, mod_of}
-use Rattle.stm_program.specs.Writes.{latest_writes}
 use Rattle.stm_steps.specs.declared.run.End.{End}
 use Rattle.stm_steps.specs.declared.run.End.TheVariants.{Done as DoneEnd, Aborted as AbortedEnd, Faulted as FaultedEnd}
 use Rattle.stm_steps.specs.declared.run.Run.{Run}
@@ -13,16 +11,12 @@ use Rattle.stm_steps.specs.declared.run.Answered.{Answered}
 use Rattle.stm_steps.specs.declared.run.Answered.TheVariants.{Ended as EndedRun, Wants}
 use Rattle.stm_leases.specs.Live.{is_live_in, grant_refusal}
 use Rattle.stm_leases.specs.DueFirst.{first_due}
-use Rattle.stm_watch.specs.declared.watched.Watched.{Watched}
 use Rattle.stm_watch.specs.declared.watched.Watched.TheVariants.{Key, Range}
 use Rattle.stm_watch.specs.Watching.{Watching}
 use Rattle.stm_watch.specs.declared.watchers.Batch.{Batch}
 use Rattle.stm_watch.specs.declared.refusal.WatchRefusal.{WatchRefusal}
 use Rattle.stm_watch.specs.declared.refusal.PollRefusal.{PollRefusal}
-use Rattle.stm_watch.specs.declared.refusal.PollRefusal.TheVariants.{NoWatcher as NoneToPoll, Compacted as LostToPoll, OutOfMemory as NoMemoryToPoll}
-use Rattle.stm_watch.specs.Calls.{watch, poll, watcher_at, Step as WatchStep}
-use Rattle.stm_outcome.specs.declared.txn.Txn.{Txn}
-use Rattle.stm_outcome.specs.declared.answer.TxnAnswer.{TxnAnswer}
+use Rattle.stm_watch.specs.Calls.{Step as WatchStep}
 use Rattle.stm_outcome.specs.declared.answer.FailedCompare.{FailedCompare}
 use Rattle.stm_outcome.specs.declared.advance.Expired.{Expired}
 use Rattle.stm_outcome.specs.declared.refusal.Refusal.{Refusal as StoreRefusal}
@@ -32,11 +26,10 @@ use Rattle.stm_outcome.specs.Commits.{revision_read}
 use Rattle.stm_outcome.specs.Terms.{is_below_floor}
 use Rattle.stm_txn.specs.Grants.{grant_refusal_of}
 use Rattle.stm_txn.specs.LeaseKeys.{deletions_of}
-use Rattle.stm_txn.specs.Standing.{Standing, Step as StoreStep, Advance as StoreAdvance, terms_of, with_history, with_watchers, with_lease, with_floor, step_of, transacted, granted, kept_alive}
-use Rattle.stm_txn.specs.Standing.{without_lease, ended, with_revision, revoked, expired_in, after, expire_up_to, at_moment, advanced, watch_step, watched, poll_step, polled, poll_refused}
+use Rattle.stm_txn.specs.Standing.{Standing, Step as StoreStep, Advance as StoreAdvance, terms_of, with_watchers, with_lease, with_floor, step_of, transacted, granted, kept_alive}
+use Rattle.stm_txn.specs.Standing.{without_lease, ended, with_revision, revoked, expired_in, after, expire_up_to, at_moment, advanced, watch_step, watched, poll_step, polled}
 use Rattle.stm_txn.specs.Standing.{cancel_step, cancelled, compaction_refusal, floor_step, raised}
 use Rattle.stm_compile.specs.Committed.{committed}
-use Rattle.stm_compile.specs.Conflicts.{Seen, seen_by, seen_in}
 use Rattle.stm_attempt.specs.Settled.{run_on}
 use Rattle.stm_attempt.specs.Entering.{is_due}
 use Rattle.stm_attempt.specs.Fetches.{at_of}
@@ -50,7 +43,7 @@ use Rattle.stm_events.specs.declared.refusal.Denied.{Denied}
 use Rattle.stm_events.specs.Replies.{txn_reply, reply_to, store_after_call, advance_reply, store_after_poll}
 use Rattle.stm_world.specs.Task.{Task}
 use Rattle.stm_world.specs.World.{World, Runner, Slot, Stepped, runner_at, start_runner, replied, fetch, fetch_at, fetch_list, decided}
-use Rattle.stm_world.specs.World.{commit_reported, commit, finish, step_on, step_live, step_runner, after_call, after_quiet_call, step}
+use Rattle.stm_world.specs.World.{commit_reported, commit, finish, step_on, step_live, step_runner, after_call, step}
 use Rattle.stm_alike.specs.Seen.{IsNoWatch}
 
 -- a world without its watchers and entries

@@ -11,7 +11,7 @@ use Rattle.clap.specs.declared.error.Error.{Error}
 use Rattle.clap.specs.declared.parser.matches.ArgMatches.{ArgMatches}
 use Rattle.stm_arguments.specs.declared.arguments.TheConstants.{MOST_WORKERS}
 use Rattle.stm_arguments.specs.declared.arguments.Asked.{Asked}
-use Rattle.stm_arguments.specs.declared.arguments.Asked.TheVariants.{Script, Check, Threads, Recipe, Explore, Show, Compile, Nothing}
+use Rattle.stm_arguments.specs.declared.arguments.Asked.TheVariants.{Nothing}
 use Rattle.stm_arguments.specs.Asking.{Asks, AsksBy, HasFiles, HasName, HasSearch, HasNumbers, IsWhole}
 use Rattle.stm_arguments.specs.CommandLine.{IsStatusOf, IsReportedBy, faults_of, stmrun_app}
 

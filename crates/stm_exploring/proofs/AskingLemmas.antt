@@ -1,12 +1,9 @@
 -- Looking at the events of a scenario one after the other, as loops do.
 use Rattle.std.proofs.Common.{◌≡◌, ℕ, zero, suc, ◌+◌, ◌<◌, ◌≤◌, ◌||◌, Bool, true, false, List, [], ◌∷◌, ◌++◌, length, map, take, drop, get_or, slice_set}
 use Rattle.std.proofs.Common.{Option, Some, None, cond, not, refl, sym, ap, ap₂, ◌∙◌, arith}
-use Rattle.std.specs.List.{list_any}
-use Rattle.std.proofs.lemmas.List.Folds.{list_any_more}
 use Rattle.stm_events.specs.declared.event.WorldEvent.{WorldEvent}
 use Rattle.stm_schedules.specs.Scenarios.{at_level, is_start, has_start, up_to_last_start, after_last_start}
-use Rattle.stm_events.specs.declared.event.WorldEvent.TheVariants.{Start, Step, Txn, Grant, Keep, Revoke, Advance}
-use Rattle.stm_events.specs.declared.event.WorldEvent.TheVariants.{WatchKey, WatchRange, Poll, Cancel, Compact}
+use Rattle.stm_events.specs.declared.event.WorldEvent.TheVariants.{Start, Step}
 use Rattle.stm_program.specs.declared.level.Level.{Level}
 use Rattle.stm_serial_search.specs.Started.{is_step, HaveNoStep}
 use Rattle.stm_exploring.specs.Asking.{without_steps, events_at}

@@ -6,7 +6,7 @@ use Rattle.std.proofs.lemmas.Bool.{ltb-true, ltb-false}
 use Rattle.std.proofs.lemmas.List.{take_rest}
 use Rattle.std.proofs.lemmas.Option.{same_Some}
 use Rattle.stm_program.specs.declared.limits.TheConstants.{MAX_DEPTH, MAX_NODES}
-use Rattle.stm_program.specs.Syntax.{Statement, Set, Put, Del, If, For, Emit, Abort, Block, End, Then, ProgramTree}
+use Rattle.stm_program.specs.Syntax.{Statement, Set, Block, End, Then, ProgramTree}
 use Rattle.stm_program.specs.Size.{statement_nodes, block_nodes}
 use Rattle.stm_program.specs.Limits.{BlockFits, Fits}
 use Rattle.stm_program.proofs.ListLemmas.{statements_fit}

@@ -22,7 +22,7 @@ use Rattle.stm_steps.specs.declared.run.Answered.TheVariants.{Ended, Wants}
 use Rattle.stm_meaning.specs.Meaning.{run_over}
 use Rattle.stm_txn.specs.Standing.{Standing}
 use Rattle.stm_entries.specs.declared.entry.Entry.{Entry}
-use Rattle.stm_entries.specs.declared.entry.Entry.TheVariants.{Program, Foreign, Grant, Renew, Revoke, Expire}
+use Rattle.stm_entries.specs.declared.entry.Entry.TheVariants.{Program, Foreign, Expire}
 use Rattle.stm_entries.specs.Replayed.{Replayed, without_moment}
 use Rattle.stm_entries.specs.Alone.{seen_at, left_by, left_by_run}
 use Rattle.stm_entries.specs.Replay.{replay, replay_entry}

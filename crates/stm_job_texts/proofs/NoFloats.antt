@@ -10,7 +10,7 @@ use Rattle.stm_steps.specs.declared.value.Value.TheVariants.{Text, Number}
 use Rattle.stm_entries.specs.declared.entry.Entry.{Entry}
 use Rattle.stm_report_lines.specs.LineData.{list, value_data}
 use Rattle.stm_job.specs.declared.job_end.JobEnd.{JobEnd}
-use Rattle.stm_job.specs.declared.job_end.JobEnd.TheVariants.{Committed, Aborted, Faulted, Refused, GaveUp}
+use Rattle.stm_job.specs.declared.job_end.JobEnd.TheVariants.{Committed}
 use Rattle.std.specs.Prelude.{slice_get}
 use Rattle.stm_job_texts.specs.Outcomes.{end_data, output_in, pair_data, pairs}
 

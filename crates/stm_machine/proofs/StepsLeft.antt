@@ -29,7 +29,7 @@ use Rattle.stm_machine.specs.declared.frame.OperandFrame.TheVariants.{CatLeft, C
 use Rattle.stm_machine.specs.declared.frame.ComparisonFrame.{ComparisonFrame}
 use Rattle.stm_machine.specs.declared.frame.ComparisonFrame.TheVariants.{EqualLeft, EqualRight, LessLeft, LessRight}
 use Rattle.stm_machine.specs.declared.frame.ArgumentFrame.{ArgumentFrame}
-use Rattle.stm_machine.specs.declared.frame.ArgumentFrame.TheVariants.{Set, PutKey, PutValue, Del, For, Emit, Abort}
+use Rattle.stm_machine.specs.declared.frame.ArgumentFrame.TheVariants.{PutKey, PutValue, Del, For, Abort}
 use Rattle.stm_machine.specs.declared.frame.TruthFrame.{TruthFrame}
 use Rattle.stm_machine.specs.declared.frame.TruthFrame.TheVariants.{Not, And, Or, If}
 use Rattle.stm_machine.specs.declared.frame.NextFrame.{NextFrame}

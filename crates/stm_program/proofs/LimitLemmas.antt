@@ -1,7 +1,7 @@
 -- Each node counts, and stands at depth 1 at least.
 use Rattle.std.proofs.Common.{◌≤◌, ℕ, arith}
-use Rattle.stm_program.specs.Syntax.{Expression, Text, Number, Variable, Get, Rev, Arithmetic, Cat, TextOf, NumOf, Condition, Equal, Less, Not, And, Or}
-use Rattle.stm_program.specs.Syntax.{Statement, Set, Put, Del, If, For, Emit, Abort}
+use Rattle.stm_program.specs.Syntax.{Expression, Text, Condition, Equal}
+use Rattle.stm_program.specs.Syntax.{Statement, Set}
 use Rattle.stm_program.specs.Size.{expression_nodes, condition_nodes, statement_nodes}
 use Rattle.stm_program.specs.Limits.{expression_depth, condition_depth, statement_depth, ExpressionFits, ConditionFits, StatementFits}
 

@@ -1,7 +1,7 @@
 -- The first statement of a block, and the block of the others, weigh less than the block.
 use Rattle.std.proofs.Common.{◌≡◌, ◌≤◌, ◌+◌, List, [], ◌∷◌, length, get_or, take, drop, ◌-◌, arith, ap}
 use Rattle.std.proofs.lemmas.List.{take_rest}
-use Rattle.stm_program.specs.Syntax.{Statement, Set, Put, Del, If, For, Emit, Abort}
+use Rattle.stm_program.specs.Syntax.{Statement, Set}
 use Rattle.stm_program.specs.BlockView.{block_of}
 use Rattle.stm_program.specs.Weight.{statement_weight, block_weight, block_weight-positive}
 

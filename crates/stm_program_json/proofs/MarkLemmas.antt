@@ -3,7 +3,7 @@
 use Rattle.std.proofs.Common.{◌≡◌, ℕ, zero, suc, ◌^◌, ◌<◌, ◌≤◌, ℤ, pos, negsuc, List, [], ◌∷◌, ◌++◌, Bool, true, false, cond, Option, Some, None, Ok, Err}
 use Rattle.std.proofs.Common.{refl, sym, ap, ◌∙◌, append_assoc, arith, leb, ltb, leb-true, le-leb, lt-ltb, option_and_then}
 use Rattle.std.proofs.lemmas.List.{append-nil}
-use Rattle.serde_json.specs.Data.{Num, unsigned, negative, float, Data, null, boolean, number, string, array, object}
+use Rattle.serde_json.specs.Data.{Num, unsigned, Data, null, boolean, number}
 use Rattle.serde_json.specs.Find.{as_number, as_integer}
 use Rattle.stm_json.specs.declared.cause.Cause.{Cause}
 use Rattle.stm_json.specs.declared.cause.Cause.TheVariants.{Shape, Range, TooDeep, TooManyNodes}

@@ -19,7 +19,7 @@ use Rattle.stm_outcome.specs.Terms.{Terms}
 use Rattle.stm_compile.specs.Answers.{state_now, look_up}
 use Rattle.stm_program.specs.Levels.{is_comparing}
 use Rattle.stm_entries.specs.declared.entry.Entry.{Entry}
-use Rattle.stm_entries.specs.declared.entry.Entry.TheVariants.{Program, Foreign, Grant, Renew, Revoke, Expire}
+use Rattle.stm_entries.specs.declared.entry.Entry.TheVariants.{Program, Foreign}
 use Rattle.stm_entries.specs.Alone.{left_by, left_by_run, history_left, applied_run}
 use Rattle.stm_entries.specs.Legal.{IsLegal}
 use Rattle.stm_entries.specs.Replay.{replay_entry}

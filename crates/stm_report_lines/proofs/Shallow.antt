@@ -15,8 +15,8 @@ use Rattle.stm_outcome.specs.declared.advance.Expired.{Expired}
 use Rattle.stm_events.specs.declared.line.ReportLine.{ReportLine}
 use Rattle.stm_events.specs.declared.line.ReportLine.TheVariants as line
 use Rattle.stm_events.specs.declared.reply.Reply.{Reply}
-use Rattle.stm_events.specs.declared.reply.Reply.TheVariants.{Started, Prefetched, Fetched, Committed, Conflict, GaveUp, Aborted, Faulted, Ended, Txn, Granted}
-use Rattle.stm_events.specs.declared.reply.Reply.TheVariants.{Kept, Revoked, Advanced, Compacted, Watching, Cancelled, Batch, Lost}
+use Rattle.stm_events.specs.declared.reply.Reply.TheVariants.{Prefetched, Fetched, Committed, Conflict, GaveUp, Aborted, Faulted, Ended, Txn}
+use Rattle.stm_events.specs.declared.reply.Reply.TheVariants.{Revoked, Advanced, Batch, Lost}
 use Rattle.stm_events.specs.declared.reply.CommittedRead.{CommittedRead}
 use Rattle.stm_events.specs.declared.refusal.Denied.{Denied}
 use Rattle.stm_keys.specs.declared.event.Event.{Event}

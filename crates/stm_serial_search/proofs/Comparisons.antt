@@ -6,8 +6,7 @@ use Rattle.std.proofs.Math.Seq.{drop-cons}
 use Rattle.std.proofs.lemmas.List.{drop_all}
 use Rattle.stm_program.specs.Syntax.{ProgramTree}
 use Rattle.stm_events.specs.declared.event.WorldEvent.{WorldEvent}
-use Rattle.stm_events.specs.declared.event.WorldEvent.TheVariants.{Start, Step, Txn, Grant, Keep, Revoke, Advance}
-use Rattle.stm_events.specs.declared.event.WorldEvent.TheVariants.{WatchKey, WatchRange, Poll, Cancel, Compact}
+use Rattle.stm_events.specs.declared.event.WorldEvent.TheVariants.{Start, Step}
 use Rattle.stm_events.specs.declared.reply.Reply.TheVariants.{Started}
 use Rattle.stm_events.specs.declared.refusal.EventRefusal.TheVariants.{BadLimit}
 use Rattle.stm_world.specs.Task.{Task}

@@ -1,8 +1,8 @@
 -- A node at a level that is too deep, and one that is too many.
 use Rattle.std.proofs.Common.{◌≡◌, ◌<◌, ℕ, false, nat_eq, Err, refl, arith}
 use Rattle.std.proofs.lemmas.Bool.Decides.{nat_tests}
-use Rattle.stm_program.specs.Syntax.{Expression, Text, Number, Variable, Get, Rev, Arithmetic, Cat, TextOf, NumOf, Condition, Equal, Less, Not, And, Or}
-use Rattle.stm_program.specs.Syntax.{Statement, Set, Put, Del, If, For, Emit, Abort}
+use Rattle.stm_program.specs.Syntax.{Expression, Text, Condition, Equal}
+use Rattle.stm_program.specs.Syntax.{Statement, Set, If}
 use Rattle.stm_terms.specs.declared.faults.SourceCause.TheVariants.{TooDeep, TooManyNodes}
 use Rattle.stm_terms.specs.Room.{expression_room, condition_room, statement_room}
 

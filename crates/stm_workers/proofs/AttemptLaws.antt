@@ -8,10 +8,9 @@ use Rattle.stm_journal.specs.declared.verdict.Verdict.{Verdict}
 use Rattle.stm_journal.specs.declared.verdict.Verdict.TheVariants.{Committed, Failed}
 use Rattle.stm_job.specs.declared.job.Job.{Job}
 use Rattle.stm_job.specs.declared.job_end.JobEnd.{JobEnd}
-use Rattle.stm_job.specs.declared.job_end.JobEnd.TheVariants.{Committed as CommittedJob, Aborted as AbortedJob, Faulted as FaultedJob, Refused as RefusedJob}
 use Rattle.stm_job.specs.declared.job_end.JobEnd.TheVariants.{GaveUp}
 use Rattle.stm_workers.specs.declared.stop.Stop.{Stop}
-use Rattle.stm_workers.specs.declared.stop.Stop.TheVariants.{OutOfMemory, Aborted, Faulted, Refused}
+use Rattle.stm_workers.specs.declared.stop.Stop.TheVariants.{OutOfMemory}
 use Rattle.stm_workers.specs.Attempts.{job_end_reported, end_after, HasCome, HasSomeRun}
 use Rattle.stm_workers.specs.Calls.{committed_by}
 use Rattle.stm_workers.specs.Codes.{numbers_set}

@@ -11,7 +11,7 @@ use Rattle.stm_hall.specs.Showing.{IsShown, AreShownAt}
 use Rattle.stm_workers.specs.declared.start_point.StartPoint.{StartPoint}
 use Rattle.stm_job.specs.declared.job.Job.{Job}
 use Rattle.stm_job.specs.declared.job_end.JobEnd.{JobEnd}
-use Rattle.stm_job.specs.declared.job_end.JobEnd.TheVariants.{Committed, Aborted, Faulted, Refused, GaveUp}
+use Rattle.stm_job.specs.declared.job_end.JobEnd.TheVariants.{Committed, Aborted}
 use Rattle.stm_workers.specs.Ends.{AreOfOneState, entry_named, names_entry, IsCommitOf, IsBorneOut, BorneOutAt, IsNew, StandsAt, AllStand}
 use Rattle.stm_workers.specs.Marks.{NamesWithin, IsNewAt, is_marked, is_named_before, revision_of}
 use Rattle.stm_workers.proofs.EndLaws.{named, there, within}

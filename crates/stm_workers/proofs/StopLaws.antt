@@ -29,10 +29,9 @@ use Rattle.stm_hall.specs.Showing.{AreShownAt}
 use Rattle.stm_workers.specs.declared.start_point.StartPoint.{StartPoint}
 use Rattle.stm_job.specs.declared.job.Job.{Job}
 use Rattle.stm_job.specs.declared.job_end.JobEnd.{JobEnd}
-use Rattle.stm_job.specs.declared.job_end.JobEnd.TheVariants.{Committed as CommittedJob, Aborted as AbortedJob, Faulted as FaultedJob, Refused as RefusedJob}
-use Rattle.stm_job.specs.declared.job_end.JobEnd.TheVariants.{GaveUp}
+use Rattle.stm_job.specs.declared.job_end.JobEnd.TheVariants.{Aborted as AbortedJob, Faulted as FaultedJob}
 use Rattle.stm_workers.specs.declared.stop.Stop.{Stop}
-use Rattle.stm_workers.specs.declared.stop.Stop.TheVariants.{OutOfMemory, Aborted, Faulted, Refused}
+use Rattle.stm_workers.specs.declared.stop.Stop.TheVariants.{OutOfMemory}
 use Rattle.stm_workers.specs.Ends.{start_point, AreOfOneState, IsBorneOut}
 use Rattle.stm_workers.specs.Attempts.{JobState, end_reported, reads_reported, fetch_refusal_reported, commit_refusal_reported, job_end_reported, end_after}
 use Rattle.stm_workers.specs.Attempts.{IsStop, HasCome, HasSomeRun}

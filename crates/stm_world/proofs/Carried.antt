@@ -4,7 +4,7 @@ use Rattle.std.specs.List.{AllByRecursion}
 use Rattle.stm_history.specs.declared.key_state.ReadAnswer.{ReadAnswer}
 use Rattle.stm_history.specs.History.{History, now, IsTrueAnswer}
 use Rattle.stm_program.specs.declared.level.Level.{Level}
-use Rattle.stm_program.specs.declared.level.Level.TheVariants.{SerializableSnapshot, Serializable, RepeatableReads, ReadCommitted}
+use Rattle.stm_program.specs.declared.level.Level.TheVariants.{ReadCommitted}
 use Rattle.stm_program.specs.Levels.{is_comparing, is_serializable}
 use Rattle.stm_outcome.specs.Commits.{revision_read}
 use Rattle.stm_compile.specs.Answers.{AreTrue, answer_now}

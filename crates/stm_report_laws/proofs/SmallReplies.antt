@@ -24,8 +24,7 @@ use Rattle.stm_compile.specs.Answers.{answer_in, said, look_up, AreTrue}
 use Rattle.stm_compile.specs.Conflicts.{Seen, seen_in, seen_of_read, seen_of_write, seen_by, changes_above, IsConflict}
 use Rattle.stm_compile.specs.CommitTxn.{first_carried}
 use Rattle.stm_events.specs.declared.event.WorldEvent.{WorldEvent}
-use Rattle.stm_events.specs.declared.event.WorldEvent.TheVariants.{Start, Step, Txn, Grant, Keep, Revoke, Advance as AdvanceTo}
-use Rattle.stm_events.specs.declared.event.WorldEvent.TheVariants.{WatchKey, WatchRange, Poll, Cancel, Compact}
+use Rattle.stm_events.specs.Called.{Call, Txn, Grant, Keep, Revoke, Advance, Watch, Poll, Cancel, Compact, Asked, Starts, Steps, Calls, asked}
 use Rattle.stm_events.specs.declared.reply.Reply.{Reply}
 use Rattle.stm_events.specs.declared.reply.KeyRead.{KeyRead}
 use Rattle.stm_events.specs.declared.reply.CommittedRead.{CommittedRead}
@@ -101,20 +100,26 @@ abbrev pub RepliesFit : List (Result Reply Denied) → Type 0
 RepliesFit [] = Unit {0}
 RepliesFit (r ∷ rs) = AnswerToFits r × RepliesFit rs
 
+-- what a call asks
+abbrev pub CallAsksFew : Call → Type 0
+CallAsksFew (Txn txn) = Unit {0}
+CallAsksFew (Grant id ttl) = Unit {0}
+CallAsksFew (Keep id) = Few id
+CallAsksFew (Revoke id) = Few id
+CallAsksFew (Advance moment) = Few moment
+CallAsksFew (Watch keys from) = Few from
+CallAsksFew (Poll watcher most) = Few watcher
+CallAsksFew (Cancel watcher) = Few watcher
+CallAsksFew (Compact revision) = Few revision
+
+abbrev pub AsksFew : Asked → Type 0
+AsksFew (Starts program level limit) = (limit ≤ HIGHEST_NUMBER) × BlockInRange program.statements
+AsksFew (Steps id) = Few id
+AsksFew (Calls c) = CallAsksFew c
+
 -- what an event asks
 abbrev pub EventAsksFew : WorldEvent → Type 0
-EventAsksFew (Start program level limit) = (limit ≤ HIGHEST_NUMBER) × BlockInRange program.statements
-EventAsksFew (Step id) = Few id
-EventAsksFew (Txn txn) = Unit {0}
-EventAsksFew (Grant id ttl) = Unit {0}
-EventAsksFew (Keep id) = Few id
-EventAsksFew (Revoke id) = Few id
-EventAsksFew (AdvanceTo moment) = Few moment
-EventAsksFew (WatchKey key from) = Few from
-EventAsksFew (WatchRange first end from) = Few from
-EventAsksFew (Poll watcher most) = Few watcher
-EventAsksFew (Cancel watcher) = Few watcher
-EventAsksFew (Compact revision) = Few revision
+EventAsksFew event = AsksFew (asked event)
 
 abbrev pub EventsAskFew : List WorldEvent → Type 0
 EventsAskFew [] = Unit {0}

@@ -177,7 +177,7 @@ pub ended_is : (s next : Standing) (id : ℕ) → ended s id ≡ Ok next → wit
 ended_is s next id is = ended_case (is_used_up s.history (deletions_of s.history id)) (without_lease s id) next is
 
 -- a lease that is taken away leaves fewer
-one_fewer : (live : Live) (id : ℕ) → finmap.contains_key live id ≡ true → finmap.len live ≡ suc (finmap.len (finmap.remove live id))
+pub one_fewer : (live : Live) (id : ℕ) → finmap.contains_key live id ≡ true → finmap.len live ≡ suc (finmap.len (finmap.remove live id))
 one_fewer live id has =
     let less : finmap.len (finmap.remove live id) ≡ finmap.len live - 1 =
     finmap.len-remove nat_cmp_total live id ∙ ap (λ b. cond b (finmap.len live - 1) (finmap.len live)) has in

@@ -17,7 +17,7 @@ use Rattle.stm_watch.specs.Pending.{watching_from, batch_of, after_poll}
 use Rattle.stm_watch.specs.Calls.{poll_found, watcher_at, is_one_lost, cancelled as without_watcher}
 use Rattle.stm_outcome.specs.declared.txn.Txn.{Txn as TxnMade}
 use Rattle.stm_outcome.specs.declared.refusal.Refusal.{Refusal}
-use Rattle.stm_outcome.specs.declared.refusal.Refusal.TheVariants.{LeaseNotFound, RevisionsUsedUp, TimeGoesBack, NoWatcher, Compacted as CompactedRefusal, FutureRevision}
+use Rattle.stm_outcome.specs.declared.refusal.Refusal.TheVariants.{LeaseNotFound, RevisionsUsedUp, TimeGoesBack, NoWatcher, EmptyKey as NoKey, Compacted as CompactedRefusal, FutureRevision}
 use Rattle.stm_outcome.specs.Outcome.{Done, outcome, is_used_up}
 use Rattle.stm_txn.specs.Grants.{grant_refusal_of}
 use Rattle.stm_txn.specs.LeaseKeys.{deletions_of}
@@ -185,7 +185,7 @@ watch_by : (Of : Call → Type 0) (P : Standing → Call → Called → List Ent
       answer = length s.watchers + 1;
       next = s.watchers ++ Some (watching_from s.history s.floor keys from) ∷ [];
     })))) []
-watch_by Of P k s keys from true of = k.stays s (Watch keys from) _ of refl
+watch_by Of P k s keys from true of = k.stays s (Watch keys from) NoKey of refl
 watch_by Of P k s keys from false of = k.watching s keys from of
 
 abbrev PollMeans : (P : Standing → Call → Called → List Entry → Type 0) → Standing → ℕ → ℕ → Option Watching → Type 0

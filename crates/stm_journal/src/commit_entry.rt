@@ -1,8 +1,7 @@
 //! The entry of a commit.
-ghost use Rattle.std.specs.Prelude.{◌≡◌, ℕ};
+ghost use Rattle.std.specs.Prelude.{◌≡◌};
 ghost use Rattle.stm_entries.specs.Entered.{answers_kept};
-ghost use Rattle.stm_journal.specs.CommitEntry.{entry_of_kept};
-ghost use Rattle.stm_journal.specs.Verdicts.{entry_of};
+ghost use Rattle.stm_journal.specs.CommitEntry.{kept_of, entry_of_kept};
 
 use std::alloc::Global;
 use stm_attempt::{ReadSet, Ready};
@@ -58,7 +57,7 @@ impl Kept {
 
 /// What the entry of an attempt's commit keeps of it, and the changes that its writes are. It takes no memory.
 pub(crate) fn parts_of(alloc: Global, ready: Ready) -> (Kept, Vec<Change>)
-    ensures kept { (revision : ℕ) → entry_of_kept result.0 revision ≡ entry_of ready revision }
+    ensures kept { result.0 ≡ kept_of ready }
     ensures changes { result.1.items ≡ ready.writes }
 {
     let Ready {

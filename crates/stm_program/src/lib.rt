@@ -26,6 +26,6 @@ pub use list::{is_listed, list_fits};
 pub use operator::Operator;
 pub use program::Program;
 pub use statement::{Block, Stmt, StmtNode};
-/// A write of a program is the change that it asks for.
+// A write of a program is the change that it asks for.
 pub use stm_history::{Change as Write, Sequence, Text};
 pub use variable::Variable;

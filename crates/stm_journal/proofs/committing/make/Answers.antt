@@ -3,6 +3,8 @@ use Rattle.stm_history.specs.History.{HasDistinctKeys}
 use Rattle.stm_txn.specs.Standing.{Standing}
 use Rattle.stm_txn.specs.Store.{StoreView}
 use Rattle.stm_entries.specs.declared.entry.Entry.{Entry}
+use Rattle.stm_journal.specs.declared.commit_entry.Kept.{Kept}
+use Rattle.stm_journal.specs.CommitEntry.{entry_of_kept}
 use Rattle.stm_journal.specs.JournalState.{journal_of}
 use Rattle.stm_journal.specs.Verdicts.{entry_of}
 use Rattle.stm_journal.proofs.CallLemmas.{same_journal}
@@ -20,7 +22,7 @@ returns-in-Ok-clause-verdict c = λ start.
     let next : Standing = c.write.new.self.standing in
     let entered : c.push_reserved.new.self.items ≡ es ++ entry_of c.args.ready c.in-Ok.revision ∷ [] =
     c.push_reserved.ensures.items ∙ ap (λ (l : List Entry). l ++ c.into_entry.result ∷ []) c.reserve.ensures.items
-    ∙ ap (λ (e : Entry). es ++ e ∷ []) (c.into_entry.ensures ∙ c.parts_of-kept.ensures.kept c.in-Ok.revision) in
+    ∙ ap (λ (e : Entry). es ++ e ∷ []) (c.into_entry.ensures ∙ ap (λ (kept : Kept). entry_of_kept kept c.in-Ok.revision) c.parts_of-kept.ensures.kept) in
     reports_made (journal_of s es start) (journal_of next c.push_reserved.new.self.items start) c.args.ready c.parts_of-kept.result.1.items next
     c.len-index.result c.in-Ok.revision c.requires.clear c.requires.run c.parts_of-kept.ensures.changes c.in-Ok.ensures.step
     (c.len-index.ensures ∙ c.reserve.new.self.ok.0 ∙ ap (λ (l : List Entry). length l) c.reserve.ensures.items)

@@ -7,7 +7,7 @@ use Rattle.std.specs.Fmt.{signed_decimal}
 use Rattle.std.specs.Option.{option_map_or}
 use Rattle.std.proofs.lemmas.Int.{ints}
 use Rattle.stm_history.specs.declared.key_state.KeyState.{KeyState}
-use Rattle.stm_history.specs.History.{History, now, key_now, value_written as value_now, after_change, value_written}
+use Rattle.stm_history.specs.History.{History, now, key_now, value_of as value_now, after_change, value_written}
 use Rattle.stm_history.specs.declared.change.Change.{Change}
 use Rattle.stm_history.specs.declared.change.Change.TheVariants.{Put}
 use Rattle.stm_program.specs.Writes.{last_write}

@@ -5,6 +5,7 @@
 mod busy_store;
 mod closures;
 mod requests;
+mod worlds;
 
 use anyhow::Result;
 
@@ -13,5 +14,7 @@ fn main(rt: HostRuntime) -> Result<()> {
     closures::in_a_store(&rt, rt.alloc())?;
     closures::among_others(&rt, rt.alloc())?;
     requests::show_compares(&rt, rt.alloc())?;
-    requests::show_branches(&rt, rt.alloc())
+    requests::show_branches(&rt, rt.alloc())?;
+    worlds::in_a_world(&rt, rt.alloc())?;
+    worlds::over_a_store(&rt, rt.alloc())
 }

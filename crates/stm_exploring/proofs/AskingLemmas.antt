@@ -23,7 +23,7 @@ step_at level (Start program other limit) none = refl
 step_at level (Step runner) none = absurd (cc)
 step_at level _ none = refl
 
-steps_at : (level : Level) (es : List WorldEvent) → HaveNoStep es → HaveNoStep (map (at_level level) es)
+pub steps_at : (level : Level) (es : List WorldEvent) → HaveNoStep es → HaveNoStep (map (at_level level) es)
 steps_at level [] none = tt
 steps_at level (x ∷ es) none = (step_at level x none.0, steps_at level es none.1)
 

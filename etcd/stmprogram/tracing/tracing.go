@@ -39,7 +39,7 @@ func (l *Log) NewSTM(ctx context.Context, client *clientv3.Client, level concurr
 	over.KV = answers
 	var last *memory
 	response, err := concurrency.NewSTM(over, func(stm concurrency.STM) error {
-		last = &memory{STM: stm, written: map[string]bool{}, read: map[string]bool{}}
+		last = &memory{STM: stm, writes: []interface{}{}, written: map[string]bool{}, read: map[string]bool{}}
 		return apply(last)
 	}, concurrency.WithIsolation(level), concurrency.WithAbortContext(ctx))
 	if err == nil {

@@ -1,11 +1,10 @@
 -- A step from a world with its attempts levelled.
-use Rattle.std.proofs.Common.{◌≡◌, ℕ, zero, suc, ◌+◌, ◌-◌, Bool, true, false, cond, List, [], ◌∷◌, ◌++◌, length, map, Option, Some, None, option_map, Result, Ok, Err}
-use Rattle.std.proofs.Common.{refl, sym, ◌∙◌, ap, subst, arith}
+use Rattle.std.proofs.Common.{◌≡◌, ℕ, ◌+◌, ◌-◌, Bool, true, false, cond, List, [], ◌∷◌, ◌++◌, length, map, Option, Some, None, option_map, Result, Ok, Err}
+use Rattle.std.proofs.Common.{refl, sym, ◌∙◌, ap, subst}
 use Rattle.std.proofs.lemmas.List.{map-set, length-map}
 use Rattle.std.proofs.lemmas.Option.{slice_get-map}
 use Rattle.std.specs.Prelude.{nat_lt, nat_eq, slice_get, slice_set}
-use Rattle.stm_history.specs.declared.key_state.ReadAnswer.{ReadAnswer}
-use Rattle.stm_history.specs.History.{now, key_at, mod_of}
+use Rattle.stm_history.specs.History.{now}
 use Rattle.stm_program.specs.Levels.{is_comparing}
 use Rattle.stm_program.specs.Writes.{latest_writes}
 use Rattle.stm_steps.specs.declared.run.End.{End}
@@ -22,25 +21,24 @@ use Rattle.stm_txn.specs.Standing.{Standing, terms_of, with_history}
 use Rattle.stm_compile.specs.Answers.{answer_now}
 use Rattle.stm_compile.specs.Committed.{committed}
 use Rattle.stm_compile.specs.Conflicts.{Seen, seen_by, seen_in}
-use Rattle.stm_attempt.specs.Known.{Known, known_of}
+use Rattle.stm_attempt.specs.Known.{known_of}
 use Rattle.stm_attempt.specs.Settled.{run_on}
 use Rattle.stm_attempt.specs.Entering.{is_due, gone_on}
 use Rattle.stm_attempt.specs.Fetches.{at_of}
 use Rattle.stm_entries.specs.Entered.{answers_kept}
 use Rattle.stm_events.specs.declared.event.WorldEvent.{WorldEvent}
-use Rattle.stm_events.specs.declared.event.WorldEvent.TheVariants.{Start, Step, Txn as TxnEvent, Grant, Keep, Revoke, Advance}
-use Rattle.stm_events.specs.declared.event.WorldEvent.TheVariants.{WatchKey, WatchRange, Poll, Cancel, Compact}
+use Rattle.stm_events.specs.declared.event.WorldEvent.TheVariants.{Start, Step}
 use Rattle.stm_events.specs.declared.reply.Reply.{Reply}
-use Rattle.stm_events.specs.declared.reply.Reply.TheVariants.{Started, Fetched, Committed, Conflict, GaveUp}
+use Rattle.stm_events.specs.declared.reply.Reply.TheVariants.{Started, Committed, Conflict, GaveUp}
 use Rattle.stm_events.specs.declared.reply.CommittedRead.{CommittedRead}
 use Rattle.stm_events.specs.declared.refusal.Denied.{Denied}
 use Rattle.stm_events.specs.Replies.{committed_read}
-use Rattle.stm_world.specs.Task.{Task, answer_at, after_fetch, after_conflict}
+use Rattle.stm_world.specs.Task.{Task, answer_at}
 use Rattle.stm_world.specs.World.{World, Runner, Slot, Over, Live, Stepped, live_in, runner_at, with_slot, begin, start_runner, replied, fetch, fetch_at, fetch_list, decided}
-use Rattle.stm_world.specs.World.{commit_reported, commit, finish, step_on, step_live, step_runner, called, quietly_called, step}
+use Rattle.stm_world.specs.World.{commit_reported, commit, finish, step_on, step_live, step_runner, step}
 use Rattle.stm_alike.specs.Levelled.{levelled}
 use Rattle.stm_alike.proofs.Levelling.{levelled_again, same_run, same_due, same_at, fetched_same, mapped_same, same_reread, same_seen, same_commit}
-use Rattle.stm_alike.specs.Seen.{seen_known, seen_runner, seen_slot}
+use Rattle.stm_alike.specs.Seen.{seen_runner, seen_slot}
 
 -- a world with its attempts levelled, and without its entries
 abbrev pub levelled_world : World → World
@@ -210,27 +208,9 @@ started_same task w = by_test (nat_eq task.limit 0) _ _ _ _
 pub next_levelled : (event : WorldEvent) (w : World) → levelled_world (step event (levelled_world w)).next ≡ levelled_world (step event w).next
 next_levelled (Start program level limit) w = (started_same (record { program = program; level = level; limit = limit }) w).next
 next_levelled (Step id) w = (step_same id w).next
-next_levelled (TxnEvent txn) w = in_store _ _ _ (slots_again w.runners)
-next_levelled (Grant id ttl) w = in_store _ _ _ (slots_again w.runners)
-next_levelled (Keep id) w = in_store _ _ _ (slots_again w.runners)
-next_levelled (Revoke id) w = in_store _ _ _ (slots_again w.runners)
-next_levelled (Advance moment) w = in_store _ _ _ (slots_again w.runners)
-next_levelled (WatchKey key from) w = in_store _ _ _ (slots_again w.runners)
-next_levelled (WatchRange first end from) w = in_store _ _ _ (slots_again w.runners)
-next_levelled (Poll watcher most) w = in_store _ _ _ (slots_again w.runners)
-next_levelled (Cancel watcher) w = in_store _ _ _ (slots_again w.runners)
-next_levelled (Compact revision) w = in_store _ _ _ (slots_again w.runners)
+next_levelled _ w = in_store _ _ _ (slots_again w.runners)
 
 pub told_levelled : (event : WorldEvent) (w : World) → (step event (levelled_world w)).reply ≡ (step event w).reply
 told_levelled (Start program level limit) w = (started_same (record { program = program; level = level; limit = limit }) w).reply
 told_levelled (Step id) w = (step_same id w).reply
-told_levelled (TxnEvent txn) w = refl
-told_levelled (Grant id ttl) w = refl
-told_levelled (Keep id) w = refl
-told_levelled (Revoke id) w = refl
-told_levelled (Advance moment) w = refl
-told_levelled (WatchKey key from) w = refl
-told_levelled (WatchRange first end from) w = refl
-told_levelled (Poll watcher most) w = refl
-told_levelled (Cancel watcher) w = refl
-told_levelled (Compact revision) w = refl
+told_levelled _ w = refl

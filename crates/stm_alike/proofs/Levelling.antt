@@ -8,7 +8,7 @@ use Rattle.stm_program.specs.Syntax.{ProgramTree}
 use Rattle.stm_program.specs.declared.level.Level.{Level}
 use Rattle.stm_program.specs.declared.level.Level.TheVariants.{SerializableSnapshot, Serializable, RepeatableReads, ReadCommitted}
 use Rattle.stm_program.specs.Levels.{is_serializable, is_comparing}
-use Rattle.stm_program.specs.declared.write.Write.{Write}
+use Rattle.stm_history.specs.declared.change.Change.{Change}
 use Rattle.stm_program.specs.Writes.{latest_writes}
 use Rattle.stm_steps.specs.declared.run.Run.{Run}
 use Rattle.stm_steps.specs.declared.run.Answered.{Answered}
@@ -171,7 +171,7 @@ length_same reads = long (first_carried reads) reads
 pub same_reread : (level : Level) (reads : List ReadAnswer) → reread_keys level (levelled reads) ≡ reread_keys level reads
 same_reread level reads = ap (λ keys. cond (is_serializable level) keys []) (mapped_same (λ (a : ReadAnswer). a.key) reads (λ n a. refl))
 
-same_compares : (level : Level) (reads : List ReadAnswer) (writes : List Write) → compares_of level (levelled reads) writes ≡ compares_of level reads writes
+same_compares : (level : Level) (reads : List ReadAnswer) (writes : List Change) → compares_of level (levelled reads) writes ≡ compares_of level reads writes
 same_compares SerializableSnapshot reads writes =
     ap (λ n. map is_as_read (levelled reads) ++ map (is_unmodified n) writes) (carried_again reads)
     ∙ ap (λ cs. cs ++ map (is_unmodified (first_carried reads)) writes) (mapped_same is_as_read reads (λ n a. refl))
@@ -179,7 +179,7 @@ same_compares Serializable reads writes = mapped_same is_as_read reads (λ n a. 
 same_compares RepeatableReads reads writes = mapped_same is_as_read reads (λ n a. refl)
 same_compares ReadCommitted reads writes = refl
 
-pub same_seen : (reads : List ReadAnswer) (writes : List Write) → seen_by (levelled reads) writes ≡ seen_by reads writes
+pub same_seen : (reads : List ReadAnswer) (writes : List Change) → seen_by (levelled reads) writes ≡ seen_by reads writes
 same_seen reads writes =
     ap (λ n. map seen_of_read (levelled reads) ++ map (seen_of_write n) writes) (carried_again reads)
     ∙ ap (λ cs. cs ++ map (seen_of_write (first_carried reads)) writes) (mapped_same seen_of_read reads (λ n a. refl))
@@ -191,7 +191,7 @@ judged_same terms level reads run (Some failed) =
 
 pub same_commit : (terms : Terms) (level : Level) (reads : List ReadAnswer) (run : Run) → committed terms level (levelled reads) run ≡ committed terms level reads run
 same_commit terms level reads run =
-    let ws : List Write = latest_writes run.writes in
+    let ws : List Change = latest_writes run.writes in
     ap (λ n. let it : Result Done Refusal = cond (nat_lt terms.limit (compared level n (length ws)) || nat_lt terms.limit (length ws)) (Err TooManyOps)
     (judged terms level (levelled reads) run (first_failed (key_now terms.history) 0 (compares_of level (levelled reads) ws))) in it) (length_same reads)
     ∙ ap (λ cs. let it : Result Done Refusal = cond (sends_too_many terms.limit level reads ws) (Err TooManyOps)

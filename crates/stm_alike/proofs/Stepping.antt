@@ -1,11 +1,9 @@
 -- A step from a world without its watchers and entries.
-use Rattle.std.proofs.Common.{◌≡◌, ℕ, zero, suc, ◌+◌, Bool, true, false, cond, List, [], ◌∷◌, ◌++◌, length, map, Option, Some, None, Result, Ok, Err}
-use Rattle.std.proofs.Common.{refl, sym, ◌∙◌, ap, subst, arith}
-use Rattle.std.specs.Prelude.{nat_lt, nat_le, nat_eq, slice_get, IsOk}
+use Rattle.std.proofs.Common.{◌≡◌, ℕ, zero, suc, ◌+◌, Bool, true, false, cond, List, [], ◌∷◌, length, Option, Some, None, Result, Ok, Err}
+use Rattle.std.proofs.Common.{refl, sym, ◌∙◌, ap}
+use Rattle.std.specs.Prelude.{nat_lt, nat_eq}
 use Rattle.std.specs.FinMap as finmap
 use Rattle.stm_history.specs.declared.key_state.ReadAnswer.{ReadAnswer}
-use Rattle.stm_history.specs.History.{History, now, key_at, mod_of}
-use Rattle.stm_program.specs.Writes.{latest_writes}
 use Rattle.stm_steps.specs.declared.run.End.{End}
 use Rattle.stm_steps.specs.declared.run.End.TheVariants.{Done as DoneEnd, Aborted as AbortedEnd, Faulted as FaultedEnd}
 use Rattle.stm_steps.specs.declared.run.Run.{Run}
@@ -13,16 +11,12 @@ use Rattle.stm_steps.specs.declared.run.Answered.{Answered}
 use Rattle.stm_steps.specs.declared.run.Answered.TheVariants.{Ended as EndedRun, Wants}
 use Rattle.stm_leases.specs.Live.{is_live_in, grant_refusal}
 use Rattle.stm_leases.specs.DueFirst.{first_due}
-use Rattle.stm_watch.specs.declared.watched.Watched.{Watched}
 use Rattle.stm_watch.specs.declared.watched.Watched.TheVariants.{Key, Range}
 use Rattle.stm_watch.specs.Watching.{Watching}
 use Rattle.stm_watch.specs.declared.watchers.Batch.{Batch}
 use Rattle.stm_watch.specs.declared.refusal.WatchRefusal.{WatchRefusal}
 use Rattle.stm_watch.specs.declared.refusal.PollRefusal.{PollRefusal}
-use Rattle.stm_watch.specs.declared.refusal.PollRefusal.TheVariants.{NoWatcher as NoneToPoll, Compacted as LostToPoll, OutOfMemory as NoMemoryToPoll}
-use Rattle.stm_watch.specs.Calls.{watch, poll, watcher_at, Step as WatchStep}
-use Rattle.stm_outcome.specs.declared.txn.Txn.{Txn}
-use Rattle.stm_outcome.specs.declared.answer.TxnAnswer.{TxnAnswer}
+use Rattle.stm_watch.specs.Calls.{Step as WatchStep}
 use Rattle.stm_outcome.specs.declared.answer.FailedCompare.{FailedCompare}
 use Rattle.stm_outcome.specs.declared.advance.Expired.{Expired}
 use Rattle.stm_outcome.specs.declared.refusal.Refusal.{Refusal as StoreRefusal}
@@ -32,11 +26,10 @@ use Rattle.stm_outcome.specs.Commits.{revision_read}
 use Rattle.stm_outcome.specs.Terms.{is_below_floor}
 use Rattle.stm_txn.specs.Grants.{grant_refusal_of}
 use Rattle.stm_txn.specs.LeaseKeys.{deletions_of}
-use Rattle.stm_txn.specs.Standing.{Standing, Step as StoreStep, Advance as StoreAdvance, terms_of, with_history, with_watchers, with_lease, with_floor, step_of, transacted, granted, kept_alive}
-use Rattle.stm_txn.specs.Standing.{without_lease, ended, with_revision, revoked, expired_in, after, expire_up_to, at_moment, advanced, watch_step, watched, poll_step, polled, poll_refused}
+use Rattle.stm_txn.specs.Standing.{Standing, Step as StoreStep, Advance as StoreAdvance, terms_of, with_watchers, with_lease, with_floor, step_of, transacted, granted, kept_alive}
+use Rattle.stm_txn.specs.Standing.{without_lease, ended, with_revision, revoked, expired_in, after, expire_up_to, at_moment, advanced, watch_step, watched, poll_step, polled}
 use Rattle.stm_txn.specs.Standing.{cancel_step, cancelled, compaction_refusal, floor_step, raised}
 use Rattle.stm_compile.specs.Committed.{committed}
-use Rattle.stm_compile.specs.Conflicts.{Seen, seen_by, seen_in}
 use Rattle.stm_attempt.specs.Settled.{run_on}
 use Rattle.stm_attempt.specs.Entering.{is_due}
 use Rattle.stm_attempt.specs.Fetches.{at_of}
@@ -50,7 +43,7 @@ use Rattle.stm_events.specs.declared.refusal.Denied.{Denied}
 use Rattle.stm_events.specs.Replies.{txn_reply, reply_to, store_after_call, advance_reply, store_after_poll}
 use Rattle.stm_world.specs.Task.{Task}
 use Rattle.stm_world.specs.World.{World, Runner, Slot, Stepped, runner_at, start_runner, replied, fetch, fetch_at, fetch_list, decided}
-use Rattle.stm_world.specs.World.{commit_reported, commit, finish, step_on, step_live, step_runner, called, quietly_called, step}
+use Rattle.stm_world.specs.World.{commit_reported, commit, finish, step_on, step_live, step_runner, after_call, step}
 use Rattle.stm_alike.specs.Seen.{IsNoWatch}
 
 -- a world without its watchers and entries
@@ -150,15 +143,15 @@ store_same s (Err cause) (Ok other) same = absurd same
 store_same s (Err one) (Err other) same = refl
 
 called_same : (reply1 reply2 : Result Reply Denied) (next1 next2 : Standing) (entries1 entries2 : List Entry) (w : World) → reply1 ≡ reply2 → unwatched next1 ≡ unwatched next2 →
-    Same (called reply1 next1 entries1 (plain_world w)) (called reply2 next2 entries2 w)
+    Same (after_call reply1 next1 entries1 (plain_world w)) (after_call reply2 next2 entries2 w)
 called_same reply1 reply2 next1 next2 entries1 entries2 w reply next = record {
   reply = reply;
   next = ap (λ (s : Standing). let seen : World = record { standing = s; runners = w.runners; entries = [] } in seen) next;
 }
 
 call_same : {A : Type 0} (report : A → Reply) (o1 o2 : Result (StoreStep A) StoreRefusal) (entries1 entries2 : List Entry) (w : World) → SameCall o1 o2 →
-    Same (called (reply_to report o1) (store_after_call (unwatched w.standing) o1) entries1 (plain_world w))
-    (called (reply_to report o2) (store_after_call w.standing o2) entries2 w)
+    Same (after_call (reply_to report o1) (store_after_call (unwatched w.standing) o1) entries1 (plain_world w))
+    (after_call (reply_to report o2) (store_after_call w.standing o2) entries2 w)
 call_same report o1 o2 entries1 entries2 w same =
     called_same (reply_to report o1) (reply_to report o2) (store_after_call (unwatched w.standing) o1) (store_after_call w.standing o2) entries1 entries2 w
     (reply_same report o1 o2 same) (store_same w.standing o1 o2 same)
@@ -309,8 +302,5 @@ told_same (Revoke id) w plain = reply_same (Revoked id) _ _ (revoked_same w.stan
 told_same (Advance moment) w plain =
     let a = advanced_same w.standing moment in
     ap (λ es. advance_reply moment es (advanced (unwatched w.standing) moment).cause) a.expired ∙ ap (advance_reply moment (advanced w.standing moment).expired) a.cause
-told_same (WatchKey key from) w plain = absurd plain
-told_same (WatchRange first end from) w plain = absurd plain
-told_same (Poll watcher most) w plain = absurd plain
-told_same (Cancel watcher) w plain = absurd plain
 told_same (Compact revision) w plain = reply_same (λ x. Compacted revision) _ _ (raised_by w.standing revision (compaction_refusal w.standing revision))
+told_same _ w plain = absurd plain

@@ -238,19 +238,13 @@ fetch_leaves (KeyWanted key at) attempt = refl
 -- what is asked for is awaited then, too
 pub left_asked : (program : ProgramTree) (old : AttemptState) (next : Next) → next ≡ next_of program old.level old.known →
     awaited (left_by next (advanced program old)) ≡ key_asked next
-left_asked program old (FetchAll keys at) reported = asked_is_awaited program old ∙ ap key_asked (sym reported)
-left_asked program old (Fetch key at) reported = asked_is_awaited program old ∙ ap key_asked (sym reported)
 left_asked program old (Ready ready) reported = refl
-left_asked program old (Aborted run) reported = asked_is_awaited program old ∙ ap key_asked (sym reported)
-left_asked program old (Faulted run) reported = asked_is_awaited program old ∙ ap key_asked (sym reported)
+left_asked program old _ reported = asked_is_awaited program old ∙ ap key_asked (sym reported)
 
 pub left_list : (program : ProgramTree) (old : AttemptState) (next : Next) → next ≡ next_of program old.level old.known →
     list_awaited (left_by next (advanced program old)) ≡ list_asked next
-left_list program old (FetchAll keys at) reported = list_is_awaited program old ∙ ap list_asked (sym reported)
-left_list program old (Fetch key at) reported = list_is_awaited program old ∙ ap list_asked (sym reported)
 left_list program old (Ready ready) reported = refl
-left_list program old (Aborted run) reported = list_is_awaited program old ∙ ap list_asked (sym reported)
-left_list program old (Faulted run) reported = list_is_awaited program old ∙ ap list_asked (sym reported)
+left_list program old _ reported = list_is_awaited program old ∙ ap list_asked (sym reported)
 
 pub left_asked_reported : (program : ProgramTree) (old new : AttemptState) (reported : Result Next AllocError) →
     IfOk reported (λ next. new ≡ left_by next (advanced program old)) → IfOk reported (λ next. next ≡ next_of program old.level old.known) →

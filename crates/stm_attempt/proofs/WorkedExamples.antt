@@ -71,11 +71,8 @@ unfolding a_at_5 listing_both knows
 list_is_fetched = refl
 
 keys_of : Next → List (List ℕ)
-keys_of (FetchAll keys at) = []
-keys_of (Fetch key at) = []
 keys_of (Ready run) = map (λ (a : ReadAnswer). a.key) run.answers
-keys_of (Aborted run) = []
-keys_of (Faulted run) = []
+keys_of _ = []
 
 -- Both were prefetched: they are taken, in the list's order, also the one that the program does not read.
 list_is_taken : keys_of (next_of listing_both Serializable (record { reads = []; prefetched = b_at 5 ∷ a_at_5 ∷ [] })) ≡ codes "a" ∷ codes "b" ∷ []

@@ -2,7 +2,7 @@
 use Rattle.std.specs.Prelude.{◌≡◌, ℕ, ◌≤◌, Bool, true, false, List, [], ◌++◌, length, take, Option, None, Some}
 use Rattle.stm_history.specs.declared.key_state.ReadAnswer.{ReadAnswer}
 use Rattle.stm_program.specs.Syntax.{ProgramTree}
-use Rattle.stm_program.specs.declared.write.Write.{Write}
+use Rattle.stm_history.specs.declared.change.Change.{Change}
 use Rattle.stm_program.specs.Writes.{latest_writes}
 use Rattle.stm_steps.specs.declared.run.Run.{Run}
 use Rattle.stm_steps.specs.declared.run.Answered.TheVariants.{Ended as EndedRun}
@@ -73,7 +73,7 @@ IsAttempt None reads prefetched reported progress = HasNotBegun reads progress
 IsAttempt (Some program) reads prefetched reported progress = IsUnderWay program reads prefetched reported progress
 
 -- The last writes of a run: these, or, where there are no others, its writes themselves.
-abbrev pub AreLatest : List Write → Option (List Write) → Type 0
+abbrev pub AreLatest : List Change → Option (List Change) → Type 0
 AreLatest writes None = latest_writes writes ≡ writes
 AreLatest writes (Some latest) = latest ≡ latest_writes writes
 

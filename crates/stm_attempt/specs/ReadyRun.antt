@@ -3,7 +3,7 @@ use Rattle.std.specs.Prelude.{◌≡◌, List}
 use Rattle.stm_history.specs.declared.key_state.ReadAnswer.{ReadAnswer}
 use Rattle.stm_program.specs.Syntax.{ProgramTree}
 use Rattle.stm_program.specs.declared.level.Level.{Level}
-use Rattle.stm_program.specs.declared.write.Write.{Write}
+use Rattle.stm_history.specs.declared.change.Change.{Change}
 use Rattle.stm_program.specs.Writes.{latest_writes}
 use Rattle.stm_steps.specs.declared.value.Value.{Value}
 use Rattle.stm_steps.specs.declared.trace_item.TraceItem.{TraceItem}
@@ -20,9 +20,9 @@ pub record ReadyRun : Type 0 where
   pub answers : List ReadAnswer
   pub output : List Value
   pub trace : List TraceItem
-  pub writes : List Write
+  pub writes : List Change
 
-abbrev pub ready_parts : ProgramTree → Level → List ReadAnswer → List Value → List TraceItem → List Write → ReadyRun
+abbrev pub ready_parts : ProgramTree → Level → List ReadAnswer → List Value → List TraceItem → List Change → ReadyRun
 ready_parts program level answers output trace writes =
     record { program = program; level = level; answers = answers; output = output; trace = trace; writes = writes }
 

@@ -8,8 +8,8 @@ use Rattle.stm_json.proofs.PartLemmas.{text_reads, number_reads, up_to_reads}
 use Rattle.stm_json.proofs.ListLemmas.{each_reads}
 use Rattle.stm_program.specs.declared.level.Level.{Level}
 use Rattle.stm_program.specs.declared.level.Level.TheVariants.{SerializableSnapshot}
-use Rattle.stm_program.specs.declared.write.Write.{Write}
-use Rattle.stm_program.specs.declared.write.Write.TheVariants.{Put, Del}
+use Rattle.stm_history.specs.declared.change.Change.{Change}
+use Rattle.stm_history.specs.declared.change.Change.TheVariants.{Put, Del}
 use Rattle.stm_events.specs.declared.reply.CommittedRead.{CommittedRead}
 use Rattle.stm_texts.specs.Grammar.{level_text}
 use Rattle.stm_texts.specs.Reading.{level_named, level_of}
@@ -34,12 +34,12 @@ read_reads d a (x, y, z, is, value, modified, shown) =
     let o = up_to_reads HIGHEST_NUMBER z a.of_rev (omega arith) shown in
     ap read_of is ∙ rw (k, v, m, o) refl
 
-write_reads : (d : Data) (w : Write) → SpellsWrite d w → write_of d ≡ Ok w
+write_reads : (d : Data) (w : Change) → SpellsWrite d w → write_of d ≡ Ok w
 unfolding write_of
 write_reads d (Put key value lease) (is, none) =
     let k : text_of (string key) ≡ Ok key = text_reads (string key) key refl in
     let v : text_of (string value) ≡ Ok value = text_reads (string value) value refl in
-    ap write_of is ∙ rw (k, v) (ap (λ (n : ℕ). (let o : Outcome Write = Ok (Put key value n) in o)) (sym none))
+    ap write_of is ∙ rw (k, v) (ap (λ (n : ℕ). (let o : Outcome Change = Ok (Put key value n) in o)) (sym none))
 write_reads d (Del key) is =
     let k : text_of (string key) ≡ Ok key = text_reads (string key) key refl in
     ap write_of is ∙ rw k refl

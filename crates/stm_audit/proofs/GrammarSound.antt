@@ -20,8 +20,8 @@ use Rattle.stm_json.proofs.ListLemmas.{list_sound}
 use Rattle.stm_txn_json.proofs.WordLemmas.{chosen, no_word}
 use Rattle.stm_program.specs.declared.level.Level.{Level}
 use Rattle.stm_program.specs.declared.level.Level.TheVariants.{SerializableSnapshot, Serializable, RepeatableReads, ReadCommitted}
-use Rattle.stm_program.specs.declared.write.Write.{Write}
-use Rattle.stm_program.specs.declared.write.Write.TheVariants.{Put, Del}
+use Rattle.stm_history.specs.declared.change.Change.{Change}
+use Rattle.stm_history.specs.declared.change.Change.TheVariants.{Put, Del}
 use Rattle.stm_events.specs.declared.reply.CommittedRead.{CommittedRead}
 use Rattle.stm_texts.specs.Grammar.{level_text}
 use Rattle.stm_texts.specs.Reading.{level_named, level_of}
@@ -90,7 +90,7 @@ read_sound d a h = read_parts d (quad d) a refl h
 
 -- ---- writes
 
-put_sound : (d : Data) (p : List ℕ × Items) (o : Option (Data × Data)) (w : Write) → worded d ≡ Some p → p.0 ≡ codes "put" → two_of p.1 ≡ o
+put_sound : (d : Data) (p : List ℕ × Items) (o : Option (Data × Data)) (w : Change) → worded d ≡ Some p → p.0 ≡ codes "put" → two_of p.1 ≡ o
     → put_of o ≡ Ok w → SpellsWrite d w
 put_sound d p None w is word two h = cc
 put_sound d p (Some q) w is word two h =
@@ -106,7 +106,7 @@ put_sound d p (Some q) w is word two h =
       refl,
     )
 
-del_sound : (d : Data) (p : List ℕ × Items) (o : Option Data) (w : Write) → worded d ≡ Some p → p.0 ≡ codes "del" → one_of p.1 ≡ o → del_of o ≡ Ok w
+del_sound : (d : Data) (p : List ℕ × Items) (o : Option Data) (w : Change) → worded d ≡ Some p → p.0 ≡ codes "del" → one_of p.1 ≡ o → del_of o ≡ Ok w
     → SpellsWrite d w
 del_sound d p None w is word one h = cc
 del_sound d p (Some a) w is word one h =
@@ -116,17 +116,17 @@ del_sound d p (Some a) w is word one h =
     subst (SpellsWrite d) made
     (word_and d p (codes "del") (a ∷ []) is word (one_of-is p.1 a one) ∙ ap (λ (b : Data). spelled (codes "del") (b ∷ [])) first)
 
-write_word : (d : Data) (p : List ℕ × Items) (w : Write) (puts dels : Bool) → worded d ≡ Some p → same p.0 (codes "put") ≡ puts
+write_word : (d : Data) (p : List ℕ × Items) (w : Change) (puts dels : Bool) → worded d ≡ Some p → same p.0 (codes "put") ≡ puts
     → same p.0 (codes "del") ≡ dels → cond puts (put_of (two_of p.1)) (cond dels (del_of (one_of p.1)) (bad Shape)) ≡ Ok w → SpellsWrite d w
 write_word d p w true dels is u l h = put_sound d p (two_of p.1) w is ((bytes_eq-Decides p.0 (codes "put")).0 u) refl h
 write_word d p w false true is u l h = del_sound d p (one_of p.1) w is ((bytes_eq-Decides p.0 (codes "del")).0 l) refl h
 write_word d p w false false is u l h = cc
 
-write_array : (d : Data) (o : Option (List ℕ × Items)) (w : Write) → worded d ≡ o → write_worded o ≡ Ok w → SpellsWrite d w
+write_array : (d : Data) (o : Option (List ℕ × Items)) (w : Change) → worded d ≡ o → write_worded o ≡ Ok w → SpellsWrite d w
 write_array d None w is h = cc
 write_array d (Some p) w is h = write_word d p w (same p.0 (codes "put")) (same p.0 (codes "del")) is refl refl h
 
-write_sound : (d : Data) (w : Write) → write_of d ≡ Ok w → SpellsWrite d w
+write_sound : (d : Data) (w : Change) → write_of d ≡ Ok w → SpellsWrite d w
 unfolding write_of
 write_sound d w h = write_array d (worded d) w refl h
 
@@ -147,7 +147,7 @@ level_is d l h =
     let t = on_text-is level_named d l h in
     t.1 ∙ ap string (level_named-is t.0 l t.2)
 
-abbrev commit_with : Level → ℕ → List CommittedRead → List Write → Commit
+abbrev commit_with : Level → ℕ → List CommittedRead → List Change → Commit
 commit_with level revision reads writes = record { level = level; revision = revision; reads = reads; writes = writes }
 
 commit_parts : (d : Data) (o : Option (Data × Data × Data × Data)) (t : Commit) → quad d ≡ o → commit_by o ≡ Ok t → SpellsCommit d t

@@ -5,12 +5,11 @@ use Rattle.std.specs.List.{AllByRecursion}
 use Rattle.std.specs.Option.{option_or}
 use Rattle.std.proofs.lemmas.Bool.Decides.{nat_tests}
 use Rattle.std.proofs.lemmas.List.Elements.{All-from_recursion}
-use Rattle.stm_history.specs.History.{History, key_now, mod_of}
+use Rattle.stm_history.specs.History.{History, key_now, mod_of, key_of}
 use Rattle.stm_program.specs.declared.level.Level.{Level}
 use Rattle.stm_program.specs.declared.level.Level.TheVariants.{SerializableSnapshot}
 use Rattle.stm_program.specs.Levels.{is_comparing}
-use Rattle.stm_program.specs.Writes.{key_of}
-use Rattle.stm_program.specs.declared.write.Write.{Write}
+use Rattle.stm_history.specs.declared.change.Change.{Change}
 use Rattle.stm_events.specs.declared.reply.CommittedRead.{CommittedRead}
 use Rattle.stm_audit.specs.declared.anomaly.Anomaly.TheVariants.{DirtyRead}
 use Rattle.stm_audit.specs.declared.finding.Finding.{Finding}
@@ -64,7 +63,7 @@ past : {A : Type 0} (f : A → Finding) (o : Option A) (rest : Option Finding) �
 past f None rest none kept = kept
 past f (Some a) rest none kept = absurd (cc)
 
-none_last : (h : History) (number first : ℕ) (o : Option Write) (b : Bool) → b ≡ true
+none_last : (h : History) (number first : ℕ) (o : Option Change) (b : Bool) → b ≡ true
     → NotBroken (if b then option_map (of_write h number first) o else None) → o ≡ None
 none_last h number first None b is kept = refl
 none_last h number first (Some w) true is kept = absurd (broken true refl kept)
@@ -89,7 +88,7 @@ kept_where_nothing_is_broken h made number t kept =
           none_is (is_stale h) (λ (a : CommittedRead). a.mod_rev ≡ mod_of (key_now h a.key)) t.reads (λ a. same_number a.mod_rev (mod_of (key_now h a.key)))
           (none_stale is);
       unwritten = λ is.
-          none_is (is_put_above h (first_read t.reads)) (λ (w : Write). mod_of (key_now h (key_of w)) ≤ first_read t.reads) t.writes
+          none_is (is_put_above h (first_read t.reads)) (λ (w : Change). mod_of (key_now h (key_of w)) ≤ first_read t.reads) t.writes
           (λ w. not_above (first_read t.reads) (mod_of (key_now h (key_of w))))
           (none_last h number (first_read t.reads) (find (is_put_above h (first_read t.reads)) t.writes) (compares_writes t.level) is
           (past (of_stale h made number t) stale (overwritten_in h number t) (none_stale (compares_both t.level is)) next));

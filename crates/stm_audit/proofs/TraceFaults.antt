@@ -15,8 +15,8 @@ use Rattle.stm_json.specs.Parts.{on_text, same, text_of, each_from, list_of}
 use Rattle.stm_json.proofs.FaultLemmas.{fault_of, wrong_is, part_then, made, text_faulted, number_faulted, number_reported, list_faulted}
 use Rattle.stm_program.specs.declared.level.Level.{Level}
 use Rattle.stm_program.specs.declared.level.Level.TheVariants.{SerializableSnapshot, Serializable, RepeatableReads, ReadCommitted}
-use Rattle.stm_program.specs.declared.write.Write.{Write}
-use Rattle.stm_program.specs.declared.write.Write.TheVariants.{Put, Del}
+use Rattle.stm_history.specs.declared.change.Change.{Change}
+use Rattle.stm_history.specs.declared.change.Change.TheVariants.{Put, Del}
 use Rattle.stm_events.specs.declared.reply.CommittedRead.{CommittedRead}
 use Rattle.stm_texts.specs.Reading.{level_named, level_of}
 use Rattle.stm_texts.specs.FirstFault.{level_words}
@@ -104,12 +104,12 @@ write_tested : (p : List ℕ) (ds : Items) (puts dels : Bool)
     ≡ fault_of p (cond puts (put_of (two_of ds)) (cond dels (del_of (one_of ds)) (bad Shape)))
 write_tested p ds true dels = put_faulted p ds
 write_tested p ds false true = del_faulted p ds
-write_tested p ds false false = wrong_is {A = Write} p Shape (bad Shape) refl
+write_tested p ds false false = wrong_is {A = Change} p Shape (bad Shape) refl
 
 write_reported : (p : List ℕ) (d : Data) → first_of (worded_faults write_table p d) ≡ fault_of p (write_of d)
 unfolding write_of
 write_reported p (array (item (string w) ds)) = write_tested p ds (same w (codes "put")) (same w (codes "del"))
-write_reported p _ = wrong_is {A = Write} p Shape (bad Shape) refl
+write_reported p _ = wrong_is {A = Change} p Shape (bad Shape) refl
 
 -- ---- commits
 
@@ -136,7 +136,7 @@ level_faulted p d = level_reported p (as_str d)
 abbrev commit_sorts : List Sort
 commit_sorts = WordOf level_words ∷ NumberIn 1 HIGHEST_REVISION ∷ By (all_faults read_faults) ∷ By (list_faults write_table) ∷ []
 
-abbrev commit_with : Level → ℕ → List CommittedRead → List Write → Commit
+abbrev commit_with : Level → ℕ → List CommittedRead → List Change → Commit
 commit_with level revision reads writes = record { level = level; revision = revision; reads = reads; writes = writes }
 
 commit_parts : (p : List ℕ) (ds : Items)

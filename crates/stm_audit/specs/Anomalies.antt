@@ -6,12 +6,11 @@ use Rattle.std.specs.Prelude.{ℕ, ◌-◌, Bool, true, false, nat_lt, if◌then
 use Rattle.std.specs.Option.{option_or}
 use Rattle.std.specs.List.{list_any}
 use Rattle.stm_history.specs.declared.revisions.TheConstants.{HIGHEST_REVISION}
-use Rattle.stm_history.specs.History.{History, key_now, mod_of}
+use Rattle.stm_history.specs.History.{History, key_now, mod_of, key_of}
 use Rattle.stm_program.specs.declared.level.Level.{Level}
 use Rattle.stm_program.specs.declared.level.Level.TheVariants.{SerializableSnapshot, Serializable, RepeatableReads, ReadCommitted}
-use Rattle.stm_program.specs.declared.write.Write.{Write}
+use Rattle.stm_history.specs.declared.change.Change.{Change}
 use Rattle.stm_program.specs.Levels.{is_comparing}
-use Rattle.stm_program.specs.Writes.{key_of}
 use Rattle.stm_events.specs.declared.reply.CommittedRead.{CommittedRead}
 use Rattle.stm_audit.specs.declared.anomaly.Anomaly.{Anomaly}
 use Rattle.stm_audit.specs.declared.anomaly.Anomaly.TheVariants.{DirtyRead, LostUpdate, FracturedRead, WriteSkew, StaleRead, BlindWrite}
@@ -31,12 +30,12 @@ abbrev pub maker : ℕ → List Commit → ℕ → Option Commit
 maker opened made revision = slice_get made (revision - opened - 1)
 
 -- a commit had read a key that these writes are of
-abbrev pub has_read : List Write → Option Commit → Bool
+abbrev pub has_read : List Change → Option Commit → Bool
 has_read writes None = false
 has_read writes (Some c) = list_any (λ (a : CommittedRead). is_among writes a.key) c.reads
 
 -- what made the stale read's key another one had itself read what this commit writes
-abbrev pub is_skewed : ℕ → List Commit → Option ℕ → List Write → Bool
+abbrev pub is_skewed : ℕ → List Commit → Option ℕ → List Change → Bool
 is_skewed opened made None writes = false
 is_skewed opened made (Some changed) writes = has_read writes (maker opened made changed)
 
@@ -77,10 +76,10 @@ first_read [] = HIGHEST_REVISION
 first_read (a ∷ reads) = a.of_rev
 
 -- a written key was put above a revision
-abbrev pub is_put_above : History → ℕ → Write → Bool
+abbrev pub is_put_above : History → ℕ → Change → Bool
 is_put_above h revision w = nat_lt revision (mod_of (key_now h (key_of w)))
 
-abbrev pub of_write : History → ℕ → ℕ → Write → Finding
+abbrev pub of_write : History → ℕ → ℕ → Change → Finding
 of_write h number first w =
     record { commit = number; anomaly = BlindWrite; is_broken = true; key = key_of w; seen = first; held = mod_of (key_now h (key_of w)) }
 

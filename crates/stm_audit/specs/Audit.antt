@@ -2,16 +2,15 @@
 --
 -- etcd's API reference, "Revisions": a transaction that changes something gets the next revision, and another one has that of the store. So a trace
 -- that has every commit since its first one has their revisions without a gap.
-use Rattle.std.specs.Prelude.{ℕ, suc, ◌-◌, Bool, true, false, nat_eq, nat_lt, if◌then◌else◌, List, [], ◌∷◌, ◌++◌, map, Option, Some, None, Result, Ok, Err, min, max}
+use Rattle.std.specs.Prelude.{ℕ, suc, ◌-◌, Bool, true, false, nat_eq, nat_lt, if◌then◌else◌, List, [], ◌∷◌, ◌++◌, Option, Some, None, Result, Ok, Err, min, max}
 use Rattle.std.specs.List.{list_any}
 use Rattle.stm_history.specs.declared.revisions.TheConstants.{HIGHEST_REVISION}
 use Rattle.stm_history.specs.History.{now}
-use Rattle.stm_program.specs.declared.write.Write.{Write}
-use Rattle.stm_program.specs.declared.write.Write.TheVariants.{Put, Del}
+use Rattle.stm_history.specs.declared.change.Change.{Change}
+use Rattle.stm_history.specs.declared.change.Change.TheVariants.{Put, Del}
 use Rattle.stm_program.specs.Writes.{latest_writes}
 use Rattle.stm_outcome.specs.declared.refusal.Refusal.{Refusal}
 use Rattle.stm_txn.specs.Standing.{Standing, Step, made, opening, at_revision}
-use Rattle.stm_compile.specs.Now.{as_change}
 use Rattle.stm_audit.specs.declared.auditing.Audited.{Audited}
 use Rattle.stm_audit.specs.declared.commit.Commit.{Commit}
 use Rattle.stm_audit.specs.declared.finding.Finding.{Finding}
@@ -20,8 +19,8 @@ use Rattle.stm_audit.specs.Anomalies.{found_in}
 -- ---- the store after writes
 
 -- the last write of each key is made, with nothing compared
-abbrev pub after : Standing → List Write → Result (Step ℕ) Refusal
-after s writes = made s (map as_change (latest_writes writes))
+abbrev pub after : Standing → List Change → Result (Step ℕ) Refusal
+after s writes = made s (latest_writes writes)
 
 abbrev pub revision_of : Result (Step ℕ) Refusal → Option ℕ
 revision_of (Ok step) = Some step.answer
@@ -59,7 +58,7 @@ audit_from s made number (t ∷ ts) =
 
 -- ---- where a trace begins
 
-abbrev pub is_put : Write → Bool
+abbrev pub is_put : Change → Bool
 is_put (Put key value lease) = true
 is_put (Del key) = false
 

@@ -6,8 +6,8 @@ use Rattle.stm_history.specs.declared.revisions.TheConstants.{HIGHEST_NUMBER, HI
 use Rattle.stm_json.specs.declared.limits.TheConstants.{MOST_BYTES}
 use Rattle.stm_json.specs.Bytes.{data_of}
 use Rattle.stm_json.specs.Parts.{spelled, SpellsNumberIn, SpellsEach}
-use Rattle.stm_program.specs.declared.write.Write.{Write}
-use Rattle.stm_program.specs.declared.write.Write.TheVariants.{Put, Del}
+use Rattle.stm_history.specs.declared.change.Change.{Change}
+use Rattle.stm_history.specs.declared.change.Change.TheVariants.{Put, Del}
 use Rattle.stm_events.specs.declared.reply.CommittedRead.{CommittedRead}
 use Rattle.stm_texts.specs.Grammar.{level_text}
 use Rattle.stm_audit.specs.declared.commit.Commit.{Commit}
@@ -23,7 +23,7 @@ SpellsRead d a = (x : Data) × (y : Data) × (z : Data) × (d ≡ array (items_o
     × SpellsNumberIn 0 HIGHEST_NUMBER y a.mod_rev × SpellsNumberIn 0 HIGHEST_NUMBER z a.of_rev
 
 -- a trace has no leases
-abbrev pub SpellsWrite : Data → Write → Type 0
+abbrev pub SpellsWrite : Data → Change → Type 0
 SpellsWrite d (Put key value lease) = (d ≡ spelled (codes "put") (string key ∷ string value ∷ [])) × (lease ≡ 0)
 SpellsWrite d (Del key) = d ≡ spelled (codes "del") (string key ∷ [])
 

@@ -1,9 +1,8 @@
 -- What it means that an audit finds nothing broken.
 use Rattle.std.specs.Prelude.{◌≡◌, ◌≤◌, ℕ, true, false, List, IfSome, All}
-use Rattle.stm_history.specs.History.{History, key_now, mod_of}
+use Rattle.stm_history.specs.History.{History, key_now, mod_of, key_of}
 use Rattle.stm_program.specs.Levels.{is_comparing}
-use Rattle.stm_program.specs.Writes.{key_of}
-use Rattle.stm_program.specs.declared.write.Write.{Write}
+use Rattle.stm_history.specs.declared.change.Change.{Change}
 use Rattle.stm_events.specs.declared.reply.CommittedRead.{CommittedRead}
 use Rattle.stm_audit.specs.declared.commit.Commit.{Commit}
 use Rattle.stm_audit.specs.declared.finding.Finding.{Finding}
@@ -15,7 +14,7 @@ use Rattle.stm_audit.specs.Reads.{is_so}
 pub record IsKept (h : History) (t : Commit) : Type 0 where
   pub so : All (λ (a : CommittedRead). is_so h a ≡ true) t.reads
   pub unchanged : is_comparing t.level ≡ true → All (λ (a : CommittedRead). a.mod_rev ≡ mod_of (key_now h a.key)) t.reads
-  pub unwritten : compares_writes t.level ≡ true → All (λ (w : Write). mod_of (key_now h (key_of w)) ≤ first_read t.reads) t.writes
+  pub unwritten : compares_writes t.level ≡ true → All (λ (w : Change). mod_of (key_now h (key_of w)) ≤ first_read t.reads) t.writes
 
 -- a commit of which nothing is found, or nothing that its level promises not to come, is what its level promises
 abbrev pub KeptWhereNothingIsBroken : Type 0

@@ -9,8 +9,8 @@ use Rattle.stm_json.specs.Bytes.{data_of}
 use Rattle.stm_json.specs.Elements.{worded, one_of, two_of, four_of, number_up_to, number_in}
 use Rattle.stm_json.specs.Outcome.{Outcome, bad, ◌>>=◌, within}
 use Rattle.stm_json.specs.Parts.{same, list_of, text_of}
-use Rattle.stm_program.specs.declared.write.Write.{Write}
-use Rattle.stm_program.specs.declared.write.Write.TheVariants.{Put, Del}
+use Rattle.stm_history.specs.declared.change.Change.{Change}
+use Rattle.stm_history.specs.declared.change.Change.TheVariants.{Put, Del}
 use Rattle.stm_events.specs.declared.reply.CommittedRead.{CommittedRead}
 use Rattle.stm_texts.specs.Reading.{level_of}
 use Rattle.stm_audit.specs.declared.commit.Commit.{Commit}
@@ -40,22 +40,22 @@ read_of d = read_by (quad d)
 
 -- ---- writes: a trace has no leases
 
-abbrev pub put_of : Option (Data × Data) → Outcome Write
+abbrev pub put_of : Option (Data × Data) → Outcome Change
 put_of None = bad Shape
 put_of (Some p) = within 1 (text_of p.0) >>= λ key. within 2 (text_of p.1) >>= λ value. Ok (Put key value 0)
 
-abbrev pub del_of : Option Data → Outcome Write
+abbrev pub del_of : Option Data → Outcome Change
 del_of None = bad Shape
 del_of (Some d) = within 1 (text_of d) >>= λ key. Ok (Del key)
 
-abbrev pub write_worded : Option (List ℕ × Items) → Outcome Write
+abbrev pub write_worded : Option (List ℕ × Items) → Outcome Change
 write_worded None = bad Shape
 write_worded (Some p) =
     if same p.0 (codes "put") then put_of (two_of p.1)
     else (if same p.0 (codes "del") then del_of (one_of p.1)
     else bad Shape)
 
-unfoldable pub write_of : Data → Outcome Write
+unfoldable pub write_of : Data → Outcome Change
 write_of d = write_worded (worded d)
 
 -- ---- commits

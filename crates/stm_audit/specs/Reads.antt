@@ -4,9 +4,8 @@
 use Rattle.std.specs.Prelude.{ℕ, Bool, true, false, ◌&&◌, not, nat_eq, nat_le, nat_lt, bytes_eq, if◌then◌else◌, ◌-◌, List, Option, Some, None}
 use Rattle.std.specs.List.{list_any}
 use Rattle.stm_history.specs.declared.key_state.KeyState.{KeyState}
-use Rattle.stm_history.specs.History.{History, now, key_at, key_now, mod_of}
-use Rattle.stm_program.specs.declared.write.Write.{Write}
-use Rattle.stm_program.specs.Writes.{key_of}
+use Rattle.stm_history.specs.History.{History, now, key_at, key_now, mod_of, key_of}
+use Rattle.stm_history.specs.declared.change.Change.{Change}
 use Rattle.stm_keys.specs.NextChange.{next_change}
 use Rattle.stm_events.specs.declared.reply.CommittedRead.{CommittedRead}
 
@@ -43,5 +42,5 @@ abbrev pub shows_from : History → ℕ → CommittedRead → Bool
 shows_from h revision a = is_at_most a.of_rev (next_change h a.key (revision - 1))
 
 -- one of these writes is of this key
-abbrev pub is_among : List Write → List ℕ → Bool
+abbrev pub is_among : List Change → List ℕ → Bool
 is_among writes key = list_any (λ w. bytes_eq (key_of w) key) writes

@@ -1,8 +1,7 @@
 //! What the reads of a commit say of their keys.
 ghost use Rattle.std.specs.Prelude.{◌≡◌, ◌↔◌, ◌≤◌, IsTrue, not, find, bytes_eq, option_copied, option_map};
 ghost use Rattle.std.specs.List.{list_any};
-ghost use Rattle.stm_history.specs.History.{key_now, mod_of};
-ghost use Rattle.stm_program.specs.Writes.{key_of};
+ghost use Rattle.stm_history.specs.History.{key_now, mod_of, key_of};
 ghost use Rattle.stm_audit.specs.Reads.{is_value, is_so, is_untrue, is_stale, changed_at, is_at_most, shows_from, is_among};
 
 use stm_events::{CommittedRead, KeyState, Text};

@@ -4,7 +4,7 @@ ghost use Rattle.stm_outcome.specs.declared.refusal.Refusal.TheVariants.{OutOfMe
 ghost use Rattle.stm_audit.specs.Audit.{after, left_by, revision_of, is_reached};
 
 use std::alloc::{AllocError, Global};
-use stm_compile::{WriteBuffer, changes_of};
+use stm_compile::WriteBuffer;
 use stm_program::Write;
 use stm_txn::{Refusal, Store};
 
@@ -25,10 +25,7 @@ fn make(alloc: Global, store: &mut Store, writes: &[Write]) -> Result<Option<u64
     ensures store { OnOk result (store.new.standing ≡ left_by store.old.standing (after store.old.standing writes.now)) }
 {
     let latest = WriteBuffer::of(alloc, writes)?;
-    let made = changes_of(alloc, &latest);
-    drop(latest);
-    let changes = made?;
-    match store.write(changes) {
+    match store.write(latest.into_changes()) {
         Ok(revision) => Ok(Some(revision)),
         Err(cause) => refused(cause),
     }

@@ -24,7 +24,6 @@ use Rattle.stm_entries.specs.Replayed.{without_moment}
 use Rattle.stm_events.specs.FirstReads.{keys_first_read}
 use Rattle.stm_events.specs.declared.event.WorldEvent.{WorldEvent}
 use Rattle.stm_events.specs.declared.event.WorldEvent.TheVariants.{Start, Step, Txn, Grant, Keep, Revoke, Advance, Compact}
-use Rattle.stm_events.specs.declared.event.WorldEvent.TheVariants.{WatchKey, WatchRange, Poll, Cancel}
 use Rattle.stm_events.specs.contracts.line.ReportLine as reports
 use Rattle.stm_events.specs.contracts.refusal.Denied as refused
 use Rattle.stm_events.specs.contracts.reply.Reply as replies
@@ -221,10 +220,7 @@ replayed s runners (Keep id) replied = equal_replies _ replied
 replayed s runners (Revoke id) replied = equal_replies _ replied
 replayed s runners (Advance moment) replied = equal_replies _ replied
 replayed s runners (Compact revision) replied = equal_replies _ replied
-replayed s runners (WatchKey key from) replied = inl tt
-replayed s runners (WatchRange first end from) replied = inl tt
-replayed s runners (Poll watcher most) replied = inl tt
-replayed s runners (Cancel watcher) replied = inl tt
+replayed s runners _ replied = inl tt
 
 -- ---- lines
 

@@ -6,27 +6,20 @@ use Rattle.std.specs.declared.alloc.AllocError.{AllocError}
 use Rattle.std.specs.FinMap as finmap
 use Rattle.stm_history.specs.declared.change.Change.{Change}
 use Rattle.stm_history.specs.History.{History, now, key_now}
-use Rattle.stm_leases.specs.Live.{grant_refusal, is_live_in}
-use Rattle.stm_leases.specs.LeaseLog.{Term}
-use Rattle.stm_leases.specs.declared.errors.GrantError.{GrantError}
 use Rattle.stm_outcome.specs.declared.advance.Expired.{Expired}
 use Rattle.stm_outcome.specs.declared.answer.FailedCompare.{FailedCompare}
 use Rattle.stm_outcome.specs.declared.answer.OpAnswer.{OpAnswer}
 use Rattle.stm_outcome.specs.declared.answer.TxnAnswer.{TxnAnswer}
 use Rattle.stm_outcome.specs.declared.refusal.Refusal.{Refusal}
-use Rattle.stm_outcome.specs.declared.refusal.Refusal.TheVariants.{OutOfMemory, LeaseNotFound, RevisionsUsedUp, TimeGoesBack}
+use Rattle.stm_outcome.specs.declared.refusal.Refusal.TheVariants.{OutOfMemory, RevisionsUsedUp, TimeGoesBack}
 use Rattle.stm_outcome.specs.declared.txn.Txn.{Txn}
 use Rattle.stm_outcome.specs.Checks.{fault_of}
 use Rattle.stm_outcome.specs.Compares.{first_failed}
 use Rattle.stm_outcome.specs.Branches.{begun, changes_of_branch, answers_after, branch_refusal}
-use Rattle.stm_txn.specs.Grants.{grant_refusal_of}
-use Rattle.stm_txn.specs.LeaseKeys.{deletions_of}
 use Rattle.stm_outcome.specs.Outcome.{Done, outcome, chosen, unless, finished, is_used_up, with_changes, answer_of}
-use Rattle.stm_txn.specs.Standing.{Standing, Step, Advance, IsRefusalOf, IsCutShort, step_of, transacted, granted, kept_alive, ended, revoked}
-use Rattle.stm_txn.specs.Standing.{with_lease, without_lease, with_revision, expire_up_to, expire_all, at_moment, advanced}
-use Rattle.stm_outcome.specs.Terms.{Terms}
-use Rattle.stm_outcome.specs.Terms.{most_operations}
-use Rattle.stm_txn.specs.Standing.{terms_of, compaction_refusal, with_floor, floor_step, raised}
+use Rattle.stm_txn.specs.Standing.{Standing, Step, Advance, IsRefusalOf, IsCutShort, step_of, transacted, granted, kept_alive, revoked, expire_up_to}
+use Rattle.stm_txn.specs.Standing.{expire_all, at_moment, advanced, terms_of, compaction_refusal, with_floor, floor_step, raised}
+use Rattle.stm_outcome.specs.Terms.{Terms, most_operations}
 use Rattle.stm_entries.specs.declared.entry.Entry.{Entry}
 use Rattle.stm_entries.specs.Replayed.{without_moment}
 use Rattle.stm_entries.specs.declared.entry.Entry.TheVariants.{Foreign, Grant as GrantEntry, Renew, Revoke as RevokeEntry}
@@ -36,8 +29,10 @@ use Rattle.stm_events.specs.declared.refusal.Denied.{Denied}
 use Rattle.stm_events.specs.declared.reply.Reply.{Reply}
 use Rattle.stm_events.specs.declared.reply.Reply.TheVariants.{Compacted}
 use Rattle.stm_events.specs.Replies.{event_refusal, txn_reply, reply_to, store_after_call, advance_reply}
-use Rattle.stm_events.proofs.Entered.{Enters}
-use Rattle.stm_events.proofs.Calls.{txn_enters, grant_enters, keep_enters, revoke_enters, expiry_cases, advance_enters}
+use Rattle.stm_events.specs.Called as call
+use Rattle.stm_events.specs.Called.{Call}
+use Rattle.stm_events.proofs.CallMeans.{CallMeans, call_means, expiries_mean}
+use Rattle.stm_events.proofs.CallEnters.{Enters, IsReplayed, call_enters}
 use Rattle.stm_check.specs.Point.{led_by, moment_after, with_replayed, txn_entries, advance_entries, raised_by}
 
 -- ---- replies
@@ -83,7 +78,7 @@ pub cut_short : (s left : Standing) (moment : ℕ) (expired : List Expired) (cau
 cut_short s left moment expired cause (inl whole) other = whole
 cut_short s left moment expired cause (inr stopped) other = absurd (other stopped.0)
 
--- ---- what no call but an advance changes, or a compaction: the moment, the watchers and the floor
+-- ---- what no call of these changes but an advance that moves on: the moment; and none of them: the watchers and the floor
 
 pub record KeepsRest (s next : Standing) : Type 0 where
   pub moment : next.moment ≡ s.moment
@@ -93,9 +88,36 @@ pub record KeepsRest (s next : Standing) : Type 0 where
 keeps_itself : (s : Standing) → KeepsRest s s
 keeps_itself s = record { moment = refl; watchers = refl; floor = refl }
 
-abbrev pub StepKeepsRest : {A : Type 0} → Standing → Result (Step A) Refusal → Type 0
-StepKeepsRest s (Ok done) = KeepsRest s done.next
-StepKeepsRest s (Err cause) = Unit {0}
+-- a store that stands at the moment of an advance
+abbrev IsThere : Standing → Call → Type 0
+IsThere s (call.Advance moment) = s.moment ≡ moment
+IsThere s other = Unit {0}
+
+rest_kept : CallMeans (λ c. call.is_entered c ≡ true) (λ s c d more. IsThere s c → KeepsRest s d.next)
+rest_kept = record {
+  stays = λ s c cause of other there. keeps_itself s;
+  made = λ s txn done of is there. record { moment = refl; watchers = refl; floor = refl };
+  granted = λ s id ttl of is there. record { moment = refl; watchers = refl; floor = refl };
+  renewed = λ s id term of is there. record { moment = refl; watchers = refl; floor = refl };
+  revoked = λ s id of live room there. record { moment = refl; watchers = refl; floor = refl };
+  went_back = λ s moment of back there. keeps_itself s;
+  moved = λ s moment a of forward rest there. let r = rest refl in record { moment = r.moment ∙ sym there; watchers = r.watchers; floor = r.floor };
+  rested = λ s moment of at there. keeps_itself s;
+  stuck = λ s moment of at there. keeps_itself s;
+  expired = λ s moment id a of at live room rest there. let r = rest at in record { moment = r.moment; watchers = r.watchers; floor = r.floor };
+  watching = λ s keys from of there. absurd (cc);
+  polled = λ s id most w of found is there. absurd (cc);
+  lost = λ s id most w of found is there. absurd (cc);
+  cancelled = λ s id of there. absurd (cc);
+  raised = λ s revision of above reached there. absurd (cc);
+}
+
+call_rest : (s : Standing) (c : Call) → call.is_entered c ≡ true → IsThere s c → KeepsRest s (call.called s c).next
+call_rest s c of = call_means (λ x. call.is_entered x ≡ true) (λ s c d more. IsThere s c → KeepsRest s d.next) rest_kept s c of
+
+expiries_rest : (many : ℕ) (s : Standing) → KeepsRest s (expire_up_to many s).leaves
+expiries_rest many s =
+    expiries_mean (λ x. call.is_entered x ≡ true) (λ s c d more. IsThere s c → KeepsRest s d.next) rest_kept many s s.moment refl refl refl
 
 -- ---- the store that a reply leads to
 
@@ -116,66 +138,33 @@ led s next entries follow rest =
       limit = follow.limit k;
     }
 
--- the store after a call that was taken, whose one entry is this
-pub taken_led : {A : Type 0} (s : Standing) (r : Result (Step A) Refusal) (answer : A) (next : Standing) (entry : Entry) →
-    Enters s (store_after_call s r) (if_taken r entry) → StepKeepsRest s r → r ≡ Ok record { answer = answer; next = next } →
-    next ≡ led_by (entry ∷ []) s s.moment
-taken_led s r answer next entry follow rest is =
-    led s next (entry ∷ []) (subst (λ (x : Result (Step _) Refusal). Enters s (store_after_call s x) (if_taken x entry)) is follow)
-    (subst (λ (x : Result (Step _) Refusal). StepKeepsRest s x) is rest)
+-- the store after a call is the one that its entries lead to
+call_led : (s : Standing) (c : Call) → call.is_entered c ≡ true → IsReplayed s c → IsThere s c → (call.called s c).next ≡ led_by (call.entered s c) s s.moment
+call_led s c of few there = led s (call.called s c).next (call.entered s c) (call_enters s c few) (call_rest s c of there)
 
 -- no entry leads nowhere else
 pub still : (s : Standing) → s ≡ led_by [] s s.moment
 still s = refl
 
--- ---- a grant
-
-abbrev granted_by : Standing → ℕ → ℕ → Option GrantError → Result (Step (Unit {0})) Refusal
-granted_by s id ttl o =
-    elim o [
-      | Some cause ↦ Err (grant_refusal_of cause)
-      | None ↦ Ok record { answer = tt; next = with_lease s id ttl }
-    ]
-
-granted_rest : (s : Standing) (id ttl : ℕ) (o : Option GrantError) → StepKeepsRest s (granted_by s id ttl o)
-granted_rest s id ttl None = record { moment = refl; watchers = refl; floor = refl }
-granted_rest s id ttl (Some cause) = tt
+-- ---- the calls of one lease
 
 pub grant_led : (s next : Standing) (id ttl : ℕ) → granted s id ttl ≡ Ok record { answer = tt; next = next } →
     next ≡ led_by (GrantEntry id ttl s.moment ∷ []) s s.moment
 grant_led s next id ttl is =
-    taken_led s (granted s id ttl) tt next (GrantEntry id ttl s.moment) (grant_enters s id ttl) (granted_rest s id ttl (grant_refusal s.live id ttl)) is
-
--- ---- a renewal
-
-abbrev kept_by : Standing → ℕ → Option Term → Result (Step (Unit {0})) Refusal
-kept_by s id o =
-    elim o [
-      | None ↦ Err LeaseNotFound
-      | Some term ↦ Ok record { answer = tt; next = with_lease s id term.ttl }
-    ]
-
-kept_rest : (s : Standing) (id : ℕ) (o : Option Term) → StepKeepsRest s (kept_by s id o)
-kept_rest s id None = tt
-kept_rest s id (Some term) = record { moment = refl; watchers = refl; floor = refl }
+    subst (λ (o : Result (Step (Unit {0})) Refusal). store_after_call s o ≡ led_by (if_taken o (GrantEntry id ttl s.moment)) s s.moment) is
+    (call_led s (call.Grant id ttl) refl tt tt)
 
 pub keep_led : (s next : Standing) (id : ℕ) → kept_alive s id ≡ Ok record { answer = tt; next = next } →
     next ≡ led_by (Renew id s.moment ∷ []) s s.moment
-keep_led s next id is = taken_led s (kept_alive s id) tt next (Renew id s.moment) (keep_enters s id) (kept_rest s id (finmap.get s.live id)) is
-
--- ---- a revocation
-
-revoked_rest : (s : Standing) (id : ℕ) (live used : Bool) →
-    StepKeepsRest s (cond live (with_revision (cond used (Err RevisionsUsedUp) (Ok (without_lease s id)))) (Err LeaseNotFound))
-revoked_rest s id false used = tt
-revoked_rest s id true true = tt
-revoked_rest s id true false = record { moment = refl; watchers = refl; floor = refl }
+keep_led s next id is =
+    subst (λ (o : Result (Step (Unit {0})) Refusal). store_after_call s o ≡ led_by (if_taken o (Renew id s.moment)) s s.moment) is
+    (call_led s (call.Keep id) refl tt tt)
 
 pub revoke_led : (s next : Standing) (id revision : ℕ) → revoked s id ≡ Ok record { answer = revision; next = next } →
     next ≡ led_by (RevokeEntry id ∷ []) s s.moment
 revoke_led s next id revision is =
-    taken_led s (revoked s id) revision next (RevokeEntry id) (revoke_enters s id)
-    (revoked_rest s id (is_live_in s.live id) (is_used_up s.history (deletions_of s.history id))) is
+    subst (λ (o : Result (Step ℕ) Refusal). store_after_call s o ≡ led_by (if_taken o (RevokeEntry id)) s s.moment) is
+    (call_led s (call.Revoke id) refl tt tt)
 
 -- ---- a transaction
 
@@ -226,7 +215,7 @@ pub txn_led : (s next : Standing) (txn : Txn) (answer : TxnAnswer) → s.limit �
 txn_led s next txn answer few is =
     let came : IsTransacted s answer next = subst (λ (x : Result (Step TxnAnswer) Refusal). StepIsTransacted s x) is (is_transacted s txn) in
     let follow : Enters s next (if_changed s next txn) =
-    subst (λ (x : Result (Step TxnAnswer) Refusal). Enters s (store_after_call s x) (if_changed s (store_after_call s x) txn)) is (txn_enters s txn few) in
+    subst (λ (x : Result (Step TxnAnswer) Refusal). Enters s (store_after_call s x) (if_changed s (store_after_call s x) txn)) is (call_enters s (call.Txn txn) few) in
     led s next (cond (nat_lt (now s.history) answer.revision) (Foreign txn ∷ []) [])
     (subst (λ (revision : ℕ). Enters s next (cond (nat_lt (now s.history) revision) (Foreign txn ∷ []) [])) (sym came.counter) follow) came.rest
 
@@ -237,26 +226,6 @@ pub record IsAdvanced (s next : Standing) (moment : ℕ) : Type 0 where
   pub moment_is : next.moment ≡ moment
   pub watchers : next.watchers ≡ s.watchers
   pub floor : next.floor ≡ s.floor
-
-abbrev EndedKeepsRest : Standing → Result Standing Refusal → Type 0
-EndedKeepsRest s (Ok next) = KeepsRest s next
-EndedKeepsRest s (Err cause) = Unit {0}
-
-ended_rest : (s : Standing) (id : ℕ) (used : Bool) (next : Standing) → cond used (Err RevisionsUsedUp) (Ok (without_lease s id)) ≡ Ok next →
-    KeepsRest s next
-ended_rest s id true next is = absurd (cc)
-ended_rest s id false next is = subst (EndedKeepsRest s) is (record { moment = refl; watchers = refl; floor = refl })
-
-keeps_then : (s next last : Standing) → KeepsRest s next → KeepsRest next last → KeepsRest s last
-keeps_then s next last first second =
-    record { moment = second.moment ∙ first.moment; watchers = second.watchers ∙ first.watchers; floor = second.floor ∙ first.floor }
-
-one_rest : (s next last : Standing) (id : ℕ) (more : List Entry) → is_live_in s.live id ≡ true → ended s id ≡ Ok next → KeepsRest next last →
-    KeepsRest s last
-one_rest s next last id more live is rest = keeps_then s next last (ended_rest s id (is_used_up s.history (deletions_of s.history id)) next is) rest
-
-expiries_rest : (many : ℕ) (s : Standing) → KeepsRest s (expire_up_to many s).leaves
-expiries_rest many s = expiry_cases (λ t next more. KeepsRest t next) (record { none = keeps_itself; one = one_rest }) many s
 
 advanced_by : (s : Standing) (moment : ℕ) (back : Bool) →
     IsAdvanced s (cond back (record { expired = []; leaves = s; cause = Some TimeGoesBack }) (expire_all (at_moment s moment))).leaves
@@ -272,7 +241,7 @@ pub advance_led : (s next : Standing) (moment : ℕ) (expired : List Expired) (c
     next ≡ led_by (expiries expired) s (moment_after s (AdvanceEvent moment))
 advance_led s next moment expired cause is =
     let follow : Enters s next (expiries expired) =
-    subst (λ (a : Advance). Enters s a.leaves (expiries a.expired)) is (advance_enters s moment) in
+    subst (λ (a : Advance). Enters s a.leaves (expiries a.expired)) is (call_enters s (call.Advance moment) tt) in
     let came : IsAdvanced s next (moment_after s (AdvanceEvent moment)) =
     subst (λ (a : Advance). IsAdvanced s a.leaves (moment_after s (AdvanceEvent moment))) is (advanced_by s moment (nat_lt moment s.moment)) in
     λ k. record {

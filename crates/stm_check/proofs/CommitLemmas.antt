@@ -1,7 +1,6 @@
 -- The run that the line of a commit stands for, and the store that it leads to.
-use Rattle.std.proofs.Common.{◌≡◌, ◌≢◌, ◌↔◌, ℕ, ◌+◌, ◌<◌, ◌≤◌, length, take, drop, get_or, Bool, true, false, List, [], ◌∷◌, ◌++◌, append_assoc, map}
-use Rattle.std.proofs.Common.{Option, Some, None, Ok, Err}
-use Rattle.std.proofs.Common.{refl, sym, ◌∙◌, ap, subst}
+use Rattle.std.proofs.Common.{◌≡◌, ◌≢◌, ◌↔◌, ℕ, ◌+◌, ◌<◌, ◌≤◌, length, take, drop, get_or, Bool, true, false, List, [], ◌∷◌, ◌++◌, append_assoc, Option}
+use Rattle.std.proofs.Common.{Some, None, Ok, Err, refl, sym, ◌∙◌, ap, subst}
 use Rattle.std.proofs.lemmas.List.{drop_all, take_all, take_more}
 use Rattle.std.proofs.lemmas.List.Elements.{filter-append}
 use Rattle.std.proofs.lemmas.Option.{same_Some}
@@ -12,7 +11,6 @@ use Rattle.stm_program.specs.Writes.{latest_writes}
 use Rattle.stm_program.proofs.LatestLemmas.{latest_writes-distinct}
 use Rattle.stm_outcome.specs.declared.refusal.Refusal.TheVariants.{OutOfMemory}
 use Rattle.stm_outcome.proofs.Applying.{branch_applies}
-use Rattle.stm_compile.specs.Now.{as_change}
 use Rattle.stm_compile.proofs.OutcomeLemmas.{changes_are_distinct}
 use Rattle.stm_check.proofs.Fronts.{left_at}
 use Rattle.stm_check.proofs.CallLemmas.{refused_for}
@@ -255,14 +253,14 @@ run_right b s r run revision attempts output trace answers reported next test = 
 -- ---- the writes
 
 -- what making the writes of a run comes to
-written_is : (s : Standing) (run : Run) (changes : List Change) → changes ≡ map as_change (latest_writes run.writes) →
+written_is : (s : Standing) (run : Run) (changes : List Change) → changes ≡ latest_writes run.writes →
     written s changes ≡ write_step s (applied_run (without_moment s) run)
 written_is s run changes are =
     ap (written s) are
-    ∙ ap (write_step s) (branch_applies (terms_of s) (map as_change (latest_writes run.writes))
+    ∙ ap (write_step s) (branch_applies (terms_of s) (latest_writes run.writes)
     (changes_are_distinct (latest_writes run.writes) (latest_writes-distinct run.writes)))
 
-pub writes_distinct : (run : Run) (changes : List Change) → changes ≡ map as_change (latest_writes run.writes) → HasDistinctKeys changes
+pub writes_distinct : (run : Run) (changes : List Change) → changes ≡ latest_writes run.writes → HasDistinctKeys changes
 writes_distinct run changes are =
     subst HasDistinctKeys (sym are) (changes_are_distinct (latest_writes run.writes) (latest_writes-distinct run.writes))
 
@@ -275,29 +273,29 @@ writes_reach : (s : Standing) (o : Result Done Refusal) → WritesReach s o (wri
 writes_reach s (Ok done) = (refl, refl)
 writes_reach s (Err cause) = (refl, refl)
 
-reached_as : (s : Standing) (run : Run) (changes : List Change) (came : Result (Step ℕ) Refusal) → changes ≡ map as_change (latest_writes run.writes) →
+reached_as : (s : Standing) (run : Run) (changes : List Change) (came : Result (Step ℕ) Refusal) → changes ≡ latest_writes run.writes →
     written s changes ≡ came → WritesReach s (applied_run (without_moment s) run) came
 reached_as s run changes came are is =
     subst (WritesReach s (applied_run (without_moment s) run)) (sym (written_is s run changes are) ∙ is)
     (writes_reach s (applied_run (without_moment s) run))
 
-pub taken_revision : (s next : Standing) (run : Run) (changes : List Change) (revision : ℕ) → changes ≡ map as_change (latest_writes run.writes) →
+pub taken_revision : (s next : Standing) (run : Run) (changes : List Change) (revision : ℕ) → changes ≡ latest_writes run.writes →
     written s changes ≡ Ok record { answer = revision; next = next } → Some revision ≡ revision_reached (applied_run (without_moment s) run)
 taken_revision s next run changes revision are is = (reached_as s run changes (Ok record { answer = revision; next = next }) are is).0
 
-pub taken_store : (s next : Standing) (run : Run) (changes : List Change) (revision : ℕ) → changes ≡ map as_change (latest_writes run.writes) →
+pub taken_store : (s next : Standing) (run : Run) (changes : List Change) (revision : ℕ) → changes ≡ latest_writes run.writes →
     written s changes ≡ Ok record { answer = revision; next = next } → next ≡ with_writes s run
 taken_store s next run changes revision are is = (reached_as s run changes (Ok record { answer = revision; next = next }) are is).1
 
 pub refused_revision : (r : Result (Option ℕ) AllocError) (s : Standing) (run : Run) (changes : List Change) (cause : Refusal) →
-    changes ≡ map as_change (latest_writes run.writes) → IsRefusalOf (written s changes) cause → IfOk r (λ revision. revision ≡ None) →
+    changes ≡ latest_writes run.writes → IsRefusalOf (written s changes) cause → IfOk r (λ revision. revision ≡ None) →
     OnOk r (cause ≢ OutOfMemory) → IfOk r (λ revision. revision ≡ revision_reached (applied_run (without_moment s) run))
 refused_revision (Ok revision) s run changes cause are is none other =
     none ∙ (reached_as s run changes (Err cause) are (refused_for (written s changes) cause is other)).0
 refused_revision (Err e) s run changes cause are is none other = tt
 
 pub refused_store : (r : Result (Option ℕ) AllocError) (s next : Standing) (run : Run) (changes : List Change) (cause : Refusal) →
-    changes ≡ map as_change (latest_writes run.writes) → IsRefusalOf (written s changes) cause → next ≡ s →
+    changes ≡ latest_writes run.writes → IsRefusalOf (written s changes) cause → next ≡ s →
     OnOk r (cause ≢ OutOfMemory) → OnOk r (next ≡ with_writes s run)
 refused_store (Ok revision) s next run changes cause are is same other =
     same ∙ (reached_as s run changes (Err cause) are (refused_for (written s changes) cause is other)).1

@@ -8,8 +8,7 @@ use Rattle.stm_outcome.specs.declared.advance.Expired.{Expired}
 use Rattle.stm_outcome.specs.declared.refusal.Refusal.{Refusal}
 use Rattle.stm_outcome.specs.declared.txn.Txn.{Txn}
 use Rattle.stm_outcome.specs.Terms.{most_operations}
-use Rattle.stm_txn.specs.Standing.{Standing, Setup, Step, transacted, granted, kept_alive, revoked, advanced}
-use Rattle.stm_txn.specs.Standing.{compaction_refusal, with_floor, floor_step}
+use Rattle.stm_txn.specs.Standing.{Standing, Setup, Step, transacted, granted, kept_alive, revoked, advanced, compaction_refusal, with_floor, floor_step}
 use Rattle.stm_entries.specs.declared.entry.Entry.{Entry}
 use Rattle.stm_entries.specs.declared.entry.Entry.TheVariants.{Foreign, Grant as GrantEntry, Renew, Revoke as RevokeEntry}
 use Rattle.stm_entries.specs.Replayed.{Replayed, without_moment}
@@ -24,7 +23,9 @@ use Rattle.stm_events.specs.declared.refusal.Denied.{Denied}
 use Rattle.stm_events.specs.declared.reply.Reply.{Reply}
 use Rattle.stm_events.specs.declared.reply.Reply.TheVariants as reply
 use Rattle.stm_events.specs.Replies.{reply_to, txn_reply, store_after_call, advance_reply}
-use Rattle.stm_events.proofs.Calls.{never_higher, txn_enters, grant_enters, keep_enters, revoke_enters, advance_enters}
+use Rattle.stm_events.specs.Called as call
+use Rattle.stm_events.proofs.CallMeans.{never_higher}
+use Rattle.stm_events.proofs.CallEnters.{call_enters}
 use Rattle.stm_texts.specs.Opens.{setup_of}
 use Rattle.stm_check.specs.declared.runner.Runner.{Runner}
 use Rattle.stm_check.specs.Runners.{running}
@@ -79,20 +80,20 @@ reply_legal s runners (event.Start program level limit) replied few right = tt
 reply_legal s runners (event.Step id) replied few right = commit_legal s (running id runners) replied right
 reply_legal s runners (event.Txn txn) replied few right =
     subst (λ (x : Result Reply Denied). AreLegal (txn_entries (now s.history) txn x) (without_moment s)) right
-    (subst (λ (es : List Entry). AreLegal es (without_moment s)) (sym (txn_reported s txn (transacted s txn) (is_transacted s txn))) (txn_enters s txn few).legal)
+    (subst (λ (es : List Entry). AreLegal es (without_moment s)) (sym (txn_reported s txn (transacted s txn) (is_transacted s txn))) (call_enters s (call.Txn txn) few).legal)
 reply_legal s runners (event.Grant id ttl) replied few right =
     subst (λ (x : Result Reply Denied). AreLegal (grant_entries id ttl s.moment x) (without_moment s)) right
-    (subst (λ (es : List Entry). AreLegal es (without_moment s)) (sym (grant_reported id ttl s.moment (granted s id ttl))) (grant_enters s id ttl).legal)
+    (subst (λ (es : List Entry). AreLegal es (without_moment s)) (sym (grant_reported id ttl s.moment (granted s id ttl))) (call_enters s (call.Grant id ttl) tt).legal)
 reply_legal s runners (event.Keep id) replied few right =
     subst (λ (x : Result Reply Denied). AreLegal (keep_entries id s.moment x) (without_moment s)) right
-    (subst (λ (es : List Entry). AreLegal es (without_moment s)) (sym (keep_reported id s.moment (kept_alive s id))) (keep_enters s id).legal)
+    (subst (λ (es : List Entry). AreLegal es (without_moment s)) (sym (keep_reported id s.moment (kept_alive s id))) (call_enters s (call.Keep id) tt).legal)
 reply_legal s runners (event.Revoke id) replied few right =
     subst (λ (x : Result Reply Denied). AreLegal (revoke_entries id x) (without_moment s)) right
-    (subst (λ (es : List Entry). AreLegal es (without_moment s)) (sym (revoke_reported id (revoked s id))) (revoke_enters s id).legal)
+    (subst (λ (es : List Entry). AreLegal es (without_moment s)) (sym (revoke_reported id (revoked s id))) (call_enters s (call.Revoke id) tt).legal)
 reply_legal s runners (event.Advance moment) replied few right =
     subst (λ (x : Result Reply Denied). AreLegal (advance_entries x) (without_moment s)) right
     (subst (λ (es : List Entry). AreLegal es (without_moment s))
-    (sym (advance_reported moment (advanced s moment).expired (advanced s moment).cause)) (advance_enters s moment).legal)
+    (sym (advance_reported moment (advanced s moment).expired (advanced s moment).cause)) (call_enters s (call.Advance moment) tt).legal)
 reply_legal s runners _ replied few right = tt
 
 -- ---- all lines

@@ -17,7 +17,7 @@ ghost use Rattle.stm_check.specs.Runs.{run_in, IsRunOn, IsFound, revision_reache
 use crate::lookups::{KeysNow, are_truly_reported, reads_reported};
 use crate::runner::Runner;
 use std::alloc::{AllocError, Global};
-use stm_compile::{ReadSet, WriteBuffer, changes_of};
+use stm_compile::{ReadSet, WriteBuffer};
 use stm_events::{CommittedRead, are_same_traces, are_same_values};
 use stm_history::{Sequence, Text};
 use stm_keys::Keys;
@@ -229,10 +229,7 @@ fn apply_writes(alloc: Global, store: &mut Store, run: &Run) -> Result<Option<u6
     ensures store { OnOk result (store.new.standing ≡ with_writes store.old.standing run.now) }
 {
     let latest = WriteBuffer::of(alloc, run.writes.as_slice())?;
-    let made = changes_of(alloc, &latest);
-    drop(latest);
-    let changes = made?;
-    match store.write(changes) {
+    match store.write(latest.into_changes()) {
         Ok(revision) => Ok(Some(revision)),
         Err(cause) => refused_writes(cause),
     }

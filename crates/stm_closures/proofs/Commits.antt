@@ -6,7 +6,7 @@ use Rattle.std.proofs.lemmas.List.Elements.{recursion_from_All}
 use Rattle.stm_history.specs.declared.key_state.ReadAnswer.{ReadAnswer}
 use Rattle.stm_history.specs.History.{History, key_now}
 use Rattle.stm_program.specs.declared.level.Level.{Level}
-use Rattle.stm_program.specs.declared.write.Write.{Write}
+use Rattle.stm_history.specs.declared.change.Change.{Change}
 use Rattle.stm_program.specs.Levels.{is_comparing}
 use Rattle.stm_outcome.specs.declared.txn.Txn.{Txn}
 use Rattle.stm_outcome.specs.declared.answer.FailedCompare.{FailedCompare}
@@ -55,7 +55,7 @@ are_true h [] shown = tt
 are_true h (a ∷ reads) (one, others) = (one.1, are_true h reads others)
 
 -- where none failed, what was read is what the keys hold
-pub is_committed : (s : Standing) (level : Level) (reads : List ReadAnswer) (writes : List Write) (step : Step TxnAnswer)
+pub is_committed : (s : Standing) (level : Level) (reads : List ReadAnswer) (writes : List Change) (step : Step TxnAnswer)
     → transacted s (commit_of level reads writes) ≡ Ok step → step.answer.failed ≡ None → All (IsShown s.history) reads
     → IsCommitted s level reads writes step.next
 is_committed s level reads writes step is none shown = record {
@@ -68,7 +68,7 @@ is_committed s level reads writes step is none shown = record {
       (failed_is s (commit_of level reads writes) step is ∙ none);
 }
 
-turned_down_by : (s : Standing) (level : Level) (reads : List ReadAnswer) (writes : List Write) (step : Step TxnAnswer) (failed : FailedCompare)
+turned_down_by : (s : Standing) (level : Level) (reads : List ReadAnswer) (writes : List Change) (step : Step TxnAnswer) (failed : FailedCompare)
     → transacted s (commit_of level reads writes) ≡ Ok step → step.answer.failed ≡ Some failed → step.next ≡ s
 turned_down_by s level reads writes step failed is f =
     let txn : Txn = commit_of level reads writes in
@@ -78,25 +78,25 @@ turned_down_by s level reads writes step failed is f =
     let same : turned_down s.history failed (reread_keys level reads) ≡ one.done = let both = sym down ∙ one.is_done in cc in
     sym (ap (λ (x : Step TxnAnswer). x.next) one.came) ∙ sym (ap (λ (x : Done). with_history s x.history) same)
 
-by_option : (s : Standing) (level : Level) (reads : List ReadAnswer) (writes : List Write) (step : Step TxnAnswer) (o : Option FailedCompare)
+by_option : (s : Standing) (level : Level) (reads : List ReadAnswer) (writes : List Change) (step : Step TxnAnswer) (o : Option FailedCompare)
     → transacted s (commit_of level reads writes) ≡ Ok step → step.answer.failed ≡ o → is_none o ≡ false → step.next ≡ s
 by_option s level reads writes step None is f none = absurd (cc)
 by_option s level reads writes step (Some failed) is f none = turned_down_by s level reads writes step failed is f
 
 -- where one failed, the store is as it was
-pub turned_down_leaves : (s : Standing) (level : Level) (reads : List ReadAnswer) (writes : List Write) (step : Step TxnAnswer)
+pub turned_down_leaves : (s : Standing) (level : Level) (reads : List ReadAnswer) (writes : List Change) (step : Step TxnAnswer)
     → transacted s (commit_of level reads writes) ≡ Ok step → is_none step.answer.failed ≡ false → step.next ≡ s
 turned_down_leaves s level reads writes step is none = by_option s level reads writes step step.answer.failed is refl none
 
 -- the same, of a transaction that is that of a commit
-pub is_committed_by : (s : Standing) (h : History) (level : Level) (reads : List ReadAnswer) (writes : List Write) (txn : Txn) (step : Step TxnAnswer)
+pub is_committed_by : (s : Standing) (h : History) (level : Level) (reads : List ReadAnswer) (writes : List Change) (txn : Txn) (step : Step TxnAnswer)
     → h ≡ s.history → txn ≡ commit_of level reads writes → transacted s txn ≡ Ok step → step.answer.failed ≡ None → All (IsShown h) reads
     → IsCommitted s level reads writes step.next
 is_committed_by s h level reads writes txn step of_store same is none shown =
     is_committed s level reads writes step (ap (λ (t : Txn). transacted s t) (sym same) ∙ is) none
     (subst (λ (k : History). All (IsShown k) reads) of_store shown)
 
-pub turned_down_leaves_by : (s : Standing) (level : Level) (reads : List ReadAnswer) (writes : List Write) (txn : Txn) (step : Step TxnAnswer)
+pub turned_down_leaves_by : (s : Standing) (level : Level) (reads : List ReadAnswer) (writes : List Change) (txn : Txn) (step : Step TxnAnswer)
     → txn ≡ commit_of level reads writes → transacted s txn ≡ Ok step → is_none step.answer.failed ≡ false → step.next ≡ s
 turned_down_leaves_by s level reads writes txn step same is none =
     turned_down_leaves s level reads writes step (ap (λ (t : Txn). transacted s t) (sym same) ∙ is) none

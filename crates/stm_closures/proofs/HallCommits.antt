@@ -5,7 +5,7 @@ use Rattle.std.proofs.lemmas.Bool.Decides.{nat_tests}
 use Rattle.stm_history.specs.declared.key_state.ReadAnswer.{ReadAnswer}
 use Rattle.stm_history.specs.History.{now}
 use Rattle.stm_program.specs.declared.level.Level.{Level}
-use Rattle.stm_program.specs.declared.write.Write.{Write}
+use Rattle.stm_history.specs.declared.change.Change.{Change}
 use Rattle.stm_outcome.specs.declared.txn.Txn.{Txn}
 use Rattle.stm_outcome.specs.declared.answer.TxnAnswer.{TxnAnswer}
 use Rattle.stm_outcome.specs.declared.refusal.Refusal.{Refusal}
@@ -48,7 +48,7 @@ gone_nowhere journal txn s is =
     in
     same ∙ no_entry ∙ ap (λ (es : List Entry). record journal { entries = es }) (append-nil journal.entries)
 
-pub turned_down_in_hall : (journal : JournalState) (level : Level) (reads : List ReadAnswer) (writes : List Write) (txn : Txn) (jstep : JournalStep TxnAnswer)
+pub turned_down_in_hall : (journal : JournalState) (level : Level) (reads : List ReadAnswer) (writes : List Change) (txn : Txn) (jstep : JournalStep TxnAnswer)
     → txn ≡ commit_of level reads writes → made journal txn ≡ Ok jstep → is_none jstep.answer.failed ≡ false → jstep.next ≡ journal
 turned_down_in_hall journal level reads writes txn jstep same is none =
     let it : Txn = commit_of level reads writes in
@@ -57,7 +57,7 @@ turned_down_in_hall journal level reads writes txn jstep same is none =
     sym (ap (λ (j : JournalStep TxnAnswer). j.next) one.came)
     ∙ gone_nowhere journal it one.step.next (turned_down_leaves journal.standing level reads writes one.step one.is_step failed)
 
-pub committed_in_hall : (journal : JournalState) (level : Level) (reads : List ReadAnswer) (writes : List Write) (txn : Txn) (jstep : JournalStep TxnAnswer)
+pub committed_in_hall : (journal : JournalState) (level : Level) (reads : List ReadAnswer) (writes : List Change) (txn : Txn) (jstep : JournalStep TxnAnswer)
     → txn ≡ commit_of level reads writes → made journal txn ≡ Ok jstep → jstep.answer.failed ≡ None → All (IsShown journal.standing.history) reads
     → IsCommittedInHall journal level reads writes jstep.next
 committed_in_hall journal level reads writes txn jstep same is none shown =

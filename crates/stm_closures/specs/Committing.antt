@@ -4,7 +4,7 @@ use Rattle.std.specs.Borrow.{MutBor}
 use denote.Param.Members.{Shared}
 use Rattle.stm_history.specs.declared.key_state.ReadAnswer.{ReadAnswer}
 use Rattle.stm_program.specs.declared.level.Level.{Level}
-use Rattle.stm_program.specs.declared.write.Write.{Write}
+use Rattle.stm_history.specs.declared.change.Change.{Change}
 use Rattle.stm_program.specs.Levels.{is_comparing, is_serializable}
 use Rattle.stm_outcome.specs.declared.answer.TxnAnswer.{TxnAnswer}
 use Rattle.stm_compile.specs.CommitTxn.{commit_of}
@@ -23,7 +23,7 @@ use Rattle.stm_closures.specs.declared.not_committed.NotCommitted.TheVariants.{C
 
 -- A commit that was made. The store's history shows all that was read. The store made the one transaction that compares what the level compares and writes
 -- the last writes, and no compare failed. So at a level that compares, each key that was read holds, by value and by modification revision, what was read.
-pub record IsCommitted (before : Standing) (level : Level) (reads : List ReadAnswer) (writes : List Write) (after : Standing) : Type 0 where
+pub record IsCommitted (before : Standing) (level : Level) (reads : List ReadAnswer) (writes : List Change) (after : Standing) : Type 0 where
   pub shown : All (IsShown before.history) reads
   pub answer : TxnAnswer
   pub is_made : transacted before (commit_of level reads writes) ≡ Ok record { answer = answer; next = after }
@@ -31,7 +31,7 @@ pub record IsCommitted (before : Standing) (level : Level) (reads : List ReadAns
   pub now_so : is_comparing level ≡ true → AreNow before.history reads
 
 -- in a hall it is an entry too, where it changed something
-pub record IsCommittedInHall (before : JournalState) (level : Level) (reads : List ReadAnswer) (writes : List Write) (after : JournalState) : Type 0 where
+pub record IsCommittedInHall (before : JournalState) (level : Level) (reads : List ReadAnswer) (writes : List Change) (after : JournalState) : Type 0 where
   pub committed : IsCommitted before.standing level reads writes after.standing
   pub entered : after ≡ gone_on before after.standing (if_changed before.standing after.standing (commit_of level reads writes))
 
@@ -53,7 +53,7 @@ module _ {F R E : Type 0} (g : Shared F (MutBor TransactionState × Unit {0}) (R
     pub ran : Returns g f (begun_after level again) r tx
 
   -- The closure returned this answer, and what it read and wrote was committed: `holds` is the store's commit.
-  pub record IsDone (holds : List ReadAnswer → List Write → Type 0) (answer : R) : Type 0 where
+  pub record IsDone (holds : List ReadAnswer → List Change → Type 0) (answer : R) : Type 0 where
     pub tx : TransactionState
     pub run : HasRun (Ok answer) tx
     pub one_revision : is_serializable level ≡ true → HaveOneBase tx.reads

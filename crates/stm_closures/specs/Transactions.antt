@@ -5,11 +5,11 @@
 -- revision is our own.
 use Rattle.std.specs.Prelude.{◌≡◌, ◌⊎◌, ◌≤◌, ℕ, Bool, true, ◌==◌, nat_eq, nat_lt, if◌then◌else◌, List, [], ◌∷◌, ◌++◌, Option, None, Some}
 use Rattle.stm_history.specs.declared.key_state.ReadAnswer.{ReadAnswer}
-use Rattle.stm_history.specs.History.{value_of, mod_of}
+use Rattle.stm_history.specs.History.{value_of, mod_of, value_written}
 use Rattle.stm_program.specs.declared.level.Level.{Level}
-use Rattle.stm_program.specs.declared.write.Write.{Write}
+use Rattle.stm_history.specs.declared.change.Change.{Change}
 use Rattle.stm_program.specs.Levels.{is_serializable}
-use Rattle.stm_program.specs.Writes.{last_write, latest_writes, value_of as value_written}
+use Rattle.stm_program.specs.Writes.{last_write, latest_writes}
 use Rattle.stm_compile.specs.Answers.{answer_in}
 use Rattle.stm_attempt.specs.Fetches.{at_of}
 use Rattle.stm_closures.specs.TransactionState.{TransactionState}
@@ -53,7 +53,7 @@ begun_after level again = record { level = level; reads = []; again = kept_at le
 abbrev pub with_read : TransactionState → ReadAnswer → TransactionState
 with_read t a = record t { reads = t.reads ++ a ∷ [] }
 
-abbrev pub with_write : TransactionState → Write → TransactionState
+abbrev pub with_write : TransactionState → Change → TransactionState
 with_write t w = record t { writes = latest_writes (t.writes ++ w ∷ []) }
 
 -- what the fetch of a key by this transaction answers
@@ -91,7 +91,7 @@ mod_answered None = 0
 mod_answered (Some a) = mod_of a.kv
 
 -- what `get` answers of a key: the last write of it, or else what is read of it
-abbrev pub GetsAs : Option Write → List ℕ → TransactionState → TransactionState → List ℕ → Type 0
+abbrev pub GetsAs : Option Change → List ℕ → TransactionState → TransactionState → List ℕ → Type 0
 GetsAs (Some w) key t t' value = (value ≡ value_written w) × (t' ≡ t)
 GetsAs None key t t' value = (value ≡ value_answered (answer_in key t'.reads)) × HasRead key t t'
 

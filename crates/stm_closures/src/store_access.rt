@@ -2,7 +2,7 @@
 ghost use Rattle.std.specs.Prelude.{◌≡◌, ◌+◌, ◌≤◌, ℕ, List, IfOk};
 ghost use Rattle.stm_history.specs.declared.key_state.ReadAnswer.{ReadAnswer as Answer};
 ghost use Rattle.stm_program.specs.declared.level.Level.{Level as LevelOf};
-ghost use Rattle.stm_program.specs.declared.write.Write.{Write as WriteOf};
+ghost use Rattle.stm_history.specs.declared.change.Change.{Change as ChangeOf};
 ghost use Rattle.stm_outcome.specs.Numbers.{ReadFits};
 ghost use Rattle.stm_closures.specs.Transactions.{IsFetched};
 ghost use Rattle.stm_closures.specs.Outcomes.{CommitReturns};
@@ -36,7 +36,7 @@ pub enum CommitOutcome {
 /// Where a transaction is committed.
 pub trait Commit {
     /// A commit that was made of these reads and writes at this level, from a first state to a second one.
-    ghost holds: { Self → LevelOf → List Answer → List WriteOf → Self → Type 0 };
+    ghost holds: { Self → LevelOf → List Answer → List ChangeOf → Self → Type 0 };
 
     /// Nothing was committed between two states.
     ghost is_left: { Self → Self → Type 0 };
@@ -59,5 +59,5 @@ pub trait Commit {
 
     ghost left_again: { (a b c : Self) → is_left a b → is_left b c → is_left a c };
 
-    ghost holds_from_before: { (a b c : Self) (level : LevelOf) (reads : List Answer) (writes : List WriteOf) → is_left a b → holds b level reads writes c → holds a level reads writes c };
+    ghost holds_from_before: { (a b c : Self) (level : LevelOf) (reads : List Answer) (writes : List ChangeOf) → is_left a b → holds b level reads writes c → holds a level reads writes c };
 }

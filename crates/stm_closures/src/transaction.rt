@@ -1,7 +1,7 @@
 //! A transaction, as its closure sees it.
 ghost use Rattle.std.specs.Prelude.{◌≡◌, ◌≤◌, true, None as NoneOf, IfOk, IfSome, OnOk, OnErr};
 ghost use Rattle.stm_program.specs.Levels.{is_serializable};
-ghost use Rattle.stm_program.specs.declared.write.Write.TheVariants.{Put, Del};
+ghost use Rattle.stm_history.specs.declared.change.Change.TheVariants.{Put, Del};
 ghost use Rattle.stm_compile.specs.Answers.{answer_in};
 ghost use Rattle.stm_outcome.specs.Numbers.{ReadFits};
 ghost use Rattle.stm_attempt.specs.Fetches.{HaveOneBase};

@@ -7,7 +7,7 @@ use Rattle.stm_history.specs.History.{History, now, key_now, key_at}
 use Rattle.stm_history.specs.Cut.{cut}
 use Rattle.stm_history.proofs.CutLaws.{cut_keeps_now}
 use Rattle.stm_program.specs.declared.level.Level.{Level}
-use Rattle.stm_program.specs.declared.write.Write.{Write}
+use Rattle.stm_history.specs.declared.change.Change.{Change}
 use Rattle.stm_program.specs.Writes.{latest_writes}
 use Rattle.stm_steps.specs.declared.run.Run.{Run}
 use Rattle.stm_outcome.specs.declared.answer.OpAnswer.{OpAnswer}
@@ -20,7 +20,6 @@ use Rattle.stm_outcome.specs.Compares.{first_failed}
 use Rattle.stm_outcome.specs.Outcome.{Done, outcome}
 use Rattle.stm_outcome.specs.Commits.{shown, reads_now}
 use Rattle.stm_txn.specs.Standing.{Standing, kept, terms_of, with_history}
-use Rattle.stm_compile.specs.Now.{as_change}
 use Rattle.stm_compile.specs.Answers.{answer_now}
 use Rattle.stm_compile.specs.CommitTxn.{compares_of, reread_keys}
 use Rattle.stm_compile.specs.Committed.{sends_too_many, conflict_now, judged, committed}
@@ -66,7 +65,7 @@ down failed answers counter h = Ok record { answer = record { succeeded = false;
 
 module _ (terms : Terms) (reached : terms.floor ≤ now terms.history) (level : Level) (reads : List ReadAnswer) (run : Run) where
   judged_kept : (o : Option FailedCompare) → judged (kept_terms terms) level reads run o ≡ kept_done terms.floor (judged terms level reads run o)
-  judged_kept None = applied_kept terms reached (map as_change (latest_writes run.writes))
+  judged_kept None = applied_kept terms reached (latest_writes run.writes)
   judged_kept (Some failed) =
       let g : History = cut (terms.floor - 1) terms.history in
       let alike : IsAlike terms.floor g terms.history = cut_is_alike terms.floor terms.history reached in
@@ -81,7 +80,7 @@ module _ (terms : Terms) (reached : terms.floor ≤ now terms.history) (level : 
 
   pub committed_kept : committed (kept_terms terms) level reads run ≡ kept_done terms.floor (committed terms level reads run)
   committed_kept =
-      let writes : List Write = latest_writes run.writes in
+      let writes : List Change = latest_writes run.writes in
       let many : Bool = sends_too_many terms.limit level reads writes in
       ap (λ (state : List ℕ → Option KeyState).
       cond many (Err TooManyOps) (judged (kept_terms terms) level reads run (first_failed state 0 (compares_of level reads writes))))
@@ -91,7 +90,7 @@ module _ (terms : Terms) (reached : terms.floor ≤ now terms.history) (level : 
 judged_grows : (terms : Terms) (level : Level) (reads : List ReadAnswer) (run : Run) (many : Bool) (o : Option FailedCompare) →
     Grows terms.history (cond many (Err TooManyOps) (judged terms level reads run o))
 judged_grows terms level reads run true o = tt
-judged_grows terms level reads run false None = applied_grows terms (map as_change (latest_writes run.writes))
+judged_grows terms level reads run false None = applied_grows terms (latest_writes run.writes)
 judged_grows terms level reads run false (Some failed) = omega arith
 
 pub committed_grows : (terms : Terms) (level : Level) (reads : List ReadAnswer) (run : Run) → Grows terms.history (committed terms level reads run)

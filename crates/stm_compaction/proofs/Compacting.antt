@@ -1,6 +1,5 @@
 -- A compaction of a store that has dropped revisions before comes to what one of the whole store comes to.
-use Rattle.std.proofs.Common.{◌≡◌, ℕ, ◌-◌, ◌≤◌, ◌<◌, Bool, true, false, cond, List, [], ◌∷◌, Option, Some, None, option_map, refl, ◌∙◌, ap}
-use Rattle.std.proofs.Common.{arith}
+use Rattle.std.proofs.Common.{◌≡◌, ℕ, ◌-◌, ◌≤◌, ◌<◌, Bool, true, false, cond, List, [], ◌∷◌, Option, Some, None, option_map, refl, ◌∙◌, ap, arith}
 use Rattle.std.specs.Prelude.{nat_le, nat_lt, ◌||◌, max, IfSome, Result, Ok}
 use Rattle.std.proofs.lemmas.Bool.{leb-false, ltb-false}
 use Rattle.stm_history.specs.History.{History, now}

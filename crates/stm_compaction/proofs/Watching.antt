@@ -18,8 +18,7 @@ use Rattle.stm_watch.specs.Pending.{pending, first_pending, pending_events, last
 use Rattle.stm_watch.specs.Places.{is_lost}
 use Rattle.stm_watch.specs.Calls.{watcher_at, Step as WatchStep, watch, poll_found, poll}
 use Rattle.stm_watch.proofs.CutNotifying.{followed_cut}
-use Rattle.stm_txn.specs.Standing.{Standing, kept, watch_step, watched, poll_step, polled, cancel_step, cancelled}
-use Rattle.stm_txn.specs.Standing.{IsKeptFor, AreKeptFor, HasKept}
+use Rattle.stm_txn.specs.Standing.{Standing, kept, watch_step, watched, poll_step, polled, cancel_step, cancelled, IsKeptFor, AreKeptFor, HasKept}
 use Rattle.stm_compaction.specs.Kept.{kept_step}
 use Rattle.stm_compaction.proofs.Alike.{cut_is_alike}
 use Rattle.stm_compaction.proofs.Calls.{HasReached}

@@ -5,12 +5,10 @@ use Rattle.std.specs.List.{AllByRecursion}
 use Rattle.std.proofs.lemmas.List.Elements.{All-from_recursion, recursion_from_All}
 use Rattle.stm_history.specs.declared.change.Change.{Change}
 use Rattle.stm_history.specs.declared.key_state.ReadAnswer.{ReadAnswer}
-use Rattle.stm_history.specs.History.{History, now, add_revision, key_now, key_at, mod_of, IsTrueAnswer}
+use Rattle.stm_history.specs.History.{History, now, add_revision, key_now, key_at, mod_of, IsTrueAnswer, key_of}
 use Rattle.stm_history.proofs.HistoryLaws.{older_revisions_stay, last_revision_is_now, same_mod_means_same_state}
 use Rattle.stm_program.specs.declared.level.Level.{Level}
 use Rattle.stm_program.specs.declared.level.Level.TheVariants.{SerializableSnapshot, Serializable, RepeatableReads, ReadCommitted}
-use Rattle.stm_program.specs.declared.write.Write.{Write}
-use Rattle.stm_program.specs.Writes.{key_of}
 use Rattle.stm_program.proofs.WriteLemmas.{bytes_eq-same}
 use Rattle.stm_meaning.specs.Answer.{Answer, Lookup}
 use Rattle.stm_meaning.specs.Laws.{AgreesWith, IsContinuedBy}
@@ -115,7 +113,7 @@ reads_alone : (h : History) (reads : List ReadAnswer) → AreTrue h reads → fi
     AreOf (state_now h) reads
 reads_alone h reads t none = unchanged_reads h reads [] 0 t (ap (first_failed (key_now h) 0) (append_none (map is_as_read reads)) ∙ none)
 
-reads_are_now : (h : History) (level : Level) (reads : List ReadAnswer) (writes : List Write) → is_comparing level ≡ true → AreTrue h reads →
+reads_are_now : (h : History) (level : Level) (reads : List ReadAnswer) (writes : List Change) → is_comparing level ≡ true → AreTrue h reads →
     conflict_now h level reads writes ≡ None → AreOf (state_now h) reads
 reads_are_now h SerializableSnapshot reads writes compares t none = unchanged_reads h reads _ 0 t none
 reads_are_now h Serializable reads writes compares t none = reads_alone h reads t none
@@ -146,8 +144,8 @@ commit_is_the_run_now h level reads writes program run compares t ended none =
 -- ---- keys that are written
 
 -- where no compare of the keys written fails, none of them is modified above `first`
-unmodified_writes : (h : History) (first : ℕ) (writes : List Write) (i : ℕ) → first_failed (key_now h) i (map (is_unmodified first) writes) ≡ None →
-    AllByRecursion (λ (w : Write). mod_of (key_now h (key_of w)) ≤ first) writes
+unmodified_writes : (h : History) (first : ℕ) (writes : List Change) (i : ℕ) → first_failed (key_now h) i (map (is_unmodified first) writes) ≡ None →
+    AllByRecursion (λ (w : Change). mod_of (key_now h (key_of w)) ≤ first) writes
 unmodified_writes h first [] i none = tt
 unmodified_writes h first (w ∷ writes) i none =
     let parts = next_holds (holds (is_unmodified first w) (key_now h (key_of w))) (record { index = i; mod_rev = mod_of (key_now h (key_of w)) })
@@ -166,5 +164,5 @@ after_reads h (a ∷ reads) others i none =
 pub written_keys_are_unmodified : WrittenKeysAreUnmodified
 written_keys_are_unmodified h reads writes none =
     let behind = after_reads h reads (map (is_unmodified (first_carried reads)) writes) 0 none in
-    All-from_recursion (λ (w : Write). mod_of (key_now h (key_of w)) ≤ first_carried reads) writes
+    All-from_recursion (λ (w : Change). mod_of (key_now h (key_of w)) ≤ first_carried reads) writes
     (unmodified_writes h (first_carried reads) writes behind.0 behind.1)

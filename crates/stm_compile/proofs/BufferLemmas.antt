@@ -7,25 +7,26 @@ use Rattle.std.proofs.lemmas.Option.{same_Some}
 use Rattle.std.proofs.lemmas.Iterator.Adapters.{position_from-zero}
 use Rattle.std.specs.Prelude.{bytes_eq, ◌||◌, not, is_some}
 use Rattle.std.specs.List.{IsDistinct, AllByRecursion, position, position_from}
-use Rattle.stm_program.specs.declared.write.Write.{Write}
-use Rattle.stm_program.specs.Writes.{key_of, last_write, is_written, latest_of, latest_after, latest_writes}
+use Rattle.stm_history.specs.declared.change.Change.{Change}
+use Rattle.stm_history.specs.History.{key_of}
+use Rattle.stm_program.specs.Writes.{last_write, is_written, latest_of, latest_after, latest_writes}
 use Rattle.stm_program.proofs.WriteLemmas.{bytes_eq-flip, last_write-none, last_write-append, last_write-one, is_written-more, or_else}
 use Rattle.stm_program.proofs.LatestLemmas.{with_write, latest_writes-more, latest_writes-distinct}
 
 -- ---- writes of distinct keys
 
 -- a key that none of these is
-abbrev IsNew : List ℕ → List Write → Type 0
+abbrev IsNew : List ℕ → List Change → Type 0
 IsNew key ws = AllByRecursion (λ k. bytes_eq key k ≡ false) (map key_of ws)
 
 -- no write of a new key is found
-new_unwritten : (key : List ℕ) (ws : List Write) → IsNew key ws → last_write key ws ≡ None
+new_unwritten : (key : List ℕ) (ws : List Change) → IsNew key ws → last_write key ws ≡ None
 new_unwritten key [] new = last_write-none key
 new_unwritten key (w ∷ ws) new =
     last_write-append key (w ∷ []) ws ∙ ap (λ o. or_else o (last_write key (w ∷ []))) (new_unwritten key ws new.1)
     ∙ last_write-one key w ∙ ap (λ b. cond b (Some w) None) (bytes_eq-flip (key_of w) key ∙ new.0)
 
-latest_of-alone : (earlier later : List Write) (w : Write) → is_written (key_of w) earlier ≡ false → last_write (key_of w) later ≡ None →
+latest_of-alone : (earlier later : List Change) (w : Change) → is_written (key_of w) earlier ≡ false → last_write (key_of w) later ≡ None →
     latest_of earlier w later ≡ w ∷ []
 latest_of-alone earlier later w unwritten alone = rw (unwritten, alone) refl
 
@@ -34,7 +35,7 @@ neither true b p q = p
 neither false b p q = q
 
 -- these keys stay unwritten by one write more of another key
-unwritten_more : (earlier : List Write) (w : Write) (ws : List Write) → IsNew (key_of w) ws → AllByRecursion (λ v. is_written (key_of v) earlier ≡ false) ws →
+unwritten_more : (earlier : List Change) (w : Change) (ws : List Change) → IsNew (key_of w) ws → AllByRecursion (λ v. is_written (key_of v) earlier ≡ false) ws →
     AllByRecursion (λ v. is_written (key_of v) (earlier ++ w ∷ []) ≡ false) ws
 unwritten_more earlier w [] new unwritten = tt
 unwritten_more earlier w (v ∷ ws) new unwritten = (
@@ -42,7 +43,7 @@ unwritten_more earlier w (v ∷ ws) new unwritten = (
   unwritten_more earlier w ws new.1 unwritten.1,
 )
 
-latest_of-distinct : (earlier ws : List Write) → IsDistinct bytes_eq (map key_of ws) → AllByRecursion (λ v. is_written (key_of v) earlier ≡ false) ws →
+latest_of-distinct : (earlier ws : List Change) → IsDistinct bytes_eq (map key_of ws) → AllByRecursion (λ v. is_written (key_of v) earlier ≡ false) ws →
     latest_after earlier ws ≡ ws
 unfolding IsDistinct
 latest_of-distinct earlier [] distinct unwritten = refl
@@ -51,24 +52,24 @@ latest_of-distinct earlier (w ∷ ws) distinct unwritten =
     (latest_of-alone earlier ws w unwritten.0 (new_unwritten (key_of w) ws distinct.0))
     ∙ ap (λ l. w ∷ l) (latest_of-distinct (earlier ++ w ∷ []) ws distinct.1 (unwritten_more earlier w ws distinct.0 unwritten.1))
 
-nothing_written : (ws : List Write) → AllByRecursion (λ v. is_written (key_of v) [] ≡ false) ws
+nothing_written : (ws : List Change) → AllByRecursion (λ v. is_written (key_of v) [] ≡ false) ws
 nothing_written [] = tt
-nothing_written (w ∷ ws) = (ap (λ (o : Option Write). is_some o) (last_write-none (key_of w)), nothing_written ws)
+nothing_written (w ∷ ws) = (ap (λ (o : Option Change). is_some o) (last_write-none (key_of w)), nothing_written ws)
 
 -- writes of distinct keys are the latest ones
-pub latest_of_distinct : (ws : List Write) → IsDistinct bytes_eq (map key_of ws) → latest_writes ws ≡ ws
+pub latest_of_distinct : (ws : List Change) → IsDistinct bytes_eq (map key_of ws) → latest_writes ws ≡ ws
 unfolding latest_writes
 latest_of_distinct ws distinct = latest_of-distinct [] ws distinct (nothing_written ws)
 
 -- one write more on the latest writes is one write more
-pub latest_and_more : (ws : List Write) (w : Write) → latest_writes (latest_writes ws ++ w ∷ []) ≡ latest_writes (ws ++ w ∷ [])
+pub latest_and_more : (ws : List Change) (w : Change) → latest_writes (latest_writes ws ++ w ∷ []) ≡ latest_writes (ws ++ w ∷ [])
 latest_and_more ws w =
     latest_writes-more (latest_writes ws) w
     ∙ ap (with_write w) (latest_of_distinct (latest_writes ws) (latest_writes-distinct ws))
     ∙ sym (latest_writes-more ws w)
 
 -- the buffer of one write more
-pub buffer_taken : (ws : List Write) (i : ℕ) (w copy : Write) (old new : List Write) → i < length ws → w ≡ get_or ws i w → copy ≡ w →
+pub buffer_taken : (ws : List Change) (i : ℕ) (w copy : Change) (old new : List Change) → i < length ws → w ≡ get_or ws i w → copy ≡ w →
     new ≡ latest_writes (old ++ copy ∷ []) → old ≡ latest_writes (take i ws) → new ≡ latest_writes (take (i + 1) ws)
 buffer_taken ws i w copy old new below at same made so_far =
     let next : suc i ≡ i + 1 = omega arith in
@@ -79,10 +80,10 @@ buffer_taken ws i w copy old new below at same made so_far =
 -- ---- a write at its place
 
 -- the write at this place, counted from j, is replaced by the new one
-abbrev IsPlaced : Write → List Write → ℕ → ℕ → Type 0
+abbrev IsPlaced : Change → List Change → ℕ → ℕ → Type 0
 IsPlaced w ws j i = (k : ℕ) × (i ≡ j + k) × (k < length ws) × (with_write w ws ≡ set ws k w)
 
-placed_from : (w : Write) (ws : List Write) (j i : ℕ) → position_from (λ x. bytes_eq (key_of x) (key_of w)) j ws ≡ Some i → IsPlaced w ws j i
+placed_from : (w : Change) (ws : List Change) (j i : ℕ) → position_from (λ x. bytes_eq (key_of x) (key_of w)) j ws ≡ Some i → IsPlaced w ws j i
 placed_from w [] j i found = absurd (cc)
 placed_from w (x ∷ ws) j i found = by (bytes_eq (key_of x) (key_of w)) (bytes_eq-flip (key_of w) (key_of x)) (placed_from w ws (j + 1) i) found
   where
@@ -96,7 +97,7 @@ placed_from w (x ∷ ws) j i found = by (bytes_eq (key_of x) (key_of w)) (bytes_
         let r : IsPlaced w ws (j + 1) i = rest at in
         (suc r.0, omega (arith, r.1), omega (arith, r.2), ap (λ b. cond b (w ∷ ws) (x ∷ with_write w ws)) other ∙ ap (λ l. x ∷ l) r.3)
 
-new_from : (w : Write) (ws : List Write) (j : ℕ) → position_from (λ x. bytes_eq (key_of x) (key_of w)) j ws ≡ None → with_write w ws ≡ ws ++ w ∷ []
+new_from : (w : Change) (ws : List Change) (j : ℕ) → position_from (λ x. bytes_eq (key_of x) (key_of w)) j ws ≡ None → with_write w ws ≡ ws ++ w ∷ []
 new_from w [] j none = refl
 new_from w (x ∷ ws) j none = by (bytes_eq (key_of x) (key_of w)) (bytes_eq-flip (key_of w) (key_of x)) (new_from w ws (j + 1)) none
   where
@@ -107,11 +108,11 @@ new_from w (x ∷ ws) j none = by (bytes_eq (key_of x) (key_of w)) (bytes_eq-fli
     by false other rest none = ap (λ b. cond b (w ∷ ws) (x ∷ with_write w ws)) other ∙ ap (λ l. x ∷ l) (rest none)
 
 -- one write more of writes of distinct keys
-more_of_distinct : (w : Write) (ws : List Write) → IsDistinct bytes_eq (map key_of ws) → with_write w ws ≡ latest_writes (ws ++ w ∷ [])
+more_of_distinct : (w : Change) (ws : List Change) → IsDistinct bytes_eq (map key_of ws) → with_write w ws ≡ latest_writes (ws ++ w ∷ [])
 more_of_distinct w ws distinct = ap (with_write w) (sym (latest_of_distinct ws distinct)) ∙ sym (latest_writes-more ws w)
 
 -- in the place of its key's
-pub replaced_write : (w : Write) (ws : List Write) (i : ℕ) → IsDistinct bytes_eq (map key_of ws) →
+pub replaced_write : (w : Change) (ws : List Change) (i : ℕ) → IsDistinct bytes_eq (map key_of ws) →
     position (λ x. bytes_eq (key_of x) (key_of w)) ws ≡ Some i → (i < length ws) × (set ws i w ≡ latest_writes (ws ++ w ∷ []))
 replaced_write w ws i distinct found =
     let placed : IsPlaced w ws 0 i =
@@ -122,23 +123,23 @@ replaced_write w ws i distinct found =
     )
 
 -- or at the end
-pub added_write : (w : Write) (ws : List Write) → IsDistinct bytes_eq (map key_of ws) →
+pub added_write : (w : Change) (ws : List Change) → IsDistinct bytes_eq (map key_of ws) →
     position (λ x. bytes_eq (key_of x) (key_of w)) ws ≡ None → ws ++ w ∷ [] ≡ latest_writes (ws ++ w ∷ [])
 added_write w ws distinct none =
     sym (new_from w ws 0 (sym (position_from-zero (λ x. bytes_eq (key_of x) (key_of w)) ws) ∙ none)) ∙ more_of_distinct w ws distinct
 
 -- the latest writes are of distinct keys
-pub distinct_latest : (ws latest : List Write) → latest ≡ latest_writes ws → IsDistinct bytes_eq (map key_of latest)
-distinct_latest ws latest same = subst (λ (l : List Write). IsDistinct bytes_eq (map key_of l)) (sym same) (latest_writes-distinct ws)
+pub distinct_latest : (ws latest : List Change) → latest ≡ latest_writes ws → IsDistinct bytes_eq (map key_of latest)
+distinct_latest ws latest same = subst (λ (l : List Change). IsDistinct bytes_eq (map key_of l)) (sym same) (latest_writes-distinct ws)
 
-pub distinct_none : (ws : List Write) → ws ≡ [] → IsDistinct bytes_eq (map key_of ws)
+pub distinct_none : (ws : List Change) → ws ≡ [] → IsDistinct bytes_eq (map key_of ws)
 unfolding IsDistinct
-distinct_none ws none = subst (λ (l : List Write). IsDistinct bytes_eq (map key_of l)) (sym none) tt
+distinct_none ws none = subst (λ (l : List Change). IsDistinct bytes_eq (map key_of l)) (sym none) tt
 
 -- ---- whether writes are of distinct keys
 
 -- a key that none of these writes has is new among theirs
-new_among : (key : List ℕ) (ws : List Write) (j : ℕ) → position_from (λ w. bytes_eq (key_of w) key) j ws ≡ None → IsNew key ws
+new_among : (key : List ℕ) (ws : List Change) (j : ℕ) → position_from (λ w. bytes_eq (key_of w) key) j ws ≡ None → IsNew key ws
 new_among key [] j none = tt
 new_among key (w ∷ ws) j none = by (bytes_eq (key_of w) key) (bytes_eq-flip key (key_of w)) (new_among key ws (j + 1)) none
   where
@@ -147,7 +148,7 @@ new_among key (w ∷ ws) j none = by (bytes_eq (key_of w) key) (bytes_eq-flip ke
     by true same rest none = absurd (cc)
     by false other rest none = (other, rest none)
 
-apart_from : (w : Write) (ws : List Write) → position (λ v. bytes_eq (key_of v) (key_of w)) ws ≡ None → IsDistinct bytes_eq (map key_of ws) →
+apart_from : (w : Change) (ws : List Change) → position (λ v. bytes_eq (key_of v) (key_of w)) ws ≡ None → IsDistinct bytes_eq (map key_of ws) →
     IsDistinct bytes_eq (map key_of (w ∷ ws))
 unfolding IsDistinct
 apart_from w ws none distinct = (
@@ -156,22 +157,22 @@ apart_from w ws none distinct = (
 )
 
 -- the first write and the others
-split : (ws : List Write) (first : Write) → 1 ≤ length ws → first ≡ get_or ws 0 first → first ∷ take (length ws - 1) (drop 1 ws) ≡ ws
+split : (ws : List Change) (first : Change) → 1 ≤ length ws → first ≡ get_or ws 0 first → first ∷ take (length ws - 1) (drop 1 ws) ≡ ws
 split [] first some is = absurd (omega arith)
 split (w ∷ ws) first some is =
     let rest : take (length (w ∷ ws) - 1) (drop 1 (w ∷ ws)) ≡ ws = take_rest (w ∷ ws) 1 in
     λ i. is i ∷ rest i
 
 -- the first write is of no other's key, and the others are of distinct keys
-pub apart_with_first : (ws : List Write) (first : Write) (key : List ℕ) → 1 ≤ length ws → first ≡ get_or ws 0 first → key ≡ key_of first →
+pub apart_with_first : (ws : List Change) (first : Change) (key : List ℕ) → 1 ≤ length ws → first ≡ get_or ws 0 first → key ≡ key_of first →
     position (λ v. bytes_eq (key_of v) key) (take (length ws - 1) (drop 1 ws)) ≡ None →
     IsDistinct bytes_eq (map key_of (take (length ws - 1) (drop 1 ws))) → IsDistinct bytes_eq (map key_of ws)
 apart_with_first ws first key some is same none distinct =
-    let rest : List Write = take (length ws - 1) (drop 1 ws) in
-    subst (λ (l : List Write). IsDistinct bytes_eq (map key_of l)) (split ws first some is)
+    let rest : List Change = take (length ws - 1) (drop 1 ws) in
+    subst (λ (l : List Change). IsDistinct bytes_eq (map key_of l)) (split ws first some is)
     (apart_from first rest (ap (λ (k : List ℕ). position (λ v. bytes_eq (key_of v) k) rest) (sym same) ∙ none) distinct)
 
-pub apart_where_none : (ws : List Write) → length ws < 1 → IsDistinct bytes_eq (map key_of ws)
+pub apart_where_none : (ws : List Change) → length ws < 1 → IsDistinct bytes_eq (map key_of ws)
 unfolding IsDistinct
 apart_where_none [] short = tt
 apart_where_none (w ∷ ws) short = absurd (omega arith)

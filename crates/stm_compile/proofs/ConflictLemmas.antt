@@ -8,11 +8,9 @@ use Rattle.stm_history.specs.declared.change.Change.{Change}
 use Rattle.stm_history.specs.declared.key_state.KeyState.{KeyState}
 use Rattle.stm_history.specs.declared.key_state.ReadAnswer.{ReadAnswer}
 use Rattle.stm_history.specs.Opening.{Opening, opened_state}
-use Rattle.stm_history.specs.History.{History, key_now, key_at, key_after, mod_of, number_of_last, change_of, revisions_up_to, after_change, IsTrueAnswer}
+use Rattle.stm_history.specs.History.{History, key_now, key_at, key_after, mod_of, number_of_last, change_of, revisions_up_to, after_change, IsTrueAnswer, key_of}
 use Rattle.stm_history.proofs.HistoryLaws.{one_more, mod_is_reached}
 use Rattle.stm_program.specs.declared.level.Level.TheVariants.{SerializableSnapshot, Serializable, RepeatableReads, ReadCommitted}
-use Rattle.stm_program.specs.declared.write.Write.{Write}
-use Rattle.stm_program.specs.Writes.{key_of}
 use Rattle.stm_outcome.specs.declared.txn.Compare.{Compare}
 use Rattle.stm_outcome.specs.declared.answer.FailedCompare.{FailedCompare}
 use Rattle.stm_outcome.specs.Compares.{holds}
@@ -107,17 +105,17 @@ record IsOfRead (h : History) (c : Compare) (seen : Option Seen) : Type 0 where
   stands : seen ≡ Some (seen_of_read answer)
 
 record IsOfWrite (first : ℕ) (c : Compare) (seen : Option Seen) : Type 0 where
-  write : Write
+  write : Change
   compares : c ≡ is_unmodified first write
   stands : seen ≡ Some (seen_of_write first write)
 
-of_write : (first : ℕ) (ws : List Write) (i : ℕ) (c : Compare) → slice_get (map (is_unmodified first) ws) i ≡ Some c →
+of_write : (first : ℕ) (ws : List Change) (i : ℕ) (c : Compare) → slice_get (map (is_unmodified first) ws) i ≡ Some c →
     IsOfWrite first c (slice_get (map (seen_of_write first) ws) i)
 of_write first [] i c at = absurd (cc)
 of_write first (w ∷ ws) zero c at = record { write = w; compares = same_Some c (is_unmodified first w) (sym at); stands = refl }
 of_write first (w ∷ ws) (suc i) c at = of_write first ws i c at
 
-of_either : (h : History) (first : ℕ) (reads : List ReadAnswer) (ws : List Write) (i : ℕ) (c : Compare) → AreTrue h reads →
+of_either : (h : History) (first : ℕ) (reads : List ReadAnswer) (ws : List Change) (i : ℕ) (c : Compare) → AreTrue h reads →
     slice_get (map is_as_read reads ++ map (is_unmodified first) ws) i ≡ Some c →
     IsOfRead h c (slice_get (map seen_of_read reads ++ map (seen_of_write first) ws) i)
     ⊎ IsOfWrite first c (slice_get (map seen_of_read reads ++ map (seen_of_write first) ws) i)
@@ -140,7 +138,7 @@ read_changed h a t fails = changed_since h a.of_rev a.key (λ same.
     (mod_compares.equal a.key (mod_of a.kv) (key_now h a.key)).1 (same ∙ ap mod_of t.shown) in
     absurd (cc))
 
-write_modified : (h : History) (first : ℕ) (w : Write) → holds (is_unmodified first w) (key_now h (key_of w)) ≡ false →
+write_modified : (h : History) (first : ℕ) (w : Change) → holds (is_unmodified first w) (key_now h (key_of w)) ≡ false →
     IsChangedAbove h first (key_of w)
 write_modified h first w fails = modified_above h.opening first (key_of w) h.revisions (by (nat_lt first (mod_of (key_now h (key_of w)))) refl)
   where
@@ -152,7 +150,7 @@ write_modified h first w fails = modified_above h.opening first (key_of w) h.rev
         (mod_compares.below (key_of w) (first + 1) (key_now h (key_of w))).1 (omega (arith, within)) in
         absurd (cc)
 
-read_conflicts : (h : History) (reads : List ReadAnswer) (ws : List Write) (failed : FailedCompare) (c : Compare) →
+read_conflicts : (h : History) (reads : List ReadAnswer) (ws : List Change) (failed : FailedCompare) (c : Compare) →
     holds c (key_now h c.key) ≡ false → failed.mod_rev ≡ mod_of (key_now h c.key) → IsOfRead h c (slice_get (seen_by reads ws) failed.index) →
     IsConflict h reads ws failed
 read_conflicts h reads ws failed c fails reported of = record {
@@ -162,7 +160,7 @@ read_conflicts h reads ws failed c fails reported of = record {
   changed = read_changed h of.answer of.is_true (subst (λ (d : Compare). holds d (key_now h d.key) ≡ false) of.compares fails);
 }
 
-write_conflicts : (h : History) (reads : List ReadAnswer) (ws : List Write) (failed : FailedCompare) (c : Compare) →
+write_conflicts : (h : History) (reads : List ReadAnswer) (ws : List Change) (failed : FailedCompare) (c : Compare) →
     holds c (key_now h c.key) ≡ false → failed.mod_rev ≡ mod_of (key_now h c.key) →
     IsOfWrite (first_carried reads) c (slice_get (seen_by reads ws) failed.index) → IsConflict h reads ws failed
 write_conflicts h reads ws failed c fails reported of = record {
@@ -172,14 +170,14 @@ write_conflicts h reads ws failed c fails reported of = record {
   changed = write_modified h (first_carried reads) of.write (subst (λ (d : Compare). holds d (key_now h d.key) ≡ false) of.compares fails);
 }
 
-either_conflicts : (h : History) (reads : List ReadAnswer) (ws : List Write) (failed : FailedCompare) (c : Compare) →
+either_conflicts : (h : History) (reads : List ReadAnswer) (ws : List Change) (failed : FailedCompare) (c : Compare) →
     holds c (key_now h c.key) ≡ false → failed.mod_rev ≡ mod_of (key_now h c.key) →
     IsOfRead h c (slice_get (seen_by reads ws) failed.index) ⊎ IsOfWrite (first_carried reads) c (slice_get (seen_by reads ws) failed.index) →
     IsConflict h reads ws failed
 either_conflicts h reads ws failed c fails reported (inl of) = read_conflicts h reads ws failed c fails reported of
 either_conflicts h reads ws failed c fails reported (inr of) = write_conflicts h reads ws failed c fails reported of
 
-reads_conflict : (h : History) (reads : List ReadAnswer) (ws : List Write) (failed : FailedCompare) → AreTrue h reads →
+reads_conflict : (h : History) (reads : List ReadAnswer) (ws : List Change) (failed : FailedCompare) → AreTrue h reads →
     FailsAt (key_now h) (map is_as_read reads) failed → IsConflict h reads ws failed
 reads_conflict h reads ws failed t f =
     read_conflicts h reads ws failed f.compare f.fails f.reported

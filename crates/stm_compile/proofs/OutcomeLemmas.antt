@@ -1,6 +1,6 @@
 -- What a commit's transaction comes to.
 use Rattle.std.proofs.Common.{◌≡◌, ℕ, ◌+◌, ◌<◌, List, [], ◌∷◌, ◌++◌, map, filter, length, Bool, true, false, cond, Option, None, Some, Err}
-use Rattle.std.proofs.Common.{refl, sym, ◌∙◌, ap, subst, arith, length-append}
+use Rattle.std.proofs.Common.{refl, ◌∙◌, ap, arith, length-append}
 use Rattle.std.proofs.lemmas.List.{length-map}
 use Rattle.std.proofs.lemmas.Bool.{lt-ltb, le-ltb, ltb-true}
 use Rattle.std.specs.Prelude.{bytes_eq, nat_lt, ◌||◌, Result}
@@ -8,13 +8,12 @@ use Rattle.std.specs.List.{IsDistinct, AllByRecursion}
 use Rattle.std.proofs.lemmas.List.Elements.{recursion_from_All}
 use Rattle.stm_history.specs.declared.change.Change.{Change}
 use Rattle.stm_history.specs.declared.key_state.ReadAnswer.{ReadAnswer}
-use Rattle.stm_history.specs.History.{History, now, key_now, key_of as changed_key, change_of, HasDistinctKeys}
+use Rattle.stm_history.specs.History.{History, now, key_now, key_of, change_of, HasDistinctKeys}
 use Rattle.stm_history.proofs.HistoryLaws.{last_revision_is_now}
 use Rattle.stm_program.specs.declared.level.Level.{Level}
 use Rattle.stm_program.specs.declared.level.Level.TheVariants.{SerializableSnapshot, Serializable, RepeatableReads, ReadCommitted}
-use Rattle.stm_program.specs.declared.write.Write.{Write}
-use Rattle.stm_program.specs.declared.write.Write.TheVariants.{Put, Del}
-use Rattle.stm_program.specs.Writes.{key_of, latest_writes}
+use Rattle.stm_history.specs.declared.change.Change.TheVariants.{Put, Del}
+use Rattle.stm_program.specs.Writes.{latest_writes}
 use Rattle.stm_program.proofs.WriteLemmas.{bytes_eq-flip}
 use Rattle.stm_program.proofs.LatestLemmas.{latest_writes-distinct}
 use Rattle.stm_meaning.specs.Writes.{changes, effect}
@@ -25,66 +24,41 @@ use Rattle.stm_outcome.specs.declared.answer.OpAnswer.TheVariants.{Get as GetAns
 use Rattle.stm_outcome.specs.declared.refusal.Refusal.{Refusal}
 use Rattle.stm_outcome.specs.declared.refusal.Refusal.TheVariants.{TooManyOps}
 use Rattle.stm_outcome.specs.Checks.{has_too_many, fault_of}
-use Rattle.stm_outcome.specs.Effect.{op_of, changes_something}
+use Rattle.stm_outcome.specs.Effect.{op_of}
 use Rattle.stm_outcome.specs.Outcome.{Done, outcome, chosen, unless, branch_outcome}
 use Rattle.stm_outcome.specs.Compares.{first_failed}
 use Rattle.stm_outcome.specs.Commits.{read_now, AreNamed, effective, shown, reads_now}
 use Rattle.stm_outcome.specs.Terms.{Terms}
 use Rattle.stm_outcome.proofs.Applying.{writes_apply, failed_compare_reads, number_alone_is_wrong}
 use Rattle.stm_compile.specs.Answers.{answer_now}
-use Rattle.stm_compile.specs.Now.{as_change, is_present}
-use Rattle.stm_compile.specs.CommitTxn.{first_carried, is_as_read, is_unmodified, compares_of, write_op, reread_keys, commit_of}
+use Rattle.stm_compile.specs.Now.{is_present}
+use Rattle.stm_compile.specs.CommitTxn.{first_carried, is_as_read, is_unmodified, compares_of, reread_keys, commit_of}
 use Rattle.stm_compile.specs.Committed.{compared, sends_too_many, conflict_now, judged}
 use Rattle.stm_compile.specs.Laws.{CommitComesTo, AppliedIsEffect, FailedCommitRereads, CommitHasNoFloor}
 use Rattle.stm_compile.proofs.AgreeLemmas.{now_are_true}
 
--- ---- writes as changes
-
-pub key_of-as_change : (w : Write) → changed_key (as_change w) ≡ key_of w
-key_of-as_change (Put key value lease) = refl
-key_of-as_change (Del key) = refl
-
-op_of-as_change : (w : Write) → write_op w ≡ op_of (as_change w)
-op_of-as_change (Put key value lease) = refl
-op_of-as_change (Del key) = refl
-
-pub ops_of_writes : (ws : List Write) → map write_op ws ≡ map op_of (map as_change ws)
-ops_of_writes [] = refl
-ops_of_writes (w ∷ ws) = ap (λ o. o ∷ map write_op ws) (op_of-as_change w) ∙ ap (λ l. op_of (as_change w) ∷ l) (ops_of_writes ws)
+-- ---- what a commit changes
 
 other_by : (b : Bool) (c : Change) (rest : Option Change) → b ≡ false → rest ≡ None → cond b (Some c) rest ≡ None
 other_by true c rest p e = absurd (cc)
 other_by false c rest p e = e
 
 -- a key of which there is no write has no change
-no_change : (key : List ℕ) (ws : List Write) → AllByRecursion (λ l. bytes_eq key l ≡ false) (map key_of ws) → change_of key (map as_change ws) ≡ None
+no_change : (key : List ℕ) (ws : List Change) → AllByRecursion (λ l. bytes_eq key l ≡ false) (map key_of ws) → change_of key ws ≡ None
 no_change key [] others = refl
 no_change key (w ∷ ws) others =
-    other_by (bytes_eq (changed_key (as_change w)) key) (as_change w) (change_of key (map as_change ws))
-    (ap (λ k. bytes_eq k key) (key_of-as_change w) ∙ bytes_eq-flip (key_of w) key ∙ others.0) (no_change key ws others.1)
+    other_by (bytes_eq (key_of w) key) w (change_of key ws) (bytes_eq-flip (key_of w) key ∙ others.0) (no_change key ws others.1)
 
-pub changes_are_distinct : (ws : List Write) → IsDistinct bytes_eq (map key_of ws) → HasDistinctKeys (map as_change ws)
+pub changes_are_distinct : (ws : List Change) → IsDistinct bytes_eq (map key_of ws) → HasDistinctKeys ws
 unfolding IsDistinct
 changes_are_distinct [] distinct = tt
-changes_are_distinct (w ∷ ws) distinct =
-    (ap (λ k. change_of k (map as_change ws)) (key_of-as_change w) ∙ no_change (key_of w) ws distinct.0, changes_are_distinct ws distinct.1)
+changes_are_distinct (w ∷ ws) distinct = (no_change (key_of w) ws distinct.0, changes_are_distinct ws distinct.1)
 
--- ---- what is applied is the effect
-
-changes-as_change : (h : History) (w : Write) → changes_something (key_now h) (as_change w) ≡ changes (is_present h) w
-changes-as_change h (Put key value lease) = refl
-changes-as_change h (Del key) = refl
-
-map-cond : (b : Bool) (w : Write) (ws : List Write) → cond b (as_change w ∷ map as_change ws) (map as_change ws) ≡ map as_change (cond b (w ∷ ws) ws)
-map-cond true w ws = refl
-map-cond false w ws = refl
-
-effective_is_effect : (h : History) (ws : List Write) → effective h (map as_change ws) ≡ map as_change (filter (changes (is_present h)) ws)
+-- what is applied is the effect
+effective_is_effect : (h : History) (ws : List Change) → effective h ws ≡ filter (changes (is_present h)) ws
 effective_is_effect h [] = refl
-effective_is_effect h (w ∷ ws) =
-    ap (λ b. cond b (as_change w ∷ effective h (map as_change ws)) (effective h (map as_change ws))) (changes-as_change h w)
-    ∙ ap (λ l. cond (changes (is_present h) w) (as_change w ∷ l) l) (effective_is_effect h ws)
-    ∙ map-cond (changes (is_present h) w) w (filter (changes (is_present h)) ws)
+effective_is_effect h (Put key value lease ∷ ws) = ap (λ l. Put key value lease ∷ l) (effective_is_effect h ws)
+effective_is_effect h (Del key ∷ ws) = ap (λ l. cond (is_present h key) (Del key ∷ l) l) (effective_is_effect h ws)
 
 pub applied_is_effect : AppliedIsEffect
 unfolding effect
@@ -92,9 +66,9 @@ applied_is_effect h writes = effective_is_effect h (latest_writes writes)
 
 -- ---- names
 
-named_writes : (ws : List Write) → AllByRecursion (λ w. 0 < length (key_of w)) ws → AreNamed (map changed_key (map as_change ws))
+named_writes : (ws : List Change) → AllByRecursion (λ w. 0 < length (key_of w)) ws → AreNamed (map key_of ws)
 named_writes [] named = tt
-named_writes (w ∷ ws) named = (subst (λ k. 0 < length k) (sym (key_of-as_change w)) named.0, named_writes ws named.1)
+named_writes (w ∷ ws) named = (named.0, named_writes ws named.1)
 
 named_reads : (reads : List ReadAnswer) → AllByRecursion (λ (a : ReadAnswer). 0 < length a.key) reads → AreNamed (map (λ (a : ReadAnswer). a.key) reads)
 named_reads [] named = tt
@@ -110,12 +84,12 @@ named_read_compares : (reads : List ReadAnswer) → AllByRecursion (λ (a : Read
 named_read_compares [] named = tt
 named_read_compares (a ∷ reads) named = (named.0, named_read_compares reads named.1)
 
-named_write_compares : (first : ℕ) (ws : List Write) → AllByRecursion (λ w. 0 < length (key_of w)) ws →
+named_write_compares : (first : ℕ) (ws : List Change) → AllByRecursion (λ w. 0 < length (key_of w)) ws →
     AreNamed (map (λ (c : Compare). c.key) (map (is_unmodified first) ws))
 named_write_compares first [] named = tt
 named_write_compares first (w ∷ ws) named = (named.0, named_write_compares first ws named.1)
 
-compares_are_named : (level : Level) (reads : List ReadAnswer) (ws : List Write) → AllByRecursion (λ (a : ReadAnswer). 0 < length a.key) reads →
+compares_are_named : (level : Level) (reads : List ReadAnswer) (ws : List Change) → AllByRecursion (λ (a : ReadAnswer). 0 < length a.key) reads →
     AllByRecursion (λ w. 0 < length (key_of w)) ws → AreNamed (map (λ (c : Compare). c.key) (compares_of level reads ws))
 compares_are_named SerializableSnapshot reads ws reads_named writes_named =
     named_compares reads (map (is_unmodified (first_carried reads)) ws) reads_named (named_write_compares (first_carried reads) ws writes_named)
@@ -165,7 +139,7 @@ rereads Serializable n = n
 rereads RepeatableReads n = 0
 rereads ReadCommitted n = 0
 
-length_of_compares : (level : Level) (reads : List ReadAnswer) (ws : List Write) →
+length_of_compares : (level : Level) (reads : List ReadAnswer) (ws : List Change) →
     length (compares_of level reads ws) ≡ compared level (length reads) (length ws)
 length_of_compares SerializableSnapshot reads ws =
     length-append (map is_as_read reads) (map (is_unmodified (first_carried reads)) ws)
@@ -192,15 +166,15 @@ by_level limit RepeatableReads reads writes =
     ap (λ b. nat_lt limit reads || nat_lt limit writes || b) (le-ltb limit 0 (omega arith)) ∙ none_too (nat_lt limit reads) (nat_lt limit writes)
 by_level limit ReadCommitted reads writes = same_too (nat_lt limit 0) (nat_lt limit writes)
 
-pub too_many_is : (limit : ℕ) (level : Level) (reads : List ReadAnswer) (ws : List Write) →
+pub too_many_is : (limit : ℕ) (level : Level) (reads : List ReadAnswer) (ws : List Change) →
     has_too_many limit (commit_of level reads ws) ≡ sends_too_many limit level reads ws
 unfolding too_many_by
 too_many_is limit level reads ws =
     let more : ℕ → Bool = nat_lt limit in
-    ap (λ n. more n || more (length (map write_op ws)) || more (length (map read_now (reread_keys level reads))))
+    ap (λ n. more n || more (length (map op_of ws)) || more (length (map read_now (reread_keys level reads))))
     (length_of_compares level reads ws)
     ∙ ap (λ n. more (compared level (length reads) (length ws)) || more n || more (length (map read_now (reread_keys level reads))))
-    (length-map ws write_op)
+    (length-map ws op_of)
     ∙ ap (λ n. more (compared level (length reads) (length ws)) || more (length ws) || more n)
     (length-map (reread_keys level reads) read_now ∙ length_of_rereads level reads)
     ∙ by_level limit level (length reads) (length ws)
@@ -208,11 +182,11 @@ too_many_is limit level reads ws =
 -- ---- the outcome
 
 -- nothing of the whole transaction is wrong but its number
-fault_is : (limit : ℕ) (level : Level) (reads : List ReadAnswer) (ws : List Write) → IsDistinct bytes_eq (map key_of ws) →
+fault_is : (limit : ℕ) (level : Level) (reads : List ReadAnswer) (ws : List Change) → IsDistinct bytes_eq (map key_of ws) →
     AllByRecursion (λ (a : ReadAnswer). 0 < length a.key) reads → AllByRecursion (λ w. 0 < length (key_of w)) ws →
     fault_of limit (commit_of level reads ws) ≡ cond (sends_too_many limit level reads ws) (Some TooManyOps) None
 fault_is limit level reads ws distinct reads_named writes_named =
-    number_alone_is_wrong limit (commit_of level reads ws) (map as_change ws) (reread_keys level reads) (ops_of_writes ws) refl
+    number_alone_is_wrong limit (commit_of level reads ws) ws (reread_keys level reads) refl refl
     (changes_are_distinct ws distinct) (compares_are_named level reads ws reads_named writes_named) (named_writes ws writes_named)
     (rereads_are_named level reads reads_named)
     ∙ ap (λ b. cond b (Some TooManyOps) None) (too_many_is limit level reads ws)
@@ -222,8 +196,8 @@ judged_is : (terms : Terms) (level : Level) (reads : List ReadAnswer) (run : Run
     conflict_now terms.history level reads (latest_writes run.writes) ≡ failed →
     outcome terms (commit_of level reads (latest_writes run.writes)) ≡ judged terms level reads run failed
 judged_is terms level reads run None right found =
-    writes_apply terms (commit_of level reads (latest_writes run.writes)) (map as_change (latest_writes run.writes))
-    (ops_of_writes (latest_writes run.writes)) (changes_are_distinct (latest_writes run.writes) (latest_writes-distinct run.writes)) right found
+    writes_apply terms (commit_of level reads (latest_writes run.writes)) (latest_writes run.writes)
+    refl (changes_are_distinct (latest_writes run.writes) (latest_writes-distinct run.writes)) right found
 judged_is terms level reads run (Some failed) right found =
     failed_compare_reads terms (commit_of level reads (latest_writes run.writes)) (reread_keys level reads) failed refl right found
 

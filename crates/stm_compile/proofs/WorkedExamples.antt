@@ -1,13 +1,12 @@
 -- Worked examples of commits, which compute.
 use Rattle.std.proofs.Common.{◌≡◌, ℕ, List, [], ◌∷◌, Some, None, false, refl}
-use Rattle.stm_history.specs.declared.change.Change.TheVariants.{Put as PutChange}
 use Rattle.stm_history.specs.declared.key_state.ReadAnswer.{ReadAnswer}
 use Rattle.stm_history.specs.Opening.{opening_at}
 use Rattle.stm_history.specs.History.{History}
 use Rattle.stm_history.specs.Cut.{cut}
 use Rattle.stm_program.specs.declared.level.Level.TheVariants.{SerializableSnapshot, Serializable, RepeatableReads, ReadCommitted}
-use Rattle.stm_program.specs.declared.write.Write.{Write}
-use Rattle.stm_program.specs.declared.write.Write.TheVariants.{Put, Del}
+use Rattle.stm_history.specs.declared.change.Change.{Change}
+use Rattle.stm_history.specs.declared.change.Change.TheVariants.{Put, Del}
 use Rattle.stm_outcome.specs.declared.txn.Op.{Op}
 use Rattle.stm_outcome.specs.declared.txn.Op.TheVariants.{Get, Put as PutOp, Del as DelOp}
 use Rattle.stm_outcome.specs.Commits.{mod_is, mod_is_below}
@@ -32,7 +31,7 @@ read_a = record { key = a; kv = Some (record { value = nine; create_rev = 2; mod
 abbrev read_absent : ReadAnswer
 read_absent = record { key = a; kv = None; of_rev = 1; revision = 1 }
 
-abbrev writes : List Write
+abbrev writes : List Change
 writes = Put b nine 0 ∷ Del a ∷ []
 
 abbrev operations : List Op
@@ -64,10 +63,10 @@ nothing_read = refl
 -- ---- one revision put a and b; then b was put again
 
 abbrev both_put : History
-both_put = record { opening = opening_at 1; revisions = (PutChange a nine 0 ∷ PutChange b nine 0 ∷ []) ∷ [] }
+both_put = record { opening = opening_at 1; revisions = (Put a nine 0 ∷ Put b nine 0 ∷ []) ∷ [] }
 
 abbrev b_again : History
-b_again = record { opening = opening_at 1; revisions = (PutChange b nine 0 ∷ []) ∷ (PutChange a nine 0 ∷ PutChange b nine 0 ∷ []) ∷ [] }
+b_again = record { opening = opening_at 1; revisions = (Put b nine 0 ∷ []) ∷ (Put a nine 0 ∷ Put b nine 0 ∷ []) ∷ [] }
 
 -- at once, the commit of a put of b finds no conflict
 at_once : conflict_now both_put SerializableSnapshot (read_a ∷ []) (Put b nine 0 ∷ []) ≡ None

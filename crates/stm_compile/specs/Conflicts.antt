@@ -6,9 +6,7 @@ use Rattle.std.specs.Prelude.{◌≡◌, ℕ, Bool, true, is_some, nat_lt, ◌&&
 use Rattle.stm_history.specs.declared.change.Change.{Change}
 use Rattle.stm_history.specs.declared.key_state.ReadAnswer.{ReadAnswer}
 use Rattle.stm_history.specs.Opening.{Opening, opened_state}
-use Rattle.stm_history.specs.History.{History, key_now, mod_of, number_of_last, change_of}
-use Rattle.stm_program.specs.declared.write.Write.{Write}
-use Rattle.stm_program.specs.Writes.{key_of}
+use Rattle.stm_history.specs.History.{History, key_now, mod_of, number_of_last, change_of, key_of}
 use Rattle.stm_outcome.specs.declared.answer.FailedCompare.{FailedCompare}
 use Rattle.stm_compile.specs.CommitTxn.{first_carried}
 
@@ -38,17 +36,17 @@ seen_in (Some seen) = seen
 abbrev pub seen_of_read : ReadAnswer → Seen
 seen_of_read a = record { key = a.key; mod_rev = mod_of a.kv; at = a.of_rev }
 
-abbrev pub seen_of_write : ℕ → Write → Seen
+abbrev pub seen_of_write : ℕ → Change → Seen
 seen_of_write first w = record { key = key_of w; mod_rev = first; at = first }
 
 -- What each compare is about, in the order of the compares. Only serializable snapshot compares written keys: at the other levels no
 -- compare stands after those of the keys read.
-abbrev pub seen_by : List ReadAnswer → List Write → List Seen
+abbrev pub seen_by : List ReadAnswer → List Change → List Seen
 seen_by reads writes = map seen_of_read reads ++ map (seen_of_write (first_carried reads)) writes
 
 -- A failed compare is a conflict: it is about this key; the key's modification revision is reported; and the history changes the
 -- key above the revision that it was seen at.
-pub record IsConflict (h : History) (reads : List ReadAnswer) (writes : List Write) (failed : FailedCompare) : Type 0 where
+pub record IsConflict (h : History) (reads : List ReadAnswer) (writes : List Change) (failed : FailedCompare) : Type 0 where
   pub seen : Seen
   pub about : slice_get (seen_by reads writes) failed.index ≡ Some seen
   pub reported : failed.mod_rev ≡ mod_of (key_now h seen.key)

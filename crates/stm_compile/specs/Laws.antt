@@ -2,12 +2,11 @@
 use Rattle.std.specs.Prelude.{◌≡◌, ℕ, ◌<◌, ◌≤◌, true, List, length, map, None, Some, All}
 use Rattle.stm_history.specs.declared.change.Change.{Change}
 use Rattle.stm_history.specs.declared.key_state.ReadAnswer.{ReadAnswer}
-use Rattle.stm_history.specs.History.{History, key_now, mod_of}
+use Rattle.stm_history.specs.History.{History, key_now, mod_of, key_of}
 use Rattle.stm_program.specs.Syntax.{Block}
 use Rattle.stm_program.specs.declared.level.Level.{Level}
 use Rattle.stm_program.specs.declared.level.Level.TheVariants.{SerializableSnapshot}
-use Rattle.stm_program.specs.declared.write.Write.{Write}
-use Rattle.stm_program.specs.Writes.{key_of, latest_writes}
+use Rattle.stm_program.specs.Writes.{latest_writes}
 use Rattle.stm_steps.specs.declared.run.Run.{Run}
 use Rattle.stm_steps.specs.declared.run.Answered.TheVariants.{Ended}
 use Rattle.stm_meaning.specs.Meaning.{run_over}
@@ -15,7 +14,7 @@ use Rattle.stm_meaning.specs.Laws.{IsContinuedBy}
 use Rattle.stm_outcome.specs.declared.answer.FailedCompare.{FailedCompare}
 use Rattle.stm_outcome.specs.Outcome.{outcome, with_changes}
 use Rattle.stm_outcome.specs.Commits.{effective, turned_down}
-use Rattle.stm_compile.specs.Now.{as_change, changes_of_writes}
+use Rattle.stm_compile.specs.Now.{changes_of_writes}
 use Rattle.stm_program.specs.Levels.{is_comparing}
 use Rattle.stm_outcome.specs.declared.answer.OpAnswer.TheVariants.{Get as GetAnswer}
 use Rattle.stm_outcome.specs.Terms.{Terms}
@@ -40,7 +39,7 @@ CommitHasNoFloor =
 -- At a comparing level, where no compare fails, the run on true answers is the run of the program on the state now.
 abbrev pub CommitIsTheRunNow : Type 0
 CommitIsTheRunNow =
-    (h : History) (level : Level) (reads : List ReadAnswer) (writes : List Write) (program : Block) (run : Run) →
+    (h : History) (level : Level) (reads : List ReadAnswer) (writes : List Change) (program : Block) (run : Run) →
     is_comparing level ≡ true → AreTrue h reads → run_over (look_up reads) program ≡ Ended run → conflict_now h level reads writes ≡ None
     → run_over (state_now h) program ≡ Ended run
 
@@ -51,20 +50,20 @@ AreNow h reads = All (λ (a : ReadAnswer). said a ≡ seen_of (key_now h a.key))
 -- At a comparing level, where no compare fails, true answers say what their keys are now.
 abbrev pub TrueReadsAreNow : Type 0
 TrueReadsAreNow =
-    (h : History) (level : Level) (reads : List ReadAnswer) (writes : List Write) → is_comparing level ≡ true → AreTrue h reads
+    (h : History) (level : Level) (reads : List ReadAnswer) (writes : List Change) → is_comparing level ≡ true → AreTrue h reads
     → conflict_now h level reads writes ≡ None → AreNow h reads
 
 -- A failed compare is a conflict.
 abbrev pub FailedComparesConflict : Type 0
 FailedComparesConflict =
-    (h : History) (level : Level) (reads : List ReadAnswer) (writes : List Write) (failed : FailedCompare) →
+    (h : History) (level : Level) (reads : List ReadAnswer) (writes : List Change) (failed : FailedCompare) →
     AreTrue h reads → conflict_now h level reads writes ≡ Some failed → IsConflict h reads writes failed
 
 -- Where no compare of a commit at serializable snapshot fails, no key that it writes is modified above the least revision that its
 -- answers carry: it is absent, also where it was deleted since, or what it holds was put at that revision or before.
 abbrev pub WrittenKeysAreUnmodified : Type 0
 WrittenKeysAreUnmodified =
-    (h : History) (reads : List ReadAnswer) (writes : List Write) → conflict_now h SerializableSnapshot reads writes ≡ None
+    (h : History) (reads : List ReadAnswer) (writes : List Change) → conflict_now h SerializableSnapshot reads writes ≡ None
     → All (λ w. mod_of (key_now h (key_of w)) ≤ first_carried reads) writes
 
 -- Where true answers all show one revision, the run on them is continued by the run on the state at that revision.
@@ -79,7 +78,7 @@ TrueAnswersStay = (h : History) (changes : List Change) (reads : List ReadAnswer
 
 -- What a commit applies is the effect of the run's writes on the state as it is now.
 abbrev pub AppliedIsEffect : Type 0
-AppliedIsEffect = (h : History) (writes : List Write) → effective h (map as_change (latest_writes writes)) ≡ changes_of_writes h writes
+AppliedIsEffect = (h : History) (writes : List Change) → effective h (latest_writes writes) ≡ changes_of_writes h writes
 
 -- A commit that is turned down reports the keys that it reads again as they are now, and changes nothing.
 pub record Rereads (h : History) (level : Level) (reads : List ReadAnswer) (failed : FailedCompare) : Type 0 where

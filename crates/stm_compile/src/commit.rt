@@ -3,7 +3,8 @@ ghost use Rattle.std.specs.Prelude.{◌≡◌, ◌≤◌, ◌++◌, ◌∷◌, [
 ghost use Rattle.stm_history.specs.declared.key_state.ReadAnswer.{ReadAnswer as Answer};
 ghost use Rattle.stm_history.specs.declared.revisions.TheConstants.{HIGHEST_NUMBER};
 ghost use Rattle.stm_outcome.specs.Commits.{read_now};
-ghost use Rattle.stm_compile.specs.CommitTxn.{first_carried, is_as_read, is_unmodified, compares_of, write_op, reread_keys, commit_of};
+ghost use Rattle.stm_outcome.specs.Effect.{op_of};
+ghost use Rattle.stm_compile.specs.CommitTxn.{first_carried, is_as_read, is_unmodified, compares_of, reread_keys, commit_of};
 
 use crate::read_set::ReadSet;
 use crate::write_buffer::WriteBuffer;
@@ -117,7 +118,7 @@ fn compares(
 
 /// A write, as an operation.
 fn operation(write: &Write) -> Result<Op, AllocError>
-    ensures { IfOk result (λ op. op ≡ write_op write.now) }
+    ensures { IfOk result (λ op. op ≡ op_of write.now) }
 {
     match write {
         Write::Put { key, value, lease } => {
@@ -138,7 +139,7 @@ fn operation(write: &Write) -> Result<Op, AllocError>
 
 /// Adds a write, as an operation.
 fn push_operation(ops: &mut Vec<Op>, write: &Write) -> Result<(), AllocError>
-    ensures { OnOk result (ops.new.items ≡ ops.old.items ++ write_op write.now ∷ []) }
+    ensures { OnOk result (ops.new.items ≡ ops.old.items ++ op_of write.now ∷ []) }
 {
     let op = operation(write)?;
     ops.push(op)?;
@@ -147,7 +148,7 @@ fn push_operation(ops: &mut Vec<Op>, write: &Write) -> Result<(), AllocError>
 
 /// The writes, as operations.
 fn operations(alloc: Global, writes: &[Write]) -> Result<Vec<Op>, AllocError>
-    ensures { IfOk result (λ ops. ops.items ≡ map write_op writes.now) }
+    ensures { IfOk result (λ ops. ops.items ≡ map op_of writes.now) }
 {
     let mut ops = Vec::with_capacity(alloc, writes.len())?;
     for write in writes {

@@ -4,13 +4,11 @@
 //! no proof speaks of a transaction's parts.
 #![tactic(auto)]
 
-mod changes;
 mod commit;
 pub mod laws;
 mod read_set;
 mod write_buffer;
 
-pub use changes::changes_of;
 pub use commit::compile;
 pub use read_set::ReadSet;
 pub use stm_history::{Change, ReadAnswer, Sequence, Text};

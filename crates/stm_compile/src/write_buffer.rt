@@ -1,12 +1,13 @@
 //! What an attempt has written.
 ghost use Rattle.std.specs.Prelude.{◌≡◌, ◌<◌, [], ◌∷◌, ◌++◌, None, Some, true, map, bytes_eq, length, slice_get, option_copied, OnOk, OnErr, IfOk};
 ghost use Rattle.std.specs.List.{position, IsDistinct};
-ghost use Rattle.stm_program.specs.Writes.{key_of, last_write as last_of_key, latest_writes as latest_of_each};
+ghost use Rattle.stm_history.specs.History.{key_of};
+ghost use Rattle.stm_program.specs.Writes.{last_write as last_of_key, latest_writes as latest_of_each};
 
 use crate::read_set::MOST_SEARCHED;
 use std::alloc::{AllocError, Global};
 use std::marker::Model;
-use stm_history::Sequence;
+use stm_history::{Change, Sequence};
 use stm_program::{Write, last_write, latest_writes};
 
 /// The last write of each key, in the order of first writes. Contracts see the list of them.
@@ -26,10 +27,10 @@ impl Drop for WriteBuffer {
 impl Model for WriteBuffer {
     ghost use Rattle.std.specs.Prelude.{List, bytes_eq, map};
     ghost use Rattle.std.specs.List.{IsDistinct};
-    ghost use Rattle.stm_program.specs.declared.write.Write.{Write};
-    ghost use Rattle.stm_program.specs.Writes.{key_of};
+    ghost use Rattle.stm_history.specs.declared.change.Change.{Change};
+    ghost use Rattle.stm_history.specs.History.{key_of};
 
-    ghost Value = { List Write };
+    ghost Value = { List Change };
 
     ghost view = { λ s. s.writes.items };
 
@@ -174,6 +175,14 @@ impl WriteBuffer {
         ensures { option_copied result ≡ last_of_key key.now self.now }
     {
         last_write(self.writes.as_slice(), key)
+    }
+
+    /// The writes in order, as the changes that they ask for. It takes no memory.
+    pub fn into_changes(self) -> Vec<Change>
+        ensures { result.items ≡ self }
+    {
+        let WriteBuffer { writes } = self;
+        writes
     }
 
     /// The writes in order.

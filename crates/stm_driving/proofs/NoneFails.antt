@@ -6,13 +6,13 @@ use Rattle.std.proofs.lemmas.List.Elements.{recursion_from_All}
 use Rattle.stm_history.specs.declared.key_state.KeyState.{KeyState}
 use Rattle.stm_history.specs.declared.key_state.ReadAnswer.{ReadAnswer}
 use Rattle.stm_history.specs.declared.revisions.TheConstants.{HIGHEST_REVISION}
-use Rattle.stm_history.specs.History.{History, now, key_at, key_now, mod_of}
+use Rattle.stm_history.specs.History.{History, now, key_at, key_now, mod_of, key_of}
 use Rattle.stm_history.specs.Laws.{AreSmallIn}
 use Rattle.stm_history.proofs.HistoryLaws.{last_revision_is_now, numbers_stay_small}
 use Rattle.stm_program.specs.declared.level.Level.{Level}
 use Rattle.stm_program.specs.declared.level.Level.TheVariants.{SerializableSnapshot, Serializable, RepeatableReads, ReadCommitted}
-use Rattle.stm_program.specs.declared.write.Write.{Write}
-use Rattle.stm_program.specs.Writes.{key_of, latest_writes}
+use Rattle.stm_history.specs.declared.change.Change.{Change}
+use Rattle.stm_program.specs.Writes.{latest_writes}
 use Rattle.stm_steps.specs.declared.run.Run.{Run}
 use Rattle.stm_outcome.specs.declared.txn.Txn.{Txn}
 use Rattle.stm_outcome.specs.declared.answer.TxnAnswer.{TxnAnswer}
@@ -78,7 +78,7 @@ carried_above h (a ∷ reads) high (one, others) = carried_by h a.revision reads
     carried : (x : ReadAnswer) → IsReadNow h x → x.revision ≡ now h
     carried x is = cc (is)
 
-writes_hold : (h : History) (first : ℕ) (writes : List Write) → now h ≤ first → AllHold (key_now h) (map (is_unmodified first) writes)
+writes_hold : (h : History) (first : ℕ) (writes : List Change) → now h ≤ first → AllHold (key_now h) (map (is_unmodified first) writes)
 writes_hold h first [] above = tt
 writes_hold h first (w ∷ writes) above =
     let before = modified_before h (key_of w) in
@@ -86,7 +86,7 @@ writes_hold h first (w ∷ writes) above =
 
 -- ---- the commit
 
-all_hold : (h : History) (level : Level) (reads : List ReadAnswer) (writes : List Write) → now h ≤ HIGHEST_REVISION → AllByRecursion (IsReadNow h) reads
+all_hold : (h : History) (level : Level) (reads : List ReadAnswer) (writes : List Change) → now h ≤ HIGHEST_REVISION → AllByRecursion (IsReadNow h) reads
     → AllHold (key_now h) (compares_of level reads writes)
 all_hold h SerializableSnapshot reads writes high are =
     both_hold (key_now h) (map is_as_read reads) (map (is_unmodified (first_carried reads)) writes) (reads_hold h reads are)
@@ -95,7 +95,7 @@ all_hold h Serializable reads writes high are = reads_hold h reads are
 all_hold h RepeatableReads reads writes high are = reads_hold h reads are
 all_hold h ReadCommitted reads writes high are = tt
 
-pub none_fails_at_once : (h : History) (level : Level) (reads : List ReadAnswer) (writes : List Write) → now h ≤ HIGHEST_REVISION → All (IsReadNow h) reads
+pub none_fails_at_once : (h : History) (level : Level) (reads : List ReadAnswer) (writes : List Change) → now h ≤ HIGHEST_REVISION → All (IsReadNow h) reads
     → first_failed (key_now h) 0 (compares_of level reads writes) ≡ None
 none_fails_at_once h level reads writes high are =
     none_fails (key_now h) 0 (compares_of level reads writes) (all_hold h level reads writes high (recursion_from_All (IsReadNow h) reads are))
@@ -109,13 +109,13 @@ failed_by s txn step (Ok done) is came =
     ap (λ (x : Done). x.answer.failed) made ∙ ap (λ (x : Step TxnAnswer). x.answer.failed) same
 
 -- the transaction of such a commit was made
-pub committed_at_once : (level : Level) (run : Run) (s next : Standing) (h : History) (reads : List ReadAnswer) (writes : List Write) (txn : Txn) (answer : TxnAnswer)
+pub committed_at_once : (level : Level) (run : Run) (s next : Standing) (h : History) (reads : List ReadAnswer) (writes : List Change) (txn : Txn) (answer : TxnAnswer)
     → h ≡ s.history → now h ≤ HIGHEST_REVISION → All (IsReadNow h) reads → writes ≡ latest_writes run.writes → txn ≡ commit_of level reads writes
     → transacted s txn ≡ Ok record { answer = answer; next = next } → IsCommittedAtOnce level run s next
 committed_at_once level run s next h reads writes txn answer of_store high are latest same is =
     let it : Txn = commit_of level reads (latest_writes run.writes) in
     let made : transacted s it ≡ Ok record { answer = answer; next = next } =
-    ap (λ (ws : List Write). transacted s (commit_of level reads ws)) (sym latest) ∙ ap (λ (t : Txn). transacted s t) (sym same) ∙ is
+    ap (λ (ws : List Change). transacted s (commit_of level reads ws)) (sym latest) ∙ ap (λ (t : Txn). transacted s t) (sym same) ∙ is
     in
     let now_so : All (IsReadNow s.history) reads = subst (λ (k : History). All (IsReadNow k) reads) of_store are in
     let counter : now s.history ≤ HIGHEST_REVISION = subst (λ (k : History). now k ≤ HIGHEST_REVISION) of_store high in

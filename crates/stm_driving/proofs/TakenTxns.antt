@@ -5,7 +5,7 @@ use Rattle.std.proofs.lemmas.Bool.Decides.{nat_tests}
 use Rattle.stm_history.specs.declared.key_state.ReadAnswer.{ReadAnswer}
 use Rattle.stm_history.specs.History.{History, now}
 use Rattle.stm_program.specs.declared.level.Level.{Level}
-use Rattle.stm_program.specs.declared.write.Write.{Write}
+use Rattle.stm_history.specs.declared.change.Change.{Change}
 use Rattle.stm_outcome.specs.declared.txn.Txn.{Txn as TxnOf}
 use Rattle.stm_outcome.specs.declared.answer.TxnAnswer.{TxnAnswer}
 use Rattle.stm_outcome.specs.declared.answer.FailedCompare.{FailedCompare}
@@ -21,7 +21,7 @@ use Rattle.stm_events.specs.declared.event.WorldEvent.TheVariants.{Txn}
 use Rattle.stm_events.specs.declared.reply.Reply.{Reply}
 use Rattle.stm_events.specs.declared.refusal.Denied.{Denied}
 use Rattle.stm_events.specs.Replies.{txn_reply, reply_to, store_after_call}
-use Rattle.stm_world.specs.World.{World, Stepped, called, step}
+use Rattle.stm_world.specs.World.{World, Stepped, after_call, step}
 use Rattle.stm_hall.specs.Showing.{IsShown}
 use Rattle.stm_retry.specs.Returns.{IsStep, OutOfMemoryReturns, Returns, is_out_of_memory}
 use Rattle.stm_retry.proofs.WorldLemmas.{refusal_cases}
@@ -31,7 +31,7 @@ use Rattle.stm_driving.specs.WorldCommits.{has_held, IsTaken, IsCommittedInWorld
 
 -- the step of a transaction, by what the store makes of it
 abbrev stepped_by : World → TxnOf → Result (StoreStep TxnAnswer) Refusal → Stepped
-stepped_by w txn o = called (reply_to txn_reply o) (store_after_call w.standing o) (if_changed w.standing (store_after_call w.standing o) txn) w
+stepped_by w txn o = after_call (reply_to txn_reply o) (store_after_call w.standing o) (if_changed w.standing (store_after_call w.standing o) txn) w
 
 taken_by : (w after : World) (txn : TxnOf) (reply : Reply) (o : Result (StoreStep TxnAnswer) Refusal) → transacted w.standing txn ≡ o
     → (stepped_by w txn o).reply ≡ Ok reply → (stepped_by w txn o).next ≡ after → (step (Txn txn) w).next ≡ after → IsTaken w txn (has_held reply) after
@@ -83,7 +83,7 @@ failed_is_some : (made : StoreStep TxnAnswer) → is_none made.answer.failed ≡
 failed_is_some made same is = same ∙ is
 
 -- one of which a compare failed
-pub turned_down_in_world : (w after : World) (level : Level) (reads : List ReadAnswer) (writes : List Write) (txn : TxnOf) → txn ≡ commit_of level reads writes
+pub turned_down_in_world : (w after : World) (level : Level) (reads : List ReadAnswer) (writes : List Change) (txn : TxnOf) → txn ≡ commit_of level reads writes
     → IsTaken w txn false after → after ≡ w
 turned_down_in_world w after level reads writes txn same taken =
     let it : TxnOf = commit_of level reads writes in
@@ -101,7 +101,7 @@ none_of : (o : Option FailedCompare) → is_none o ≡ true → o ≡ None
 none_of None is = refl
 none_of (Some failed) is = absurd (cc (is))
 
-pub committed_in_world : (w after : World) (level : Level) (reads : List ReadAnswer) (writes : List Write) (txn : TxnOf) (h : History)
+pub committed_in_world : (w after : World) (level : Level) (reads : List ReadAnswer) (writes : List Change) (txn : TxnOf) (h : History)
     → w.standing.floor ≤ now w.standing.history → h ≡ (kept w.standing).history → txn ≡ commit_of level reads writes → All (IsShown h) reads
     → IsTaken w txn true after → IsCommittedInWorld w level reads writes after
 committed_in_world w after level reads writes txn h reached of_store same shown taken =

@@ -2,7 +2,7 @@
 use Rattle.std.specs.Prelude.{◌≡◌, Bool, false, List, Ok}
 use Rattle.stm_history.specs.declared.key_state.ReadAnswer.{ReadAnswer}
 use Rattle.stm_program.specs.declared.level.Level.{Level}
-use Rattle.stm_program.specs.declared.write.Write.{Write}
+use Rattle.stm_history.specs.declared.change.Change.{Change}
 use Rattle.stm_outcome.specs.declared.txn.Txn.{Txn as TxnOf}
 use Rattle.stm_outcome.specs.declared.answer.TxnAnswer.{TxnAnswer}
 use Rattle.stm_txn.specs.Standing.{Step as StoreStep, kept, transacted}
@@ -27,6 +27,6 @@ pub record IsTaken (before : World) (txn : TxnOf) (held : Bool) (after : World) 
   pub standing : after.standing ≡ made.next
 
 -- A commit that a world's store made. A world is seen over its whole history, and what was read is judged by what the store has kept of that.
-pub record IsCommittedInWorld (before : World) (level : Level) (reads : List ReadAnswer) (writes : List Write) (after : World) : Type 0 where
+pub record IsCommittedInWorld (before : World) (level : Level) (reads : List ReadAnswer) (writes : List Change) (after : World) : Type 0 where
   pub committed : IsCommitted (kept before.standing) level reads writes (kept after.standing)
   pub stepped : (step (Txn (commit_of level reads writes)) before).next ≡ after

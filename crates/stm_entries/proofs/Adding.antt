@@ -1,5 +1,5 @@
 -- What is replayed adds revisions to the history, and nothing else.
-use Rattle.std.proofs.Common.{◌≡◌, List, [], ◌∷◌, ◌++◌, map, Bool, true, false, cond, Ok, Err, refl, sym, ◌∙◌, ap, subst, append_assoc, arith}
+use Rattle.std.proofs.Common.{◌≡◌, List, [], ◌∷◌, ◌++◌, Bool, true, false, cond, Ok, Err, refl, sym, ◌∙◌, ap, subst, append_assoc, arith}
 use Rattle.std.specs.Prelude.{Result}
 use Rattle.std.specs.List.{list_any}
 use Rattle.stm_history.specs.declared.change.Change.{Change}
@@ -10,7 +10,6 @@ use Rattle.stm_steps.specs.declared.run.Run.{Run}
 use Rattle.stm_steps.specs.declared.run.Answered.{Answered}
 use Rattle.stm_steps.specs.declared.run.Answered.TheVariants.{Ended, Wants}
 use Rattle.stm_meaning.specs.Meaning.{run_over}
-use Rattle.stm_program.specs.declared.write.Write.{Write}
 use Rattle.stm_program.specs.Writes.{latest_writes}
 use Rattle.stm_outcome.specs.declared.txn.Txn.{Txn}
 use Rattle.stm_outcome.specs.declared.refusal.Refusal.{Refusal}
@@ -22,7 +21,6 @@ use Rattle.stm_txn.proofs.Ending.{deletions_are_distinct}
 use Rattle.stm_outcome.specs.Commits.{applied, effective, is_on_dead_lease}
 use Rattle.stm_outcome.specs.Effect.{changes_something}
 use Rattle.stm_outcome.specs.Terms.{Terms}
-use Rattle.stm_compile.specs.Now.{as_change}
 use Rattle.stm_entries.specs.declared.entry.Entry.{Entry}
 use Rattle.stm_entries.specs.declared.entry.Entry.TheVariants.{Program, Foreign, Grant, Renew, Revoke, Expire}
 use Rattle.stm_entries.specs.Replayed.{Replayed, replay_terms}
@@ -61,11 +59,11 @@ judged_adds : (dead : Bool) (h : History) (rest : Result Done Refusal) → AddsT
 judged_adds true h rest adds = nothing_added h
 judged_adds false h rest adds = adds
 
-applied_adds : (terms : Terms) (writes : List Write) →
-    AddsTo terms.history (history_left terms.history (applied terms (map as_change (latest_writes writes))))
+applied_adds : (terms : Terms) (writes : List Change) →
+    AddsTo terms.history (history_left terms.history (applied terms (latest_writes writes)))
 applied_adds terms writes =
     let h : History = terms.history in
-    let changes : List Change = map as_change (latest_writes writes) in
+    let changes : List Change = (latest_writes writes) in
     judged_adds (list_any (is_on_dead_lease terms.is_live) changes) h _
     (finished_adds (is_used_up h (effective h changes)) h _
     (changes_add h (effective h changes) (latest_are_distinct (changes_something (key_now h)) writes)))

@@ -3,7 +3,7 @@
 -- The Go package `concurrency`, "STM": a transaction's reads and writes are as one step. A program that committed did what
 -- it does alone: it runs on the state of that moment, and the last write of each key is applied, as one revision. At
 -- ReadCommitted it runs on the answers that it read, and its writes alone are applied at that moment.
-use Rattle.std.specs.Prelude.{if◌then◌else◌, List, map, Result, Ok, Err}
+use Rattle.std.specs.Prelude.{if◌then◌else◌, List, Result, Ok, Err}
 use Rattle.stm_history.specs.declared.key_state.ReadAnswer.{ReadAnswer}
 use Rattle.stm_history.specs.History.{History}
 use Rattle.stm_program.specs.declared.level.Level.{Level}
@@ -19,14 +19,13 @@ use Rattle.stm_outcome.specs.Outcome.{Done}
 use Rattle.stm_outcome.specs.Commits.{applied}
 use Rattle.stm_program.specs.Levels.{is_comparing}
 use Rattle.stm_compile.specs.Answers.{look_up, state_now}
-use Rattle.stm_compile.specs.Now.{as_change}
 use Rattle.stm_entries.specs.Replayed.{Replayed, with_history, replay_terms}
 
 -- what a run's writes come to in a store, with nothing compared: LeaseNotFound where one puts a key on a lease that is not
 -- live, else RevisionsUsedUp where something changes at the highest revision, else the last write of each key as one revision,
 -- without the deletes of absent keys
 abbrev pub applied_run : Replayed → Run → Result Done Refusal
-applied_run r run = applied (replay_terms r) (map as_change (latest_writes run.writes))
+applied_run r run = applied (replay_terms r) (latest_writes run.writes)
 
 -- what a committed program saw: at ReadCommitted its answers, at the comparing levels the state of its commit
 abbrev pub seen_at : Level → List ReadAnswer → History → Lookup

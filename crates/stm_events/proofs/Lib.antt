@@ -1,4 +1,7 @@
 pub mod SameReplies
-pub mod Entered
-pub mod Calls
+pub mod Asking
+pub mod CallReplies
+pub mod CallMeans
+pub mod StoreKeeps
+pub mod CallEnters
 pub mod Refusals

@@ -25,18 +25,7 @@ store_cause other = None
 
 pub cause_again : (cause : StoreRefusal) → store_cause (event_refusal cause) ≡ Some cause
 cause_again store.OutOfMemory = refl
-cause_again store.EmptyKey = refl
-cause_again store.FutureRevision = refl
-cause_again store.Compacted = refl
-cause_again store.RevisionsUsedUp = refl
-cause_again store.LeaseExists = refl
-cause_again store.TtlOutOfRange = refl
-cause_again store.LeaseIdOutOfRange = refl
-cause_again store.LeaseNotFound = refl
-cause_again store.NoWatcher = refl
-cause_again store.TooManyOps = refl
-cause_again store.DuplicateKey = refl
-cause_again store.TimeGoesBack = refl
+cause_again _ = refl
 
 pub one_cause : (a b : StoreRefusal) → event_refusal a ≡ event_refusal b → a ≡ b
 one_cause a b same = let e : Some a ≡ Some b = sym (cause_again a) ∙ ap store_cause same ∙ cause_again b in cc

@@ -1,3 +1,4 @@
 pub mod Names
 pub mod Replies
 pub mod FirstReads
+pub mod Called

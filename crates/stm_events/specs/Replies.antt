@@ -14,7 +14,7 @@ use Rattle.stm_outcome.specs.declared.refusal.Refusal.TheVariants as store
 use Rattle.stm_txn.specs.Standing.{Standing, Step, poll_refused}
 use Rattle.stm_watch.specs.declared.watchers.Batch.{Batch}
 use Rattle.stm_events.specs.declared.reply.Reply.{Reply}
-use Rattle.stm_events.specs.declared.reply.Reply.TheVariants.{Prefetched, Fetched, Committed, Conflict, GaveUp, Aborted, Faulted, Ended}
+use Rattle.stm_events.specs.declared.reply.Reply.TheVariants.{Started, Prefetched, Fetched, Committed, Conflict, GaveUp, Aborted, Faulted, Ended}
 use Rattle.stm_events.specs.declared.reply.Reply.TheVariants.{Txn, Advanced, Batch as BatchReported, Lost}
 use Rattle.stm_events.specs.declared.reply.CommittedRead.{CommittedRead}
 use Rattle.stm_events.specs.declared.reply.OpReply.{OpReply}
@@ -75,6 +75,11 @@ runner_of (Aborted runner text) = Some runner
 runner_of (Faulted runner fault) = Some runner
 runner_of (Ended runner cause) = Some runner
 runner_of other = None
+
+-- the runner whose step, or start, a reply reports
+abbrev pub runner_named : Reply → Option ℕ
+runner_named (Started runner) = Some runner
+runner_named other = runner_of other
 
 -- a run ends by its commit, its last conflict, an abort, a fault or a refusal
 abbrev pub ends_run : Reply → Bool

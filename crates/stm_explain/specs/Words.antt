@@ -1,5 +1,5 @@
 -- The words that explanations say are allowed, beside those that the readers know.
-use Rattle.std.specs.Prelude.{◌≡◌, ℕ, List, [], ◌∷◌, Bool, false, ◌||◌, map, is_some, is_ok, codes}
+use Rattle.std.specs.Prelude.{◌≡◌, ℕ, List, [], ◌∷◌, Bool, false, ◌||◌, map, is_some, is_ok, codes, Some}
 use Rattle.serde_json.specs.Data.{Data, Items}
 use Rattle.stm_json.specs.Outcome.{bad}
 use Rattle.stm_json.specs.declared.cause.Cause.TheVariants.{Shape}
@@ -9,7 +9,6 @@ use Rattle.stm_txn_json.specs.Words.{order_named, target_named}
 use Rattle.stm_txn_json.specs.Reading.{operation_worded}
 use Rattle.stm_texts.specs.Reading.{level_named, event_worded}
 use Rattle.stm_explain.specs.declared.forms.TheConstants.{LEVELS, ORDERS, EVENTS, FIRST_ELEMENTS, STATEMENTS, EXPRESSIONS, CONDITIONS, COMPARES, OPERATIONS}
-use Rattle.std.specs.Prelude.{Some}
 
 -- a word is one of these
 abbrev pub is_among : List ℕ → List (List ℕ) → Bool

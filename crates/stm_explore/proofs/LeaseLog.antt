@@ -41,11 +41,7 @@ run_leaves (Wants key trace) r = refl
 entry_leaves : (e : Entry) (r : Replayed) → (replay_entry e r).live ≡ live_by e r.live
 unfolding live_by
 entry_leaves (Program program level answers output trace revision) r = run_leaves (run_over (seen_at level answers r.history) program.statements) r
-entry_leaves (Foreign txn) r = refl
-entry_leaves (Grant id ttl moment) r = refl
-entry_leaves (Renew id moment) r = refl
-entry_leaves (Revoke id) r = refl
-entry_leaves (Expire id) r = refl
+entry_leaves _ r = refl
 
 entries_leave : (es : List Entry) (r : Replayed) → (replay es r).live ≡ live_after es r.live
 unfolding live_after

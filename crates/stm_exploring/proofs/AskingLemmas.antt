@@ -1,12 +1,9 @@
 -- Looking at the events of a scenario one after the other, as loops do.
 use Rattle.std.proofs.Common.{◌≡◌, ℕ, zero, suc, ◌+◌, ◌<◌, ◌≤◌, ◌||◌, Bool, true, false, List, [], ◌∷◌, ◌++◌, length, map, take, drop, get_or, slice_set}
 use Rattle.std.proofs.Common.{Option, Some, None, cond, not, refl, sym, ap, ap₂, ◌∙◌, arith}
-use Rattle.std.specs.List.{list_any}
-use Rattle.std.proofs.lemmas.List.Folds.{list_any_more}
 use Rattle.stm_events.specs.declared.event.WorldEvent.{WorldEvent}
 use Rattle.stm_schedules.specs.Scenarios.{at_level, is_start, has_start, up_to_last_start, after_last_start}
-use Rattle.stm_events.specs.declared.event.WorldEvent.TheVariants.{Start, Step, Txn, Grant, Keep, Revoke, Advance}
-use Rattle.stm_events.specs.declared.event.WorldEvent.TheVariants.{WatchKey, WatchRange, Poll, Cancel, Compact}
+use Rattle.stm_events.specs.declared.event.WorldEvent.TheVariants.{Start, Step}
 use Rattle.stm_program.specs.declared.level.Level.{Level}
 use Rattle.stm_serial_search.specs.Started.{is_step, HaveNoStep}
 use Rattle.stm_exploring.specs.Asking.{without_steps, events_at}
@@ -24,16 +21,7 @@ stepless (e ∷ es) = kept_stepless (is_step e) e (without_steps es) refl (stepl
 step_at : (level : Level) (e : WorldEvent) → is_step e ≡ false → is_step (at_level level e) ≡ false
 step_at level (Start program other limit) none = refl
 step_at level (Step runner) none = absurd (cc)
-step_at level (Txn txn) none = refl
-step_at level (Grant id ttl) none = refl
-step_at level (Keep id) none = refl
-step_at level (Revoke id) none = refl
-step_at level (Advance moment) none = refl
-step_at level (WatchKey key from) none = refl
-step_at level (WatchRange begin end from) none = refl
-step_at level (Poll watcher most) none = refl
-step_at level (Cancel watcher) none = refl
-step_at level (Compact revision) none = refl
+step_at level _ none = refl
 
 pub steps_at : (level : Level) (es : List WorldEvent) → HaveNoStep es → HaveNoStep (map (at_level level) es)
 steps_at level [] none = tt

@@ -14,7 +14,7 @@ use Rattle.stm_texts.specs.Grammar.{level_text}
 use Rattle.stm_schedules.specs.declared.outcome.KeyValue.{KeyValue}
 use Rattle.stm_schedules.specs.declared.outcome.Outcome.{Outcome}
 use Rattle.stm_schedules.specs.declared.outcome.RunnerEnd.{RunnerEnd}
-use Rattle.stm_schedules.specs.declared.outcome.RunnerEnd.TheVariants.{Committed, GaveUp, Aborted, Faulted, Ended}
+use Rattle.stm_schedules.specs.declared.outcome.RunnerEnd.TheVariants.{Committed}
 use Rattle.stm_explore.specs.declared.exploring.Explored.TheVariants.{Always, Broken, Open}
 use Rattle.stm_exploring.specs.declared.judging.Answer.{Answer}
 use Rattle.stm_exploring.specs.declared.judging.Answer.TheVariants.{BySchedules, AlwaysByOrders, BrokenByOrder}
@@ -76,10 +76,7 @@ key_value_data-no_float kv = refl
 
 runner_end_data-no_float : (end : RunnerEnd) → has_float (runner_end_data end) ≡ false
 runner_end_data-no_float (Committed output) = rw (each-no_float value_data value_data-no_float output) refl
-runner_end_data-no_float (GaveUp key) = refl
-runner_end_data-no_float (Aborted text) = refl
-runner_end_data-no_float (Faulted fault) = refl
-runner_end_data-no_float (Ended cause) = refl
+runner_end_data-no_float _ = refl
 
 pub outcome_line-no_float : (o : Outcome) → has_float (outcome_line o) ≡ false
 outcome_line-no_float o =

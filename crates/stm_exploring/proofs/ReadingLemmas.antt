@@ -1,6 +1,5 @@
 -- From what was read of a source to what it has.
-use Rattle.std.proofs.Common.{◌≡◌, ℕ, List, take, Option, Some, None, IfSome, sym, ap}
-use Rattle.std.proofs.Common.{Ok, ◌∙◌, arith}
+use Rattle.std.proofs.Common.{◌≡◌, ℕ, List, take, Option, Some, None, IfSome, sym, ap, Ok, ◌∙◌, arith}
 use Rattle.std.proofs.lemmas.Bool.Decides.{nat_tests}
 use Rattle.stm_devices.specs.declared.transfer.TheConstants.{MOST_READ}
 use Rattle.stm_json.specs.Outcome.{Outcome, ◌>>=◌}

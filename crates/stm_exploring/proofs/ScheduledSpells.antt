@@ -51,16 +51,7 @@ level_spelled : (level : Level) (e : WorldEvent) → ((d : Data) × SpellsEvent 
 level_spelled level (event.Start program other limit) (d, (a, b, c, is, word, within_limit, of_program, fits)) =
     (_, (string (level_text level), b, c, refl, refl, within_limit, of_program, fits))
 level_spelled level (event.Step runner) s = s
-level_spelled level (event.Txn txn) s = s
-level_spelled level (event.Grant id ttl) s = s
-level_spelled level (event.Keep id) s = s
-level_spelled level (event.Revoke id) s = s
-level_spelled level (event.Advance now) s = s
-level_spelled level (event.Compact revision) s = s
-level_spelled level (event.WatchKey key from) s = s
-level_spelled level (event.WatchRange first end from) s = s
-level_spelled level (event.Poll watcher most) s = s
-level_spelled level (event.Cancel watcher) s = s
+level_spelled level _ s = s
 
 levels_spelled : (level : Level) (es : List WorldEvent) → AreSpelled es → AreSpelled (map (at_level level) es)
 levels_spelled level [] all = tt

@@ -28,24 +28,7 @@ none_named (Some n) none = absurd (true≢false (sym (eq-eqb n n refl) ∙ none 
 step_silent : (at : Situation) (reported : Result Reply Denied) → StepIsRight at reported → runner_started reported ≡ None
 step_silent at (Err refusal) right = refl
 step_silent at (Ok (variant.Started id)) right = absurd right
-step_silent at (Ok (variant.Prefetched id revision reads)) right = refl
-step_silent at (Ok (variant.Fetched id key mod_rev of_rev revision)) right = refl
-step_silent at (Ok (variant.Committed id revision attempts output trace answers)) right = refl
-step_silent at (Ok (variant.Conflict id key seen now)) right = refl
-step_silent at (Ok (variant.GaveUp id attempts key seen now)) right = refl
-step_silent at (Ok (variant.Aborted id text)) right = refl
-step_silent at (Ok (variant.Faulted id fault)) right = refl
-step_silent at (Ok (variant.Ended id cause)) right = refl
-step_silent at (Ok (variant.Txn succeeded revision answers)) right = refl
-step_silent at (Ok (variant.Granted id)) right = refl
-step_silent at (Ok (variant.Kept id)) right = refl
-step_silent at (Ok (variant.Revoked id revision)) right = refl
-step_silent at (Ok (variant.Advanced moment expired)) right = refl
-step_silent at (Ok (variant.Watching watcher)) right = refl
-step_silent at (Ok (variant.Batch watcher upto events)) right = refl
-step_silent at (Ok (variant.Cancelled watcher)) right = refl
-step_silent at (Ok (variant.Compacted revision)) right = refl
-step_silent at (Ok (variant.Lost watcher floor)) right = refl
+step_silent at _ right = refl
 
 abbrev starts : WorldEvent → Bool
 starts (Start program level limit) = true

@@ -6,7 +6,7 @@ use Rattle.std.proofs.lemmas.Bool.{ltb-true, ltb-false}
 use Rattle.std.proofs.lemmas.List.{take_rest}
 use Rattle.std.proofs.lemmas.Option.{same_Some}
 use Rattle.stm_program.specs.declared.limits.TheConstants.{MAX_DEPTH, MAX_NODES}
-use Rattle.stm_program.specs.Syntax.{Statement, Set, Put, Del, If, For, Emit, Abort, Block, End, Then, ProgramTree}
+use Rattle.stm_program.specs.Syntax.{Statement, Set, Block, End, Then, ProgramTree}
 use Rattle.stm_program.specs.Size.{statement_nodes, block_nodes}
 use Rattle.stm_program.specs.Limits.{BlockFits, Fits}
 use Rattle.stm_program.proofs.ListLemmas.{statements_fit}
@@ -32,12 +32,7 @@ count_of (Then s b) = suc (count_of b)
 
 a_node : (s : Statement) → 1 ≤ statement_nodes s
 a_node (Set v e) = omega arith
-a_node (Put k e l) = omega arith
-a_node (Del k) = omega arith
-a_node (If c t e) = omega arith
-a_node (For v e n b) = omega arith
-a_node (Emit e) = omega arith
-a_node (Abort e) = omega arith
+a_node _ = omega arith
 
 few : (b : Block) → count_of b ≤ block_nodes b
 few End = omega arith

@@ -1,10 +1,10 @@
 -- The entry of a commit that the store took leads to what the commit left.
-use Rattle.std.proofs.Common.{◌≡◌, List, [], ◌∷◌, map, None, Ok, Bool, true, false, cond, refl, sym, ◌∙◌, ap, subst}
+use Rattle.std.proofs.Common.{◌≡◌, List, [], ◌∷◌, None, Ok, Bool, true, false, cond, refl, sym, ◌∙◌, ap, subst}
 use Rattle.stm_history.specs.declared.key_state.ReadAnswer.{ReadAnswer}
 use Rattle.stm_history.specs.History.{History, now}
 use Rattle.stm_program.specs.Syntax.{Block}
 use Rattle.stm_program.specs.declared.level.Level.{Level}
-use Rattle.stm_program.specs.declared.write.Write.{Write}
+use Rattle.stm_history.specs.declared.change.Change.{Change}
 use Rattle.stm_program.specs.Writes.{latest_writes}
 use Rattle.stm_program.proofs.LatestLemmas.{latest_writes-distinct}
 use Rattle.stm_steps.specs.declared.run.End.{End}
@@ -20,10 +20,9 @@ use Rattle.stm_outcome.specs.Terms.{Terms}
 use Rattle.stm_outcome.proofs.Applying.{writes_apply}
 use Rattle.stm_program.specs.Levels.{is_comparing}
 use Rattle.stm_compile.specs.Answers.{look_up, state_now}
-use Rattle.stm_compile.specs.Now.{as_change}
 use Rattle.stm_compile.specs.CommitTxn.{commit_of}
 use Rattle.stm_compile.specs.Committed.{conflict_now}
-use Rattle.stm_compile.proofs.OutcomeLemmas.{changes_are_distinct, ops_of_writes}
+use Rattle.stm_compile.proofs.OutcomeLemmas.{changes_are_distinct}
 use Rattle.stm_attempt.specs.ReadyRun.{ReadyRun, IsRunOnItsAnswers}
 use Rattle.stm_entries.specs.Entered.{answers_kept}
 use Rattle.stm_entries.specs.Replayed.{Replayed, without_moment, replay_terms}
@@ -39,10 +38,10 @@ applied_by : (terms : Terms) (level : Level) (reads : List ReadAnswer) (run : Ru
     fault_of terms.limit (commit_of level reads (latest_writes run.writes)) ≡ None →
     conflict_now terms.history level reads (latest_writes run.writes) ≡ None →
     outcome terms (commit_of level reads (latest_writes run.writes)) ≡ Ok done →
-    applied terms (map as_change (latest_writes run.writes)) ≡ Ok done
+    applied terms (latest_writes run.writes) ≡ Ok done
 applied_by terms level reads run done right none is =
-    let ws : List Write = latest_writes run.writes in
-    sym (writes_apply terms (commit_of level reads ws) (map as_change ws) (ops_of_writes ws)
+    let ws : List Change = latest_writes run.writes in
+    sym (writes_apply terms (commit_of level reads ws) ws refl
     (changes_are_distinct ws (latest_writes-distinct run.writes)) right none)
     ∙ is
 
@@ -57,7 +56,7 @@ alone_by : (h : History) (program : Block) (reads : List ReadAnswer) (run : Run)
 alone_by h program reads run true now_is read_is = now_is refl
 alone_by h program reads run false now_is read_is = read_is
 
-seen_run : (h : History) (level : Level) (program : Block) (reads : List ReadAnswer) (writes : List Write) (run : Run) →
+seen_run : (h : History) (level : Level) (program : Block) (reads : List ReadAnswer) (writes : List Change) (run : Run) →
     conflict_now h level reads writes ≡ None → first_unvouched h level reads ≡ None → run_over (look_up reads) program ≡ Ended run →
     run_over (seen_at level (answers_kept level reads) h) program ≡ Ended run
 seen_run h level program reads writes run none vouched ended =
@@ -67,7 +66,7 @@ seen_run h level program reads writes run none vouched ended =
 -- ---- its entry
 
 left_by_done : (run : Run) (end : End) (r : Replayed) (done : Done) → end ≡ DoneEnd →
-    applied (replay_terms r) (map as_change (latest_writes run.writes)) ≡ Ok done →
+    applied (replay_terms r) (latest_writes run.writes) ≡ Ok done →
     left_by run end r ≡ record { history = done.history; live = r.live }
 left_by_done run end r done is applies =
     ap (λ (e : End). left_by run e r) is ∙ ap (λ o. record { history = history_left r.history o; live = r.live }) applies
@@ -86,11 +85,11 @@ commit_follows s ready done kept t =
     let run : Run = kept.run in
     let seen : run_over (seen_at ready.level (answers_kept ready.level ready.answers) h) ready.program.statements ≡ Ended run =
     seen_run h ready.level ready.program.statements ready.answers ready.writes run t.no_conflict t.vouched kept.is_run in
-    let applies : applied (terms_of s) (map as_change (latest_writes run.writes)) ≡ Ok done =
+    let applies : applied (terms_of s) (latest_writes run.writes) ≡ Ok done =
     applied_by (terms_of s) ready.level ready.answers run done
-    (subst (λ (ws : List Write). fault_of (terms_of s).limit (commit_of ready.level ready.answers ws) ≡ None) kept.writes t.right)
-    (subst (λ (ws : List Write). conflict_now h ready.level ready.answers ws ≡ None) kept.writes t.no_conflict)
-    (subst (λ (ws : List Write). outcome (terms_of s) (commit_of ready.level ready.answers ws) ≡ Ok done) kept.writes t.took) in
+    (subst (λ (ws : List Change). fault_of (terms_of s).limit (commit_of ready.level ready.answers ws) ≡ None) kept.writes t.right)
+    (subst (λ (ws : List Change). conflict_now h ready.level ready.answers ws ≡ None) kept.writes t.no_conflict)
+    (subst (λ (ws : List Change). outcome (terms_of s) (commit_of ready.level ready.answers ws) ≡ Ok done) kept.writes t.took) in
     record {
       replays = ap (λ a. left_by_run a (without_moment s)) seen ∙ left_by_done run run.end (without_moment s) done kept.is_done applies;
       there = (

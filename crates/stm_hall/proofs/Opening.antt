@@ -22,7 +22,7 @@ use Rattle.stm_steps.specs.declared.run.Answered.TheVariants.{Ended, Wants}
 use Rattle.stm_meaning.specs.Meaning.{run_over}
 use Rattle.stm_txn.specs.Standing.{Standing}
 use Rattle.stm_entries.specs.declared.entry.Entry.{Entry}
-use Rattle.stm_entries.specs.declared.entry.Entry.TheVariants.{Program, Foreign, Grant, Renew, Revoke, Expire}
+use Rattle.stm_entries.specs.declared.entry.Entry.TheVariants.{Program, Foreign, Expire}
 use Rattle.stm_entries.specs.Replayed.{Replayed, without_moment}
 use Rattle.stm_entries.specs.Alone.{seen_at, left_by, left_by_run}
 use Rattle.stm_entries.specs.Replay.{replay, replay_entry}
@@ -91,10 +91,8 @@ entry_live (Program program level answers output trace revision) r id there =
     ap (λ (l : Live). is_live_in l id) (sym (run_keeps_live (run_over (seen_at level answers r.history) program.statements) r))
     ∙ or_false (is_live_in (left_by_run (run_over (seen_at level answers r.history) program.statements) r).live id)
 entry_live (Foreign txn) r id there = or_false (is_live_in r.live id)
-entry_live (Grant lease ttl moment) r id there = absurd there
-entry_live (Renew lease moment) r id there = absurd there
-entry_live (Revoke lease) r id there = absurd there
 entry_live (Expire lease) r id there = ended_live r.live lease id there.is_live
+entry_live _ r id there = absurd there
 
 -- and so before several
 live_before : (es : List Entry) (r : Replayed) (id : ℕ) → AreEntriesThere es r → is_live_in r.live id ≡ (is_live_in (replay es r).live id || has_expired id es)

@@ -7,7 +7,7 @@ use Rattle.stm_history.specs.declared.key_state.ReadAnswer.{ReadAnswer}
 use Rattle.stm_history.specs.History.{History, key_now, value_of}
 use Rattle.stm_program.specs.declared.level.Level.{Level}
 use Rattle.stm_program.specs.declared.level.Level.TheVariants.{SerializableSnapshot, Serializable, RepeatableReads, ReadCommitted}
-use Rattle.stm_program.specs.declared.write.Write.{Write}
+use Rattle.stm_history.specs.declared.change.Change.{Change}
 use Rattle.stm_program.proofs.WriteLemmas.{bytes_eq-self}
 use Rattle.stm_meaning.specs.Answer.{Answer}
 use Rattle.stm_program.specs.Levels.{is_comparing}
@@ -33,7 +33,7 @@ all_vouched h [] say = refl
 all_vouched h (a ∷ reads) say =
     passed_by (has_other_value h a) a (find (has_other_value h) reads) (is_vouched h a say.0) (all_vouched h reads say.1)
 
-compared_vouched : (h : History) (level : Level) (reads : List ReadAnswer) (writes : List Write) → is_comparing level ≡ true → AreTrue h reads →
+compared_vouched : (h : History) (level : Level) (reads : List ReadAnswer) (writes : List Change) → is_comparing level ≡ true → AreTrue h reads →
     conflict_now h level reads writes ≡ None → find (has_other_value h) reads ≡ None
 compared_vouched h level reads writes compares t none =
     all_vouched h reads

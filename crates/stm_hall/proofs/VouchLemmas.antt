@@ -9,7 +9,7 @@ use Rattle.stm_history.specs.History.{History, key_now, value_of, mod_of}
 use Rattle.stm_program.specs.Syntax.{Block}
 use Rattle.stm_program.specs.declared.level.Level.{Level}
 use Rattle.stm_program.specs.declared.level.Level.TheVariants.{SerializableSnapshot, Serializable, RepeatableReads, ReadCommitted}
-use Rattle.stm_program.specs.declared.write.Write.{Write}
+use Rattle.stm_history.specs.declared.change.Change.{Change}
 use Rattle.stm_program.proofs.WriteLemmas.{bytes_eq-same}
 use Rattle.stm_meaning.specs.Laws.{IsContinuedBy}
 use Rattle.stm_meaning.specs.Meaning.{run_over}
@@ -66,14 +66,14 @@ reads_alone : (h : History) (reads : List ReadAnswer) → first_failed (key_now 
 reads_alone h reads none vouched =
     unchanged_reads h reads [] 0 (ap (first_failed (key_now h) 0) (append-nil (map is_as_read reads)) ∙ none) vouched
 
-reads_are_now : (h : History) (level : Level) (reads : List ReadAnswer) (writes : List Write) → is_comparing level ≡ true →
+reads_are_now : (h : History) (level : Level) (reads : List ReadAnswer) (writes : List Change) → is_comparing level ≡ true →
     conflict_now h level reads writes ≡ None → first_unvouched h level reads ≡ None → AreNow h reads
 reads_are_now h SerializableSnapshot reads writes compares none vouched = unchanged_reads h reads _ 0 none vouched
 reads_are_now h Serializable reads writes compares none vouched = reads_alone h reads none vouched
 reads_are_now h RepeatableReads reads writes compares none vouched = reads_alone h reads none vouched
 reads_are_now h ReadCommitted reads writes compares none vouched = absurd (cc)
 
-pub vouched_run : (h : History) (level : Level) (reads : List ReadAnswer) (writes : List Write) (program : Block) (run : Run) → is_comparing level ≡ true →
+pub vouched_run : (h : History) (level : Level) (reads : List ReadAnswer) (writes : List Change) (program : Block) (run : Run) → is_comparing level ≡ true →
     conflict_now h level reads writes ≡ None → first_unvouched h level reads ≡ None → run_over (look_up reads) program ≡ Ended run →
     run_over (state_now h) program ≡ Ended run
 vouched_run h level reads writes program run compares none vouched ended =

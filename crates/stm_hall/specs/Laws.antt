@@ -4,7 +4,7 @@ use Rattle.stm_history.specs.declared.key_state.ReadAnswer.{ReadAnswer}
 use Rattle.stm_history.specs.History.{History}
 use Rattle.stm_leases.specs.Live.{is_live_in}
 use Rattle.stm_program.specs.declared.level.Level.{Level}
-use Rattle.stm_program.specs.declared.write.Write.{Write}
+use Rattle.stm_history.specs.declared.change.Change.{Change}
 use Rattle.stm_txn.specs.Standing.{Standing}
 use Rattle.stm_compile.specs.Answers.{AreTrue}
 use Rattle.stm_compile.specs.Committed.{conflict_now}
@@ -50,5 +50,5 @@ HallsOpenAsTheirStore = (s : Standing) → OpensAsItsStore s
 -- another than the store's. The answers that the runners of a world have read are true, so none of their commits would be unvouched.
 abbrev pub TrueReadsAreVouched : Type 0
 TrueReadsAreVouched =
-    (h : History) (level : Level) (reads : List ReadAnswer) (writes : List Write) → AreTrue h reads → conflict_now h level reads writes ≡ None
+    (h : History) (level : Level) (reads : List ReadAnswer) (writes : List Change) → AreTrue h reads → conflict_now h level reads writes ≡ None
     → first_unvouched h level reads ≡ None

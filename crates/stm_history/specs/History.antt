@@ -35,6 +35,11 @@ abbrev pub key_of : Change → List ℕ
 key_of (Put key value lease) = key
 key_of (Del key) = key
 
+-- what a read sees of a change: the empty text of a deletion
+abbrev pub value_written : Change → List ℕ
+value_written (Put key value lease) = value
+value_written (Del key) = []
+
 -- the change of a key in one revision, if there is one
 abbrev pub change_of : List ℕ → List Change → Option Change
 change_of key [] = None

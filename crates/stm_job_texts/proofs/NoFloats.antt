@@ -10,7 +10,7 @@ use Rattle.stm_steps.specs.declared.value.Value.TheVariants.{Text, Number}
 use Rattle.stm_entries.specs.declared.entry.Entry.{Entry}
 use Rattle.stm_report_lines.specs.LineData.{list, value_data}
 use Rattle.stm_job.specs.declared.job_end.JobEnd.{JobEnd}
-use Rattle.stm_job.specs.declared.job_end.JobEnd.TheVariants.{Committed, Aborted, Faulted, Refused, GaveUp}
+use Rattle.stm_job.specs.declared.job_end.JobEnd.TheVariants.{Committed}
 use Rattle.std.specs.Prelude.{slice_get}
 use Rattle.stm_job_texts.specs.Outcomes.{end_data, output_in, pair_data, pairs}
 
@@ -28,10 +28,7 @@ value_data-no_float (Number z) = of_integer-no_float z
 
 end_data-no_float : (entries : List Entry) (end : JobEnd) → has_float (end_data entries end) ≡ false
 end_data-no_float entries (Committed index revision) = rw (each-no_float value_data value_data-no_float (output_in (slice_get entries index))) refl
-end_data-no_float entries (Aborted text reads) = refl
-end_data-no_float entries (Faulted fault reads) = refl
-end_data-no_float entries (Refused refusal) = refl
-end_data-no_float entries (GaveUp key) = refl
+end_data-no_float entries _ = refl
 
 pub ends-no_float : (entries : List Entry) (ends : List JobEnd) → has_float (list (map (end_data entries) ends)) ≡ false
 ends-no_float entries ends = each-no_float (end_data entries) (end_data-no_float entries) ends

@@ -1,6 +1,5 @@
 -- What a fetch answers, and that it changes nothing.
-use Rattle.std.proofs.Common.{◌≡◌, inl, inr, ℕ, ◌<◌, ◌≤◌, List, [], ◌∷◌, Bool, true, cond, Option, Some, None, Result, Ok, Err, refl, sym, ◌∙◌, ap}
-use Rattle.std.proofs.Common.{subst}
+use Rattle.std.proofs.Common.{◌≡◌, inl, inr, ℕ, ◌<◌, ◌≤◌, List, [], ◌∷◌, Bool, true, cond, Option, Some, None, Result, Ok, Err, refl, sym, ◌∙◌, ap, subst}
 use Rattle.std.proofs.lemmas.Bool.{lt-ltb, le-ltb, false≢true}
 use Rattle.std.specs.List.{list_all}
 use Rattle.stm_history.specs.declared.key_state.ReadAnswer.{ReadAnswer}

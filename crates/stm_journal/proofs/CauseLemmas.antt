@@ -1,10 +1,8 @@
 -- The verdict on a commit by what is known of it before anything is written.
-use Rattle.std.proofs.Common.{◌≡◌, ◌⊎◌, inl, inr, ℕ, ◌<◌, List, [], ◌∷◌, map, length, Option, Some, None, Result, Ok, Err, IfOk, refl, sym, ◌∙◌, ap}
-use Rattle.std.proofs.Common.{subst}
+use Rattle.std.proofs.Common.{◌≡◌, ◌⊎◌, inl, inr, ℕ, ◌<◌, List, [], ◌∷◌, map, length, Option, Some, None, Result, Ok, Err, IfOk, refl, sym, ◌∙◌, ap, subst}
 use Rattle.stm_history.specs.declared.change.Change.{Change}
 use Rattle.stm_history.specs.declared.key_state.ReadAnswer.{ReadAnswer}
 use Rattle.stm_history.specs.History.{History, now, key_now, HasDistinctKeys}
-use Rattle.stm_program.specs.declared.write.Write.{Write}
 use Rattle.stm_program.specs.Writes.{latest_writes}
 use Rattle.stm_program.proofs.LatestLemmas.{latest_writes-distinct}
 use Rattle.stm_outcome.specs.declared.answer.FailedCompare.{FailedCompare}
@@ -19,8 +17,7 @@ use Rattle.stm_outcome.proofs.Applying.{branch_applies, writes_apply, failed_com
 use Rattle.stm_txn.specs.Standing.{Standing, Step, IsRefusalOf, terms_of, with_history, write_step, written}
 use Rattle.stm_compile.specs.Answers.{answer_now}
 use Rattle.stm_compile.specs.CommitTxn.{reread_keys}
-use Rattle.stm_compile.specs.Now.{as_change}
-use Rattle.stm_compile.proofs.OutcomeLemmas.{changes_are_distinct, ops_of_writes}
+use Rattle.stm_compile.proofs.OutcomeLemmas.{changes_are_distinct}
 use Rattle.stm_attempt.specs.ReadyRun.{ReadyRun, IsRunOnItsAnswers}
 use Rattle.stm_entries.specs.declared.entry.Entry.{Entry}
 use Rattle.stm_journal.specs.declared.causes.Cause.TheVariants.{Wrong, Fails, Unvouched}
@@ -102,17 +99,17 @@ caused_by_value s ready is =
 
 -- ---- the changes of a commit
 
-pub changes_of_ready : (ready : ReadyRun) → IsRunOnItsAnswers ready → HasDistinctKeys (map as_change ready.writes)
+pub changes_of_ready : (ready : ReadyRun) → IsRunOnItsAnswers ready → HasDistinctKeys ready.writes
 changes_of_ready ready kept =
-    subst (λ (ws : List Write). HasDistinctKeys (map as_change ws)) (sym kept.writes)
+    subst (λ (ws : List Change). HasDistinctKeys ws) (sym kept.writes)
     (changes_are_distinct (latest_writes kept.run.writes) (latest_writes-distinct kept.run.writes))
 
 -- what a commit comes to that nothing turns down is what its changes come to
 clear_is_written : (s : Standing) (ready : ReadyRun) (changes : List Change) → IsClear s ready → IsRunOnItsAnswers ready →
-    changes ≡ map as_change ready.writes → outcome (terms_of s) (txn_of ready) ≡ branch_outcome (terms_of s) None (map op_of changes)
+    changes ≡ ready.writes → outcome (terms_of s) (txn_of ready) ≡ branch_outcome (terms_of s) None (map op_of changes)
 clear_is_written s ready changes c kept is =
-    writes_apply (terms_of s) (txn_of ready) (map as_change ready.writes) (ops_of_writes ready.writes) (changes_of_ready ready kept) c.right c.compared
-    ∙ sym (branch_applies (terms_of s) (map as_change ready.writes) (changes_of_ready ready kept))
+    writes_apply (terms_of s) (txn_of ready) ready.writes refl (changes_of_ready ready kept) c.right c.compared
+    ∙ sym (branch_applies (terms_of s) ready.writes (changes_of_ready ready kept))
     ∙ ap (λ (cs : List Change). branch_outcome (terms_of s) None (map op_of cs)) (sym is)
 
 write_to : ℕ → Standing → Step ℕ
@@ -133,7 +130,7 @@ committed_to place revision next = Ok record { answer = Committed place revision
 
 -- the commit is made: its changes are in the store, and its entry stands after the others
 pub reports_made : (journal after : JournalState) (ready : ReadyRun) (changes : List Change) (next : Standing) (index revision : ℕ) →
-    IsClear journal.standing ready → IsRunOnItsAnswers ready → changes ≡ map as_change ready.writes →
+    IsClear journal.standing ready → IsRunOnItsAnswers ready → changes ≡ ready.writes →
     written journal.standing changes ≡ Ok record { answer = revision; next = next } → index ≡ length journal.entries →
     after ≡ gone_on journal next (entry_of ready revision ∷ []) →
     taken_by_store journal ready ≡ Ok record { answer = Committed index revision; next = after }
@@ -162,7 +159,7 @@ as_reported journal ready cause (inr is) = inr (ap (taken journal ready) is)
 
 -- the store refuses its changes
 pub reports_not_made : (journal after : JournalState) (ready : ReadyRun) (changes : List Change) (cause : Refusal) → IsClear journal.standing ready →
-    IsRunOnItsAnswers ready → changes ≡ map as_change ready.writes → IsRefusalOf (written journal.standing changes) cause → after ≡ journal →
+    IsRunOnItsAnswers ready → changes ≡ ready.writes → IsRefusalOf (written journal.standing changes) cause → after ≡ journal →
     SentReturns (taken_by_store journal ready) journal (Err cause) after
 reports_not_made journal after ready changes cause clear kept is refused same =
     let s : Standing = journal.standing in (

@@ -1,7 +1,6 @@
 -- The state of a store, key by key.
-use Rattle.std.proofs.Common.{◌≡◌, ◌∙◌, ℕ, ◌+◌, ◌<◌, ◌≤◌, ◌||◌, Bool, true, false, cond, List, [], ◌∷◌, ◌++◌, take, map, length, get_or, is_some}
-use Rattle.std.proofs.Common.{refl, sym, ap}
-use Rattle.std.proofs.Common.{Option, None, Some, String, string_bytes}
+use Rattle.std.proofs.Common.{◌≡◌, ◌∙◌, ℕ, ◌+◌, ◌<◌, ◌≤◌, ◌||◌, Bool, true, false, cond, List, [], ◌∷◌, ◌++◌, take, map, length, get_or, is_some, refl, sym}
+use Rattle.std.proofs.Common.{ap, Option, None, Some, String, string_bytes}
 use Rattle.std.specs.Prelude.{bytes_eq}
 use Rattle.std.proofs.lemmas.List.{take_all, map_more}
 use Rattle.std.proofs.lemmas.List.Folds.{list_any-append}

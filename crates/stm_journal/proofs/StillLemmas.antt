@@ -7,7 +7,7 @@ use Rattle.stm_history.specs.declared.key_state.ReadAnswer.{ReadAnswer}
 use Rattle.stm_history.specs.History.{History, key_now, value_of, mod_of}
 use Rattle.stm_program.specs.declared.level.Level.{Level}
 use Rattle.stm_program.specs.declared.level.Level.TheVariants.{Serializable, RepeatableReads}
-use Rattle.stm_program.specs.declared.write.Write.{Write}
+use Rattle.stm_history.specs.declared.change.Change.{Change}
 use Rattle.stm_outcome.specs.declared.answer.FailedCompare.{FailedCompare}
 use Rattle.stm_outcome.specs.Compares.{first_failed}
 use Rattle.stm_outcome.proofs.Applying.{mod_compares}
@@ -31,16 +31,16 @@ none_other h (a ∷ reads) still =
     ∙ none_other h reads still.1
 
 -- what turns a commit down at a level
-abbrev pub cause_at : History → List ReadAnswer → List Write → Level → Option Cause
+abbrev pub cause_at : History → List ReadAnswer → List Change → Level → Option Cause
 cause_at h reads writes level =
     cause_failed (first_failed (key_now h) 0 (compares_of level reads writes)) (cause_unvouched (first_unvouched h level reads))
 
-pub clear_serializable : (h : History) (reads : List ReadAnswer) (writes : List Write) → AllByRecursion (IsStill h) reads →
+pub clear_serializable : (h : History) (reads : List ReadAnswer) (writes : List Change) → AllByRecursion (IsStill h) reads →
     cause_at h reads writes Serializable ≡ None
 clear_serializable h reads writes still =
     ap (λ (o : Option FailedCompare). cause_failed o (cause_unvouched (find (has_other_value h) reads))) (none_changed h reads 0 still)
     ∙ ap cause_unvouched (none_other h reads still)
 
-pub clear_repeatable : (h : History) (reads : List ReadAnswer) (writes : List Write) → AllByRecursion (IsStill h) reads →
+pub clear_repeatable : (h : History) (reads : List ReadAnswer) (writes : List Change) → AllByRecursion (IsStill h) reads →
     cause_at h reads writes RepeatableReads ≡ None
 clear_repeatable h reads writes still = clear_serializable h reads writes still

@@ -1,21 +1,18 @@
 -- What is wrong with the transaction of a commit as a whole: its number of operations, or an empty key that was read.
-use Rattle.std.proofs.Common.{◌≡◌, ℕ, ◌+◌, ◌-◌, ◌<◌, ◌≤◌, ◌||◌, ◌&&◌, List, [], ◌∷◌, ◌++◌, map, length, Bool, true, false, cond, Option, Some, None}
-use Rattle.std.proofs.Common.{refl, sym, ◌∙◌, ap, subst}
-use Rattle.std.proofs.Common.{arith, length-append}
+use Rattle.std.proofs.Common.{◌≡◌, ℕ, ◌+◌, ◌-◌, ◌<◌, ◌≤◌, ◌||◌, ◌&&◌, List, [], ◌∷◌, ◌++◌, map, length, Bool, true, false, cond, Option, Some, None, refl}
+use Rattle.std.proofs.Common.{sym, ◌∙◌, ap, subst, arith, length-append}
 use Rattle.std.proofs.lemmas.Bool.{ne_eqb, lt-ltb, le-ltb, ltb-true, ltb-false}
 use Rattle.std.proofs.lemmas.List.{length-map}
 use Rattle.std.proofs.lemmas.List.Elements.{recursion_from_All}
 use Rattle.std.specs.Prelude.{nat_lt, bytes_eq}
 use Rattle.std.specs.List.{list_any, AllByRecursion}
 use Rattle.stm_history.specs.declared.change.Change.{Change}
-use Rattle.stm_history.specs.declared.change.Change.TheVariants.{Put as PutChange, Del as DelChange}
 use Rattle.stm_history.specs.declared.key_state.ReadAnswer.{ReadAnswer}
-use Rattle.stm_history.specs.History.{key_of as changed_key, change_of, HasDistinctKeys}
+use Rattle.stm_history.specs.History.{key_of, change_of, HasDistinctKeys}
 use Rattle.stm_program.specs.declared.level.Level.{Level}
 use Rattle.stm_program.specs.declared.level.Level.TheVariants.{SerializableSnapshot, Serializable, RepeatableReads, ReadCommitted}
-use Rattle.stm_program.specs.declared.write.Write.{Write}
-use Rattle.stm_program.specs.declared.write.Write.TheVariants.{Put, Del}
-use Rattle.stm_program.specs.Writes.{key_of, latest_writes}
+use Rattle.stm_history.specs.declared.change.Change.TheVariants.{Put, Del}
+use Rattle.stm_program.specs.Writes.{latest_writes}
 use Rattle.stm_program.proofs.LatestLemmas.{latest_writes-distinct}
 use Rattle.stm_meaning.proofs.RunKeyLaws.{keys_are_not_empty}
 use Rattle.stm_outcome.specs.declared.txn.Compare.{Compare}
@@ -30,9 +27,8 @@ use Rattle.stm_outcome.specs.Effect.{op_of}
 use Rattle.stm_outcome.proofs.Branching.{apart_case, apart_back}
 use Rattle.stm_compile.specs.Answers.{look_up}
 use Rattle.stm_program.specs.Levels.{is_comparing}
-use Rattle.stm_compile.specs.Now.{as_change}
-use Rattle.stm_compile.specs.CommitTxn.{first_carried, is_as_read, is_unmodified, write_op, compares_of, reread_keys, commit_of}
-use Rattle.stm_compile.proofs.OutcomeLemmas.{changes_are_distinct, ops_of_writes}
+use Rattle.stm_compile.specs.CommitTxn.{first_carried, is_as_read, is_unmodified, compares_of, reread_keys, commit_of}
+use Rattle.stm_compile.proofs.OutcomeLemmas.{changes_are_distinct}
 use Rattle.stm_attempt.specs.ReadyRun.{ReadyRun, IsRunOnItsAnswers}
 use Rattle.stm_journal.specs.Verdicts.{txn_of}
 
@@ -76,28 +72,28 @@ as_both a b c e p q r =
 has_bytes : (key : List ℕ) → 0 < length key → is_empty_key key ≡ false
 has_bytes key more = ne_eqb (length key) 0 (λ (is : length key ≡ 0). omega arith)
 
-write_named : (w : Write) → 0 < length (key_of w) → is_empty_key (key_of_op (write_op w)) ≡ false
+write_named : (w : Change) → 0 < length (key_of w) → is_empty_key (key_of_op (op_of w)) ≡ false
 write_named (Put key value lease) more = has_bytes key more
 write_named (Del key) more = has_bytes key more
 
 abbrev names_nothing : Op → Bool
 names_nothing op = is_empty_key (key_of_op op)
 
-writes_named : (ws : List Write) → AllByRecursion (λ w. 0 < length (key_of w)) ws → list_any names_nothing (map write_op ws) ≡ false
+writes_named : (ws : List Change) → AllByRecursion (λ w. 0 < length (key_of w)) ws → list_any names_nothing (map op_of ws) ≡ false
 writes_named [] named = refl
-writes_named (w ∷ ws) named = ap (λ b. b || list_any names_nothing (map write_op ws)) (write_named w named.0) ∙ writes_named ws named.1
+writes_named (w ∷ ws) named = ap (λ b. b || list_any names_nothing (map op_of ws)) (write_named w named.0) ∙ writes_named ws named.1
 
-write_apart : (w later : Change) → bytes_eq (changed_key later) (changed_key w) ≡ false → clash (op_of w) (op_of later) ≡ false
-write_apart (PutChange key value lease) (PutChange k v l) apart = apart_back k key apart
-write_apart (PutChange key value lease) (DelChange k) apart = apart_back k key apart
-write_apart (DelChange key) (PutChange k v l) apart = apart_back k key apart
-write_apart (DelChange key) (DelChange k) apart = refl
+write_apart : (w later : Change) → bytes_eq (key_of later) (key_of w) ≡ false → clash (op_of w) (op_of later) ≡ false
+write_apart (Put key value lease) (Put k v l) apart = apart_back k key apart
+write_apart (Put key value lease) (Del k) apart = apart_back k key apart
+write_apart (Del key) (Put k v l) apart = apart_back k key apart
+write_apart (Del key) (Del k) apart = refl
 
-none_clash : (w : Change) (ws : List Change) → change_of (changed_key w) ws ≡ None → list_any (clash (op_of w)) (map op_of ws) ≡ false
+none_clash : (w : Change) (ws : List Change) → change_of (key_of w) ws ≡ None → list_any (clash (op_of w)) (map op_of ws) ≡ false
 none_clash w [] absent = refl
 none_clash w (x ∷ xs) absent =
-    let split : (bytes_eq (changed_key x) (changed_key w) ≡ false) × (change_of (changed_key w) xs ≡ None) =
-    apart_case (bytes_eq (changed_key x) (changed_key w)) x (change_of (changed_key w) xs) absent in
+    let split : (bytes_eq (key_of x) (key_of w) ≡ false) × (change_of (key_of w) xs ≡ None) =
+    apart_case (bytes_eq (key_of x) (key_of w)) x (change_of (key_of w) xs) absent in
     ap (λ b. b || list_any (clash (op_of w)) (map op_of xs)) (write_apart w x split.0) ∙ none_clash w xs split.1
 
 changes_apart : (ws : List Change) → HasDistinctKeys ws → has_clash (map op_of ws) ≡ false
@@ -105,12 +101,11 @@ changes_apart [] distinct = refl
 changes_apart (w ∷ ws) distinct = ap (λ b. b || has_clash (map op_of ws)) (none_clash w ws distinct.0) ∙ changes_apart ws distinct.1
 
 -- so no two writes of a ready attempt clash
-pub writes_stand_apart : (ready : ReadyRun) → IsRunOnItsAnswers ready → has_clash (map write_op ready.writes) ≡ false
+pub writes_stand_apart : (ready : ReadyRun) → IsRunOnItsAnswers ready → has_clash (map op_of ready.writes) ≡ false
 writes_stand_apart ready kept =
-    let ws : List Write = latest_writes kept.run.writes in
-    ap (λ (l : List Write). has_clash (map write_op l)) kept.writes
-    ∙ ap has_clash (ops_of_writes ws)
-    ∙ changes_apart (map as_change ws) (changes_are_distinct ws (latest_writes-distinct kept.run.writes))
+    let ws : List Change = latest_writes kept.run.writes in
+    ap (λ (l : List Change). has_clash (map op_of l)) kept.writes
+    ∙ changes_apart ws (changes_are_distinct ws (latest_writes-distinct kept.run.writes))
 
 -- ---- the keys that were read
 
@@ -139,7 +134,7 @@ reads_apart (key ∷ keys) = ap (λ b. b || has_clash (map read_now keys)) (none
 read_compares : (reads : List ReadAnswer) (r : ℕ) → r ≡ length reads → length (map is_as_read reads) ≡ r
 read_compares reads r is = length-map reads is_as_read ∙ sym is
 
-snapshot_compares : (reads : List ReadAnswer) (writes : List Write) (r w : ℕ) → r ≡ length reads → w ≡ length writes →
+snapshot_compares : (reads : List ReadAnswer) (writes : List Change) (r w : ℕ) → r ≡ length reads → w ≡ length writes →
     length (compares_of SerializableSnapshot reads writes) ≡ r + w
 snapshot_compares reads writes r w read written =
     let reads_count : length (map is_as_read reads) ≡ length reads = length-map reads is_as_read in
@@ -152,11 +147,11 @@ snapshot_compares reads writes r w read written =
 rereads_count : (reads : List ReadAnswer) (r : ℕ) → r ≡ length reads → length (map read_now (map (λ (a : ReadAnswer). a.key) reads)) ≡ r
 rereads_count reads r is = length-map (map (λ (a : ReadAnswer). a.key) reads) read_now ∙ length-map reads (λ (a : ReadAnswer). a.key) ∙ sym is
 
-writes_count : (writes : List Write) (w : ℕ) → w ≡ length writes → length (map write_op writes) ≡ w
-writes_count writes w is = length-map writes write_op ∙ sym is
+writes_count : (writes : List Change) (w : ℕ) → w ≡ length writes → length (map op_of writes) ≡ w
+writes_count writes w is = length-map writes op_of ∙ sym is
 
 -- more writes than a transaction may have
-pub many_writes : (limit : ℕ) (level : Level) (reads : List ReadAnswer) (writes : List Write) (w : ℕ) → w ≡ length writes → limit < w →
+pub many_writes : (limit : ℕ) (level : Level) (reads : List ReadAnswer) (writes : List Change) (w : ℕ) → w ≡ length writes → limit < w →
     has_too_many limit (commit_of level reads writes) ≡ true
 many_writes limit level reads writes w is more =
     let txn : Txn = commit_of level reads writes in
@@ -179,27 +174,27 @@ three_numbers limit txn a b c p q r =
     ∙ ap (λ (n : ℕ). nat_lt limit a || nat_lt limit n || nat_lt limit (length txn.failure)) q
     ∙ ap (λ (n : ℕ). nat_lt limit a || nat_lt limit b || nat_lt limit n) r
 
-pub snapshot_count : (limit : ℕ) (reads : List ReadAnswer) (writes : List Write) (r w : ℕ) → r ≡ length reads → w ≡ length writes → w ≤ limit →
+pub snapshot_count : (limit : ℕ) (reads : List ReadAnswer) (writes : List Change) (r w : ℕ) → r ≡ length reads → w ≡ length writes → w ≤ limit →
     nat_lt (limit - w) r ≡ has_too_many limit (commit_of SerializableSnapshot reads writes)
 snapshot_count limit reads writes r w read written few =
     by_sum limit r w (nat_lt limit (r + w)) refl few
     ∙ sym (three_numbers limit (commit_of SerializableSnapshot reads writes) (r + w) w r (snapshot_compares reads writes r w read written)
     (writes_count writes w written) (rereads_count reads r read))
 
-pub serializable_count : (limit : ℕ) (reads : List ReadAnswer) (writes : List Write) (r w : ℕ) → r ≡ length reads → w ≡ length writes → w ≤ limit →
+pub serializable_count : (limit : ℕ) (reads : List ReadAnswer) (writes : List Change) (r w : ℕ) → r ≡ length reads → w ≡ length writes → w ≤ limit →
     nat_lt limit r ≡ has_too_many limit (commit_of Serializable reads writes)
 serializable_count limit reads writes r w read written few =
     sym (as_both (nat_lt limit r) (nat_lt limit w) (nat_lt limit r) (nat_lt limit r) refl (le-ltb limit w few) refl)
     ∙ sym (three_numbers limit (commit_of Serializable reads writes) r w r (read_compares reads r read) (writes_count writes w written)
     (rereads_count reads r read))
 
-pub repeatable_count : (limit : ℕ) (reads : List ReadAnswer) (writes : List Write) (r w : ℕ) → r ≡ length reads → w ≡ length writes → w ≤ limit →
+pub repeatable_count : (limit : ℕ) (reads : List ReadAnswer) (writes : List Change) (r w : ℕ) → r ≡ length reads → w ≡ length writes → w ≤ limit →
     nat_lt limit r ≡ has_too_many limit (commit_of RepeatableReads reads writes)
 repeatable_count limit reads writes r w read written few =
     sym (as_first (nat_lt limit r) (nat_lt limit w) (nat_lt limit 0) (nat_lt limit r) refl (le-ltb limit w few) (le-ltb limit 0 (omega arith)))
     ∙ sym (three_numbers limit (commit_of RepeatableReads reads writes) r w 0 (read_compares reads r read) (writes_count writes w written) refl)
 
-pub committed_count : (limit : ℕ) (reads : List ReadAnswer) (writes : List Write) (w : ℕ) → w ≡ length writes → w ≤ limit →
+pub committed_count : (limit : ℕ) (reads : List ReadAnswer) (writes : List Change) (w : ℕ) → w ≡ length writes → w ≤ limit →
     false ≡ has_too_many limit (commit_of ReadCommitted reads writes)
 committed_count limit reads writes w written few =
     sym (three_numbers limit (commit_of ReadCommitted reads writes) 0 w 0 refl (writes_count writes w written) refl
@@ -218,14 +213,14 @@ compares_within limit txn is =
     ltb-false limit (length txn.compares)
     (first_is_not (nat_lt limit (length txn.compares)) (nat_lt limit (length txn.success)) (nat_lt limit (length txn.failure)) few)
 
-pub few_compares : (limit : ℕ) (reads : List ReadAnswer) (writes : List Write) → length (compares_of SerializableSnapshot reads writes) ≤ limit →
+pub few_compares : (limit : ℕ) (reads : List ReadAnswer) (writes : List Change) → length (compares_of SerializableSnapshot reads writes) ≤ limit →
     length reads + length writes ≤ limit
 few_compares limit reads writes below = omega (arith, below, snapshot_compares reads writes (length reads) (length writes) refl refl)
 
 -- ---- an empty key
 
 -- a key that is written is not compared as an empty one
-compared_writes : (first : ℕ) (ws : List Write) → AllByRecursion (λ w. 0 < length (key_of w)) ws →
+compared_writes : (first : ℕ) (ws : List Change) → AllByRecursion (λ w. 0 < length (key_of w)) ws →
     list_any (λ (c : Compare). is_empty_key c.key) (map (is_unmodified first) ws) ≡ false
 compared_writes first [] named = refl
 compared_writes first (w ∷ ws) named =
@@ -237,7 +232,7 @@ compared_before : (reads : List ReadAnswer) (rest : List Compare) → list_any (
 compared_before [] rest none = none
 compared_before (a ∷ reads) rest none = ap (λ b. is_empty_key a.key || b) (compared_before reads rest none)
 
-pub empty_by : (level : Level) (reads : List ReadAnswer) (writes : List Write) → AllByRecursion (λ w. 0 < length (key_of w)) writes →
+pub empty_by : (level : Level) (reads : List ReadAnswer) (writes : List Change) → AllByRecursion (λ w. 0 < length (key_of w)) writes →
     has_empty_key (commit_of level reads writes) ≡ (is_comparing level && reads_nothing reads)
 empty_by SerializableSnapshot reads writes named =
     let txn : Txn = commit_of SerializableSnapshot reads writes in
@@ -286,7 +281,7 @@ fault_none limit txn few named apart =
 -- the keys of a ready attempt's writes
 pub named_of_ready : (ready : ReadyRun) → IsRunOnItsAnswers ready → AllByRecursion (λ w. 0 < length (key_of w)) ready.writes
 named_of_ready ready kept =
-    subst (λ (ws : List Write). AllByRecursion (λ w. 0 < length (key_of w)) ws) (sym kept.writes)
+    subst (λ (ws : List Change). AllByRecursion (λ w. 0 < length (key_of w)) ws) (sym kept.writes)
     (recursion_from_All (λ w. 0 < length (key_of w)) (latest_writes kept.run.writes)
     (keys_are_not_empty (look_up ready.answers) ready.program.statements kept.run kept.is_run).2)
 

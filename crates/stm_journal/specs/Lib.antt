@@ -8,6 +8,7 @@ pub mod JournalState
 pub mod Fetching
 pub mod Verdicts
 pub mod Causes
+pub mod CommitEntry
 pub mod Prepared
 pub mod Entering
 pub mod Names

@@ -1,9 +1,8 @@
 //! The commit of an attempt.
-ghost use Rattle.std.specs.Prelude.{◌≡◌, map, None, Some, Err, IfOk};
+ghost use Rattle.std.specs.Prelude.{◌≡◌, None, Some, Err, IfOk};
 ghost use Rattle.stm_history.specs.History.{key_now};
 ghost use Rattle.stm_outcome.specs.Checks.{fault_of};
 ghost use Rattle.stm_outcome.specs.Compares.{first_failed};
-ghost use Rattle.stm_compile.specs.Now.{as_change};
 ghost use Rattle.stm_attempt.specs.ReadyRun.{IsRunOnItsAnswers};
 ghost use Rattle.stm_journal.specs.declared.causes.Cause.TheVariants.{Unvouched as IsUnvouched};
 ghost use Rattle.stm_journal.specs.declared.refusal.CommitRefusal.TheVariants.{Unvouched as RefusesValue};
@@ -11,7 +10,7 @@ ghost use Rattle.stm_journal.specs.Causes.{cause_of, IsClear, IsSentAs, TurnsDow
 ghost use Rattle.stm_journal.specs.Verdicts.{txn_of, taken_by_store, sent, refused_by_store, SendsAs, CommitsAs, CanGoOn};
 
 use crate::causes::{Cause, check};
-use crate::commit_entry::entry_from;
+use crate::commit_entry::parts_of;
 use crate::failing::fail;
 use crate::prepared::Prepared;
 use crate::refusal::CommitRefusal;
@@ -19,9 +18,8 @@ use crate::verdict::Verdict;
 use crate::vouching::find_unvouched;
 use std::alloc::{AllocError, Global};
 use stm_attempt::Ready;
-use stm_compile::changes_of;
 use stm_entries::Entry;
-use stm_history::{Change, Text};
+use stm_history::Text;
 use stm_txn::{FailedCompare, Refusal, Store};
 
 /// Makes the commit of an attempt that nothing but the store's leases, its last revision and memory can refuse.
@@ -32,52 +30,31 @@ fn make(
     store: &mut Store,
     entries: &mut Vec<Entry>,
     ready: Ready,
-    changes: Vec<Change>,
 ) -> Result<Verdict, Refusal>
     requires clear { IsClear store.old.standing ready }
     requires run { IsRunOnItsAnswers ready }
-    requires changes { changes.items ≡ map as_change ready.writes }
     ensures verdict { SendsAs (λ journal. taken_by_store journal ready) result store.old.standing entries.old.items store.new.standing entries.new.items }
     ensures answers { IfOk result CanGoOn }
 {
     if entries.reserve(1).is_err() {
-        drop(changes);
         drop(ready);
         return Err(Refusal::OutOfMemory);
     }
+    let (kept, changes) = parts_of(alloc, ready);
     match store.write(changes) {
         Ok(revision) => {
             let index = entries.len();
-            entries.push_reserved(entry_from(alloc, ready, revision));
+            entries.push_reserved(kept.into_entry(revision));
             Ok(Verdict::Committed { index, revision })
         }
         Err(cause) => {
-            drop(ready);
+            drop(kept);
             Err(cause)
         }
     }
 }
 
 // ---- an attempt whose answers are the store's own
-
-/// Makes the commit of an attempt of which no compare fails, and with which nothing is wrong as a whole.
-fn write(
-    alloc: Global,
-    store: &mut Store,
-    entries: &mut Vec<Entry>,
-    ready: Ready,
-) -> Result<Verdict, Refusal>
-    requires clear { IsClear store.old.standing ready }
-    requires run { IsRunOnItsAnswers ready }
-    ensures verdict { SendsAs (λ journal. taken_by_store journal ready) result store.old.standing entries.old.items store.new.standing entries.new.items }
-    ensures answers { IfOk result CanGoOn }
-{
-    let Ok(changes) = changes_of(alloc, &ready.writes) else {
-        drop(ready);
-        return Err(Refusal::OutOfMemory);
-    };
-    make(alloc, store, entries, ready, changes)
-}
 
 /// Reports the commit of an attempt of which this compare fails. Nothing is written.
 fn turn_down_trusted(
@@ -109,7 +86,7 @@ pub(crate) fn commit_trusted(
     // (the attempt's type says that it is a run on its answers)
     let _is_run = ready.answers.as_slice();
     match check(store, &ready) {
-        Ok(None) => write(alloc, store, entries, ready),
+        Ok(None) => make(alloc, store, entries, ready),
         Ok(Some(failed)) => {
             let reported = turn_down_trusted(alloc, store, &ready, failed);
             drop(ready);
@@ -185,8 +162,8 @@ pub(crate) fn commit(
 {
     match prepared.find_cause(store) {
         None => {
-            let (ready, changes) = prepared.into_parts();
-            of_store(make(alloc, store, entries, ready, changes))
+            let ready = prepared.into_attempt();
+            of_store(make(alloc, store, entries, ready))
         }
         Some(cause) => {
             let reported = turn_down(alloc, store, prepared.attempt(), cause);

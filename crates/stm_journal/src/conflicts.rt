@@ -1,7 +1,6 @@
 //! The first compare of a commit that fails, found without making the compares.
 ghost use Rattle.std.specs.Prelude.{◌≡◌, ◌↔◌, ◌+◌, ◌≤◌, None, IsTrue, length, map};
-ghost use Rattle.stm_history.specs.History.{key_now, mod_of};
-ghost use Rattle.stm_program.specs.Writes.{key_of};
+ghost use Rattle.stm_history.specs.History.{key_now, mod_of, key_of};
 ghost use Rattle.stm_program.specs.declared.level.Level.TheVariants.{SerializableSnapshot};
 ghost use Rattle.stm_outcome.specs.Compares.{first_failed};
 ghost use Rattle.stm_outcome.specs.Terms.{most_operations};

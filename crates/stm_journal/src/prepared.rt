@@ -1,6 +1,5 @@
 //! What a commit needs beside its attempt.
-ghost use Rattle.std.specs.Prelude.{◌≡◌, map, IfOk};
-ghost use Rattle.stm_compile.specs.Now.{as_change};
+ghost use Rattle.std.specs.Prelude.{◌≡◌, IfOk};
 ghost use Rattle.stm_attempt.specs.ReadyRun.{IsRunOnItsAnswers};
 ghost use Rattle.stm_journal.specs.Causes.{cause_of};
 
@@ -10,18 +9,14 @@ use crate::faults::names_empty_key;
 use std::alloc::{AllocError, Global};
 use std::marker::Model;
 use stm_attempt::Ready;
-use stm_compile::changes_of;
-use stm_history::Change;
 use stm_txn::Store;
 
-/// An attempt that is ready, with what its commit needs beside it: whether the commit names an empty key, and the changes that its writes make.
-/// Contracts see the attempt.
+/// An attempt that is ready, with what its commit needs beside it: whether the commit names an empty key. Contracts see the attempt.
 ///
-/// It is made without the journal, so that one that is locked has nothing to copy: the changes are moved into its store, and the attempt into its entry.
+/// It is made without the journal. One that is locked then has nothing to copy: the writes are moved into its store, and the rest into its entry.
 pub struct Prepared {
     ready: Ready,
     has_empty: bool,
-    changes: Vec<Change>,
 }
 
 impl Drop for Prepared {
@@ -29,7 +24,6 @@ impl Drop for Prepared {
         let Prepared {
             ready: _,
             has_empty: _,
-            changes: _,
         } = self;
     }
 }
@@ -46,7 +40,7 @@ impl Model for Prepared {
 
     ghost view = { λ p. p.ready };
 
-    ghost invariant = { λ p. IsPrepared p.ready p.has_empty p.changes.items };
+    ghost invariant = { λ p. IsPrepared p.ready p.has_empty };
 }
 
 impl Prepared {
@@ -67,34 +61,24 @@ impl Prepared {
         &self.ready
     }
 
-    /// The attempt, and the changes that its writes make.
-    pub(crate) fn into_parts(self) -> (Ready, Vec<Change>)
-        ensures ready { result.0 ≡ self }
-        ensures changes { result.1.items ≡ map as_change self.writes }
+    /// The attempt.
+    pub(crate) fn into_attempt(self) -> Ready
+        ensures { result ≡ self }
     {
         let Prepared {
             ready,
             has_empty: _,
-            changes,
         } = self;
-        (ready, changes)
+        ready
     }
 }
 
-/// Prepares the commit of an attempt. Out of memory is the only refusal.
-pub fn prepare(alloc: Global, ready: Ready) -> Result<Prepared, AllocError>
-    ensures { IfOk result (λ prepared. prepared ≡ ready) }
+/// Prepares the commit of an attempt. It takes no memory.
+pub fn prepare(ready: Ready) -> Prepared
+    ensures { result ≡ ready }
 {
-    let Ok(changes) = changes_of(alloc, &ready.writes) else {
-        drop(ready);
-        return Err(AllocError);
-    };
     let has_empty = names_empty_key(&ready);
-    Ok(Prepared {
-        ready,
-        has_empty,
-        changes,
-    })
+    Prepared { ready, has_empty }
 }
 
 /// Prepares the commit of a copy of an attempt. Out of memory is the only refusal.
@@ -105,5 +89,5 @@ pub(crate) fn prepare_copy(alloc: Global, ready: &Ready) -> Result<Prepared, All
     // (the attempt's type says that it is a run on its answers)
     let _is_run = ready.answers.as_slice();
     let copy = copy_of(alloc, ready)?;
-    prepare(alloc, copy)
+    Ok(prepare(copy))
 }

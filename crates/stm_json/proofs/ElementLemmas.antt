@@ -1,8 +1,7 @@
 -- What the words, the elements and the numbers that were found say of the data.
 use Rattle.std.proofs.Common.{◌≡◌, ◌≢◌, length, ℕ, ◌^◌, ◌<◌, ◌≤◌, ℤ, pos, negsuc, List, [], ◌∷◌, Bool, true, false, cond, Option, Some, None, Ok, refl}
-use Rattle.std.proofs.Common.{option_map, leb, ltb, ap, ◌∙◌, arith, leb-true, ltb-true, lt-ltb, le-leb, subst}
+use Rattle.std.proofs.Common.{option_map, leb, ltb, ap, ◌∙◌, arith, leb-true, ltb-true, lt-ltb, le-leb, subst, FitsSigned}
 use Rattle.std.specs.Int.{w64}
-use Rattle.std.proofs.Common.{FitsSigned}
 use Rattle.serde_json.specs.Data.{Num, unsigned, negative, float, Data, null, boolean, number, string, array, object, Items, no_items, item}
 use Rattle.serde_json.specs.View.{items_of, items_view}
 use Rattle.serde_json.specs.declared.value.Value.{Value}

@@ -15,7 +15,7 @@ pub(crate) struct Hints {
 /// Where the chain of the key of the change at an index stands, if there is such a change.
 fn hint_at(chains: &Chains, changes: &[Change], index: usize) -> usize {
     if index < changes.len() {
-        hint_of(chains, changes[index].key().as_str())
+        hint_of(chains, changes[index].key())
     } else {
         NO_HINT
     }

@@ -417,7 +417,7 @@ impl Keys {
         if before == HIGHEST_REVISION {
             return Err(ApplyRefusal::RevisionsUsedUp);
         }
-        let place = find_place(&self.chains, change.key().as_str());
+        let place = find_place(&self.chains, change.key());
         let event = self.show_change(change, place.unwrap_or(NO_HINT))?;
         add_only(
             &mut self.revisions,

@@ -1,6 +1,5 @@
 -- How the tournament of due leases is played. No public clause cites this module.
-use Rattle.std.specs.Prelude.{◌≡◌, ◌≢◌, ℕ, ◌+◌, ◌*◌, ◌<◌, ◌≤◌, nat_lt, nat_eq, ◌&&◌, ◌||◌, List, length, slice_index_or, Option, Some, None}
-use Rattle.std.specs.Prelude.{if◌then◌else◌}
+use Rattle.std.specs.Prelude.{◌≡◌, ◌≢◌, ℕ, ◌+◌, ◌*◌, ◌<◌, ◌≤◌, nat_lt, nat_eq, ◌&&◌, ◌||◌, List, length, slice_index_or, Option, Some, None, if◌then◌else◌}
 use Rattle.stm_leases.specs.declared.tournament.DueAt.{DueAt}
 use Rattle.stm_leases.specs.declared.tournament.Tournament.{Tournament}
 

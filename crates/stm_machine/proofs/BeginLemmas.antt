@@ -13,9 +13,8 @@ use Rattle.stm_steps.specs.Meaning.{evaluate, holds, unless_false, unless_true, 
 use Rattle.stm_machine.specs.declared.focus.Item.TheVariants.{Value as ValueItem, Truth as TruthItem, Nothing}
 use Rattle.stm_machine.specs.declared.focus.Focus.TheVariants.{Evaluate, Test}
 use Rattle.stm_machine.specs.declared.frame.Frame.{Frame}
-use Rattle.stm_machine.specs.Moves.{Move}
+use Rattle.stm_machine.specs.Moves.{Move, frames_after, begin_expression, begin_condition, begin_statement, begin_block}
 use Rattle.stm_machine.specs.Finish.{Onward, on_value, on_truth, on_nothing, onward_of, finish_from}
-use Rattle.stm_machine.specs.Moves.{frames_after, begin_expression, begin_condition, begin_statement, begin_block}
 use Rattle.stm_machine.proofs.OutcomeLemmas.{and_then_assoc, and_then_assoc_twice}
 
 -- finishing after a move

@@ -4,7 +4,7 @@ use Rattle.std.specs.Prelude.{Bool, true, false, Option, None, Some, Result, Ok,
 use Rattle.stm_program.specs.Syntax as tree
 use Rattle.stm_program.specs.Syntax.{Expression, Statement, Block}
 use Rattle.stm_program.specs.declared.operator.Operator.{Operator}
-use Rattle.stm_program.specs.declared.write.Write.{Write}
+use Rattle.stm_history.specs.declared.change.Change.{Change}
 use Rattle.stm_steps.specs.declared.value.Value.{Value}
 use Rattle.stm_steps.specs.declared.fault.Fault.{Fault}
 use Rattle.stm_steps.specs.Answer.{Lookup}
@@ -111,16 +111,16 @@ unfolding run_statement
 emit_at_once e s t x gives is =
     λ look. ap (λ (o : Outcome Value). and_then o (λ y u. Gives tt (with_output y u))) (gives look) ∙ ap (λ (u : Session). Gives tt u) (sym is)
 
-abbrev keep : Write → Session → Outcome (Unit {0})
+abbrev keep : Change → Session → Outcome (Unit {0})
 keep w s = Gives tt (with_write w s)
 
 abbrev done : Session → Outcome (Unit {0})
 done s = Gives tt s
 
-written_given : (r : Result Write Fault) (w : Write) (s t : Session) → r ≡ Ok w → t ≡ with_write w s → and_then (given r s) keep ≡ done t
-written_given r w s t is left = ap (λ (q : Result Write Fault). and_then (given q s) keep) is ∙ ap done (sym left)
+written_given : (r : Result Change Fault) (w : Change) (s t : Session) → r ≡ Ok w → t ≡ with_write w s → and_then (given r s) keep ≡ done t
+written_given r w s t is left = ap (λ (q : Result Change Fault). and_then (given q s) keep) is ∙ ap done (sym left)
 
-pub put_at_once : (e f : Expression) (lease : ℕ) (s t : Session) (x y : Value) (w : Write) → GivesAtOnce e s x → GivesAtOnce f s y →
+pub put_at_once : (e f : Expression) (lease : ℕ) (s t : Session) (x y : Value) (w : Change) → GivesAtOnce e s x → GivesAtOnce f s y →
     put_of x y lease ≡ Ok w → t ≡ with_write w s → RunsAtOnce (tree.Put e f lease) s t
 unfolding run_statement
 put_at_once e f lease s t x y w key value is left =
@@ -130,7 +130,7 @@ put_at_once e f lease s t x y w key value is left =
     ∙ ap (λ (o : Outcome Value). and_then o (λ q r. and_then (given (put_of x q lease) r) (λ v z. Gives tt (with_write v z)))) (value look)
     ∙ written_given (put_of x y lease) w s t is left
 
-pub del_at_once : (e : Expression) (s t : Session) (x : Value) (w : Write) → GivesAtOnce e s x → del_of x ≡ Ok w → t ≡ with_write w s →
+pub del_at_once : (e : Expression) (s t : Session) (x : Value) (w : Change) → GivesAtOnce e s x → del_of x ≡ Ok w → t ≡ with_write w s →
     RunsAtOnce (tree.Del e) s t
 unfolding run_statement
 del_at_once e s t x w key is left =

@@ -1,20 +1,19 @@
 -- One step of a machine keeps what finishing comes to; where none is made, the machine stands.
 use Rattle.std.proofs.Common.{◌≡◌, refl, sym, ◌∙◌, ap, ℕ, List, [], ◌∷◌}
 use Rattle.std.specs.Prelude.{Option, None, Some, IsSome}
-use Rattle.stm_program.specs.declared.write.Write.{Write}
+use Rattle.stm_history.specs.declared.change.Change.{Change}
 use Rattle.stm_steps.specs.declared.value.Value.{Value}
 use Rattle.stm_steps.specs.declared.stop.Stop.TheVariants.{Wants}
 use Rattle.stm_steps.specs.declared.run.End.{End as RunEnd}
 use Rattle.stm_steps.specs.declared.run.End.TheVariants.{Done, Aborted, Faulted}
 use Rattle.stm_steps.specs.declared.run.Run.{Run}
 use Rattle.stm_steps.specs.declared.run.Answered.TheVariants.{Ended as EndedRun, Wants as WantsKey}
-use Rattle.stm_steps.specs.Answer.{Answer, Lookup}
+use Rattle.stm_steps.specs.Answer.{Answer, Lookup, AgreesWith}
 use Rattle.stm_steps.specs.Session.{Session, fresh}
 use Rattle.stm_steps.specs.Outcome.{Outcome, Gives, Stops}
 use Rattle.stm_steps.specs.Steps.{get_answered, rev_answered, get_of, get_key, rev_key, run_of}
 use Rattle.stm_program.specs.Writes.{last_write}
 use Rattle.stm_steps.specs.Meaning.{answered, run_block, run_over}
-use Rattle.stm_steps.specs.Answer.{AgreesWith}
 use Rattle.stm_machine.specs.declared.focus.Item.{Item}
 use Rattle.stm_machine.specs.declared.focus.Focus.{Focus}
 use Rattle.stm_machine.specs.declared.focus.Focus.TheVariants.{Evaluate, Test, Get, Rev, Give, Ended}
@@ -46,7 +45,7 @@ rev_answered-agrees : (key : List ℕ) (a b : Option Answer) (s t : Session) (x 
 rev_answered-agrees key None b s t x agree found = absurd (cc)
 rev_answered-agrees key (Some a) b s t x agree found = ap (λ o. rev_answered key o s) (agree a refl) ∙ found
 
-get_of-agrees : (look whole : Lookup) → AgreesWith look whole → (key : List ℕ) (w : Option Write) (s t : Session) (x : Value) →
+get_of-agrees : (look whole : Lookup) → AgreesWith look whole → (key : List ℕ) (w : Option Change) (s t : Session) (x : Value) →
     get_of look key w s ≡ Gives x t → get_of whole key w s ≡ Gives x t
 get_of-agrees look whole agree key (Some w) s t x found = found
 get_of-agrees look whole agree key None s t x found = get_answered-agrees key (look key) (whole key) s t x (agree key) found
@@ -112,7 +111,7 @@ rev_answered-stands : (frames : List Frame) (key : List ℕ) (a : Option Answer)
 rev_answered-stands frames key None s none = refl
 rev_answered-stands frames key (Some a) s none = absurd (cc)
 
-get_of-stands : (look : Lookup) (frames : List Frame) (key : List ℕ) (w : Option Write) (s : Session) → read_step frames (get_of look key w s) ≡ None →
+get_of-stands : (look : Lookup) (frames : List Frame) (key : List ℕ) (w : Option Change) (s : Session) → read_step frames (get_of look key w s) ≡ None →
     get_of look key w s ≡ Stops (Wants key) s
 get_of-stands look frames key (Some w) s none = absurd (cc)
 get_of-stands look frames key None s none = get_answered-stands frames key (look key) s none
@@ -128,12 +127,10 @@ unfolding rev_key
 rev_stands look frames key s none = rev_answered-stands frames key (look key) s none
 
 none_stands : (look : Lookup) (focus : Focus) (frames : List Frame) (s : Session) → step_from look focus frames s ≡ None → StandsAt look focus s
-none_stands look (Evaluate e) frames s none = absurd (cc)
-none_stands look (Test c) frames s none = absurd (cc)
 none_stands look (Get key) frames s none = get_stands look frames key s none
 none_stands look (Rev key) frames s none = rev_stands look frames key s none
-none_stands look (Give item) frames s none = absurd (cc)
 none_stands look (Ended end) frames s none = tt
+none_stands look _ frames s none = absurd (cc)
 
 pub no_step_stands : NoStepStands
 no_step_stands look m none = none_stands look m.focus m.frames m.session none
@@ -142,27 +139,23 @@ no_step_stands look m none = none_stands look m.focus m.frames m.session none
 
 wants_from : (look : Lookup) (focus : Focus) (frames : List Frame) (s : Session) (key : List ℕ) → StandsAt look focus s → key_asked focus ≡ Some key →
     answered (finish_from look focus frames s) ≡ WantsKey key s.trace
-wants_from look (Evaluate e) frames s key stands asked = absurd stands
-wants_from look (Test c) frames s key stands asked = absurd stands
 wants_from look (Get k) frames s key stands asked =
     let same : k ≡ key = cc in
     ap (λ o. answered (on_value (onward_of look frames) o)) stands ∙ ap (λ (l : List ℕ). WantsKey l s.trace) same
 wants_from look (Rev k) frames s key stands asked =
     let same : k ≡ key = cc in
     ap (λ o. answered (on_value (onward_of look frames) o)) stands ∙ ap (λ (l : List ℕ). WantsKey l s.trace) same
-wants_from look (Give item) frames s key stands asked = absurd stands
 wants_from look (Ended end) frames s key stands asked = absurd (cc)
+wants_from look _ frames s key stands asked = absurd stands
 
 pub standing_at_a_key_wants_it : StandingAtAKeyWantsIt
 standing_at_a_key_wants_it look m key stands asked = wants_from look m.focus m.frames m.session key stands asked
 
 has_run_from : (look : Lookup) (focus : Focus) (s : Session) → StandsAt look focus s → key_asked focus ≡ None → IsSome (run_from focus s)
-has_run_from look (Evaluate e) s stands none = absurd stands
-has_run_from look (Test c) s stands none = absurd stands
 has_run_from look (Get key) s stands none = absurd (cc)
 has_run_from look (Rev key) s stands none = absurd (cc)
-has_run_from look (Give item) s stands none = absurd stands
 has_run_from look (Ended end) s stands none = refl
+has_run_from look _ s stands none = absurd stands
 
 pub standing_at_no_key_has_run : StandingAtNoKeyHasRun
 standing_at_no_key_has_run look m stands none = has_run_from look m.focus m.session stands none
@@ -174,14 +167,10 @@ ended_answers (Faulted fault) s = refl
 
 run_is : (look : Lookup) (focus : Focus) (frames : List Frame) (s : Session) (run : Run) → run_from focus s ≡ Some run →
     answered (finish_from look focus frames s) ≡ EndedRun run
-run_is look (Evaluate e) frames s run is = absurd (cc)
-run_is look (Test c) frames s run is = absurd (cc)
-run_is look (Get key) frames s run is = absurd (cc)
-run_is look (Rev key) frames s run is = absurd (cc)
-run_is look (Give item) frames s run is = absurd (cc)
 run_is look (Ended end) frames s run is =
     let same : run_of end s ≡ run = cc in
     ended_answers end s ∙ ap (λ (r : Run). EndedRun r) same
+run_is look _ frames s run is = absurd (cc)
 
 pub ended_machines_have_run : EndedMachinesHaveRun
 ended_machines_have_run look m run is = run_is look m.focus m.frames m.session run is
@@ -196,7 +185,7 @@ rev_answered-unknown : (key : List ℕ) (a : Option Answer) (s : Session) → re
 rev_answered-unknown key None s stands = refl
 rev_answered-unknown key (Some a) s stands = absurd (cc)
 
-get_of-unknown : (look : Lookup) (key : List ℕ) (w : Option Write) (s : Session) → get_of look key w s ≡ Stops (Wants key) s → look key ≡ None
+get_of-unknown : (look : Lookup) (key : List ℕ) (w : Option Change) (s : Session) → get_of look key w s ≡ Stops (Wants key) s → look key ≡ None
 get_of-unknown look key (Some w) s stands = absurd (cc)
 get_of-unknown look key None s stands = get_answered-unknown key (look key) s stands
 
@@ -209,16 +198,14 @@ unfolding rev_key
 rev_unknown look key s stands = rev_answered-unknown key (look key) s stands
 
 unknown_at : (look : Lookup) (focus : Focus) (s : Session) (key : List ℕ) → StandsAt look focus s → key_asked focus ≡ Some key → look key ≡ None
-unknown_at look (Evaluate e) s key stands asked = absurd stands
-unknown_at look (Test c) s key stands asked = absurd stands
 unknown_at look (Get k) s key stands asked =
     let same : k ≡ key = cc in
     ap look (sym same) ∙ get_unknown look k s stands
 unknown_at look (Rev k) s key stands asked =
     let same : k ≡ key = cc in
     ap look (sym same) ∙ rev_unknown look k s stands
-unknown_at look (Give item) s key stands asked = absurd stands
 unknown_at look (Ended end) s key stands asked = absurd (cc)
+unknown_at look _ s key stands asked = absurd stands
 
 pub wanted_key_is_unknown : (look : Lookup) (m : MachineState) (key : List ℕ) → Stands look m → key_asked m.focus ≡ Some key → look key ≡ None
 wanted_key_is_unknown look m key stands asked = unknown_at look m.focus m.session key stands asked

@@ -7,7 +7,7 @@ use Rattle.std.proofs.lemmas.Bool.{leb-true}
 use Rattle.stm_program.specs.Syntax as tree
 use Rattle.stm_program.specs.Syntax.{Expression, Condition, Statement, Block, End, Then}
 use Rattle.stm_program.specs.Size.{expression_nodes, condition_nodes}
-use Rattle.stm_program.specs.declared.write.Write.{Write}
+use Rattle.stm_history.specs.declared.change.Change.{Change}
 use Rattle.stm_steps.specs.declared.value.Value.{Value}
 use Rattle.stm_steps.specs.declared.value.Value.TheVariants.{Text, Number}
 use Rattle.stm_steps.specs.declared.fault.Fault.{Fault}
@@ -29,18 +29,17 @@ use Rattle.stm_machine.specs.declared.frame.OperandFrame.TheVariants.{CatLeft, C
 use Rattle.stm_machine.specs.declared.frame.ComparisonFrame.{ComparisonFrame}
 use Rattle.stm_machine.specs.declared.frame.ComparisonFrame.TheVariants.{EqualLeft, EqualRight, LessLeft, LessRight}
 use Rattle.stm_machine.specs.declared.frame.ArgumentFrame.{ArgumentFrame}
-use Rattle.stm_machine.specs.declared.frame.ArgumentFrame.TheVariants.{Set, PutKey, PutValue, Del, For, Emit, Abort}
+use Rattle.stm_machine.specs.declared.frame.ArgumentFrame.TheVariants.{PutKey, PutValue, Del, For, Abort}
 use Rattle.stm_machine.specs.declared.frame.TruthFrame.{TruthFrame}
 use Rattle.stm_machine.specs.declared.frame.TruthFrame.TheVariants.{Not, And, Or, If}
 use Rattle.stm_machine.specs.declared.frame.NextFrame.{NextFrame}
 use Rattle.stm_machine.specs.declared.frame.NextFrame.TheVariants.{Rest, Loop}
-use Rattle.stm_machine.specs.Moves.{Move}
+use Rattle.stm_machine.specs.Moves.{Move, goes, at_value, at_truth, at_get, at_rev, at_abort, frames_after, begin_expression, begin_condition}
 use Rattle.stm_machine.specs.Parts.{first_of, behind_first, turns_from}
 use Rattle.stm_machine.specs.Direct.{IsPast, JumpsExpression, JumpsStatement}
 use Rattle.stm_machine.specs.State.{MachineState, state_of}
-use Rattle.stm_machine.specs.Moves.{goes, at_value, at_truth, at_get, at_rev, at_abort, frames_after, begin_expression, begin_condition, begin_statement}
-use Rattle.stm_machine.specs.Moves.{begin_block, take_operand, take_compared, take_truth, write_moved, begin_loop, take_argument, turn_moved, take_turn}
-use Rattle.stm_machine.specs.Moves.{take_nothing, take_item}
+use Rattle.stm_machine.specs.Moves.{begin_statement, begin_block, take_operand, take_compared, take_truth, write_moved, begin_loop, take_argument}
+use Rattle.stm_machine.specs.Moves.{turn_moved, take_turn, take_nothing, take_item}
 use Rattle.stm_machine.specs.Steps.{state_after, read_step, give_step, step_from, step_of}
 
 -- ---- what is left
@@ -69,9 +68,7 @@ operand_steps RevFrame = 1
 operand_steps (ArithmeticLeft operator f) = 3 * expression_nodes f
 operand_steps (ArithmeticRight operator x) = 0
 operand_steps (CatLeft f) = 3 * expression_nodes f
-operand_steps (CatRight x) = 0
-operand_steps TextOf = 0
-operand_steps NumOf = 0
+operand_steps _ = 0
 
 abbrev compared_steps : ComparisonFrame → ℕ
 compared_steps (EqualLeft f) = 3 * expression_nodes f
@@ -80,13 +77,9 @@ compared_steps (LessLeft f) = 3 * expression_nodes f
 compared_steps (LessRight x) = 0
 
 abbrev argument_steps : ArgumentFrame → ℕ
-argument_steps (Set v) = 0
 argument_steps (PutKey f lease) = 3 * expression_nodes f
-argument_steps (PutValue x lease) = 0
-argument_steps Del = 0
 argument_steps (For v limit body) = 1 + loop_steps (block_steps body) limit
-argument_steps Emit = 0
-argument_steps Abort = 0
+argument_steps _ = 0
 
 abbrev truth_steps : TruthFrame → ℕ
 truth_steps Not = 0
@@ -129,33 +122,18 @@ move_left m frames = focus_steps m.focus + stack_steps (frames_after m frames)
 expression_falls : (e : Expression) (s : Session) (frames : List Frame) → move_left (begin_expression e s) frames < 3 * expression_nodes e + stack_steps frames
 unfolding begin_expression
 expression_falls (tree.Text t) s frames = omega arith
-expression_falls (tree.Number n) s frames = omega arith
-expression_falls (tree.Variable v) s frames = omega arith
-expression_falls (tree.Get e) s frames = omega arith
-expression_falls (tree.Rev e) s frames = omega arith
-expression_falls (tree.Arithmetic operator e f) s frames = omega arith
-expression_falls (tree.Cat e f) s frames = omega arith
-expression_falls (tree.TextOf e) s frames = omega arith
-expression_falls (tree.NumOf e) s frames = omega arith
+expression_falls _ s frames = omega arith
 
 condition_falls : (c : Condition) (frames : List Frame) → move_left (begin_condition c) frames < 3 * condition_nodes c + stack_steps frames
 unfolding begin_condition
 condition_falls (tree.Equal e f) frames = omega arith
-condition_falls (tree.Less e f) frames = omega arith
-condition_falls (tree.Not c) frames = omega arith
-condition_falls (tree.And c d) frames = omega arith
-condition_falls (tree.Or c d) frames = omega arith
+condition_falls _ frames = omega arith
 
 statement_falls : (p : Statement) (rest : Block) (frames : List Frame) →
     move_left (begin_statement p rest) frames < 2 + statement_steps p + block_steps rest + stack_steps frames
 unfolding begin_statement
 statement_falls (tree.Set v e) rest frames = omega arith
-statement_falls (tree.Put e f lease) rest frames = omega arith
-statement_falls (tree.Del e) rest frames = omega arith
-statement_falls (tree.If c then_block else_block) rest frames = omega arith
-statement_falls (tree.For v e limit body) rest frames = omega arith
-statement_falls (tree.Emit e) rest frames = omega arith
-statement_falls (tree.Abort e) rest frames = omega arith
+statement_falls _ rest frames = omega arith
 
 block_falls : (b : Block) (frames : List Frame) → move_left (begin_block b) frames < 2 + block_steps b + stack_steps frames
 unfolding begin_block
@@ -184,7 +162,7 @@ abort_falls : (r : Result (List ℕ) Fault) (frames : List Frame) → move_left 
 abort_falls (Ok t) frames = omega arith
 abort_falls (Err fault) frames = omega arith
 
-write_falls : (r : Result Write Fault) (s : Session) (frames : List Frame) → move_left (write_moved r s).move frames < 2 + stack_steps frames
+write_falls : (r : Result Change Fault) (s : Session) (frames : List Frame) → move_left (write_moved r s).move frames < 2 + stack_steps frames
 write_falls (Ok w) s frames = omega arith
 write_falls (Err fault) s frames = omega arith
 
@@ -241,13 +219,11 @@ loop_falls v body limit (Err fault) frames within = omega arith
 argument_falls : (f : ArgumentFrame) (x : Value) (s : Session) (frames : List Frame) →
     move_left (take_argument f x s).move frames < 2 + argument_steps f + stack_steps frames
 unfolding take_argument
-argument_falls (Set v) x s frames = omega arith
-argument_falls (PutKey f lease) x s frames = omega arith
 argument_falls (PutValue x lease) y s frames = write_falls (put_of x y lease) s frames
 argument_falls Del x s frames = write_falls (del_of x) s frames
 argument_falls (For v limit body) x s frames = omega (arith, loop_falls v body limit (turns_of x limit) frames (turns_within x limit))
-argument_falls Emit x s frames = omega arith
 argument_falls Abort x s frames = abort_falls (text_in x) frames
+argument_falls _ x s frames = omega arith
 
 turn_moved-falls : (v : ℕ) (body : Block) (i left : ℕ) (o : Outcome (Unit {0})) (frames : List Frame) →
     move_left (turn_moved v body (turns_from (suc i) left) o).move frames < 2 + loop_steps (block_steps body) (suc left) + stack_steps frames
@@ -308,31 +284,16 @@ steps_fall look m n is = step_falls look m.focus m.frames m.session n is
 
 some_nodes : (e : Expression) → 1 ≤ expression_nodes e
 some_nodes (tree.Text t) = omega arith
-some_nodes (tree.Number n) = omega arith
-some_nodes (tree.Variable v) = omega arith
-some_nodes (tree.Get e) = omega arith
-some_nodes (tree.Rev e) = omega arith
-some_nodes (tree.Arithmetic operator e f) = omega arith
-some_nodes (tree.Cat e f) = omega arith
-some_nodes (tree.TextOf e) = omega arith
-some_nodes (tree.NumOf e) = omega arith
+some_nodes _ = omega arith
 
 some_steps : (statement : Statement) → 1 ≤ statement_steps statement
 some_steps (tree.Set v e) = omega arith
-some_steps (tree.Put e f lease) = omega arith
-some_steps (tree.Del e) = omega arith
-some_steps (tree.If c then_block else_block) = omega arith
-some_steps (tree.For v e limit body) = omega arith
-some_steps (tree.Emit e) = omega arith
-some_steps (tree.Abort e) = omega arith
+some_steps _ = omega arith
 
 few_steps : (focus : Focus) → IsPast focus → focus_steps focus ≤ 2
 few_steps (Evaluate e) past = absurd past
 few_steps (Test c) past = absurd past
-few_steps (Get key) past = omega arith
-few_steps (Rev key) past = omega arith
-few_steps (Give item) past = omega arith
-few_steps (Ended end) past = omega arith
+few_steps _ past = omega arith
 
 fewer_behind : (block left : Block) (first : Statement) → first_of block ≡ Some first → left ≡ behind_first block → block_steps left < block_steps block
 fewer_behind End left first is_first behind = absurd (cc)

@@ -2,7 +2,7 @@
 use Rattle.std.proofs.Common.{◌≡◌, refl, ℕ, zero, suc, Bool, true, false, List, ◌∷◌}
 use Rattle.std.specs.Prelude.{pos, nat_lt, if◌then◌else◌, Result, Ok, Err}
 use Rattle.stm_program.specs.Syntax.{Block}
-use Rattle.stm_program.specs.declared.write.Write.{Write}
+use Rattle.stm_history.specs.declared.change.Change.{Change}
 use Rattle.stm_steps.specs.declared.value.Value.{Value}
 use Rattle.stm_steps.specs.declared.value.Value.TheVariants.{Number as NumberValue}
 use Rattle.stm_steps.specs.declared.fault.Fault.{Fault}
@@ -60,7 +60,7 @@ module _ (look : Lookup) (frames : List Frame) where
   rev_given (Ok key) s = refl
   rev_given (Err fault) s = refl
 
-  write_given : (r : Result Write Fault) (s : Session) →
+  write_given : (r : Result Change Fault) (s : Session) →
       on_nothing (onward_of look frames) (and_then (given r s) (λ w t. Gives tt (with_write w t))) ≡ finish_moved look (write_moved r s) frames
   write_given (Ok w) s = refl
   write_given (Err fault) s = refl

@@ -3,9 +3,8 @@ use Rattle.std.specs.Prelude.{◌≡◌, List, ℕ, None, Some, IsSome}
 use Rattle.stm_program.specs.Syntax.{Block}
 use Rattle.stm_steps.specs.declared.run.Run.{Run}
 use Rattle.stm_steps.specs.declared.run.Answered.TheVariants.{Ended, Wants}
-use Rattle.stm_steps.specs.Answer.{Lookup}
+use Rattle.stm_steps.specs.Answer.{Lookup, AgreesWith}
 use Rattle.stm_steps.specs.Meaning.{answered, run_over}
-use Rattle.stm_steps.specs.Answer.{AgreesWith}
 use Rattle.stm_machine.specs.State.{MachineState, started, key_asked, run_at}
 use Rattle.stm_machine.specs.Finish.{finish}
 use Rattle.stm_machine.specs.Steps.{step_of, Stands}

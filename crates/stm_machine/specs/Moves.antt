@@ -5,7 +5,7 @@ use Rattle.stm_program.specs.Syntax.{Expression, Condition, Statement, Block, En
 use Rattle.stm_steps.specs.declared.value.Value.{Value}
 use Rattle.stm_steps.specs.declared.value.Value.TheVariants.{Text, Number}
 use Rattle.stm_steps.specs.declared.fault.Fault.{Fault}
-use Rattle.stm_program.specs.declared.write.Write.{Write}
+use Rattle.stm_history.specs.declared.change.Change.{Change}
 use Rattle.stm_steps.specs.declared.stop.Stop.{Stop}
 use Rattle.stm_steps.specs.declared.stop.Stop.TheVariants.{Aborted as StopAborted, Faulted as StopFaulted, Wants}
 use Rattle.stm_steps.specs.declared.run.End.{End as RunEnd}
@@ -165,7 +165,7 @@ abbrev pub moved : Move → Session → Moved
 moved m s = record { move = m; session = s }
 
 -- a write is kept, or its fault ends the run
-abbrev pub write_moved : Result Write Fault → Session → Moved
+abbrev pub write_moved : Result Change Fault → Session → Moved
 write_moved (Ok w) s = moved (goes nothing) (with_write w s)
 write_moved (Err fault) s = moved (goes (at_fault fault)) s
 

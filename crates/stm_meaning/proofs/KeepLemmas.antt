@@ -3,7 +3,7 @@ use Rattle.std.proofs.Common.{ℕ, suc, zero, ◌<◌, Bool, true, false, not, L
 use Rattle.std.specs.Prelude.{pos, nat_lt, if◌then◌else◌, Result, Ok, Err}
 use Rattle.stm_program.specs.Syntax.{Expression, Condition, Statement, Block, Text, Number, Variable, Get, Rev, Arithmetic, Cat, TextOf, NumOf, Equal}
 use Rattle.stm_program.specs.Syntax.{Less, Not, And, Or, Set, Put, Del, If, For, Emit, Abort, End, Then}
-use Rattle.stm_program.specs.declared.write.Write.{Write}
+use Rattle.stm_history.specs.declared.change.Change.{Change}
 use Rattle.stm_steps.specs.declared.value.Value.{Value}
 use Rattle.stm_steps.specs.declared.value.Value.TheVariants.{Text as TextValue, Number as NumberValue}
 use Rattle.stm_steps.specs.declared.fault.Fault.{Fault}
@@ -11,7 +11,7 @@ use Rattle.stm_steps.specs.declared.fault.Fault.TheVariants.{TurnLimit}
 use Rattle.stm_steps.specs.declared.stop.Stop.TheVariants.{Faulted}
 use Rattle.stm_steps.specs.Answer.{Lookup}
 use Rattle.stm_steps.specs.Values.{text_in, key_in, arithmetic, concatenated, text_of, num_of, equal, less, put_of, del_of, turns_of}
-use Rattle.stm_meaning.specs.Writes.{key_of}
+use Rattle.stm_history.specs.History.{key_of}
 use Rattle.stm_steps.specs.Session.{Session, fresh, with_variable, with_output, with_write, with_turn}
 use Rattle.stm_steps.specs.Outcome.{Outcome, Gives, Stops, and_then, given, turn_limit, begin_turn}
 use Rattle.stm_steps.specs.Meaning.{get_key, rev_key, evaluate, unless_false, unless_true, holds, branch, repeat, aborts, run_statement, run_block}
@@ -26,7 +26,7 @@ pub record StepsKeep (look : Lookup) (P : Session → Type 0) : Type 0 where
   pub set : (v : ℕ) (x : Value) (s : Session) → P s → P (with_variable v x s)
   pub turn : (s : Session) → P s → P (with_turn s)
   pub emit : (x : Value) (s : Session) → P s → P (with_output x s)
-  pub write : (w : Write) (s : Session) → 0 < length (key_of w) → P s → P (with_write w s)
+  pub write : (w : Change) (s : Session) → 0 < length (key_of w) → P s → P (with_write w s)
   pub get : (key : List ℕ) (s : Session) → 0 < length key → P s → P (session_of (get_key look key s))
   pub rev : (key : List ℕ) (s : Session) → 0 < length key → P s → P (session_of (rev_key look key s))
 
@@ -53,7 +53,7 @@ module _ (look : Lookup) (P : Session → Type 0) (steps : StepsKeep look P) whe
   keeps-keyed f keyed (TextValue (c ∷ cs)) s h = keyed (c ∷ cs) (omega arith) s h
   keeps-keyed f keyed (NumberValue n) s h = h
 
-  abbrev writing : Write → Session → Outcome (Unit {0})
+  abbrev writing : Change → Session → Outcome (Unit {0})
   writing w s = Gives tt (with_write w s)
 
   keeps-put : (x y : Value) (lease : ℕ) → Keeps (λ t. and_then (given (put_of x y lease) t) writing)

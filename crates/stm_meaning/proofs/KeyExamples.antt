@@ -3,8 +3,8 @@ use Rattle.std.proofs.Common.{◌≡◌, refl, ℕ, List, [], ◌∷◌}
 use Rattle.std.specs.Prelude.{pos, negsuc, codes, None}
 use Rattle.std.specs.Fmt.{digits}
 use Rattle.stm_program.specs.Syntax.{Expression, Statement, Block, Text, Number, Get, Rev, TextOf, Equal, Not, Put, Del, If, Emit, Then}
-use Rattle.stm_program.specs.declared.write.Write.{Write}
-use Rattle.stm_program.specs.declared.write.Write.TheVariants.{Put as PutWrite, Del as DelWrite}
+use Rattle.stm_history.specs.declared.change.Change.{Change}
+use Rattle.stm_history.specs.declared.change.Change.TheVariants.{Put as PutWrite, Del as DelWrite}
 use Rattle.stm_program.specs.Writes.{last_write, latest_writes}
 use Rattle.stm_steps.specs.declared.value.Value.TheVariants.{Text as TextValue, Number as NumberValue}
 use Rattle.stm_steps.specs.declared.trace_item.TraceItem.TheVariants.{Get as GetItem}
@@ -28,7 +28,7 @@ only_a = record { key = codes "a"; value = codes "5"; mod_rev = 7 } ∷ []
 abbrev run_on_a : Block → Answered
 run_on_a program = run_over (state_answers only_a) program
 
-abbrev writes_of : Answered → List Write
+abbrev writes_of : Answered → List Change
 writes_of (Ended r) = r.writes
 writes_of (Wants k t) = []
 
@@ -128,7 +128,7 @@ text_of_a_text = refl
 -- ---- the effect of writes
 
 -- "a" is put, "b" is deleted, "a" is put again, "c" is put and deleted
-abbrev writes : List Write
+abbrev writes : List Change
 writes =
     PutWrite (codes "a") (codes "1") 0 ∷ DelWrite (codes "b") ∷ PutWrite (codes "a") (codes "2") 0
     ∷ PutWrite (codes "c") (codes "3") 0 ∷ DelWrite (codes "c") ∷ []

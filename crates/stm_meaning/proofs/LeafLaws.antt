@@ -8,13 +8,14 @@ use Rattle.std.proofs.lemmas.Fmt.{digits_decimal, digits_value-decimal, decimal_
 use Rattle.std.proofs.lemmas.Bool.Decides.{nat_tests}
 use Rattle.std.proofs.lemmas.Grind.{common_steps}
 use Rattle.std.proofs.lemmas.Str.Parse.{IsNumeralModel, numerals_by_value, tells_all_ascii_digits}
-use Rattle.stm_program.specs.declared.write.Write.{Write}
+use Rattle.stm_history.specs.declared.change.Change.{Change}
 use Rattle.stm_steps.specs.declared.value.Value.TheVariants.{Text, Number}
 use Rattle.stm_steps.specs.declared.fault.Fault.TheVariants.{NotANumber}
 use Rattle.stm_steps.specs.declared.trace_item.TraceItem.TheVariants.{Get, Rev}
 use Rattle.stm_steps.specs.Answer.{Answer, Lookup}
 use Rattle.stm_steps.specs.Values.{key_in, put_of, del_of, text_of, num_of, as_number, is_in_range, is_numeral, number_or, signed_number, written_number}
-use Rattle.stm_meaning.specs.Writes.{value_of, last_write}
+use Rattle.stm_history.specs.History.{value_written}
+use Rattle.stm_meaning.specs.Writes.{last_write}
 use Rattle.stm_steps.specs.Session.{Session, with_key}
 use Rattle.stm_steps.specs.Outcome.{Gives}
 use Rattle.stm_steps.specs.Meaning.{get_answered, get_of, get_key, rev_answered, rev_key}
@@ -23,10 +24,10 @@ use Rattle.std.specs.Option.{option_map_or}
 
 -- ---- look-ups
 
-get_of-known : (look : Lookup) (key : List ℕ) (w : Option Write) (a : Option Answer) (s : Session) → look key ≡ a → IsSome a →
-    get_of look key w s ≡ Gives (Text (option_map_or value_of w (option_map_or (λ a. a.value) a [])))
+get_of-known : (look : Lookup) (key : List ℕ) (w : Option Change) (a : Option Answer) (s : Session) → look key ≡ a → IsSome a →
+    get_of look key w s ≡ Gives (Text (option_map_or value_written w (option_map_or (λ a. a.value) a [])))
     (record s {
-      trace = s.trace ++ Get key (option_map_or value_of w (option_map_or (λ a. a.value) a [])) ∷ [];
+      trace = s.trace ++ Get key (option_map_or value_written w (option_map_or (λ a. a.value) a [])) ∷ [];
       reads = if is_some w then s.reads else with_key key s.reads;
     })
 get_of-known look key (Some w) a s is known = refl

@@ -4,12 +4,13 @@ use Rattle.std.specs.Prelude.{bytes_eq, Option, None, Some, IsSome, is_some, ◌
 use Rattle.std.specs.List.{IsDistinct, AllByRecursion, list_any}
 use Rattle.std.proofs.lemmas.List.Elements.{All-nil, All-push, All-weaker, All-from_recursion, recursion_from_All}
 use Rattle.stm_program.specs.Syntax.{Block}
-use Rattle.stm_program.specs.declared.write.Write.{Write}
+use Rattle.stm_history.specs.declared.change.Change.{Change}
 use Rattle.stm_program.specs.Writes.{latest_writes, each_once}
 use Rattle.stm_program.proofs.WriteLemmas.{bytes_eq-flip}
 use Rattle.stm_program.proofs.LatestLemmas.{latest_writes-in_order}
 use Rattle.stm_steps.specs.Answer.{Answer, Lookup}
-use Rattle.stm_meaning.specs.Writes.{key_of, last_write}
+use Rattle.stm_history.specs.History.{key_of}
+use Rattle.stm_meaning.specs.Writes.{last_write}
 use Rattle.stm_steps.specs.Session.{Session, fresh, with_key}
 use Rattle.stm_steps.specs.Outcome.{Outcome, Gives, Stops}
 use Rattle.stm_steps.specs.Meaning.{get_answered, rev_answered, get_of, get_key, rev_key, run_of, answered, run_block, run_over}
@@ -56,7 +57,7 @@ module _ (look : Lookup) where
   abbrev IsReadable : List ℕ → Type 0
   IsReadable key = (0 < length key) × IsSome (look key)
 
-  abbrev AreRight : List Write → List (List ℕ) → Type 0
+  abbrev AreRight : List Change → List (List ℕ) → Type 0
   AreRight writes reads = All (λ w. 0 < length (key_of w)) writes × AreOnce IsReadable reads
 
   abbrev IsRight : Session → Type 0
@@ -75,7 +76,7 @@ module _ (look : Lookup) where
   rev_answered-right key None s is long h = h
   rev_answered-right key (Some a) s is long h = (h.0, read_kept key s long (ap is_some is) h)
 
-  get_of-right : (key : List ℕ) (w : Option Write) (s : Session) → 0 < length key → IsRight s → IsRight (session_of (get_of look key w s))
+  get_of-right : (key : List ℕ) (w : Option Change) (s : Session) → 0 < length key → IsRight s → IsRight (session_of (get_of look key w s))
   get_of-right key (Some w) s long h = h
   get_of-right key None s long h = get_answered-right key (look key) s refl long h
 
@@ -129,16 +130,16 @@ module _ (Q : List ℕ → Type 0) where
   once [] all = tt
   once (k ∷ ks) all = (all.0, filtered (λ other. not (bytes_eq k other)) (each_once ks) (once ks all.1))
 
-  keys_of_all : (ws : List Write) → AllByRecursion (λ w. Q (key_of w)) ws → AllByRecursion Q (map key_of ws)
+  keys_of_all : (ws : List Change) → AllByRecursion (λ w. Q (key_of w)) ws → AllByRecursion Q (map key_of ws)
   keys_of_all [] all = tt
   keys_of_all (w ∷ ws) all = (all.0, keys_of_all ws all.1)
 
-  all_of_keys : (ws : List Write) → AllByRecursion Q (map key_of ws) → AllByRecursion (λ w. Q (key_of w)) ws
+  all_of_keys : (ws : List Change) → AllByRecursion Q (map key_of ws) → AllByRecursion (λ w. Q (key_of w)) ws
   all_of_keys [] all = tt
   all_of_keys (w ∷ ws) all = (all.0, all_of_keys ws all.1)
 
   -- what holds of all written keys holds of those of the latest writes
-  latest_keys : (ws : List Write) → All (λ w. Q (key_of w)) ws → All (λ w. Q (key_of w)) (latest_writes ws)
+  latest_keys : (ws : List Change) → All (λ w. Q (key_of w)) ws → All (λ w. Q (key_of w)) (latest_writes ws)
   latest_keys ws all =
       All-from_recursion (λ w. Q (key_of w)) (latest_writes ws)
       (all_of_keys (latest_writes ws)

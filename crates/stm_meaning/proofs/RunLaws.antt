@@ -4,7 +4,7 @@ use Rattle.std.proofs.Common.{append-nil, arith}
 use Rattle.std.specs.Prelude.{pos, nat_lt, if◌then◌else◌, Result, Ok, Err, Option, None, Some, IsSome}
 use Rattle.stm_program.specs.Syntax.{Expression, Condition, Statement, Block, Text, Number, Variable, Get, Rev, Arithmetic, Cat, TextOf, NumOf, Equal}
 use Rattle.stm_program.specs.Syntax.{Less, Not, And, Or, Set, Put, Del, If, For, Emit, Abort, End, Then}
-use Rattle.stm_program.specs.declared.write.Write.{Write}
+use Rattle.stm_history.specs.declared.change.Change.{Change}
 use Rattle.stm_steps.specs.declared.value.Value.{Value}
 use Rattle.stm_steps.specs.declared.value.Value.TheVariants.{Text as TextValue, Number as NumberValue}
 use Rattle.stm_steps.specs.declared.fault.Fault.{Fault}
@@ -18,7 +18,8 @@ use Rattle.stm_steps.specs.declared.run.Run.{Run}
 use Rattle.stm_steps.specs.declared.run.Answered.TheVariants.{Ended, Wants as WantsKey}
 use Rattle.stm_steps.specs.Answer.{Answer, Lookup}
 use Rattle.stm_steps.specs.Values.{text_in, key_in, arithmetic, concatenated, text_of, num_of, equal, less, put_of, del_of, turns_of}
-use Rattle.stm_meaning.specs.Writes.{last_write, value_of}
+use Rattle.stm_history.specs.History.{value_written}
+use Rattle.stm_meaning.specs.Writes.{last_write}
 use Rattle.stm_steps.specs.Outcome.{Outcome, Gives, Stops, and_then, given, turn_limit, begin_turn}
 use Rattle.stm_steps.specs.Meaning.{get_answered, rev_answered, get_of, get_key, rev_key, evaluate, unless_false, unless_true, holds, branch}
 use Rattle.stm_steps.specs.Meaning.{repeat, aborts, run_statement, run_block, answered, run_over}
@@ -160,11 +161,11 @@ rev_answered-goes : (key : List ℕ) (a b : Option Answer) (s : Session) → ((x
 rev_answered-goes key None b s h = rev_answered-sees key b s
 rev_answered-goes key (Some a) b s h = ap (λ c. rev_answered key c s) (h a refl)
 
-get_of-sees : (look : Lookup) (key : List ℕ) (w : Option Write) (s : Session) → Sees s.trace (get_of look key w s)
-get_of-sees look key (Some w) s = IsPrefix-more s.trace (GetItem key (value_of w))
+get_of-sees : (look : Lookup) (key : List ℕ) (w : Option Change) (s : Session) → Sees s.trace (get_of look key w s)
+get_of-sees look key (Some w) s = IsPrefix-more s.trace (GetItem key (value_written w))
 get_of-sees look key None s = get_answered-sees key (look key) s
 
-get_of-ends : (look : Lookup) (key : List ℕ) (w : Option Write) (s : Session) → 0 < length key → EndsRightly look (get_of look key w s)
+get_of-ends : (look : Lookup) (key : List ℕ) (w : Option Change) (s : Session) → 0 < length key → EndsRightly look (get_of look key w s)
 get_of-ends look key (Some w) s h = tt
 get_of-ends look key None s h = get_answered-ends look key (look key) s refl h
 
@@ -178,16 +179,16 @@ turn-ends : (look : Lookup) (b : Bool) (t : Session) (fault : Fault) (s : Sessio
 turn-ends look true t fault s = tt
 turn-ends look false t fault s = tt
 
-abbrev writing : Write → Session → Outcome (Unit {0})
+abbrev writing : Change → Session → Outcome (Unit {0})
 writing w s = Gives tt (with_write w s)
 
-follows-write : (look : Lookup) (r : Result Write Fault) → Follows look (λ t. and_then (given r t) writing) (λ t. and_then (given r t) writing)
+follows-write : (look : Lookup) (r : Result Change Fault) → Follows look (λ t. and_then (given r t) writing) (λ t. and_then (given r t) writing)
 follows-write look r =
     follows-then look (given r) (given r) writing writing (follows-given look r)
     (λ w. record { sees = λ s. IsPrefix-refl s.trace; ends = λ s. tt; goes = λ s. refl })
 
 module _ (answers whole : Lookup) (agree : AgreesWith answers whole) where
-  get_of-goes : (key : List ℕ) (w : Option Write) (s : Session) → Continued (get_of answers key w s) (get_of whole key w s)
+  get_of-goes : (key : List ℕ) (w : Option Change) (s : Session) → Continued (get_of answers key w s) (get_of whole key w s)
   get_of-goes key (Some w) s = refl
   get_of-goes key None s = get_answered-goes key (answers key) (whole key) s (agree key)
 
@@ -331,9 +332,7 @@ module _ (answers whole : Lookup) (agree : AgreesWith answers whole) where
 
 answered-trace : (o : Outcome (Unit {0})) → trace_of (answered o) ≡ (session_of o).trace
 answered-trace (Gives x s) = refl
-answered-trace (Stops (Aborted t) s) = refl
-answered-trace (Stops (Faulted fault) s) = refl
-answered-trace (Stops (Wants key) s) = refl
+answered-trace _ = refl
 
 answered-goes : (o other : Outcome (Unit {0})) → Continued o other → IsContinuedBy (answered o) (answered other)
 answered-goes (Gives x s) other h = ap (λ o. answered o) h

@@ -3,14 +3,15 @@
 use Rattle.std.specs.Prelude.{◌≡◌, ℕ, ◌<◌, true, List, [], ◌∷◌, ◌++◌, length, ℤ, pos, Ok, if◌then◌else◌}
 use Rattle.std.specs.Option.{option_map_or}
 use Rattle.std.specs.Fmt.{signed_decimal}
-use Rattle.stm_program.specs.declared.write.Write.{Write}
-use Rattle.stm_program.specs.declared.write.Write.TheVariants.{Put, Del}
+use Rattle.stm_history.specs.declared.change.Change.{Change}
+use Rattle.stm_history.specs.declared.change.Change.TheVariants.{Put, Del}
 use Rattle.stm_steps.specs.declared.value.Value.TheVariants.{Text, Number}
 use Rattle.stm_steps.specs.declared.trace_item.TraceItem.{TraceItem}
 use Rattle.stm_steps.specs.declared.trace_item.TraceItem.TheVariants.{Get, Rev}
 use Rattle.stm_steps.specs.Answer.{Lookup}
 use Rattle.stm_steps.specs.Values.{key_in, put_of, del_of, text_of, num_of, is_in_range}
-use Rattle.stm_meaning.specs.Writes.{value_of, last_write, is_written}
+use Rattle.stm_history.specs.History.{value_written}
+use Rattle.stm_meaning.specs.Writes.{last_write, is_written}
 use Rattle.stm_steps.specs.Session.{Session, with_key}
 use Rattle.stm_steps.specs.Outcome.{Gives}
 use Rattle.stm_steps.specs.Meaning.{get_key, rev_key}
@@ -24,8 +25,8 @@ abbrev pub mod_rev_in : Lookup → List ℕ → ℕ
 mod_rev_in look key = option_map_or (λ a. a.mod_rev) (look key) 0
 
 -- the value of a key after writes: that of its last write, and what it was before where there is none
-abbrev pub value_after : List Write → (List ℕ → List ℕ) → List ℕ → List ℕ
-value_after writes before key = option_map_or value_of (last_write key writes) (before key)
+abbrev pub value_after : List Change → (List ℕ → List ℕ) → List ℕ → List ℕ
+value_after writes before key = option_map_or value_written (last_write key writes) (before key)
 
 -- what a `get` and a `rev` leave in the trace and among the reads
 unfoldable pub trace_after_get : Lookup → List ℕ → Session → List TraceItem

@@ -4,7 +4,8 @@ use Rattle.std.specs.List.{IsDistinct}
 use Rattle.stm_program.specs.Syntax.{Block}
 use Rattle.stm_steps.specs.Answer.{Lookup}
 use Rattle.stm_steps.specs.Meaning.{run_over}
-use Rattle.stm_meaning.specs.Writes.{key_of, latest_writes}
+use Rattle.stm_history.specs.History.{key_of}
+use Rattle.stm_meaning.specs.Writes.{latest_writes}
 use Rattle.stm_steps.specs.declared.run.Run.{Run}
 use Rattle.stm_steps.specs.declared.run.Answered.TheVariants.{Ended}
 

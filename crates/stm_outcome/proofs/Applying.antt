@@ -28,19 +28,14 @@ use Rattle.stm_outcome.specs.declared.refusal.Refusal.TheVariants.{LeaseNotFound
 use Rattle.stm_outcome.specs.Operations.{key_of_op, clash}
 use Rattle.stm_outcome.specs.Compares.{holds, first_failed}
 use Rattle.stm_outcome.specs.Checks.{has_too_many, is_empty_key, has_empty_key, has_clash, fault_of}
-use Rattle.stm_outcome.specs.Branches.{deletion_of, count_of}
-use Rattle.stm_outcome.specs.LookUps.{with_copied, changes_copied, answers_copied}
-use Rattle.stm_outcome.specs.Branches.{branch_refusal}
-use Rattle.stm_outcome.specs.Effect.{op_of}
+use Rattle.stm_outcome.specs.Branches.{deletion_of, count_of, branch_refusal, begun, answers_after, changes_of_branch}
+use Rattle.stm_outcome.specs.LookUps.{with_copied, changes_copied, answers_copied, outcome_copied}
+use Rattle.stm_outcome.specs.Effect.{op_of, BranchIsEffect}
 use Rattle.stm_outcome.specs.Outcome.{Done, chosen, with_changes, is_used_up, answer_of, finished, unless, branch_outcome, outcome}
-use Rattle.stm_outcome.specs.Commits.{is_on_dead_lease, write_answer, effective, Read, read_op, read_now, AreReached, AreNamed, shown}
-use Rattle.stm_outcome.specs.Commits.{read_out, reads_now}
+use Rattle.stm_outcome.specs.Commits.{is_on_dead_lease, write_answer, effective, Read, read_op, read_now, AreReached, AreNamed, shown, read_out, reads_now}
 use Rattle.stm_outcome.specs.Laws.{WritesApply, FailedCompareReads, ReadsChangeNothing, NumberAloneIsWrong, ModCompares, NoneFailed, FailedHasItsPlace}
 use Rattle.stm_outcome.specs.Laws.{HistoryGrows, BranchApplies}
 use Rattle.stm_outcome.proofs.Folding.{changes_agree, by_look_up}
-use Rattle.stm_outcome.specs.Branches.{begun, answers_after, changes_of_branch}
-use Rattle.stm_outcome.specs.LookUps.{outcome_copied}
-use Rattle.stm_outcome.specs.Effect.{BranchIsEffect}
 use Rattle.stm_outcome.specs.Terms.{Terms, is_below_floor}
 use Rattle.stm_outcome.proofs.Branching.{effect_copied, changes_are_distinct, apart_case, apart_back, all_absent, absent_push}
 

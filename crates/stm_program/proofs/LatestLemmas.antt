@@ -3,8 +3,9 @@ use Rattle.std.proofs.Common.{◌≡◌, ℕ, List, [], ◌∷◌, ◌++◌, map
 use Rattle.std.specs.Prelude.{bytes_eq, is_some, not, ◌||◌, ◌&&◌}
 use Rattle.std.proofs.lemmas.List.{map-append}
 use Rattle.std.specs.List.{IsDistinct, AllByRecursion}
-use Rattle.stm_program.specs.declared.write.Write.{Write}
-use Rattle.stm_program.specs.Writes.{key_of, last_write, is_written, latest_of, latest_after, latest_writes, each_once, LatestWritesAreLast}
+use Rattle.stm_history.specs.declared.change.Change.{Change}
+use Rattle.stm_history.specs.History.{key_of}
+use Rattle.stm_program.specs.Writes.{last_write, is_written, latest_of, latest_after, latest_writes, each_once, LatestWritesAreLast}
 use Rattle.stm_program.specs.Writes.{LatestWritesAreInOrder, LatestWritesAreDistinct}
 use Rattle.stm_program.proofs.WriteLemmas.{bytes_eq-self, bytes_eq-same, bytes_eq-flip, last_write-is_of, last_write-none, last_write-more, last_write-append}
 use Rattle.stm_program.proofs.WriteLemmas.{last_write-one, is_written-more, or_else}
@@ -12,34 +13,34 @@ use Rattle.stm_program.proofs.WriteLemmas.{last_write-one, is_written-more, or_e
 -- ---- what stands for one write
 
 -- the last write of a key among the later ones, or its first
-abbrev last_among : Write → Option Write → Write
+abbrev last_among : Change → Option Change → Change
 last_among w None = w
 last_among w (Some x) = x
 
-abbrev last_in : Write → List Write → Write
+abbrev last_in : Change → List Change → Change
 last_in w later = last_among w (last_write (key_of w) later)
 
-last_among-is_of : (w : Write) (found : Option Write) → ((x : Write) → found ≡ Some x → bytes_eq (key_of x) (key_of w) ≡ true) →
+last_among-is_of : (w : Change) (found : Option Change) → ((x : Change) → found ≡ Some x → bytes_eq (key_of x) (key_of w) ≡ true) →
     key_of (last_among w found) ≡ key_of w
 last_among-is_of w None fits = refl
 last_among-is_of w (Some x) fits = bytes_eq-same (key_of x) (key_of w) (fits x refl)
 
-last_in-is_of : (w : Write) (later : List Write) → key_of (last_in w later) ≡ key_of w
+last_in-is_of : (w : Change) (later : List Change) → key_of (last_in w later) ≡ key_of w
 last_in-is_of w later = last_among-is_of w (last_write (key_of w) later) (λ x e. last_write-is_of (key_of w) later x e)
 
 -- nothing where the key was written before, else its last write
-latest_of-written : (w : Write) (earlier later : List Write) → is_written (key_of w) earlier ≡ true → latest_of earlier w later ≡ []
+latest_of-written : (w : Change) (earlier later : List Change) → is_written (key_of w) earlier ≡ true → latest_of earlier w later ≡ []
 latest_of-written w earlier later h = rw h refl
 
-latest_of-last : (w : Write) (found : Option Write) (earlier later : List Write) → is_written (key_of w) earlier ≡ false →
+latest_of-last : (w : Change) (found : Option Change) (earlier later : List Change) → is_written (key_of w) earlier ≡ false →
     last_write (key_of w) later ≡ found → latest_of earlier w later ≡ last_among w found ∷ []
 latest_of-last w None earlier later h found_is = rw (h, found_is) refl
 latest_of-last w (Some x) earlier later h found_is = rw (h, found_is) refl
 
-latest_of-first : (w : Write) (earlier later : List Write) → is_written (key_of w) earlier ≡ false → latest_of earlier w later ≡ last_in w later ∷ []
+latest_of-first : (w : Change) (earlier later : List Change) → is_written (key_of w) earlier ≡ false → latest_of earlier w later ≡ last_in w later ∷ []
 latest_of-first w earlier later h = latest_of-last w (last_write (key_of w) later) earlier later h refl
 
-latest_of-is : (w : Write) (earlier later : List Write) → latest_of earlier w later ≡ cond (is_written (key_of w) earlier) [] (last_in w later ∷ [])
+latest_of-is : (w : Change) (earlier later : List Change) → latest_of earlier w later ≡ cond (is_written (key_of w) earlier) [] (last_in w later ∷ [])
 latest_of-is w earlier later = elim (is_written (key_of w) earlier) as
     (λ b. is_written (key_of w) earlier ≡ b → latest_of earlier w later ≡ cond b [] (last_in w later ∷ [])) [
       | true ↦ λ e. latest_of-written w earlier later e
@@ -49,32 +50,32 @@ latest_of-is w earlier later = elim (is_written (key_of w) earlier) as
 -- ---- a write more
 
 -- a list of latest writes with one more write: it takes the place of its key's, or goes last
-abbrev pub with_write : Write → List Write → List Write
+abbrev pub with_write : Change → List Change → List Change
 with_write w [] = w ∷ []
 with_write w (x ∷ xs) = cond (bytes_eq (key_of w) (key_of x)) (w ∷ xs) (x ∷ with_write w xs)
 
 -- the writes of a list of which the first one is replaced
-replaced : (w y : Write) (rest : List Write) → key_of y ≡ key_of w → with_write w (y ∷ rest) ≡ w ∷ rest
+replaced : (w y : Change) (rest : List Change) → key_of y ≡ key_of w → with_write w (y ∷ rest) ≡ w ∷ rest
 replaced w y rest same = ap (λ k. cond (bytes_eq (key_of w) k) (w ∷ rest) (y ∷ with_write w rest)) same
     ∙ ap (λ b. cond b (w ∷ rest) (y ∷ with_write w rest)) (bytes_eq-self (key_of w))
 
 -- a write of another key goes after the one that stands for this key
-passed : (b : Bool) (w y : Write) (rest : List Write) → bytes_eq (key_of w) (key_of y) ≡ false →
+passed : (b : Bool) (w y : Change) (rest : List Change) → bytes_eq (key_of w) (key_of y) ≡ false →
     cond b [] (y ∷ []) ++ with_write w rest ≡ with_write w (cond b [] (y ∷ []) ++ rest)
 passed true w y rest other = refl
 passed false w y rest other = sym (ap (λ c. cond c (w ∷ rest) (y ∷ with_write w rest)) other)
 
-added_to_none : (b : Bool) (w : Write) → cond b [] (w ∷ []) ++ [] ≡ cond b [] (with_write w [])
+added_to_none : (b : Bool) (w : Change) → cond b [] (w ∷ []) ++ [] ≡ cond b [] (with_write w [])
 added_to_none true w = refl
 added_to_none false w = refl
 
 -- one more write, where the first one of the list is the write x
-AddedTo : Write → Write → List Write → List Write → List Write → Type 0
+AddedTo : Change → Change → List Change → List Change → List Change → Type 0
 AddedTo w x earlier later rest =
     latest_of earlier x (later ++ w ∷ []) ++ cond (is_written (key_of w) (earlier ++ x ∷ [])) rest (with_write w rest)
     ≡ cond (is_written (key_of w) earlier) (latest_of earlier x later ++ rest) (with_write w (latest_of earlier x later ++ rest))
 
-added_same : (w x : Write) (earlier later rest : List Write) (b : Bool) → key_of x ≡ key_of w → is_written (key_of w) earlier ≡ b
+added_same : (w x : Change) (earlier later rest : List Change) (b : Bool) → key_of x ≡ key_of w → is_written (key_of w) earlier ≡ b
     → AddedTo w x earlier later rest
 unfolding AddedTo
 added_same w x earlier later rest true same written =
@@ -94,7 +95,7 @@ added_same w x earlier later rest false same written =
     rw (latest_of-last x (Some w) earlier (later ++ w ∷ []) x_written last, latest_of-first x earlier later x_written, more, written)
     (sym (replaced w (last_in x later) rest (last_in-is_of x later ∙ same)))
 
-added_other : (w x : Write) (earlier later rest : List Write) (b : Bool) → bytes_eq (key_of x) (key_of w) ≡ false → is_written (key_of w) earlier ≡ b
+added_other : (w x : Change) (earlier later rest : List Change) (b : Bool) → bytes_eq (key_of x) (key_of w) ≡ false → is_written (key_of w) earlier ≡ b
     → AddedTo w x earlier later rest
 unfolding AddedTo
 added_other w x earlier later rest b other written =
@@ -121,13 +122,13 @@ added_other w x earlier later rest b other written =
     by true e = refl
     by false e = e
 
-added_to : (w x : Write) (earlier later rest : List Write) → AddedTo w x earlier later rest
+added_to : (w x : Change) (earlier later rest : List Change) → AddedTo w x earlier later rest
 added_to w x earlier later rest = elim (bytes_eq (key_of x) (key_of w)) as (λ b. bytes_eq (key_of x) (key_of w) ≡ b → AddedTo w x earlier later rest) [
   | true ↦ λ e. added_same w x earlier later rest (is_written (key_of w) earlier) (bytes_eq-same (key_of x) (key_of w) e) refl
   | false ↦ λ e. added_other w x earlier later rest (is_written (key_of w) earlier) e refl
 ] refl
 
-added : (w : Write) (earlier later : List Write) →
+added : (w : Change) (earlier later : List Change) →
     latest_after earlier (later ++ w ∷ []) ≡ cond (is_written (key_of w) earlier) (latest_after earlier later) (with_write w (latest_after earlier later))
 unfolding AddedTo
 added w earlier [] =
@@ -142,31 +143,31 @@ unfolding latest_writes
 latest_writes-none = refl
 
 -- one write more replaces its key's latest write, or is a new one at the end
-pub latest_writes-more : (ws : List Write) (w : Write) → latest_writes (ws ++ w ∷ []) ≡ with_write w (latest_writes ws)
+pub latest_writes-more : (ws : List Change) (w : Change) → latest_writes (ws ++ w ∷ []) ≡ with_write w (latest_writes ws)
 unfolding latest_writes
-latest_writes-more ws w = added w [] ws ∙ ap (λ (o : Option Write). cond (is_some o) (latest_after [] ws) (with_write w (latest_after [] ws)))
+latest_writes-more ws w = added w [] ws ∙ ap (λ (o : Option Change). cond (is_some o) (latest_after [] ws) (with_write w (latest_after [] ws)))
     (last_write-none (key_of w))
 
 -- ---- the last of each key
 
-none_of_none : (b : Bool) (o : Option Write) → o ≡ None → o ≡ cond b None o
+none_of_none : (b : Bool) (o : Option Change) → o ≡ None → o ≡ cond b None o
 none_of_none true o e = e
 none_of_none false o e = refl
 
-none_of_other : (key : List ℕ) (b : Bool) (y : Write) → bytes_eq (key_of y) key ≡ false → last_write key (cond b [] (y ∷ [])) ≡ None
+none_of_other : (key : List ℕ) (b : Bool) (y : Change) → bytes_eq (key_of y) key ≡ false → last_write key (cond b [] (y ∷ [])) ≡ None
 none_of_other key true y other = last_write-none key
 none_of_other key false y other = last_write-one key y ∙ ap (λ c. cond c (Some y) None) other
 
-some_last : (w : Write) (found : Option Write) → Some (last_among w found) ≡ or_else found (Some w)
+some_last : (w : Change) (found : Option Change) → Some (last_among w found) ≡ or_else found (Some w)
 some_last w None = refl
 some_last w (Some x) = refl
 
-later_or_none : (b : Bool) (found : Option Write) → or_else (cond b None found) None ≡ cond b None (or_else found None)
+later_or_none : (b : Bool) (found : Option Change) → or_else (cond b None found) None ≡ cond b None (or_else found None)
 later_or_none true found = refl
 later_or_none false found = refl
 
 -- what the latest writes that begin with those of w have of its key
-of_key : (w : Write) (earlier later : List Write) (b : Bool) → is_written (key_of w) earlier ≡ b →
+of_key : (w : Change) (earlier later : List Change) (b : Bool) → is_written (key_of w) earlier ≡ b →
     last_write (key_of w) (latest_of earlier w later) ≡ cond b None (or_else (last_write (key_of w) later) (Some w))
 of_key w earlier later true written = ap (last_write (key_of w)) (latest_of-written w earlier later written) ∙ last_write-none (key_of w)
 of_key w earlier later false written =
@@ -178,12 +179,12 @@ of_key w earlier later false written =
     ∙ some_last w (last_write (key_of w) later)
 
 -- the last of the latest writes, where the first one of the list is the write w
-IsLast : List ℕ → Write → List Write → List Write → Type 0
+IsLast : List ℕ → Change → List Change → List Change → Type 0
 IsLast key w earlier later =
     or_else (cond (is_written key (earlier ++ w ∷ [])) None (last_write key later)) (last_write key (latest_of earlier w later))
     ≡ cond (is_written key earlier) None (or_else (last_write key later) (last_write key (w ∷ [])))
 
-last_same : (w : Write) (earlier later : List Write) → IsLast (key_of w) w earlier later
+last_same : (w : Change) (earlier later : List Change) → IsLast (key_of w) w earlier later
 unfolding IsLast
 last_same w earlier later =
     let written : is_written (key_of w) (earlier ++ w ∷ []) ≡ true =
@@ -194,7 +195,7 @@ last_same w earlier later =
     ∙ of_key w earlier later (is_written (key_of w) earlier) refl
     ∙ ap (λ o. cond (is_written (key_of w) earlier) None (or_else (last_write (key_of w) later) o)) (sym one)
 
-last_other : (key : List ℕ) (w : Write) (earlier later : List Write) → bytes_eq (key_of w) key ≡ false → IsLast key w earlier later
+last_other : (key : List ℕ) (w : Change) (earlier later : List Change) → bytes_eq (key_of w) key ≡ false → IsLast key w earlier later
 unfolding IsLast
 last_other key w earlier later other =
     let written : is_written key (earlier ++ w ∷ []) ≡ is_written key earlier =
@@ -209,13 +210,13 @@ last_other key w earlier later other =
     ∙ later_or_none (is_written key earlier) (last_write key later)
     ∙ ap (λ o. cond (is_written key earlier) None (or_else (last_write key later) o)) (sym one)
 
-is_last : (key : List ℕ) (w : Write) (earlier later : List Write) → IsLast key w earlier later
+is_last : (key : List ℕ) (w : Change) (earlier later : List Change) → IsLast key w earlier later
 is_last key w earlier later = elim (bytes_eq (key_of w) key) as (λ b. bytes_eq (key_of w) key ≡ b → IsLast key w earlier later) [
   | true ↦ λ e. subst (λ k. IsLast k w earlier later) (bytes_eq-same (key_of w) key e) (last_same w earlier later)
   | false ↦ λ e. last_other key w earlier later e
 ] refl
 
-last_of_latest : (key : List ℕ) (earlier later : List Write)
+last_of_latest : (key : List ℕ) (earlier later : List Change)
     → last_write key (latest_after earlier later) ≡ cond (is_written key earlier) None (last_write key later)
 unfolding IsLast
 last_of_latest key earlier [] = none_of_none (is_written key earlier) (last_write key []) (last_write-none key)
@@ -227,7 +228,7 @@ last_of_latest key earlier (w ∷ later) =
 
 pub latest_writes-last : LatestWritesAreLast
 unfolding latest_writes
-latest_writes-last ws key = last_of_latest key [] ws ∙ ap (λ (o : Option Write). cond (is_some o) None (last_write key ws)) (last_write-none key)
+latest_writes-last ws key = last_of_latest key [] ws ∙ ap (λ (o : Option Change). cond (is_some o) None (last_write key ws)) (last_write-none key)
 
 -- ---- their keys
 
@@ -245,19 +246,19 @@ neither true b = refl
 neither false b = refl
 
 -- the keys of what stands for a write
-key_in_front : (b : Bool) (w y : Write) (rest : List (List ℕ)) → key_of y ≡ key_of w
+key_in_front : (b : Bool) (w y : Change) (rest : List (List ℕ)) → key_of y ≡ key_of w
     → map key_of (cond b [] (y ∷ [])) ++ rest ≡ cond (not b) (key_of w ∷ rest) rest
 key_in_front true w y rest same = refl
 key_in_front false w y rest same = ap (λ k. k ∷ rest) same
 
-is_new : List Write → List ℕ → Bool
+is_new : List Change → List ℕ → Bool
 is_new earlier key = not (is_written key earlier)
 
-new_after : (earlier : List Write) (w : Write) (key : List ℕ) → is_new (earlier ++ w ∷ []) key ≡ (not (bytes_eq (key_of w) key) && is_new earlier key)
+new_after : (earlier : List Change) (w : Change) (key : List ℕ) → is_new (earlier ++ w ∷ []) key ≡ (not (bytes_eq (key_of w) key) && is_new earlier key)
 unfolding is_new
 new_after earlier w key = ap not (is_written-more key earlier w) ∙ neither (bytes_eq (key_of w) key) (is_written key earlier)
 
-keys_of_latest : (earlier later : List Write) → map key_of (latest_after earlier later) ≡ filter (is_new earlier) (each_once (map key_of later))
+keys_of_latest : (earlier later : List Change) → map key_of (latest_after earlier later) ≡ filter (is_new earlier) (each_once (map key_of later))
 unfolding is_new
 keys_of_latest earlier [] = refl
 keys_of_latest earlier (w ∷ later) =
@@ -277,7 +278,7 @@ filter-all p all (k ∷ ks) = ap (λ b. cond b (k ∷ filter p ks) (filter p ks)
 pub latest_writes-in_order : LatestWritesAreInOrder
 unfolding latest_writes is_new
 latest_writes-in_order ws =
-    keys_of_latest [] ws ∙ filter-all (is_new []) (λ key. ap (λ (o : Option Write). not (is_some o)) (last_write-none key)) (each_once (map key_of ws))
+    keys_of_latest [] ws ∙ filter-all (is_new []) (λ key. ap (λ (o : Option Change). not (is_some o)) (last_write-none key)) (each_once (map key_of ws))
 
 -- ---- no key twice
 

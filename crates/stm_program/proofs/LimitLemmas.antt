@@ -1,63 +1,33 @@
 -- Each node counts, and stands at depth 1 at least.
 use Rattle.std.proofs.Common.{◌≤◌, ℕ, arith}
-use Rattle.stm_program.specs.Syntax.{Expression, Text, Number, Variable, Get, Rev, Arithmetic, Cat, TextOf, NumOf, Condition, Equal, Less, Not, And, Or}
-use Rattle.stm_program.specs.Syntax.{Statement, Set, Put, Del, If, For, Emit, Abort}
+use Rattle.stm_program.specs.Syntax.{Expression, Text, Condition, Equal}
+use Rattle.stm_program.specs.Syntax.{Statement, Set}
 use Rattle.stm_program.specs.Size.{expression_nodes, condition_nodes, statement_nodes}
 use Rattle.stm_program.specs.Limits.{expression_depth, condition_depth, statement_depth, ExpressionFits, ConditionFits, StatementFits}
 
 pub expression_nodes-positive : (e : Expression) → 1 ≤ expression_nodes e
 expression_nodes-positive (Text s) = omega arith
-expression_nodes-positive (Number z) = omega arith
-expression_nodes-positive (Variable v) = omega arith
-expression_nodes-positive (Get e) = omega arith
-expression_nodes-positive (Rev e) = omega arith
-expression_nodes-positive (Arithmetic o l r) = omega arith
-expression_nodes-positive (Cat l r) = omega arith
-expression_nodes-positive (TextOf e) = omega arith
-expression_nodes-positive (NumOf e) = omega arith
+expression_nodes-positive _ = omega arith
 
 pub expression_depth-positive : (e : Expression) → 1 ≤ expression_depth e
 expression_depth-positive (Text s) = omega arith
-expression_depth-positive (Number z) = omega arith
-expression_depth-positive (Variable v) = omega arith
-expression_depth-positive (Get e) = omega arith
-expression_depth-positive (Rev e) = omega arith
-expression_depth-positive (Arithmetic o l r) = omega arith
-expression_depth-positive (Cat l r) = omega arith
-expression_depth-positive (TextOf e) = omega arith
-expression_depth-positive (NumOf e) = omega arith
+expression_depth-positive _ = omega arith
 
 pub condition_nodes-positive : (c : Condition) → 1 ≤ condition_nodes c
 condition_nodes-positive (Equal l r) = omega arith
-condition_nodes-positive (Less l r) = omega arith
-condition_nodes-positive (Not c) = omega arith
-condition_nodes-positive (And c d) = omega arith
-condition_nodes-positive (Or c d) = omega arith
+condition_nodes-positive _ = omega arith
 
 pub condition_depth-positive : (c : Condition) → 1 ≤ condition_depth c
 condition_depth-positive (Equal l r) = omega arith
-condition_depth-positive (Less l r) = omega arith
-condition_depth-positive (Not c) = omega arith
-condition_depth-positive (And c d) = omega arith
-condition_depth-positive (Or c d) = omega arith
+condition_depth-positive _ = omega arith
 
 pub statement_nodes-positive : (s : Statement) → 1 ≤ statement_nodes s
 statement_nodes-positive (Set v e) = omega arith
-statement_nodes-positive (Put k e l) = omega arith
-statement_nodes-positive (Del k) = omega arith
-statement_nodes-positive (If c t e) = omega arith
-statement_nodes-positive (For v e n b) = omega arith
-statement_nodes-positive (Emit e) = omega arith
-statement_nodes-positive (Abort e) = omega arith
+statement_nodes-positive _ = omega arith
 
 pub statement_depth-positive : (s : Statement) → 1 ≤ statement_depth s
 statement_depth-positive (Set v e) = omega arith
-statement_depth-positive (Put k e l) = omega arith
-statement_depth-positive (Del k) = omega arith
-statement_depth-positive (If c t e) = omega arith
-statement_depth-positive (For v e n b) = omega arith
-statement_depth-positive (Emit e) = omega arith
-statement_depth-positive (Abort e) = omega arith
+statement_depth-positive _ = omega arith
 
 -- nothing fits no levels, or no room
 pub expression_needs : (l r : ℕ) (e : Expression) → ExpressionFits l r e → (1 ≤ l) × (1 ≤ r)

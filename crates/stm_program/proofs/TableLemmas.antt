@@ -5,13 +5,14 @@ use Rattle.std.specs.Prelude.{bytes_eq}
 use Rattle.std.specs.Map.{values_of}
 use Rattle.std.proofs.Math.Seq.{take-suc}
 use Rattle.indexmap.specs.IndexMap.{insert_entry}
-use Rattle.stm_program.specs.declared.write.Write.{Write}
-use Rattle.stm_program.specs.Writes.{key_of, latest_writes}
+use Rattle.stm_history.specs.declared.change.Change.{Change}
+use Rattle.stm_history.specs.History.{key_of}
+use Rattle.stm_program.specs.Writes.{latest_writes}
 use Rattle.stm_program.proofs.WriteLemmas.{bytes_eq-same}
 use Rattle.stm_program.proofs.LatestLemmas.{with_write, latest_writes-none, latest_writes-more}
 
 abbrev pub Entry : Type 0
-Entry = Bor (List ℕ) × Bor Write
+Entry = Bor (List ℕ) × Bor Change
 
 abbrev pub same_key : Bor (List ℕ) → Bor (List ℕ) → Bool
 same_key a b = bytes_eq a.now b.now
@@ -21,16 +22,16 @@ abbrev pub IsKeyed : List Entry → Type 0
 IsKeyed [] = Unit {0}
 IsKeyed (e ∷ es) = (e.0.now ≡ key_of e.1.now) × IsKeyed es
 
-abbrev pub writes_in : List Entry → List Write
+abbrev pub writes_in : List Entry → List Change
 writes_in es = map (λ w. w.now) (values_of es)
 
 -- the table has the latest of these writes
-pub record HasLatest (es : List Entry) (ws : List Write) : Type 0 where
+pub record HasLatest (es : List Entry) (ws : List Change) : Type 0 where
   pub keyed : IsKeyed es
   pub latest : writes_in es ≡ latest_writes ws
 
 -- an inserted write takes the place of its key's, or goes last
-writes-inserted : (es : List Entry) (k : Bor (List ℕ)) (v : Bor Write) → k.now ≡ key_of v.now → IsKeyed es →
+writes-inserted : (es : List Entry) (k : Bor (List ℕ)) (v : Bor Change) → k.now ≡ key_of v.now → IsKeyed es →
     writes_in (insert_entry same_key es k v) ≡ with_write v.now (writes_in es)
 writes-inserted [] k v is_key keyed = refl
 writes-inserted (e ∷ es) k v is_key keyed =
@@ -44,7 +45,7 @@ writes-inserted (e ∷ es) k v is_key keyed =
     by false rest = ap (λ ws. e.1.now ∷ ws) rest
 
 -- and stands under its key
-keyed-inserted : (es : List Entry) (k : Bor (List ℕ)) (v : Bor Write) → k.now ≡ key_of v.now → IsKeyed es → IsKeyed (insert_entry same_key es k v)
+keyed-inserted : (es : List Entry) (k : Bor (List ℕ)) (v : Bor Change) → k.now ≡ key_of v.now → IsKeyed es → IsKeyed (insert_entry same_key es k v)
 keyed-inserted [] k v is_key keyed = (is_key, tt)
 keyed-inserted (e ∷ es) k v is_key keyed = by (same_key k e.0) refl (keyed-inserted es k v is_key keyed.1)
   where
@@ -52,11 +53,11 @@ keyed-inserted (e ∷ es) k v is_key keyed = by (same_key k e.0) refl (keyed-ins
     by true same rest = (sym (bytes_eq-same k.now e.0.now same) ∙ is_key, keyed.1)
     by false other rest = (keyed.0, rest)
 
-pub has_none : (ws : List Write) (es : List Entry) → es ≡ [] → HasLatest es (take 0 ws)
+pub has_none : (ws : List Change) (es : List Entry) → es ≡ [] → HasLatest es (take 0 ws)
 has_none ws es none = subst (λ fs. HasLatest fs (take 0 ws)) (sym none) (record { keyed = tt; latest = sym latest_writes-none })
 
 -- the next write is inserted
-pub has_more : (ws : List Write) (i : ℕ) (w : Write) (k : Bor (List ℕ)) (v : Bor Write) (es fs : List Entry) → i < length ws → w ≡ get_or ws i w →
+pub has_more : (ws : List Change) (i : ℕ) (w : Change) (k : Bor (List ℕ)) (v : Bor Change) (es fs : List Entry) → i < length ws → w ≡ get_or ws i w →
     v.now ≡ w → k.now ≡ key_of v.now → fs ≡ insert_entry same_key es k v → HasLatest es (take i ws) → HasLatest fs (take (i + 1) ws)
 has_more ws i w k v es fs below at shows is_key inserted so_far =
     let next : suc i ≡ i + 1 = omega arith in

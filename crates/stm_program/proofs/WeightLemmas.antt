@@ -1,18 +1,13 @@
 -- The first statement of a block, and the block of the others, weigh less than the block.
 use Rattle.std.proofs.Common.{◌≡◌, ◌≤◌, ◌+◌, List, [], ◌∷◌, length, get_or, take, drop, ◌-◌, arith, ap}
 use Rattle.std.proofs.lemmas.List.{take_rest}
-use Rattle.stm_program.specs.Syntax.{Statement, Set, Put, Del, If, For, Emit, Abort}
+use Rattle.stm_program.specs.Syntax.{Statement, Set}
 use Rattle.stm_program.specs.BlockView.{block_of}
 use Rattle.stm_program.specs.Weight.{statement_weight, block_weight, block_weight-positive}
 
 pub statement_weight-positive : (s : Statement) → 1 ≤ statement_weight s
 statement_weight-positive (Set v e) = omega arith
-statement_weight-positive (Put k e l) = omega arith
-statement_weight-positive (Del k) = omega arith
-statement_weight-positive (If c t e) = omega arith
-statement_weight-positive (For v e n b) = omega arith
-statement_weight-positive (Emit e) = omega arith
-statement_weight-positive (Abort e) = omega arith
+statement_weight-positive _ = omega arith
 
 pub first_weight : (ss : List Statement) (s : Statement) → 1 ≤ length ss → s ≡ get_or ss 0 s → statement_weight s + 1 ≤ block_weight (block_of ss)
 first_weight [] s h e = absurd (omega arith)

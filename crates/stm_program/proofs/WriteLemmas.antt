@@ -3,8 +3,9 @@ use Rattle.std.proofs.Common.{◌≡◌, ℕ, List, [], ◌∷◌, ◌++◌, rev
 use Rattle.std.specs.Prelude.{bytes_eq, is_some, ◌||◌}
 use Rattle.std.proofs.lemmas.List.{reverse-append}
 use Rattle.std.proofs.lemmas.Slice.Eq.{bytes_eq-Decides}
-use Rattle.stm_program.specs.declared.write.Write.{Write}
-use Rattle.stm_program.specs.Writes.{key_of, last_write, is_written}
+use Rattle.stm_history.specs.declared.change.Change.{Change}
+use Rattle.stm_history.specs.History.{key_of}
+use Rattle.stm_program.specs.Writes.{last_write, is_written}
 
 pub bytes_eq-self : (key : List ℕ) → bytes_eq key key ≡ true
 bytes_eq-self key = (bytes_eq-Decides key key).1 refl
@@ -21,18 +22,18 @@ bytes_eq-flip a b = elim (bytes_eq a b) as (λ c. bytes_eq a b ≡ c → c ≡ b
   ] refl
 ] refl
 
-chosen_fits : (p : Write → Bool) (b : Bool) (w x : Write) (rest : Option Write) → p w ≡ b → (rest ≡ Some x → p x ≡ true) →
+chosen_fits : (p : Change → Bool) (b : Bool) (w x : Change) (rest : Option Change) → p w ≡ b → (rest ≡ Some x → p x ≡ true) →
     cond b (Some w) rest ≡ Some x → p x ≡ true
 chosen_fits p true w x rest fits deeper found = let same : w ≡ x = cc in ap p (sym same) ∙ fits
 chosen_fits p false w x rest fits deeper found = deeper found
 
 -- what a search finds passes its test
-found_fits : (p : Write → Bool) (ws : List Write) (x : Write) → find p ws ≡ Some x → p x ≡ true
+found_fits : (p : Change → Bool) (ws : List Change) (x : Change) → find p ws ≡ Some x → p x ≡ true
 found_fits p [] x found = absurd (cc)
 found_fits p (w ∷ ws) x found = chosen_fits p (p w) w x (find p ws) refl (found_fits p ws x) found
 
 -- the last write of a key is a write of it
-pub last_write-is_of : (key : List ℕ) (ws : List Write) (x : Write) → last_write key ws ≡ Some x → bytes_eq (key_of x) key ≡ true
+pub last_write-is_of : (key : List ℕ) (ws : List Change) (x : Change) → last_write key ws ≡ Some x → bytes_eq (key_of x) key ≡ true
 unfolding last_write
 last_write-is_of key ws x found = found_fits (λ w. bytes_eq (key_of w) key) (reverse ws) x found
 
@@ -42,25 +43,25 @@ unfolding last_write
 last_write-none key = refl
 
 -- one write more is the last one where it is of the key
-pub last_write-more : (key : List ℕ) (ws : List Write) (w : Write) →
+pub last_write-more : (key : List ℕ) (ws : List Change) (w : Change) →
     last_write key (ws ++ w ∷ []) ≡ cond (bytes_eq (key_of w) key) (Some w) (last_write key ws)
 unfolding last_write
 last_write-more key ws w = ap (find (λ v. bytes_eq (key_of v) key)) (reverse-append ws (w ∷ []))
 
-or_some : (b : Bool) (w : Write) (rest : Option Write) → is_some (cond b (Some w) rest) ≡ (b || is_some rest)
+or_some : (b : Bool) (w : Change) (rest : Option Change) → is_some (cond b (Some w) rest) ≡ (b || is_some rest)
 or_some true w rest = refl
 or_some false w rest = refl
 
 -- a key is written by a list with one more write where that write is of it, or one before is
-pub is_written-more : (key : List ℕ) (ws : List Write) (w : Write) → is_written key (ws ++ w ∷ []) ≡ (bytes_eq (key_of w) key || is_written key ws)
+pub is_written-more : (key : List ℕ) (ws : List Change) (w : Change) → is_written key (ws ++ w ∷ []) ≡ (bytes_eq (key_of w) key || is_written key ws)
 is_written-more key ws w = ap is_some (last_write-more key ws w) ∙ or_some (bytes_eq (key_of w) key) w (last_write key ws)
 
 -- the first of two that is there
-abbrev pub or_else : Option Write → Option Write → Option Write
+abbrev pub or_else : Option Change → Option Change → Option Change
 or_else None other = other
 or_else (Some w) other = Some w
 
-find-append : (p : Write → Bool) (xs ys : List Write) → find p (xs ++ ys) ≡ or_else (find p xs) (find p ys)
+find-append : (p : Change → Bool) (xs ys : List Change) → find p (xs ++ ys) ≡ or_else (find p xs) (find p ys)
 find-append p [] ys = refl
 find-append p (x ∷ xs) ys = by (p x) (find-append p xs ys)
   where
@@ -70,11 +71,11 @@ find-append p (x ∷ xs) ys = by (p x) (find-append p xs ys)
     by false e = e
 
 -- of two lists of writes the second is looked at first
-pub last_write-append : (key : List ℕ) (xs ys : List Write) → last_write key (xs ++ ys) ≡ or_else (last_write key ys) (last_write key xs)
+pub last_write-append : (key : List ℕ) (xs ys : List Change) → last_write key (xs ++ ys) ≡ or_else (last_write key ys) (last_write key xs)
 unfolding last_write
 last_write-append key xs ys =
     ap (find (λ v. bytes_eq (key_of v) key)) (reverse-append xs ys) ∙ find-append (λ v. bytes_eq (key_of v) key) (reverse ys) (reverse xs)
 
-pub last_write-one : (key : List ℕ) (w : Write) → last_write key (w ∷ []) ≡ cond (bytes_eq (key_of w) key) (Some w) None
+pub last_write-one : (key : List ℕ) (w : Change) → last_write key (w ∷ []) ≡ cond (bytes_eq (key_of w) key) (Some w) None
 unfolding last_write
 last_write-one key w = refl

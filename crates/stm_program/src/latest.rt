@@ -4,10 +4,9 @@ ghost use Rattle.std.specs.Option.{option_copied};
 ghost use Rattle.indexmap.specs.IndexMap.{values};
 ghost use Rattle.stm_program.specs.Writes.{last_write as last_of_key, latest_writes as latest_of_each};
 
-use crate::write::Write;
 use indexmap::IndexMap;
 use std::alloc::{AllocError, Global};
-use stm_history::Sequence;
+use stm_history::{Change as Write, Sequence};
 
 /// Each key that is written, with its last write, in the order of first writes.
 type Latest<'a> = IndexMap<&'a str, &'a Write>;

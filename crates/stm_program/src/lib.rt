@@ -14,7 +14,6 @@ mod program;
 mod same;
 mod statement;
 mod variable;
-mod write;
 
 pub use condition::{Cond, CondNode};
 pub use expression::{Expr, ExprNode};
@@ -27,6 +26,6 @@ pub use list::{is_listed, list_fits};
 pub use operator::Operator;
 pub use program::Program;
 pub use statement::{Block, Stmt, StmtNode};
-pub use stm_history::{Sequence, Text};
+// A write of a program is the change that it asks for.
+pub use stm_history::{Change as Write, Sequence, Text};
 pub use variable::Variable;
-pub use write::Write;

@@ -7,10 +7,10 @@ use Rattle.std.specs.Fmt.{signed_decimal}
 use Rattle.std.specs.Option.{option_map_or}
 use Rattle.std.proofs.lemmas.Int.{ints}
 use Rattle.stm_history.specs.declared.key_state.KeyState.{KeyState}
-use Rattle.stm_history.specs.History.{History, now, key_now, value_of as value_now, after_change}
-use Rattle.stm_program.specs.declared.write.Write.{Write}
-use Rattle.stm_program.specs.declared.write.Write.TheVariants.{Put}
-use Rattle.stm_program.specs.Writes.{value_of, last_write}
+use Rattle.stm_history.specs.History.{History, now, key_now, value_of as value_now, after_change, value_written}
+use Rattle.stm_history.specs.declared.change.Change.{Change}
+use Rattle.stm_history.specs.declared.change.Change.TheVariants.{Put}
+use Rattle.stm_program.specs.Writes.{last_write}
 use Rattle.stm_program.proofs.WriteLemmas.{bytes_eq-same, bytes_eq-self, or_else, last_write-one}
 use Rattle.stm_steps.specs.declared.fault.Fault.{Fault}
 use Rattle.stm_steps.specs.declared.fault.Fault.TheVariants.{Overflow}
@@ -49,17 +49,17 @@ read_of n h key = n.number (key_now h key)
 abbrev pub sum_of_all : Reading → History → List (List ℕ) → Option ℤ
 sum_of_all n h accounts = sum_over (read_of n h) accounts
 
-abbrev balance_by : Reading → History → Option Write → List ℕ → Option ℤ
+abbrev balance_by : Reading → History → Option Change → List ℕ → Option ℤ
 balance_by n h o key = n.number (after_change (now h + 1) (change_by h o) (key_now h key))
 
 -- a commit that wrote this
-record Wrote (n : Reading) (before after : Replayed) (writes : List Write) : Type 0 where
+record Wrote (n : Reading) (before after : Replayed) (writes : List Change) : Type 0 where
   balances : (key : List ℕ) → read_of n after.history key ≡ balance_by n before.history (last_write key writes) key
 
-wrote : (n : Reading) (before after : Replayed) (run : Run) (writes : List Write) → ((key : List ℕ) →
+wrote : (n : Reading) (before after : Replayed) (run : Run) (writes : List Change) → ((key : List ℕ) →
     read_of n after.history key ≡ balance_by n before.history (last_write key run.writes) key) → run.writes ≡ writes → Wrote n before after writes
 wrote n before after run writes left is =
-    record { balances = λ key. left key ∙ ap (λ (ws : List Write). balance_by n before.history (last_write key ws) key) is }
+    record { balances = λ key. left key ∙ ap (λ (ws : List Change). balance_by n before.history (last_write key ws) key) is }
 
 -- ---- a deposit
 
@@ -94,7 +94,7 @@ deposit_moves n accounts e r total are legal d sums =
     wrote n r after c.run (Put account (signed_decimal sum) 0 ∷ [])
     (λ key. ap (λ (x : History). read_of n x key) c.left ∙ ap n.number (left_of_key h c.run.writes key)) x.writes in
     let of_key : (key : List ℕ) → read_of n after.history key ≡ balance_by n h (cond (bytes_eq account key) (Some (Put account (signed_decimal sum) 0)) None) key =
-    λ key. w.balances key ∙ ap (λ (o : Option Write). balance_by n h o key) (last_write-one key (Put account (signed_decimal sum) 0)) in
+    λ key. w.balances key ∙ ap (λ (o : Option Change). balance_by n h o key) (last_write-one key (Put account (signed_decimal sum) 0)) in
     let own : read_of n after.history account ≡ Some sum =
     of_key account ∙ ap (λ b. balance_by n h (cond b (Some (Put account (signed_decimal sum) 0)) None) account) (bytes_eq-self account)
     ∙ n.put (now h + 1) sum (key_now h account) x.fits in
@@ -130,10 +130,10 @@ enough_by false from to amount values balance run ended deed = (refl, deed)
 seen_by_payee : (from to : List ℕ) (less : ℤ) (values : List ℕ → List ℕ) →
     value_after (Put from (signed_decimal less) 0 ∷ []) values to ≡ cond (bytes_eq from to) (signed_decimal less) (values to)
 seen_by_payee from to less values =
-    ap (λ (o : Option Write). option_map_or value_of o (values to)) (last_write-one to (Put from (signed_decimal less) 0))
+    ap (λ (o : Option Change). option_map_or value_written o (values to)) (last_write-one to (Put from (signed_decimal less) 0))
     ∙ by (bytes_eq from to)
   where
-    by : (b : Bool) → option_map_or value_of (cond b (Some (Put from (signed_decimal less) 0)) None) (values to) ≡ cond b (signed_decimal less) (values to)
+    by : (b : Bool) → option_map_or value_written (cond b (Some (Put from (signed_decimal less) 0)) None) (values to) ≡ cond b (signed_decimal less) (values to)
     by true = refl
     by false = refl
 
@@ -143,14 +143,14 @@ paid_with : (from to : List ℕ) (amount : ℕ) (values : List ℕ → List ℕ)
     written_number (cond (bytes_eq from to) (signed_decimal (balance -ℤ pos amount)) (values to)) ≡ Ok seen →
     Paid from to (balance -ℤ pos amount) (seen +ℤ pos amount) run
 paid_with from to amount values balance seen run ended deed holds =
-    let writes : List Write = Put from (signed_decimal (balance -ℤ pos amount)) 0 ∷ [] in
+    let writes : List Change = Put from (signed_decimal (balance -ℤ pos amount)) 0 ∷ [] in
     let number : written_number (value_after writes values to) ≡ Ok seen =
     ap written_number (seen_by_payee from to (balance -ℤ pos amount) values) ∙ holds in
     paid_by (is_in_range (seen +ℤ pos amount)) from to (balance -ℤ pos amount) (seen +ℤ pos amount) run refl ended
     (deed ∙ ap (put_added to amount writes) number)
 
 -- the last write of a key among those of a transfer
-abbrev transfer_write : List ℕ → List ℕ → ℤ → ℤ → List ℕ → Option Write
+abbrev transfer_write : List ℕ → List ℕ → ℤ → ℤ → List ℕ → Option Change
 transfer_write from to less sum key =
     or_else (cond (bytes_eq to key) (Some (Put to (signed_decimal sum) 0)) None) (cond (bytes_eq from key) (Some (Put from (signed_decimal less) 0)) None)
 
@@ -172,7 +172,7 @@ moved_as n from to less sum before after run p left =
     wrote n before after run (Put from (signed_decimal less) 0 ∷ Put to (signed_decimal sum) 0 ∷ []) left p.writes in
     record {
       fits = p.fits;
-      balances = λ key. w.balances key ∙ ap (λ (o : Option Write). balance_by n before.history o key) (last_of_transfer from to less sum key);
+      balances = λ key. w.balances key ∙ ap (λ (o : Option Change). balance_by n before.history o key) (last_of_transfer from to less sum key);
     }
 
 -- the paid account has the sum
@@ -236,7 +236,7 @@ number_found from to amount values (Err fault) run ended deed =
     let faults : run.end ≡ FaultedEnd fault = ap (λ (d : Deed). d.end) deed in
     absurd (cc)
 
-number_added : (key : List ℕ) (amount : ℕ) (writes : List Write) (r : Result ℤ Fault) (run : Run) → run.end ≡ DoneEnd →
+number_added : (key : List ℕ) (amount : ℕ) (writes : List Change) (r : Result ℤ Fault) (run : Run) → run.end ≡ DoneEnd →
     deed_of run ≡ put_added key amount writes r → (z : ℤ) × (r ≡ Ok z)
 number_added key amount writes (Ok z) run ended deed = (z, refl)
 number_added key amount writes (Err fault) run ended deed =
@@ -264,7 +264,7 @@ transfer_by n accounts from to amount balance total before after run true one ar
 transfer_by n accounts from to amount balance total before after run false apart are paying paid fits less_fits has_from ended deed left sums =
     let less : ℤ = balance -ℤ pos amount in
     let values : List ℕ → List ℕ = value_in (state_now before.history) in
-    let writes : List Write = Put from (signed_decimal less) 0 ∷ [] in
+    let writes : List Change = Put from (signed_decimal less) 0 ∷ [] in
     let payee = number_added to amount writes (written_number (value_after writes values to)) run ended deed in
     let other : ℤ = payee.0 in
     let holds : written_number (cond (bytes_eq from to) (signed_decimal less) (values to)) ≡ Ok other =

@@ -1,5 +1,5 @@
 -- What a legal commit at a level that compares makes of the history.
-use Rattle.std.proofs.Common.{◌≡◌, List, map, Bool, true, false, cond, Ok, Err, refl, sym, ◌∙◌, ap, subst}
+use Rattle.std.proofs.Common.{◌≡◌, List, Bool, true, false, cond, Ok, Err, refl, sym, ◌∙◌, ap, subst}
 use Rattle.std.specs.List.{list_any}
 use Rattle.stm_history.specs.declared.change.Change.{Change}
 use Rattle.stm_history.specs.History.{History}
@@ -18,9 +18,8 @@ use Rattle.stm_outcome.specs.Commits.{applied, effective, is_on_dead_lease}
 use Rattle.stm_outcome.specs.Terms.{Terms}
 use Rattle.stm_compile.specs.Answers.{state_now, look_up}
 use Rattle.stm_program.specs.Levels.{is_comparing}
-use Rattle.stm_compile.specs.Now.{as_change}
 use Rattle.stm_entries.specs.declared.entry.Entry.{Entry}
-use Rattle.stm_entries.specs.declared.entry.Entry.TheVariants.{Program, Foreign, Grant, Renew, Revoke, Expire}
+use Rattle.stm_entries.specs.declared.entry.Entry.TheVariants.{Program, Foreign}
 use Rattle.stm_entries.specs.Alone.{left_by, left_by_run, history_left, applied_run}
 use Rattle.stm_entries.specs.Legal.{IsLegal}
 use Rattle.stm_entries.specs.Replay.{replay_entry}
@@ -37,7 +36,7 @@ pub record Committed (statements : Block) (before after : Replayed) : Type 0 whe
   pub run : Run
   pub alone : run_over (state_now before.history) statements ≡ Ended run
   pub is_done : run.end ≡ DoneEnd
-  pub left : after.history ≡ with_changes before.history (effective before.history (map as_change (latest_writes run.writes)))
+  pub left : after.history ≡ with_changes before.history (effective before.history (latest_writes run.writes))
 
 -- a call that was not refused has made the changes
 done_by : (dead used : Bool) (made done : Done) → cond dead (Err LeaseNotFound) (cond used (Err RevisionsUsedUp) (Ok made)) ≡ Ok done → made ≡ done
@@ -74,13 +73,10 @@ committed statements (Program program level answers output trace revision) r of 
       run = legal.run;
       alone = subst (λ (b : Block). run_over (state_now h) b ≡ Ended legal.run) of.0 alone;
       is_done = legal.is_done;
-      left = leads ∙ applied_history (replay_terms r) (map as_change (latest_writes legal.run.writes)) legal.done legal.applies;
+      left = leads ∙ applied_history (replay_terms r) (latest_writes legal.run.writes) legal.done legal.applies;
     }
 committed statements (Foreign txn) r of legal = absurd of
-committed statements (Grant id ttl moment) r of legal = absurd of
-committed statements (Renew id moment) r of legal = absurd of
-committed statements (Revoke id) r of legal = absurd of
-committed statements (Expire id) r of legal = absurd of
+committed statements _ r of legal = absurd of
 
 -- what the entry of a commit says was emitted is what its run has emitted
 pub output_reported : (statements : Block) (e : Entry) (r : Replayed) → IsCommitOf statements e → IsLegal e r → (run : Run) →
@@ -95,7 +91,4 @@ output_reported statements (Program program level answers output trace revision)
     one_run : (x y : Run) → Ended x ≡ Ended y → x ≡ y
     one_run x y is = cc
 output_reported statements (Foreign txn) r of legal run ran = absurd of
-output_reported statements (Grant id ttl moment) r of legal run ran = absurd of
-output_reported statements (Renew id moment) r of legal run ran = absurd of
-output_reported statements (Revoke id) r of legal run ran = absurd of
-output_reported statements (Expire id) r of legal run ran = absurd of
+output_reported statements _ r of legal run ran = absurd of

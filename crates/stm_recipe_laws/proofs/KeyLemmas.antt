@@ -1,12 +1,10 @@
 -- What a commit leaves of a key, by the last write of the key.
-use Rattle.std.proofs.Common.{◌≡◌, ℕ, ◌+◌, List, [], ◌∷◌, map, Option, Some, None, Bool, true, false, cond, refl, sym, ◌∙◌, ap, subst, arith}
-use Rattle.std.specs.Prelude.{bytes_eq, option_map}
+use Rattle.std.proofs.Common.{◌≡◌, ℕ, ◌+◌, List, [], ◌∷◌, Option, Some, None, Bool, true, false, cond, refl, sym, ◌∙◌, ap, subst, arith}
+use Rattle.std.specs.Prelude.{bytes_eq}
 use Rattle.stm_history.specs.declared.change.Change.{Change}
-use Rattle.stm_history.specs.History.{History, now, key_now, key_of as changed_key, change_of, add_revision, after_change, HasDistinctKeys}
+use Rattle.stm_history.specs.History.{History, now, key_now, key_of, change_of, add_revision, after_change, HasDistinctKeys}
 use Rattle.stm_history.proofs.HistoryLaws.{one_more_revision}
-use Rattle.stm_program.specs.declared.write.Write.{Write}
-use Rattle.stm_program.specs.declared.write.Write.TheVariants.{Put, Del}
-use Rattle.stm_program.specs.Writes.{key_of, last_write, latest_writes}
+use Rattle.stm_program.specs.Writes.{last_write, latest_writes}
 use Rattle.stm_program.proofs.WriteLemmas.{bytes_eq-same, or_else, last_write-none, last_write-one, last_write-append}
 use Rattle.stm_meaning.specs.Writes.{changes, effect}
 use Rattle.stm_meaning.specs.EffectLaw.{kept_by}
@@ -14,43 +12,30 @@ use Rattle.stm_meaning.proofs.EffectLemmas.{effect_leaves_last_writes}
 use Rattle.stm_outcome.specs.Outcome.{with_changes}
 use Rattle.stm_outcome.specs.Commits.{effective}
 use Rattle.stm_outcome.specs.Effect.{changes_something}
-use Rattle.stm_compile.specs.Now.{as_change, is_present}
+use Rattle.stm_compile.specs.Now.{is_present}
 use Rattle.stm_compile.proofs.OutcomeLemmas.{applied_is_effect}
 use Rattle.stm_entries.proofs.EffectLemmas.{latest_are_distinct}
 
 -- ---- a key's change among the changes of writes
 
-key_of-change : (w : Write) → changed_key (as_change w) ≡ key_of w
-key_of-change (Put key value lease) = refl
-key_of-change (Del key) = refl
-
-pub last_write-cons : (key : List ℕ) (w : Write) (ws : List Write) →
+pub last_write-cons : (key : List ℕ) (w : Change) (ws : List Change) →
     last_write key (w ∷ ws) ≡ or_else (last_write key ws) (cond (bytes_eq (key_of w) key) (Some w) None)
 last_write-cons key w ws = last_write-append key (w ∷ []) ws ∙ ap (λ o. or_else (last_write key ws) o) (last_write-one key w)
 
-none_mapped : (o : Option Write) → option_map as_change o ≡ None → o ≡ None
-none_mapped None is = refl
-none_mapped (Some w) is = absurd (cc)
-
-first_is_last : (here : Bool) (w : Write) (later : Option Write) → (here ≡ true → later ≡ None) →
-    cond here (Some (as_change w)) (option_map as_change later) ≡ option_map as_change (or_else later (cond here (Some w) None))
-first_is_last true w later alone = sym (ap (λ o. option_map as_change (or_else o (Some w))) (alone refl))
+first_is_last : (here : Bool) (w : Change) (later : Option Change) → (here ≡ true → later ≡ None) →
+    cond here (Some w) later ≡ or_else later (cond here (Some w) None)
+first_is_last true w later alone = sym (ap (λ o. or_else o (Some w)) (alone refl))
 first_is_last false w None alone = refl
 first_is_last false w (Some x) alone = refl
 
 -- where no key is changed twice, a key's change is its last write
-change_is_last : (key : List ℕ) (ws : List Write) → HasDistinctKeys (map as_change ws) → change_of key (map as_change ws) ≡ option_map as_change (last_write key ws)
-change_is_last key [] distinct = sym (ap (option_map as_change) (last_write-none key))
+change_is_last : (key : List ℕ) (ws : List Change) → HasDistinctKeys ws → change_of key ws ≡ last_write key ws
+change_is_last key [] distinct = sym (last_write-none key)
 change_is_last key (w ∷ ws) distinct =
-    let rest : change_of key (map as_change ws) ≡ option_map as_change (last_write key ws) = change_is_last key ws distinct.1 in
-    ap (λ k. cond (bytes_eq k key) (Some (as_change w)) (change_of key (map as_change ws))) (key_of-change w)
-    ∙ ap (λ o. cond (bytes_eq (key_of w) key) (Some (as_change w)) o) rest
+    ap (λ o. cond (bytes_eq (key_of w) key) (Some w) o) (change_is_last key ws distinct.1)
     ∙ first_is_last (bytes_eq (key_of w) key) w (last_write key ws) (λ here.
-    let same : key_of w ≡ key = bytes_eq-same (key_of w) key here in
-    none_mapped (last_write key ws) (sym (change_is_last key ws distinct.1)
-    ∙ ap (λ k. change_of k (map as_change ws)) (sym same)
-    ∙ ap (λ k. change_of k (map as_change ws)) (sym (key_of-change w)) ∙ distinct.0))
-    ∙ sym (ap (option_map as_change) (last_write-cons key w ws))
+    sym (change_is_last key ws distinct.1) ∙ ap (λ k. change_of k ws) (sym (bytes_eq-same (key_of w) key here)) ∙ distinct.0)
+    ∙ sym (last_write-cons key w ws)
 
 -- ---- a key after changes, and after a commit
 
@@ -62,19 +47,19 @@ after_changes h (c ∷ cs) key =
     ∙ ap (λ n. after_change n (change_of key (c ∷ cs)) (key_now h key)) (let step : now (add_revision h (c ∷ cs)) ≡ now h + 1 = omega arith in step)
 
 -- the change of a key that its last write is
-abbrev pub change_by : History → Option Write → Option Change
-change_by h o = option_map as_change (kept_by (changes (is_present h)) o)
+abbrev pub change_by : History → Option Change → Option Change
+change_by h o = kept_by (changes (is_present h)) o
 
 -- what the writes of a commit leave of a key
-pub left_of_key : (h : History) (writes : List Write) (key : List ℕ) →
-    key_now (with_changes h (effective h (map as_change (latest_writes writes)))) key
+pub left_of_key : (h : History) (writes : List Change) (key : List ℕ) →
+    key_now (with_changes h (effective h (latest_writes writes))) key
     ≡ after_change (now h + 1) (change_by h (last_write key writes)) (key_now h key)
 left_of_key h writes key =
-    let made : List Change = effective h (map as_change (latest_writes writes)) in
-    let same : made ≡ map as_change (effect (is_present h) writes) = applied_is_effect h writes in
-    let distinct : HasDistinctKeys (map as_change (effect (is_present h) writes)) =
+    let made : List Change = effective h (latest_writes writes) in
+    let same : made ≡ effect (is_present h) writes = applied_is_effect h writes in
+    let distinct : HasDistinctKeys (effect (is_present h) writes) =
     subst (λ (cs : List Change). HasDistinctKeys cs) same (latest_are_distinct (changes_something (key_now h)) writes) in
     after_changes h made key
     ∙ ap (λ (cs : List Change). after_change (now h + 1) (change_of key cs) (key_now h key)) same
     ∙ ap (λ (o : Option Change). after_change (now h + 1) o (key_now h key)) (change_is_last key (effect (is_present h) writes) distinct)
-    ∙ ap (λ (o : Option Write). after_change (now h + 1) (option_map as_change o) (key_now h key)) (effect_leaves_last_writes (is_present h) writes key)
+    ∙ ap (λ (o : Option Change). after_change (now h + 1) o (key_now h key)) (effect_leaves_last_writes (is_present h) writes key)

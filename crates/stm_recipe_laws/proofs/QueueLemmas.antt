@@ -1,17 +1,16 @@
 -- Queues over entries: one entry keeps the items in order, and so do all.
-use Rattle.std.proofs.Common.{◌≡◌, ℕ, ◌+◌, ◌^◌, ◌<◌, ◌≤◌, List, [], ◌∷◌, ◌++◌, length, Option}
-use Rattle.std.proofs.Common.{Some, None, Bool, true, false, cond, Ok, Err, refl, sym, ◌∙◌, ap}
-use Rattle.std.proofs.Common.{subst, append_assoc, arith, codes}
+use Rattle.std.proofs.Common.{◌≡◌, ℕ, ◌+◌, ◌^◌, ◌<◌, ◌≤◌, List, [], ◌∷◌, ◌++◌, length, Option, Some, None, Bool, true, false, cond, Ok, Err, refl, sym, ◌∙◌}
+use Rattle.std.proofs.Common.{ap, subst, append_assoc, arith, codes}
 use Rattle.std.proofs.lemmas.List.{append-nil, length-append}
 use Rattle.std.specs.Prelude.{ℤ, pos, ◌+ℤ◌, bytes_eq, nat_le, if◌then◌else◌, Result}
 use Rattle.std.specs.Fmt.{decimal, digits}
 use Rattle.std.proofs.lemmas.Bool.{ltb-true}
 use Rattle.std.proofs.lemmas.Int.{ints}
 use Rattle.stm_history.specs.declared.key_state.KeyState.{KeyState}
-use Rattle.stm_history.specs.History.{History, now, key_now, value_of as value_now, after_change, state_after_put}
-use Rattle.stm_program.specs.declared.write.Write.{Write}
-use Rattle.stm_program.specs.declared.write.Write.TheVariants.{Put, Del}
-use Rattle.stm_program.specs.Writes.{last_write, key_of}
+use Rattle.stm_history.specs.History.{History, now, key_now, value_of as value_now, after_change, state_after_put, key_of}
+use Rattle.stm_history.specs.declared.change.Change.{Change}
+use Rattle.stm_history.specs.declared.change.Change.TheVariants.{Put, Del}
+use Rattle.stm_program.specs.Writes.{last_write}
 use Rattle.stm_program.proofs.WriteLemmas.{bytes_eq-self, or_else, last_write-one}
 use Rattle.stm_steps.specs.declared.fault.Fault.{Fault}
 use Rattle.stm_steps.specs.declared.fault.Fault.TheVariants.{Overflow, TextTooLong}
@@ -28,8 +27,7 @@ use Rattle.stm_entries.specs.Replay.{replay, replay_entry}
 use Rattle.stm_entries.specs.Replayed.{Replayed}
 use Rattle.stm_recipes.specs.Names.{head_key, tail_key, items_key}
 use Rattle.stm_recipes.specs.Queues.{enqueue_program, dequeue_program}
-use Rattle.stm_recipes.specs.Alone.{Deed, deed_of, aborted, faulted, put_number, put_added, or_zero, put_at, emitting}
-use Rattle.stm_recipes.specs.Alone.{taken_or_refused}
+use Rattle.stm_recipes.specs.Alone.{Deed, deed_of, aborted, faulted, put_number, put_added, or_zero, put_at, emitting, taken_or_refused}
 use Rattle.stm_recipes.proofs.QueueRuns.{enqueue_alone, dequeue_alone}
 use Rattle.stm_recipe_laws.specs.Queues.{IsCount, Absent, Spelled, place_of, IsItem, AreItems, HoldsItems, IsEnqueue, IsDequeue, LeavesQueue, IsOfQueue, Enqueues}
 use Rattle.stm_recipe_laws.specs.Queues.{Dequeues, Leaves, texts_of, output_of, added_by, taken_by, all_added, all_taken, Kept}
@@ -80,7 +78,7 @@ one_more_item h queue n top (x ∷ items) item count are last =
 
 -- ---- what a commit leaves of a key
 
-abbrev state_by : History → Option Write → List ℕ → Option KeyState
+abbrev state_by : History → Option Change → List ℕ → Option KeyState
 state_by h o key = after_change (now h + 1) (change_by h o) (key_now h key)
 
 record Left (before after : History) (run : Run) : Type 0 where
@@ -91,25 +89,25 @@ left_by_commit : (h after : History) (run : Run) (made : History) → after ≡ 
 left_by_commit h after run made is of = record { of_key = λ key. ap (λ (x : History). key_now x key) is ∙ of key }
 
 -- the last write of a key of two
-abbrev last_of_two : Write → Write → List ℕ → Option Write
+abbrev last_of_two : Change → Change → List ℕ → Option Change
 last_of_two first second key = or_else (cond (bytes_eq (key_of second) key) (Some second) None) (cond (bytes_eq (key_of first) key) (Some first) None)
 
-two_writes : (first second : Write) (key : List ℕ) → last_write key (first ∷ second ∷ []) ≡ last_of_two first second key
+two_writes : (first second : Change) (key : List ℕ) → last_write key (first ∷ second ∷ []) ≡ last_of_two first second key
 two_writes first second key =
     last_write-cons key first (second ∷ [])
     ∙ ap (λ o. or_else o (cond (bytes_eq (key_of first) key) (Some first) None)) (last_write-one key second)
 
-record LeftByTwo (before after : History) (first second : Write) : Type 0 where
+record LeftByTwo (before after : History) (first second : Change) : Type 0 where
   second_key : key_now after (key_of second) ≡ state_by before (Some second) (key_of second)
   first_key : bytes_eq (key_of second) (key_of first) ≡ false → key_now after (key_of first) ≡ state_by before (Some first) (key_of first)
   others : (key : List ℕ) → bytes_eq (key_of second) key ≡ false → bytes_eq (key_of first) key ≡ false → key_now after key ≡ key_now before key
 
-left_by_two : (before after : History) (run : Run) (first second : Write) → run.writes ≡ first ∷ second ∷ [] → Left before after run →
+left_by_two : (before after : History) (run : Run) (first second : Change) → run.writes ≡ first ∷ second ∷ [] → Left before after run →
     LeftByTwo before after first second
 left_by_two before after run first second is left =
     let of : (key : List ℕ) → key_now after key ≡ state_by before (last_of_two first second key) key =
-    λ key. left.of_key key ∙ ap (λ (ws : List Write). state_by before (last_write key ws) key) is
-    ∙ ap (λ (o : Option Write). state_by before o key) (two_writes first second key) in
+    λ key. left.of_key key ∙ ap (λ (ws : List Change). state_by before (last_write key ws) key) is
+    ∙ ap (λ (o : Option Change). state_by before o key) (two_writes first second key) in
     record {
       second_key = of (key_of second)
           ∙ ap (λ b. state_by before (or_else (cond b (Some second) None) (cond (bytes_eq (key_of first) (key_of second)) (Some first) None)) (key_of second))
@@ -141,12 +139,12 @@ item_put before after queue n item is = by (key_now before (place_of queue n)) i
 -- ---- what a recipe that is done has written
 
 -- the count and one are in range
-record Counted (key : List ℕ) (n : ℕ) (first : Write) (output : List Value) (run : Run) : Type 0 where
+record Counted (key : List ℕ) (n : ℕ) (first : Change) (output : List Value) (run : Run) : Type 0 where
   small : n + 1 < 2 ^ 63
   writes : run.writes ≡ first ∷ Put key (decimal (n + 1)) 0 ∷ []
   output_is : run.output ≡ output
 
-counted_by : (fits : Bool) (key : List ℕ) (n : ℕ) (first : Write) (output : List Value) (run : Run) → is_in_range (pos (n + 1)) ≡ fits → run.end ≡ DoneEnd →
+counted_by : (fits : Bool) (key : List ℕ) (n : ℕ) (first : Change) (output : List Value) (run : Run) → is_in_range (pos (n + 1)) ≡ fits → run.end ≡ DoneEnd →
     deed_of run ≡ record (put_number key (first ∷ []) (if fits then Ok (pos (n + 1)) else Err Overflow)) { output = output } → Counted key n first output run
 counted_by true key n first output run is ended deed = record {
   small = ltb-true (n + 1) (2 ^ 63) is;
@@ -158,7 +156,7 @@ counted_by false key n first output run is ended deed =
     absurd (cc)
 
 -- what a recipe that is done puts at last
-counted : (key : List ℕ) (n : ℕ) (first : Write) (output : List Value) (run : Run) → n < 2 ^ 63 → run.end ≡ DoneEnd →
+counted : (key : List ℕ) (n : ℕ) (first : Change) (output : List Value) (run : Run) → n < 2 ^ 63 → run.end ≡ DoneEnd →
     deed_of run ≡ record (put_added key 1 (first ∷ []) (written_number (decimal n))) { output = output } → Counted key n first output run
 counted key n first output run small ended deed =
     let up : pos n +ℤ pos 1 ≡ pos (n + 1) = omega (arith, ints) in
@@ -178,7 +176,7 @@ placed_by false queue item n run ended deed =
     absurd (cc)
 
 -- no sum that is put emits anything
-quiet : (key : List ℕ) (amount : ℕ) (writes : List Write) (r : Result ℤ Fault) →
+quiet : (key : List ℕ) (amount : ℕ) (writes : List Change) (r : Result ℤ Fault) →
     put_added key amount writes r ≡ record (put_added key amount writes r) { output = [] }
 quiet key amount writes (Ok z) = quiet_sum (if is_in_range (z +ℤ pos amount) then Ok (z +ℤ pos amount) else Err Overflow)
   where
@@ -197,7 +195,7 @@ enqueue_keeps queue e r items long legal q held =
     let deed : deed_of c.run ≡ put_at queue q.item (decimal n) =
     enqueue_alone (state_now h) queue q.item (now_is_known h) long c.run c.alone
     ∙ ap (put_at queue q.item) (count_text h (tail_key queue) n held.in_range held.is_tail) in
-    let first : Write = Put (place_of queue n) q.item 0 in
+    let first : Change = Put (place_of queue n) q.item 0 in
     let x : Counted (tail_key queue) n first [] c.run =
     counted (tail_key queue) n first [] c.run held.in_range c.is_done
     (placed_by (nat_le (length (items_key queue) + length (decimal n)) longest_text) queue q.item n c.run c.is_done deed
@@ -281,7 +279,7 @@ dequeue_by queue e r (item ∷ items) all long legal q held is =
     ∙ ap (taken_or_refused queue (value_in (state_now h)) (decimal n)) (count_text h (tail_key queue) held.tail held.in_range held.is_tail) in
     let found = found_by (bytes_eq (decimal n) (decimal held.tail)) (nat_le (length (items_key queue) + length (decimal n)) longest_text) queue
     (value_now (key_now h (place_of queue n))) n c.run c.is_done deed in
-    let first : Write = Del (place_of queue n) in
+    let first : Change = Del (place_of queue n) in
     let emits : List Value = Text item ∷ [] in
     let x : Counted (head_key queue) n first emits c.run =
     counted (head_key queue) n first emits c.run small c.is_done

@@ -1,14 +1,12 @@
 -- Slots over entries.
-use Rattle.std.proofs.Common.{◌≡◌, ℕ, ◌+◌, ◌<◌, List, [], ◌∷◌, length, map, Option, Some, None, Bool, true, false, cond, refl, ◌∙◌, ap, arith}
-use Rattle.std.proofs.Common.{inl, inr, codes}
+use Rattle.std.proofs.Common.{◌≡◌, ℕ, ◌+◌, ◌<◌, List, [], ◌∷◌, length, Option, Some, None, Bool, true, false, cond, refl, ◌∙◌, ap, arith, inl, inr, codes}
 use Rattle.std.specs.Prelude.{◌⊎◌, nat_eq, is_some}
 use Rattle.std.specs.Cmp.{unsigned_Decides}
-use Rattle.stm_history.specs.declared.change.Change.TheVariants.{Put as PutChange}
 use Rattle.stm_history.specs.declared.key_state.KeyState.{KeyState}
 use Rattle.stm_history.specs.History.{History, now, key_now, mod_of, add_revision, after_change, state_after_put}
 use Rattle.stm_history.proofs.HistoryLaws.{one_more_revision, absent_at_zero}
-use Rattle.stm_program.specs.declared.write.Write.{Write}
-use Rattle.stm_program.specs.declared.write.Write.TheVariants.{Put}
+use Rattle.stm_history.specs.declared.change.Change.{Change}
+use Rattle.stm_history.specs.declared.change.Change.TheVariants.{Put}
 use Rattle.stm_program.specs.Writes.{latest_writes, last_write}
 use Rattle.stm_program.proofs.WriteLemmas.{bytes_eq-self}
 use Rattle.stm_steps.specs.declared.run.Run.{Run}
@@ -17,7 +15,6 @@ use Rattle.stm_meaning.specs.Leaves.{mod_rev_in}
 use Rattle.stm_outcome.specs.Outcome.{with_changes}
 use Rattle.stm_outcome.specs.Commits.{effective}
 use Rattle.stm_compile.specs.Answers.{state_now}
-use Rattle.stm_compile.specs.Now.{as_change}
 use Rattle.stm_entries.specs.declared.entry.Entry.{Entry}
 use Rattle.stm_entries.specs.Legal.{AreLegal}
 use Rattle.stm_entries.specs.Replay.{replay, replay_entry}
@@ -57,13 +54,13 @@ one_write slot holder lease = refl
 
 -- what a revision with one put makes of its key
 put_state : (h : History) (slot holder : List ℕ) (lease : ℕ) →
-    key_now (add_revision h (PutChange slot holder lease ∷ [])) slot ≡ Some (state_after_put (now h + 1) holder lease (key_now h slot))
+    key_now (add_revision h (Put slot holder lease ∷ [])) slot ≡ Some (state_after_put (now h + 1) holder lease (key_now h slot))
 put_state h slot holder lease =
-    one_more_revision h (PutChange slot holder lease ∷ []) slot
-    ∙ ap (λ b. after_change (now (add_revision h (PutChange slot holder lease ∷ []))) (cond b (Some (PutChange slot holder lease)) None) (key_now h slot))
+    one_more_revision h (Put slot holder lease ∷ []) slot
+    ∙ ap (λ b. after_change (now (add_revision h (Put slot holder lease ∷ []))) (cond b (Some (Put slot holder lease)) None) (key_now h slot))
     (bytes_eq-self slot)
     ∙ ap (λ n. Some (state_after_put n holder lease (key_now h slot)))
-    (let step : now (add_revision h (PutChange slot holder lease ∷ [])) ≡ now h + 1 = omega arith in step)
+    (let step : now (add_revision h (Put slot holder lease ∷ [])) ≡ now h + 1 = omega arith in step)
 
 held_by_put : (slot holder : List ℕ) (lease number : ℕ) (before : Option KeyState) (r : Replayed) →
     key_now r.history slot ≡ Some (state_after_put number holder lease before) → IsHeldBy slot holder lease r
@@ -82,9 +79,9 @@ reservations_take_free_slots slot e r reserves named legal =
     reserve_alone (state_now h) slot holder lease (now_is_known h) named c.run c.alone in
     let is : Reserves (nat_eq (mod_of (key_now h slot)) 0) slot holder lease c.run =
     reserves_by (nat_eq (mod_of (key_now h slot)) 0) slot holder lease c.run c.is_done deed in
-    let left : (replay_entry e r).history ≡ add_revision h (PutChange slot holder lease ∷ []) =
-    c.left ∙ ap (λ (ws : List Write). with_changes h (effective h (map as_change (latest_writes ws)))) is.writes
-    ∙ ap (λ (ws : List Write). with_changes h (effective h (map as_change ws))) (one_write slot holder lease) in (
+    let left : (replay_entry e r).history ≡ add_revision h (Put slot holder lease ∷ []) =
+    c.left ∙ ap (λ (ws : List Change). with_changes h (effective h (latest_writes ws))) is.writes
+    ∙ ap (λ (ws : List Change). with_changes h (effective h ws)) (one_write slot holder lease) in (
       absent_now h slot is.was_free,
       held_by_put slot holder lease (now h + 1) (key_now h slot) (replay_entry e r)
           (ap (λ (x : History). key_now x slot) left ∙ put_state h slot holder lease),

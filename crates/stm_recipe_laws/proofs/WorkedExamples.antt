@@ -13,7 +13,6 @@ use Rattle.stm_leases.specs.Live.{Live, is_live_in}
 use Rattle.stm_program.specs.Syntax.{of_statements}
 use Rattle.stm_program.specs.Writes.{last_write, latest_writes}
 use Rattle.stm_program.specs.declared.level.Level.TheVariants.{SerializableSnapshot, Serializable, RepeatableReads}
-use Rattle.stm_program.specs.declared.write.Write.TheVariants.{Put as PutWrite, Del as DelWrite}
 use Rattle.stm_steps.specs.Session.{fresh}
 use Rattle.stm_steps.specs.Steps.{get_key, rev_key}
 use Rattle.stm_steps.specs.Values.{arithmetic, computed, concatenated, text_of, num_of, written_number, key_in, put_of, del_of, equal, less}
@@ -91,7 +90,7 @@ transfer_is_legal = record {
     end = DoneEnd;
     output = [];
     trace = seen.Get (codes "a") (codes "10") ∷ seen.Get (codes "b") (codes "5") ∷ [];
-    writes = PutWrite (codes "a") (codes "7") 0 ∷ PutWrite (codes "b") (codes "8") 0 ∷ [];
+    writes = PutChange (codes "a") (codes "7") 0 ∷ PutChange (codes "b") (codes "8") 0 ∷ [];
     reads = codes "a" ∷ codes "b" ∷ [];
   };
   is_run = refl;
@@ -114,7 +113,7 @@ deposit_is_legal = record {
     end = DoneEnd;
     output = [];
     trace = seen.Get (codes "b") (codes "8") ∷ [];
-    writes = PutWrite (codes "b") (codes "15") 0 ∷ [];
+    writes = PutChange (codes "b") (codes "15") 0 ∷ [];
     reads = codes "b" ∷ [];
   };
   is_run = refl;
@@ -197,7 +196,7 @@ add_a_is_legal = record {
     end = DoneEnd;
     output = [];
     trace = seen.Get (codes "q/tail") [] ∷ [];
-    writes = PutWrite (codes "q/0") (codes "A") 0 ∷ PutWrite (codes "q/tail") (codes "1") 0 ∷ [];
+    writes = PutChange (codes "q/0") (codes "A") 0 ∷ PutChange (codes "q/tail") (codes "1") 0 ∷ [];
     reads = codes "q/tail" ∷ [];
   };
   is_run = refl;
@@ -220,7 +219,7 @@ add_b_is_legal = record {
     end = DoneEnd;
     output = [];
     trace = seen.Get (codes "q/tail") (codes "1") ∷ [];
-    writes = PutWrite (codes "q/1") (codes "B") 0 ∷ PutWrite (codes "q/tail") (codes "2") 0 ∷ [];
+    writes = PutChange (codes "q/1") (codes "B") 0 ∷ PutChange (codes "q/tail") (codes "2") 0 ∷ [];
     reads = codes "q/tail" ∷ [];
   };
   is_run = refl;
@@ -243,7 +242,7 @@ take_one_is_legal = record {
     end = DoneEnd;
     output = Text (codes "A") ∷ [];
     trace = seen.Get (codes "q/head") [] ∷ seen.Get (codes "q/tail") (codes "2") ∷ seen.Get (codes "q/0") (codes "A") ∷ [];
-    writes = DelWrite (codes "q/0") ∷ PutWrite (codes "q/head") (codes "1") 0 ∷ [];
+    writes = DelChange (codes "q/0") ∷ PutChange (codes "q/head") (codes "1") 0 ∷ [];
     reads = codes "q/head" ∷ codes "q/tail" ∷ codes "q/0" ∷ [];
   };
   is_run = refl;
@@ -380,7 +379,7 @@ by_h_is_legal = record {
     end = DoneEnd;
     output = [];
     trace = seen.Rev (codes "s") 0 ∷ [];
-    writes = PutWrite (codes "s") (codes "h") 7 ∷ [];
+    writes = PutChange (codes "s") (codes "h") 7 ∷ [];
     reads = codes "s" ∷ [];
   };
   is_run = refl;
@@ -407,7 +406,7 @@ by_g_is_legal = record {
     end = DoneEnd;
     output = [];
     trace = seen.Rev (codes "s") 0 ∷ [];
-    writes = PutWrite (codes "s") (codes "g") 0 ∷ [];
+    writes = PutChange (codes "s") (codes "g") 0 ∷ [];
     reads = codes "s" ∷ [];
   };
   is_run = refl;

@@ -6,7 +6,7 @@ use Rattle.std.proofs.lemmas.List.{length-append}
 use Rattle.std.proofs.lemmas.Option.{same_Some}
 use Rattle.stm_history.specs.declared.key_state.KeyState.{KeyState}
 use Rattle.stm_history.specs.History.{History, key_now, value_of as value_now}
-use Rattle.stm_program.specs.declared.write.Write.TheVariants.{Del}
+use Rattle.stm_history.specs.declared.change.Change.TheVariants.{Del}
 use Rattle.stm_steps.specs.Values.{written_number}
 use Rattle.stm_steps.specs.declared.run.Run.{Run}
 use Rattle.stm_steps.specs.declared.run.End.TheVariants.{Done as DoneEnd, Aborted as AbortedEnd}

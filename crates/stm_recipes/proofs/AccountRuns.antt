@@ -8,7 +8,7 @@ use Rattle.std.proofs.lemmas.Int.{ints}
 use Rattle.stm_program.specs.Syntax.{Block, Text, NumOf, Get, Abort, End, Then}
 use Rattle.stm_program.specs.Writes.{last_write}
 use Rattle.stm_program.specs.declared.operator.Operator.TheVariants.{Sub}
-use Rattle.stm_program.specs.declared.write.Write.TheVariants.{Put as PutWrite}
+use Rattle.stm_history.specs.declared.change.Change.TheVariants.{Put as PutWrite}
 use Rattle.stm_steps.specs.declared.value.Value.{Value}
 use Rattle.stm_steps.specs.declared.value.Value.TheVariants.{Number as NumberValue}
 use Rattle.stm_steps.specs.declared.fault.Fault.{Fault}

@@ -4,9 +4,10 @@ use Rattle.std.specs.Prelude.{ℤ, pos, ◌+ℤ◌, ◌-ℤ◌, Result, Ok, Err,
 use Rattle.std.specs.Option.{option_map_or}
 use Rattle.std.specs.Fmt.{signed_decimal}
 use Rattle.std.proofs.lemmas.Int.{ints}
-use Rattle.stm_program.specs.Writes.{value_of, last_write}
-use Rattle.stm_program.specs.declared.write.Write.{Write}
-use Rattle.stm_program.specs.declared.write.Write.TheVariants.{Put}
+use Rattle.stm_history.specs.History.{value_written}
+use Rattle.stm_program.specs.Writes.{last_write}
+use Rattle.stm_history.specs.declared.change.Change.{Change}
+use Rattle.stm_history.specs.declared.change.Change.TheVariants.{Put}
 use Rattle.stm_program.proofs.WriteLemmas.{bytes_eq-self}
 use Rattle.stm_steps.specs.declared.value.Value.TheVariants.{Number}
 use Rattle.stm_steps.specs.declared.fault.Fault.{Fault}
@@ -21,8 +22,8 @@ use Rattle.stm_recipes.proofs.AccountRuns.{written_in_range, difference_in_range
 after_put : (key value other : List ℕ) (values : List ℕ → List ℕ) (b : Bool) → bytes_eq key other ≡ b →
     value_after (Put key value 0 ∷ []) values other ≡ (if b then value else values other)
 unfolding last_write
-after_put key value other values true e = ap (λ b. option_map_or value_of (cond b (Some (Put key value 0)) None) (values other)) e
-after_put key value other values false e = ap (λ b. option_map_or value_of (cond b (Some (Put key value 0)) None) (values other)) e
+after_put key value other values true e = ap (λ b. option_map_or value_written (cond b (Some (Put key value 0)) None) (values other)) e
+after_put key value other values false e = ap (λ b. option_map_or value_written (cond b (Some (Put key value 0)) None) (values other)) e
 
 -- where there is enough, the first account is put less the amount, and the second is looked at after that
 paid : (from to : List ℕ) (amount : ℕ) (values : List ℕ → List ℕ) (balance : ℤ) (b : Bool) →
@@ -37,7 +38,7 @@ paid from to amount values balance b paying above same =
     (after_put from (signed_decimal (balance -ℤ pos amount)) to values b same)
 
 -- a sum in range is put
-sum_in_range : (key : List ℕ) (amount : ℕ) (writes : List Write) (r : Result ℤ Fault) (number sum : ℤ) → r ≡ Ok number → number +ℤ pos amount ≡ sum →
+sum_in_range : (key : List ℕ) (amount : ℕ) (writes : List Change) (r : Result ℤ Fault) (number sum : ℤ) → r ≡ Ok number → number +ℤ pos amount ≡ sum →
     is_in_range sum ≡ true → put_added key amount writes r ≡ put_number key writes (Ok sum)
 sum_in_range key amount writes r number sum is adds fits =
     ap (put_added key amount writes) is

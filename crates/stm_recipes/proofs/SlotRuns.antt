@@ -3,7 +3,7 @@ use Rattle.std.proofs.Common.{◌≡◌, ℕ, ◌<◌, Bool, true, false, List, 
 use Rattle.std.specs.Prelude.{pos, codes, nat_eq, bytes_eq, if◌then◌else◌}
 use Rattle.stm_program.specs.Syntax.{Text, Abort, Del, End, Then}
 use Rattle.stm_program.specs.Writes.{last_write}
-use Rattle.stm_program.specs.declared.write.Write.TheVariants.{Put as PutWrite, Del as DelWrite}
+use Rattle.stm_history.specs.declared.change.Change.TheVariants.{Put as PutWrite, Del as DelWrite}
 use Rattle.stm_steps.specs.declared.value.Value.TheVariants.{Text as TextValue, Number as NumberValue}
 use Rattle.stm_steps.specs.Answer.{Lookup}
 use Rattle.stm_steps.specs.Values.{equal, text_in}

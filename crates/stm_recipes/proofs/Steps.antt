@@ -4,7 +4,7 @@ use Rattle.std.specs.Prelude.{ℤ, pos, Result, Ok, Err}
 use Rattle.std.specs.Fmt.{signed_decimal}
 use Rattle.stm_program.specs.Syntax.{Expression, Block, Text, Number, Variable, Get, Arithmetic, TextOf, NumOf, Put, End, Then}
 use Rattle.stm_program.specs.declared.operator.Operator.TheVariants.{Add}
-use Rattle.stm_program.specs.declared.write.Write.TheVariants.{Put as PutWrite, Del}
+use Rattle.stm_history.specs.declared.change.Change.TheVariants.{Put as PutWrite, Del}
 use Rattle.stm_steps.specs.declared.value.Value.{Value}
 use Rattle.stm_steps.specs.declared.value.Value.TheVariants.{Text as TextValue, Number as NumberValue}
 use Rattle.stm_steps.specs.declared.fault.Fault.{Fault}

@@ -3,8 +3,8 @@ use Rattle.std.specs.Prelude.{◌≡◌, ℕ, ◌<◌, ◌+◌, nat_le, nat_eq, 
 use Rattle.std.specs.Prelude.{Result, Ok, Err, true, false}
 use Rattle.std.specs.Fmt.{signed_decimal}
 use Rattle.stm_program.specs.Syntax.{Block}
-use Rattle.stm_program.specs.declared.write.Write.{Write}
-use Rattle.stm_program.specs.declared.write.Write.TheVariants.{Put, Del}
+use Rattle.stm_history.specs.declared.change.Change.{Change}
+use Rattle.stm_history.specs.declared.change.Change.TheVariants.{Put, Del}
 use Rattle.stm_steps.specs.declared.fault.Fault.{Fault}
 use Rattle.stm_steps.specs.declared.fault.Fault.TheVariants.{Overflow, TextTooLong}
 use Rattle.stm_steps.specs.declared.value.Value.{Value}
@@ -27,12 +27,12 @@ use Rattle.stm_recipes.specs.Slots.{reserve_program, release_program}
 pub record Deed : Type 0 where
   pub end : End
   pub output : List Value
-  pub writes : List Write
+  pub writes : List Change
 
 abbrev pub deed_of : Run → Deed
 deed_of run = record { end = run.end; output = run.output; writes = run.writes }
 
-abbrev pub done : List Write → Deed
+abbrev pub done : List Change → Deed
 done writes = record { end = Done; output = []; writes = writes }
 
 -- no recipe aborts after a write
@@ -40,7 +40,7 @@ abbrev pub aborted : List ℕ → Deed
 aborted cause = record { end = Aborted cause; output = []; writes = [] }
 
 -- a fault ends the run, with the writes that were made until then
-abbrev pub faulted : Fault → List Write → Deed
+abbrev pub faulted : Fault → List Change → Deed
 faulted fault writes = record { end = Faulted fault; output = []; writes = writes }
 
 -- whenever the program is run over the look-up, it does this
@@ -50,12 +50,12 @@ Does look program deed = (run : Run) → run_over look program ≡ Ended run →
 -- ---- sums
 
 -- after these writes a sum is put as the value of a key, or it is out of range
-abbrev pub put_number : List ℕ → List Write → Result ℤ Fault → Deed
+abbrev pub put_number : List ℕ → List Change → Result ℤ Fault → Deed
 put_number key writes (Ok sum) = done (writes ++ Put key (signed_decimal sum) 0 ∷ [])
 put_number key writes (Err fault) = faulted fault writes
 
 -- after these writes an amount is added to a number, or there is no number
-abbrev pub put_added : List ℕ → ℕ → List Write → Result ℤ Fault → Deed
+abbrev pub put_added : List ℕ → ℕ → List Change → Result ℤ Fault → Deed
 put_added key amount writes (Ok number) = put_number key writes (number_or Overflow (number +ℤ pos amount))
 put_added key amount writes (Err fault) = faulted fault writes
 

@@ -1,8 +1,7 @@
 //! What comes after the rows of a report.
 ghost use Rattle.std.specs.Prelude.{◌≡◌, ◌++◌, ◌-◌, [], ◌∷◌, true, map, slice_set, string_bytes, IfOk, OnOk};
 ghost use Rattle.stm_history.specs.History.{key_now};
-ghost use Rattle.stm_report.specs.FormatNotes.{key_note, notes_of_key, key_notes, ended_by, ended_after, unfinished_notes};
-ghost use Rattle.stm_report.specs.FormatNotes.{end_note, notes_of};
+ghost use Rattle.stm_report.specs.FormatNotes.{key_note, notes_of_key, key_notes, ended_by, ended_after, unfinished_notes, end_note, notes_of};
 
 use crate::format_pieces::{Piece, said};
 use std::alloc::{AllocError, Global};

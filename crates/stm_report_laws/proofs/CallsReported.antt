@@ -1,8 +1,7 @@
 -- The replies to calls: each is the one that a check looks for, and leads to the store that the call leaves.
 --
 -- A check has no watchers, and a call of the store but a poll, a watch or a cancellation does not look at them.
-use Rattle.std.proofs.Common.{◌≡◌, ◌≤◌, ℕ, zero, suc, Bool, true, false, cond, List, [], ◌∷◌, Option, Some, None, Ok, Err, refl, sym, ◌∙◌}
-use Rattle.std.proofs.Common.{ap, arith}
+use Rattle.std.proofs.Common.{◌≡◌, ◌≤◌, ℕ, zero, suc, Bool, true, false, cond, List, [], ◌∷◌, Option, Some, None, Ok, Err, refl, sym, ◌∙◌, ap, arith}
 use Rattle.std.proofs.lemmas.Bool.{le-ltb}
 use Rattle.std.specs.Prelude.{Result, nat_lt}
 use Rattle.std.specs.FinMap as finmap
@@ -37,12 +36,11 @@ use Rattle.stm_events.specs.declared.reply.Reply.{Reply}
 use Rattle.stm_events.specs.declared.reply.Reply.TheVariants.{Granted, Kept, Revoked, Compacted, Lost}
 use Rattle.stm_events.specs.declared.refusal.Denied.{Denied}
 use Rattle.stm_events.specs.Replies.{txn_reply, event_refusal, denied, reply_to, store_after_call, store_after_poll, advance_reply, batch_reply, poll_reply}
-use Rattle.stm_world.specs.Log.{if_reported, expired_reported}
+use Rattle.stm_events.specs.Called.{if_reported, expired_reported}
 use Rattle.stm_check.specs.declared.runner.Runner.{Runner}
 use Rattle.stm_check.specs.Fits.{can_have}
 use Rattle.stm_check.specs.Point.{led_by, moment_after, standing_after, txn_entries, grant_entries, keep_entries, revoke_entries, advance_entries}
-use Rattle.stm_check.proofs.CallLemmas.{StepIsTransacted, is_transacted, txn_led, grant_led, keep_led, revoke_led, advance_led}
-use Rattle.stm_check.proofs.CallLemmas.{line_keeps}
+use Rattle.stm_check.proofs.CallLemmas.{StepIsTransacted, is_transacted, txn_led, grant_led, keep_led, revoke_led, advance_led, line_keeps}
 
 -- a store without its watchers
 abbrev pub unwatched : Standing → Standing

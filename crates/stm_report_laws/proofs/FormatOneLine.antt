@@ -1,11 +1,10 @@
 -- The words of a row have no line feed, and so each row is one line.
-use Rattle.std.proofs.Common.{◌≡◌, ℕ, zero, suc, pred, ◌+◌, ◌-◌, ◌*◌, ◌/◌, ◌%◌, Bool, true, false, cond, ◌||◌, ◌==◌, List, [], ◌∷◌, ◌++◌, length}
-use Rattle.std.proofs.Common.{replicate, true≢false, sym}
-use Rattle.std.proofs.Common.{nat_eq, nat_lt, nat_le, codes, decimal, Result, Ok, Err, refl, ap, ◌∙◌, arith}
+use Rattle.std.proofs.Common.{◌≡◌, ℕ, zero, suc, pred, ◌+◌, ◌-◌, ◌*◌, ◌/◌, ◌%◌, Bool, true, false, cond, ◌||◌, ◌==◌, List, [], ◌∷◌, ◌++◌, length, replicate}
+use Rattle.std.proofs.Common.{true≢false, sym, nat_eq, nat_lt, codes, decimal, Result, Ok, Err, refl, ap, ◌∙◌, arith}
 use Rattle.std.proofs.lemmas.Bool.Decides.{nat_tests}
 use Rattle.std.specs.Fmt.{digits, digits_onto, digit_glyph}
 use Rattle.stm_program.specs.declared.level.Level.{Level}
-use Rattle.stm_program.specs.declared.level.Level.TheVariants.{SerializableSnapshot, Serializable, RepeatableReads, ReadCommitted}
+use Rattle.stm_program.specs.declared.level.Level.TheVariants.{SerializableSnapshot}
 use Rattle.stm_texts.specs.Grammar.{level_text}
 use Rattle.stm_events.specs.declared.event.WorldEvent.{WorldEvent}
 use Rattle.stm_events.specs.declared.event.WorldEvent.TheVariants as event
@@ -89,39 +88,17 @@ decimal_without n = digits_without 64 n [] refl
 
 level_without : (level : Level) → has 10 (level_text level) ≡ false
 level_without SerializableSnapshot = refl
-level_without Serializable = refl
-level_without RepeatableReads = refl
-level_without ReadCommitted = refl
+level_without _ = refl
 
 -- ---- words
 
 start_without : (e : WorldEvent) → has 10 (start_words e) ≡ false
 start_without (event.Start program level limit) = joined_without (codes "start " ∷ level_text level ∷ []) (refl, (level_without level, tt))
-start_without (event.Step runner) = refl
-start_without (event.Txn txn) = refl
-start_without (event.Grant id ttl) = refl
-start_without (event.Keep id) = refl
-start_without (event.Revoke id) = refl
-start_without (event.Advance now) = refl
-start_without (event.Compact revision) = refl
-start_without (event.WatchKey key from) = refl
-start_without (event.WatchRange first end from) = refl
-start_without (event.Poll watcher most) = refl
-start_without (event.Cancel watcher) = refl
+start_without _ = refl
 
 asked_without : (e : WorldEvent) → has 10 (asked_word e) ≡ false
 asked_without (event.Start program level limit) = refl
-asked_without (event.Step runner) = refl
-asked_without (event.Txn txn) = refl
-asked_without (event.Grant id ttl) = refl
-asked_without (event.Keep id) = refl
-asked_without (event.Revoke id) = refl
-asked_without (event.Advance now) = refl
-asked_without (event.Compact revision) = refl
-asked_without (event.WatchKey key from) = refl
-asked_without (event.WatchRange first end from) = refl
-asked_without (event.Poll watcher most) = refl
-asked_without (event.Cancel watcher) = refl
+asked_without _ = refl
 
 txn_without : (succeeded : Bool) (revision : ℕ) → has 10 (txn_words succeeded revision) ≡ false
 txn_without true revision = joined_without (codes "txn succeeded" ∷ codes " @" ∷ decimal revision ∷ []) (refl, (refl, (decimal_without revision, tt)))

@@ -1,11 +1,9 @@
 -- What a check knows of the runners is what the log so far says of them, whatever the next line is about.
-use Rattle.std.proofs.Common.{◌≡◌, ℕ, ◌+◌, List, [], ◌∷◌, ◌++◌, length, Option, Some, None, Ok, Err, Bool, true, false, cond, refl, sym, ◌∙◌}
-use Rattle.std.proofs.Common.{ap, subst}
+use Rattle.std.proofs.Common.{◌≡◌, ℕ, ◌+◌, List, [], ◌∷◌, ◌++◌, length, Option, Some, None, Ok, Err, Bool, true, false, cond, refl, sym, ◌∙◌, ap, subst}
 use Rattle.std.specs.Prelude.{nat_eq, option_map, Result, ◌||◌}
 use Rattle.stm_outcome.specs.declared.refusal.Refusal.{Refusal as StoreRefusal}
 use Rattle.stm_outcome.specs.declared.advance.Expired.{Expired}
-use Rattle.stm_txn.specs.Standing.{Step as StoreStep}
-use Rattle.stm_txn.specs.Standing.{Setup}
+use Rattle.stm_txn.specs.Standing.{Step as StoreStep, Setup}
 use Rattle.stm_events.specs.declared.event.WorldEvent.TheVariants.{Start}
 use Rattle.stm_events.specs.declared.reply.Reply.{Reply}
 use Rattle.stm_events.specs.declared.reply.Reply.TheVariants.{Started}

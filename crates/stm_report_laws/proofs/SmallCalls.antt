@@ -9,43 +9,36 @@ use Rattle.std.proofs.lemmas.List.{length-append, length-map}
 use Rattle.stm_history.specs.declared.revisions.TheConstants.{HIGHEST_NUMBER}
 use Rattle.stm_history.specs.History.{History, now}
 use Rattle.stm_leases.specs.LeaseLog.{Term}
-use Rattle.stm_leases.specs.Live.{Live, grant_refusal}
-use Rattle.stm_leases.specs.declared.errors.GrantError.{GrantError}
+use Rattle.stm_leases.specs.Live.{Live}
 use Rattle.stm_watch.specs.Watching.{Watching}
-use Rattle.stm_watch.specs.declared.watched.Watched.{Watched}
-use Rattle.stm_watch.specs.declared.watchers.Batch.{Batch}
-use Rattle.stm_watch.specs.declared.refusal.WatchRefusal.TheVariants.{EmptyKey as NoKey}
 use Rattle.stm_watch.specs.declared.refusal.PollRefusal.TheVariants.{Compacted as LostToPoll}
-use Rattle.stm_watch.specs.Calls.{watcher_at, poll_found, is_one_lost, cancelled as without_watcher, compacted_one, compacted}
+use Rattle.stm_watch.specs.Calls.{watcher_at, poll_found, compacted_one, compacted}
 use Rattle.stm_watch.specs.Pending.{watching_from, batch_of, after_poll}
 use Rattle.stm_outcome.specs.declared.advance.Expired.{Expired}
 use Rattle.stm_outcome.specs.declared.refusal.Refusal.{Refusal as StoreRefusal}
-use Rattle.stm_outcome.specs.declared.refusal.Refusal.TheVariants.{LeaseNotFound}
+use Rattle.stm_outcome.specs.declared.refusal.Refusal.TheVariants.{RevisionsUsedUp}
 use Rattle.stm_outcome.specs.declared.txn.Txn.{Txn as StoreTxn}
-use Rattle.stm_outcome.specs.Numbers.{EventsFit, AllExpiredFit}
-use Rattle.stm_outcome.specs.Outcome.{Done, outcome}
-use Rattle.stm_txn.specs.Grants.{grant_refusal_of}
-use Rattle.stm_txn.specs.Standing.{Standing, Step as StoreStep, terms_of, with_history, step_of, transacted, with_lease, without_lease}
-use Rattle.stm_txn.specs.Standing.{ended, with_revision, Advance, advanced, watch_step, poll_step}
-use Rattle.stm_txn.specs.Standing.{cancel_step, with_floor, floor_step, with_watchers}
-use Rattle.stm_txn.proofs.Fitting.{numbers_fit}
+use Rattle.stm_outcome.specs.Numbers.{ExpiredFits}
+use Rattle.stm_outcome.specs.Outcome.{Done, is_used_up}
+use Rattle.stm_txn.specs.LeaseKeys.{deletions_of}
+use Rattle.stm_txn.specs.Standing.{Standing, with_history, step_of, transacted, with_lease, without_lease, ended, expired_in, poll_step, polled, with_watchers}
+use Rattle.stm_txn.proofs.Fitting.{numbers_fit, expired_fits}
 use Rattle.stm_txn.proofs.Polling.{batch_fits}
-use Rattle.stm_txn.proofs.Ending.{ended_is}
+use Rattle.stm_txn.proofs.Ending.{one_fewer}
 use Rattle.stm_entries.specs.declared.entry.Entry.{Entry}
 use Rattle.stm_entries.specs.declared.entry.Entry.TheVariants.{Foreign, Grant as GrantEntry, Renew, Revoke as RevokeEntry, Expire}
 use Rattle.stm_entries.specs.Alone.{history_left}
-use Rattle.stm_entries.specs.Entered.{if_taken, if_changed, expiries}
+use Rattle.stm_entries.specs.Entered.{expiries}
 use Rattle.stm_events.specs.declared.reply.Reply.{Reply}
-use Rattle.stm_events.specs.declared.reply.Reply.TheVariants.{Granted, Kept, Revoked, Compacted, Watching as WatchingReply}
-use Rattle.stm_events.specs.declared.reply.Reply.TheVariants.{Cancelled}
 use Rattle.stm_events.specs.declared.refusal.Denied.{Denied}
-use Rattle.stm_events.specs.Replies.{txn_reply, reply_to, store_after_call, advance_reply, poll_reply, store_after_poll}
-use Rattle.stm_world.specs.World.{World}
-use Rattle.stm_world.specs.World.{called, quietly_called}
+use Rattle.stm_events.specs.Replies.{advance_reply}
+use Rattle.stm_events.specs.Called.{Call, Poll, Called, called, entered}
+use Rattle.stm_events.proofs.CallMeans.{CallMeans, call_means}
+use Rattle.stm_world.specs.World.{World, after_call}
 use Rattle.stm_world.specs.Sound.{IsSound}
-use Rattle.stm_report_laws.proofs.SmallStores.{IsSmall, HistoryFits, outcome_fits, granted_in_range, with_small, ended_small, ExpiresSmall, advance_small}
+use Rattle.stm_report_laws.proofs.SmallStores.{IsSmall, HistoryFits, outcome_fits, granted_in_range, with_small, without_small}
 use Rattle.stm_report_laws.proofs.SmallStores.{WatcherFits, WatchersFit, watchers_more, watchers_set, watching_fits, upto_fits}
-use Rattle.stm_report_laws.proofs.SmallReplies.{Few, AnswerToFits, WorldFits, low_fits, txn_reply_fits, StepFits}
+use Rattle.stm_report_laws.proofs.SmallReplies.{Few, AnswerToFits, CallAsksFew, WorldFits, low_fits, txn_reply_fits, StepFits}
 
 -- ---- the calls of the store
 
@@ -57,7 +50,7 @@ pub record CallFits (n : ℕ) (before after : Standing) (more : List Entry) : Ty
   pub entered : length more + finmap.len after.live ≤ finmap.len before.live + 2
 
 pub called_fits : (n : ℕ) (w : World) (reply : Result Reply Denied) (next : Standing) (more : List Entry) → WorldFits n w → AnswerToFits reply →
-    CallFits n w.standing next more → IsSound (called reply next more w).next → StepFits n (called reply next more w)
+    CallFits n w.standing next more → IsSound (after_call reply next more w).next → StepFits n (after_call reply next more w)
 called_fits n w reply next more fits one call sound =
     let started : length w.runners ≤ n = fits.started in
     let entries : length w.entries + finmap.len w.standing.live ≤ n + n = fits.entries in
@@ -76,70 +69,26 @@ called_fits n w reply next more fits one call sound =
       };
     }
 
-pub quiet_fits : (n : ℕ) (w : World) (reply : Result Reply Denied) (next : Standing) → WorldFits n w → AnswerToFits reply →
-    CallFits n w.standing next [] → IsSound (quietly_called reply next w).next → StepFits n (quietly_called reply next w)
-quiet_fits n w reply next fits one call sound =
-    let started : length w.runners ≤ n = fits.started in
-    let entries : length w.entries + finmap.len w.standing.live ≤ n + n = fits.entries in
-    let entered : 0 + finmap.len next.live ≤ finmap.len w.standing.live + 2 = call.entered in
-    record {
-      reply = one;
-      next = record {
-        sound = sound;
-        small = call.small;
-        watchers = call.watchers;
-        watching = call.watching;
-        started = omega (arith, started);
-        runners = fits.runners;
-        entries = omega (arith, entries, entered);
-      };
-    }
+-- a poll can tell of the floor, which is a revision that has come
+abbrev pub Reaches : Standing → Call → Type 0
+Reaches s (Poll watcher most) = s.floor ≤ now s.history
+Reaches s other = Unit {0}
+
+-- in a store that fits, with so many watchers, the reply to a call fits, and the store after it
+abbrev pub Fits : ℕ → Standing → Call → Called → List Entry → Type 0
+Fits n s c d more =
+    IsSmall s → WatchersFit s.watchers → length s.watchers ≤ n → Reaches s c → AnswerToFits d.reply × CallFits n s d.next more
 
 -- a store that a call leaves as it was
-same_store : (n : ℕ) (w : World) → WorldFits n w → CallFits n w.standing w.standing []
-same_store n w fits =
-    let watching : length w.standing.watchers ≤ n = fits.watching in
-    record { small = fits.small; watchers = fits.watchers; watching = omega (arith, watching); entered = omega arith }
+still : (n : ℕ) (s : Standing) → IsSmall s → WatchersFit s.watchers → length s.watchers ≤ n → CallFits n s s []
+still n s small watchers many = record { small = small; watchers = watchers; watching = omega (arith, many); entered = omega arith }
 
--- a transaction
+-- ---- a transaction, and leases
+
 changed_by : (b : Bool) (txn : StoreTxn) (k : ℕ) → length (cond b (Foreign txn ∷ []) []) + k ≤ k + 2
 changed_by true txn k = omega arith
 changed_by false txn k = omega arith
 
-pub txn_by : (n : ℕ) (w : World) (txn : StoreTxn) (o : Result Done StoreRefusal) → WorldFits n w → outcome (terms_of w.standing) txn ≡ o →
-    AnswerToFits (reply_to txn_reply (step_of w.standing o))
-    × CallFits n w.standing (store_after_call w.standing (step_of w.standing o)) (if_changed w.standing (store_after_call w.standing (step_of w.standing o)) txn)
-txn_by n w txn (Err cause) fits is =
-    let watching : length w.standing.watchers ≤ n = fits.watching in (
-      tt,
-      record {
-        small = fits.small;
-        watchers = fits.watchers;
-        watching = omega (arith, watching);
-        entered = changed_by (nat_lt (now w.standing.history) (now w.standing.history)) txn (finmap.len w.standing.live);
-      },
-    )
-txn_by n w txn (Ok done) fits is =
-    let s : Standing = w.standing in
-    let small : IsSmall s = fits.small in
-    let watching : length s.watchers ≤ n = fits.watching in
-    let next : Standing = with_history s done.history in
-    let made : transacted s txn ≡ Ok record { answer = done.answer; next = next } = ap (step_of s) is in (
-      txn_reply_fits done.answer (numbers_fit s next txn done.answer small.history.1 small.history.0 small.live made),
-      record {
-        small = record {
-          history = subst (λ (x : Result Done StoreRefusal). HistoryFits (history_left s.history x)) is (outcome_fits s txn small.live small.history);
-          live = small.live;
-          renewed = small.renewed;
-          moment = small.moment;
-        };
-        watchers = fits.watchers;
-        watching = omega (arith, watching);
-        entered = changed_by (nat_lt (now s.history) (now done.history)) txn (finmap.len s.live);
-      },
-    )
-
--- a lease that is made, or renewed
 renewed_count : (live : Live) (id : ℕ) (term : Term) (entry : Entry) → length (entry ∷ []) + finmap.len (finmap.insert live id term) ≤ finmap.len live + 2
 renewed_count live id term entry = by (finmap.contains_key live id) (finmap.len-insert nat_cmp_total live id term)
   where
@@ -148,104 +97,30 @@ renewed_count live id term entry = by (finmap.contains_key live id) (finmap.len-
     by true is = omega (arith, is)
     by false is = omega (arith, is)
 
-pub grant_by : (n : ℕ) (w : World) (id ttl : ℕ) (o : Option GrantError) → WorldFits n w → grant_refusal w.standing.live id ttl ≡ o →
-    (let r : Result (StoreStep (Unit {0})) StoreRefusal = elim o [
-      | Some cause ↦ Err (grant_refusal_of cause)
-      | None ↦ Ok record { answer = tt; next = with_lease w.standing id ttl }
-    ] in AnswerToFits (reply_to (λ _. Granted id) r)
-    × CallFits n w.standing (store_after_call w.standing r) (if_taken r (GrantEntry id ttl w.standing.moment)))
-grant_by n w id ttl (Some cause) fits is = (tt, same_store n w fits)
-grant_by n w id ttl None fits is =
-    let s : Standing = w.standing in
-    let ranges = granted_in_range s.live id ttl is in
-    let few = leb-true id HIGHEST_NUMBER (last_of (nat_le 1 id) (nat_le id HIGHEST_NUMBER) ranges.0) in
-    let watching : length s.watchers ≤ n = fits.watching in (
-      few,
-      record {
-        small = with_small s id ttl ranges.0 ranges.1 fits.small;
-        watchers = fits.watchers;
-        watching = omega (arith, watching);
-        entered = renewed_count s.live id (record { ttl = ttl; renewed = s.moment }) (GrantEntry id ttl s.moment);
-      },
-    )
-  where
-    last_of : (a b : Bool) → (a && b) ≡ true → b ≡ true
-    last_of true b is = is
-    last_of false b is = absurd (cc)
+last_of : (a b : Bool) → (a && b) ≡ true → b ≡ true
+last_of true b is = is
+last_of false b is = absurd (cc)
 
-pub keep_by : (n : ℕ) (w : World) (id : ℕ) (o : Option Term) → WorldFits n w → Few id → finmap.get w.standing.live id ≡ o →
-    (let r : Result (StoreStep (Unit {0})) StoreRefusal = elim o [
-      | None ↦ Err LeaseNotFound
-      | Some term ↦ Ok record { answer = tt; next = with_lease w.standing id term.ttl }
-    ] in AnswerToFits (reply_to (λ _. Kept id) r)
-    × CallFits n w.standing (store_after_call w.standing r) (if_taken r (Renew id w.standing.moment)))
-keep_by n w id None fits few is = (tt, same_store n w fits)
-keep_by n w id (Some term) fits few is =
-    let s : Standing = w.standing in
-    let ranges = fits.small.live id term is in
-    let watching : length s.watchers ≤ n = fits.watching in (
-      few,
-      record {
-        small = with_small s id term.ttl ranges.0 ranges.1 fits.small;
-        watchers = fits.watchers;
-        watching = omega (arith, watching);
-        entered = renewed_count s.live id (record { ttl = term.ttl; renewed = s.moment }) (Renew id s.moment);
-      },
-    )
+-- other leases, one entry
+with_leases : (n : ℕ) (s next : Standing) (entry : Entry) → IsSmall next → next.watchers ≡ s.watchers →
+    length (entry ∷ []) + finmap.len next.live ≤ finmap.len s.live + 2 → WatchersFit s.watchers → length s.watchers ≤ n → CallFits n s next (entry ∷ [])
+with_leases n s next entry small same count watchers many = record {
+  small = small;
+  watchers = subst WatchersFit (sym same) watchers;
+  watching = subst (λ (ws : List (Option Watching)). length ws ≤ suc n) (sym same) (omega (arith, many));
+  entered = count;
+}
 
--- a lease that is revoked
-removed_count : (live : Live) (id : ℕ) (entry : Entry) → length (entry ∷ []) + finmap.len (finmap.remove live id) ≤ finmap.len live + 2
-removed_count live id entry = by (finmap.contains_key live id) (finmap.len-remove nat_cmp_total live id)
-  where
-    by : (b : Bool) → finmap.len (finmap.remove live id) ≡ cond b (finmap.len live - 1) (finmap.len live) →
-        length (entry ∷ []) + finmap.len (finmap.remove live id) ≤ finmap.len live + 2
-    by true is = omega (arith, is)
-    by false is = omega (arith, is)
+abbrev ended_by : Standing → ℕ → Bool → Result Standing StoreRefusal
+ended_by s id used = cond used (Err RevisionsUsedUp) (Ok (without_lease s id))
 
-pub revoke_by : (n : ℕ) (w : World) (id : ℕ) (live : Bool) (o : Result Standing StoreRefusal) → WorldFits n w → Few id → ended w.standing id ≡ o →
-    (let r : Result (StoreStep ℕ) StoreRefusal = cond live (with_revision o) (Err LeaseNotFound) in
-    AnswerToFits (reply_to (Revoked id) r) × CallFits n w.standing (store_after_call w.standing r) (if_taken r (RevokeEntry id)))
-revoke_by n w id false o fits few is = (tt, same_store n w fits)
-revoke_by n w id true (Err cause) fits few is = (tt, same_store n w fits)
-revoke_by n w id true (Ok next) fits few is =
-    let s : Standing = w.standing in
-    let without : without_lease s id ≡ next = ended_is s next id is in
-    let small : IsSmall next = ended_small s next id fits.small is in
-    let watching : length s.watchers ≤ n = fits.watching in (
-      (few, low_fits next.history small.history),
-      record {
-        small = small;
-        watchers = subst (λ (x : Standing). WatchersFit x.watchers) without fits.watchers;
-        watching = subst (λ (x : Standing). length x.watchers ≤ suc n) without (omega (arith, watching));
-        entered = subst (λ (x : Standing). length (RevokeEntry id ∷ []) + finmap.len x.live ≤ finmap.len s.live + 2) without
-            (removed_count s.live id (RevokeEntry id));
-      },
-    )
+ends_by : (s : Standing) (id : ℕ) → is_used_up s.history (deletions_of s.history id) ≡ false → ended s id ≡ Ok (without_lease s id)
+ends_by s id room = ap (ended_by s id) room
 
--- an advance
-advance_by : (moment : ℕ) (expired : List Expired) (cause : Option StoreRefusal) → Few moment → AllExpiredFit expired →
-    AnswerToFits (advance_reply moment expired cause)
-advance_by moment expired None few fits = (few, fits)
-advance_by moment expired (Some cause) few fits = fits
-
-pub advance_fits : (n : ℕ) (w : World) (moment : ℕ) → WorldFits n w → Few moment →
-    (let done : Advance = advanced w.standing moment in
-    AnswerToFits (advance_reply moment done.expired done.cause) × CallFits n w.standing done.leaves (expiries done.expired))
-advance_fits n w moment fits few =
-    let s : Standing = w.standing in
-    let done : Advance = advanced s moment in
-    let went : ExpiresSmall s done = advance_small s moment few fits.small in
-    let watching : length s.watchers ≤ n = fits.watching in
-    let count : length done.expired + finmap.len done.leaves.live ≡ finmap.len s.live = went.count in
-    let entered : length (expiries done.expired) ≡ length done.expired = length-map done.expired (λ (e : Expired). Expire e.id) in (
-      advance_by moment done.expired done.cause few went.expired,
-      record {
-        small = went.small;
-        watchers = subst WatchersFit (sym went.watchers) fits.watchers;
-        watching = subst (λ (ws : List (Option Watching)). length ws ≤ suc n) (sym went.watchers) (omega (arith, watching));
-        entered = omega (arith, count, entered);
-      },
-    )
+one_more_fits : (moment : ℕ) (e : Expired) (es : List Expired) (cause : Option StoreRefusal) → ExpiredFits e → AnswerToFits (advance_reply moment es cause) →
+    AnswerToFits (advance_reply moment (e ∷ es) cause)
+one_more_fits moment e es None one fits = (fits.0, (one, fits.1))
+one_more_fits moment e es (Some cause) one fits = (one, fits)
 
 -- ---- watchers
 
@@ -255,115 +130,134 @@ length_set [] (suc i) w = refl
 length_set (x ∷ ws) zero w = refl
 length_set (x ∷ ws) (suc i) w = ap suc (length_set ws i w)
 
-pub watch_fits : (n : ℕ) (w : World) (keys : Watched) (from : ℕ) (none : Bool) → WorldFits n w → Few from → Few (suc n) →
-    (let s : Standing = w.standing in
-    let r : Result (StoreStep ℕ) StoreRefusal = watch_step s (cond none (Err NoKey) (Ok (record {
-      answer = length s.watchers + 1;
-      next = s.watchers ++ Some (watching_from s.history s.floor keys from) ∷ [];
-    }))) in AnswerToFits (reply_to WatchingReply r) × CallFits n s (store_after_call s r) [])
-watch_fits n w keys from true fits few room = (tt, same_store n w fits)
-watch_fits n w keys from false fits few room =
-    let s : Standing = w.standing in
-    let one : Option Watching = Some (watching_from s.history s.floor keys from) in
-    let watching : length s.watchers ≤ n = fits.watching in
-    let grown : length (s.watchers ++ one ∷ []) ≡ length s.watchers + length (one ∷ []) = length-append s.watchers (one ∷ []) in (
-      omega (arith, watching, room),
-      record {
-        small = record { history = fits.small.history; live = fits.small.live; renewed = fits.small.renewed; moment = fits.small.moment };
-        watchers = watchers_more s.watchers one fits.watchers (watching_fits s.history s.floor keys from fits.small.history.1 few);
-        watching = omega (arith, watching, grown);
-        entered = omega arith;
-      },
-    )
-
--- a watcher among those that fit
-found_watcher : (ws : List (Option Watching)) (i : ℕ) → WatchersFit ws → WatcherFits (slice_index_or ws i None)
-found_watcher [] zero fits = tt
-found_watcher [] (suc i) fits = tt
-found_watcher (w ∷ ws) zero fits = fits.0
-found_watcher (w ∷ ws) (suc i) fits = found_watcher ws i fits.1
-
-pub watcher_fits : (id : ℕ) (ws : List (Option Watching)) → WatchersFit ws → WatcherFits (watcher_at id ws)
-watcher_fits id ws fits =
-    elim (nat_eq id 0) as (λ (b : Bool). WatcherFits (cond b None (slice_index_or ws (id - 1) None))) [ true ↦ tt | false ↦ found_watcher ws (id - 1) fits ]
-
--- a store with one watcher changed
-set_store : (n : ℕ) (w : World) (id : ℕ) (one : Option Watching) → WorldFits n w → WatcherFits one →
-    CallFits n w.standing (with_watchers w.standing (slice_set w.standing.watchers (id - 1) one)) []
-set_store n w id one fits few =
-    let ws : List (Option Watching) = w.standing.watchers in
-    let watching : length ws ≤ n = fits.watching in
-    let same : length (slice_set ws (id - 1) one) ≡ length ws = length_set ws (id - 1) one in
-    record {
-      small = record { history = fits.small.history; live = fits.small.live; renewed = fits.small.renewed; moment = fits.small.moment };
-      watchers = watchers_set ws (id - 1) one fits.watchers few;
-      watching = omega (arith, watching, same);
-      entered = omega arith;
-    }
-
-refused_store : (n : ℕ) (w : World) (id : ℕ) (lost : Bool) → WorldFits n w →
-    CallFits n w.standing (with_watchers w.standing (cond lost (without_watcher id w.standing.watchers) w.standing.watchers)) []
-refused_store n w id true fits = set_store n w id None fits tt
-refused_store n w id false fits = same_store n w fits
-
-poll_lost : (n : ℕ) (w : World) (id most : ℕ) (o : Watching) (lost : Bool) → WorldFits n w → Few id → o.seen ≤ HIGHEST_NUMBER →
-    ((b : Batch) → poll_step w.standing (cond lost (Err LostToPoll) (Ok (record {
-      answer = batch_of most w.standing.history o;
-      next = slice_set w.standing.watchers (id - 1) (Some (after_poll most w.standing.history o));
-    }))) ≡ Ok record { answer = b; next = with_watchers w.standing (slice_set w.standing.watchers (id - 1) (Some (after_poll most w.standing.history o))) }
-    → EventsFit b.events) →
-    (let s : Standing = w.standing in
-    let r : Result (StoreStep Batch) StoreRefusal = poll_step s (cond lost (Err LostToPoll) (Ok (record {
-      answer = batch_of most s.history o;
-      next = slice_set s.watchers (id - 1) (Some (after_poll most s.history o));
-    }))) in AnswerToFits (poll_reply id s.floor r) × CallFits n s (store_after_poll id s r) [])
-poll_lost n w id most o true fits few seen events =
-    let s : Standing = w.standing in
-    let low : Few (now s.history) = low_fits s.history fits.small.history in
-    let reached : s.floor ≤ now s.history = fits.sound.kept.reached in
-    ((few, omega (arith, low, reached)), refused_store n w id (is_one_lost (watcher_at id s.watchers)) fits)
-poll_lost n w id most o false fits few seen events =
-    let s : Standing = w.standing in
-    let upto : Few (batch_of most s.history o).upto = upto_fits most s.history o fits.small.history.1 seen in
-    ((few, upto, events (batch_of most s.history o) refl), set_store n w id (Some (after_poll most s.history o)) fits upto)
-
-pub poll_by : (n : ℕ) (w : World) (id most : ℕ) (o : Option Watching) → WorldFits n w → Few id → watcher_at id w.standing.watchers ≡ o → WatcherFits o →
-    (let s : Standing = w.standing in
-    let r : Result (StoreStep Batch) StoreRefusal = poll_step s (poll_found s.history id most s.watchers o) in
-    AnswerToFits (poll_reply id s.floor r) × CallFits n s (store_after_poll id s r) [])
-poll_by n w id most None fits few is seen = (tt, refused_store n w id (is_one_lost (watcher_at id w.standing.watchers)) fits)
-poll_by n w id most (Some o) fits few is seen =
-    let s : Standing = w.standing in
-    poll_lost n w id most o o.lost fits few seen
-    (λ b step. batch_fits s (with_watchers s (slice_set s.watchers (id - 1) (Some (after_poll most s.history o)))) id most b
-    fits.small.history.1 fits.small.history.0
-    (ap (λ (x : Option Watching). poll_step s (poll_found s.history id most s.watchers x)) is ∙ step))
-
-pub cancel_by : (n : ℕ) (w : World) (id : ℕ) (o : Option Watching) → WorldFits n w → Few id →
-    (let r : Result (StoreStep (Unit {0})) StoreRefusal = cancel_step w.standing id o in
-    AnswerToFits (reply_to (λ _. Cancelled id) r) × CallFits n w.standing (store_after_call w.standing r) [])
-cancel_by n w id None fits few = (tt, same_store n w fits)
-cancel_by n w id (Some o) fits few = (few, set_store n w id None fits tt)
-
--- a compaction
 compacted_fit : (h : History) (floor : ℕ) (ws : List (Option Watching)) → WatchersFit ws → WatchersFit (compacted h floor ws)
 compacted_fit h floor [] fits = tt
 compacted_fit h floor (None ∷ ws) fits = (tt, compacted_fit h floor ws fits.1)
 compacted_fit h floor (Some w ∷ ws) fits = (fits.0, compacted_fit h floor ws fits.1)
 
-pub compact_by : (n : ℕ) (w : World) (revision : ℕ) (o : Option StoreRefusal) → WorldFits n w → Few revision →
-    (let r : Result (StoreStep (Unit {0})) StoreRefusal = floor_step o (with_floor w.standing revision) in
-    AnswerToFits (reply_to (λ _. Compacted revision) r) × CallFits n w.standing (store_after_call w.standing r) [])
-compact_by n w revision (Some cause) fits few = (tt, same_store n w fits)
-compact_by n w revision None fits few =
-    let s : Standing = w.standing in
-    let watching : length s.watchers ≤ n = fits.watching in
-    let same : length (compacted s.history revision s.watchers) ≡ length s.watchers = length-map s.watchers (option_map (compacted_one s.history revision)) in (
-      few,
-      record {
-        small = record { history = fits.small.history; live = fits.small.live; renewed = fits.small.renewed; moment = fits.small.moment };
-        watchers = compacted_fit s.history revision s.watchers fits.watchers;
-        watching = omega (arith, watching, same);
-        entered = omega arith;
-      },
-    )
+watcher_there : (ws : List (Option Watching)) (i : ℕ) (w : Watching) → WatchersFit ws → slice_index_or ws i None ≡ Some w → w.seen ≤ HIGHEST_NUMBER
+watcher_there [] zero w fits is = absurd (cc)
+watcher_there [] (suc i) w fits is = absurd (cc)
+watcher_there (x ∷ ws) zero w fits is = subst WatcherFits is fits.0
+watcher_there (x ∷ ws) (suc i) w fits is = watcher_there ws i w fits.1 is
+
+watcher_found : (id : ℕ) (ws : List (Option Watching)) (w : Watching) → WatchersFit ws → watcher_at id ws ≡ Some w → w.seen ≤ HIGHEST_NUMBER
+watcher_found id ws w fits = elim (nat_eq id 0) as (λ (b : Bool). cond b None (slice_index_or ws (id - 1) None) ≡ Some w → w.seen ≤ HIGHEST_NUMBER) [
+  | true ↦ λ is. absurd (cc)
+  | false ↦ λ is. watcher_there ws (id - 1) w fits is
+]
+
+-- other watchers, as many or one more
+with_others : (n : ℕ) (s : Standing) (ws : List (Option Watching)) → WatchersFit ws → length ws ≤ suc (length s.watchers) → IsSmall s →
+    length s.watchers ≤ n → CallFits n s (with_watchers s ws) []
+with_others n s ws fit few small many = record {
+  small = record { history = small.history; live = small.live; renewed = small.renewed; moment = small.moment };
+  watchers = fit;
+  watching = omega (arith, few, many);
+  entered = omega arith;
+}
+
+set_one : (n : ℕ) (s : Standing) (id : ℕ) (w : Option Watching) → WatcherFits w → IsSmall s → WatchersFit s.watchers → length s.watchers ≤ n →
+    CallFits n s (with_watchers s (slice_set s.watchers (id - 1) w)) []
+set_one n s id w fits small watchers many =
+    let same : length (slice_set s.watchers (id - 1) w) ≡ length s.watchers = length_set s.watchers (id - 1) w in
+    with_others n s (slice_set s.watchers (id - 1) w) (watchers_set s.watchers (id - 1) w watchers fits) (omega (arith, same)) small many
+
+polled_is : (s : Standing) (id most : ℕ) (w : Watching) → watcher_at id s.watchers ≡ Some w → w.lost ≡ false →
+    polled s id most ≡ Ok record {
+      answer = batch_of most s.history w;
+      next = with_watchers s (slice_set s.watchers (id - 1) (Some (after_poll most s.history w)));
+    }
+polled_is s id most w found lost =
+    ap (λ (o : Option Watching). poll_step s (poll_found s.history id most s.watchers o)) found
+    ∙ ap (λ (b : Bool). poll_step s (cond b (Err LostToPoll) (Ok (record {
+      answer = batch_of most s.history w;
+      next = slice_set s.watchers (id - 1) (Some (after_poll most s.history w));
+    })))) lost
+
+-- ---- every call
+
+-- where the number of one more watcher fits
+fits_on : (n : ℕ) → Few (suc n) → CallMeans CallAsksFew (Fits n)
+fits_on n last = record {
+  stays = λ s c cause of other small watchers many reached. (tt, still n s small watchers many);
+  made = λ s txn done of is small watchers many reached.
+      let came : transacted s txn ≡ Ok record { answer = done.answer; next = with_history s done.history } = ap (step_of s) is in (
+        txn_reply_fits done.answer (numbers_fit s (with_history s done.history) txn done.answer small.history.1 small.history.0 small.live came),
+        record {
+          small = record {
+            history = subst (λ (x : Result Done StoreRefusal). HistoryFits (history_left s.history x)) is (outcome_fits s txn small.live small.history);
+            live = small.live;
+            renewed = small.renewed;
+            moment = small.moment;
+          };
+          watchers = watchers;
+          watching = omega (arith, many);
+          entered = changed_by (nat_lt (now s.history) (now done.history)) txn (finmap.len s.live);
+        },
+      );
+  granted = λ s id ttl of is small watchers many reached.
+      let ranges = granted_in_range s.live id ttl is in (
+        leb-true id HIGHEST_NUMBER (last_of (nat_le 1 id) (nat_le id HIGHEST_NUMBER) ranges.0),
+        with_leases n s (with_lease s id ttl) (GrantEntry id ttl s.moment) (with_small s id ttl ranges.0 ranges.1 small) refl
+            (renewed_count s.live id (record { ttl = ttl; renewed = s.moment }) (GrantEntry id ttl s.moment)) watchers many,
+      );
+  renewed = λ s id term of is small watchers many reached.
+      let ranges = small.live id term is in (
+        of,
+        with_leases n s (with_lease s id term.ttl) (Renew id s.moment) (with_small s id term.ttl ranges.0 ranges.1 small) refl
+            (renewed_count s.live id (record { ttl = term.ttl; renewed = s.moment }) (Renew id s.moment)) watchers many,
+      );
+  revoked = λ s id of live room small watchers many reached.
+      let less : IsSmall (without_lease s id) = without_small s id small room in
+      let fewer : finmap.len s.live ≡ suc (finmap.len (finmap.remove s.live id)) = one_fewer s.live id live in (
+        (of, low_fits (without_lease s id).history less.history),
+        with_leases n s (without_lease s id) (RevokeEntry id) less refl (omega (arith, fewer)) watchers many,
+      );
+  went_back = λ s moment of back small watchers many reached. (tt, still n s small watchers many);
+  moved = λ s moment a of forward rest small watchers many reached.
+      let r = rest (record { history = small.history; live = small.live; renewed = small.renewed; moment = of }) watchers many tt in
+      (r.0, record { small = r.1.small; watchers = r.1.watchers; watching = r.1.watching; entered = r.1.entered });
+  rested = λ s moment of at small watchers many reached. ((of, tt), still n s small watchers many);
+  stuck = λ s moment of at small watchers many reached. (tt, still n s small watchers many);
+  expired = λ s moment id a of at live room rest small watchers many reached.
+      let r = rest (without_small s id small room) watchers many tt in
+      let fewer : finmap.len s.live ≡ suc (finmap.len (finmap.remove s.live id)) = one_fewer s.live id live in
+      let count : length (expiries a.expired) + finmap.len a.leaves.live ≤ finmap.len (finmap.remove s.live id) + 2 = r.1.entered in
+      let more : length (Expire id ∷ expiries a.expired) + finmap.len a.leaves.live ≤ finmap.len s.live + 2 = omega (arith, fewer, count) in (
+        one_more_fits moment (expired_in id (without_lease s id)) a.expired a.cause
+            (expired_fits s (without_lease s id) id small.history.1 small.live live (ends_by s id room)) r.0,
+        record { small = r.1.small; watchers = r.1.watchers; watching = r.1.watching; entered = more },
+      );
+  watching = λ s keys from of small watchers many reached.
+      let one : Option Watching = Some (watching_from s.history s.floor keys from) in
+      let grown : length (s.watchers ++ one ∷ []) ≡ length s.watchers + length (one ∷ []) = length-append s.watchers (one ∷ []) in (
+        omega (arith, many, last),
+        with_others n s (s.watchers ++ one ∷ []) (watchers_more s.watchers one watchers (watching_fits s.history s.floor keys from small.history.1 of))
+            (omega (arith, grown)) small many,
+      );
+  polled = λ s id most w of found lost small watchers many reached.
+      let next : Standing = with_watchers s (slice_set s.watchers (id - 1) (Some (after_poll most s.history w))) in
+      let upto : Few (batch_of most s.history w).upto = upto_fits most s.history w small.history.1 (watcher_found id s.watchers w watchers found) in (
+        (of, upto, batch_fits s next id most (batch_of most s.history w) small.history.1 small.history.0 (polled_is s id most w found lost)),
+        set_one n s id (Some (after_poll most s.history w)) upto small watchers many,
+      );
+  lost = λ s id most w of found is small watchers many reached.
+      let low : Few (now s.history) = low_fits s.history small.history in
+      let come : s.floor ≤ now s.history = reached in
+      ((of, omega (arith, low, come)), set_one n s id None tt small watchers many);
+  cancelled = λ s id of small watchers many reached. (of, set_one n s id None tt small watchers many);
+  raised = λ s revision of above future small watchers many reached.
+      let same : length (compacted s.history revision s.watchers) ≡ length s.watchers = length-map s.watchers (option_map (compacted_one s.history revision)) in (
+        of,
+        record {
+          small = record { history = small.history; live = small.live; renewed = small.renewed; moment = small.moment };
+          watchers = compacted_fit s.history revision s.watchers watchers;
+          watching = omega (arith, many, same);
+          entered = omega arith;
+        },
+      );
+}
+
+pub call_fits : (n : ℕ) → Few (suc n) → (s : Standing) (c : Call) → CallAsksFew c → Fits n s c (called s c) (entered s c)
+call_fits n last s c few = call_means CallAsksFew (Fits n) (fits_on n last) s c few

@@ -12,7 +12,6 @@ use Rattle.stm_history.specs.Opening.{Opening, opened_state}
 use Rattle.stm_history.specs.History.{History, now, key_at, key_now, mod_of, number_of_last, change_of}
 use Rattle.stm_history.proofs.HistoryLaws.{mod_is_reached}
 use Rattle.stm_program.specs.Limits.{BlockInRange}
-use Rattle.stm_program.specs.declared.write.Write.{Write}
 use Rattle.stm_steps.specs.Answer.{Answer}
 use Rattle.stm_outcome.specs.declared.answer.FailedCompare.{FailedCompare}
 use Rattle.stm_outcome.specs.declared.answer.OpAnswer.{OpAnswer}
@@ -25,8 +24,7 @@ use Rattle.stm_compile.specs.Answers.{answer_in, said, look_up, AreTrue}
 use Rattle.stm_compile.specs.Conflicts.{Seen, seen_in, seen_of_read, seen_of_write, seen_by, changes_above, IsConflict}
 use Rattle.stm_compile.specs.CommitTxn.{first_carried}
 use Rattle.stm_events.specs.declared.event.WorldEvent.{WorldEvent}
-use Rattle.stm_events.specs.declared.event.WorldEvent.TheVariants.{Start, Step, Txn, Grant, Keep, Revoke, Advance as AdvanceTo}
-use Rattle.stm_events.specs.declared.event.WorldEvent.TheVariants.{WatchKey, WatchRange, Poll, Cancel, Compact}
+use Rattle.stm_events.specs.Called.{Call, Txn, Grant, Keep, Revoke, Advance, Watch, Poll, Cancel, Compact, Asked, Starts, Steps, Calls, asked}
 use Rattle.stm_events.specs.declared.reply.Reply.{Reply}
 use Rattle.stm_events.specs.declared.reply.KeyRead.{KeyRead}
 use Rattle.stm_events.specs.declared.reply.CommittedRead.{CommittedRead}
@@ -41,8 +39,7 @@ use Rattle.stm_world.specs.Task.{modified_now}
 use Rattle.stm_world.specs.World.{World, Runner, Slot, Stepped, runner_at}
 use Rattle.stm_world.specs.Sound.{IsSound}
 use Rattle.stm_report_laws.proofs.SmallRuns.{ValuesFit, ItemsFit}
-use Rattle.stm_report_laws.proofs.SmallStores.{IsSmall, HistoryFits}
-use Rattle.stm_report_laws.proofs.SmallStores.{WatchersFit}
+use Rattle.stm_report_laws.proofs.SmallStores.{IsSmall, HistoryFits, WatchersFit}
 
 abbrev pub Few : ℕ → Type 0
 Few n = n ≤ HIGHEST_NUMBER
@@ -103,20 +100,26 @@ abbrev pub RepliesFit : List (Result Reply Denied) → Type 0
 RepliesFit [] = Unit {0}
 RepliesFit (r ∷ rs) = AnswerToFits r × RepliesFit rs
 
+-- what a call asks
+abbrev pub CallAsksFew : Call → Type 0
+CallAsksFew (Txn txn) = Unit {0}
+CallAsksFew (Grant id ttl) = Unit {0}
+CallAsksFew (Keep id) = Few id
+CallAsksFew (Revoke id) = Few id
+CallAsksFew (Advance moment) = Few moment
+CallAsksFew (Watch keys from) = Few from
+CallAsksFew (Poll watcher most) = Few watcher
+CallAsksFew (Cancel watcher) = Few watcher
+CallAsksFew (Compact revision) = Few revision
+
+abbrev pub AsksFew : Asked → Type 0
+AsksFew (Starts program level limit) = (limit ≤ HIGHEST_NUMBER) × BlockInRange program.statements
+AsksFew (Steps id) = Few id
+AsksFew (Calls c) = CallAsksFew c
+
 -- what an event asks
 abbrev pub EventAsksFew : WorldEvent → Type 0
-EventAsksFew (Start program level limit) = (limit ≤ HIGHEST_NUMBER) × BlockInRange program.statements
-EventAsksFew (Step id) = Few id
-EventAsksFew (Txn txn) = Unit {0}
-EventAsksFew (Grant id ttl) = Unit {0}
-EventAsksFew (Keep id) = Few id
-EventAsksFew (Revoke id) = Few id
-EventAsksFew (AdvanceTo moment) = Few moment
-EventAsksFew (WatchKey key from) = Few from
-EventAsksFew (WatchRange first end from) = Few from
-EventAsksFew (Poll watcher most) = Few watcher
-EventAsksFew (Cancel watcher) = Few watcher
-EventAsksFew (Compact revision) = Few revision
+EventAsksFew event = AsksFew (asked event)
 
 abbrev pub EventsAskFew : List WorldEvent → Type 0
 EventsAskFew [] = Unit {0}
@@ -215,7 +218,7 @@ reads_seen : (answers : List ReadAnswer) → AnswersFit answers → AllSeenFit (
 reads_seen [] fits = tt
 reads_seen (a ∷ rest) fits = (inl fits.0.0, reads_seen rest fits.1)
 
-writes_seen : (first : ℕ) (writes : List Write) → AllSeenFit (map (seen_of_write first) writes)
+writes_seen : (first : ℕ) (writes : List Change) → AllSeenFit (map (seen_of_write first) writes)
 writes_seen first [] = tt
 writes_seen first (w ∷ ws) = (inr refl, writes_seen first ws)
 
@@ -256,7 +259,7 @@ pub record FailureFits (about : Seen) (failed : FailedCompare) : Type 0 where
   pub seen : Few about.mod_rev
   pub stands : Few failed.mod_rev
 
-pub failure_fits : (h : History) (reads : List ReadAnswer) (writes : List Write) (failed : FailedCompare) → HistoryFits h → AnswersFit reads →
+pub failure_fits : (h : History) (reads : List ReadAnswer) (writes : List Change) (failed : FailedCompare) → HistoryFits h → AnswersFit reads →
     IsConflict h reads writes failed → FailureFits (seen_in (slice_get (seen_by reads writes) failed.index)) failed
 failure_fits h reads writes failed fits answers c =
     let all : AllSeenFit (seen_by reads writes) =

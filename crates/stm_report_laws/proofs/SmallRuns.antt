@@ -3,8 +3,7 @@ use Rattle.std.proofs.Common.{◌≡◌, ℕ, zero, suc, ◌+◌, ◌^◌, ◌<�
 use Rattle.std.proofs.Common.{subst, arith, length, Option, Some, None, Result, Ok, Err, lt-ltb}
 use Rattle.std.proofs.lemmas.Bool.{ltb-true, leb-true}
 use Rattle.std.proofs.lemmas.Int.{rem_below}
-use Rattle.std.specs.Prelude.{nat_eq, nat_lt, nat_le, slice_set, slice_index_or, neg_ℤ, ◌+ℤ◌, ◌-ℤ◌, ◌*ℤ◌, int_rem, int_div}
-use Rattle.std.specs.Prelude.{unsigned_abs}
+use Rattle.std.specs.Prelude.{nat_eq, nat_lt, nat_le, slice_set, slice_index_or, neg_ℤ, ◌+ℤ◌, ◌-ℤ◌, ◌*ℤ◌, int_rem, int_div, unsigned_abs}
 use Rattle.std.specs.Str.Parse.{digits_value}
 use Rattle.stm_history.specs.declared.revisions.TheConstants.{HIGHEST_NUMBER}
 use Rattle.stm_program.specs.declared.operator.Operator.{Operator}
@@ -13,8 +12,8 @@ use Rattle.stm_program.specs.Syntax.{Expression, Condition, Statement, Block, Te
 use Rattle.stm_program.specs.Syntax.{Less, Not, And, Or, Set, Put, Del, If, For, Emit, Abort, End, Then}
 use Rattle.stm_program.specs.Limits.{ExpressionInRange, ConditionInRange, StatementInRange, BlockInRange}
 use Rattle.stm_program.specs.declared.limits.TheConstants.{MAX_TURNS}
-use Rattle.stm_program.specs.declared.write.Write.{Write}
-use Rattle.stm_program.specs.declared.write.Write.TheVariants.{Put as PutWrite, Del as DelWrite}
+use Rattle.stm_history.specs.declared.change.Change.{Change}
+use Rattle.stm_history.specs.declared.change.Change.TheVariants.{Put as PutWrite, Del as DelWrite}
 use Rattle.stm_steps.specs.declared.value.Value.{Value}
 use Rattle.stm_steps.specs.declared.value.Value.TheVariants.{Text as TextValue, Number as NumberValue}
 use Rattle.stm_steps.specs.declared.trace_item.TraceItem.{TraceItem}
@@ -32,7 +31,8 @@ use Rattle.stm_steps.specs.Session.{Session, fresh, with_variable, with_output, 
 use Rattle.stm_steps.specs.Outcome.{Outcome, Gives, Stops, and_then, given, turn_limit, begin_turn}
 use Rattle.stm_steps.specs.Meaning.{get_answered, rev_answered, get_of, get_key, rev_key, evaluate, unless_false, unless_true, holds, branch}
 use Rattle.stm_steps.specs.Meaning.{repeat, aborts, run_statement, run_block, run_of, answered, run_over}
-use Rattle.stm_meaning.specs.Writes.{last_write, value_of}
+use Rattle.stm_history.specs.History.{value_written}
+use Rattle.stm_meaning.specs.Writes.{last_write}
 use Rattle.stm_steps.proofs.IntegerRange.{in_range}
 
 -- ---- what fits
@@ -53,11 +53,11 @@ abbrev pub ItemsFit : List TraceItem → Type 0
 ItemsFit [] = Unit {0}
 ItemsFit (x ∷ xs) = ItemFits x × ItemsFit xs
 
-abbrev pub WriteFits : Write → Type 0
+abbrev pub WriteFits : Change → Type 0
 WriteFits (PutWrite key value lease) = lease ≤ HIGHEST_NUMBER
 WriteFits (DelWrite key) = Unit {0}
 
-abbrev pub WritesFit : List Write → Type 0
+abbrev pub WritesFit : List Change → Type 0
 WritesFit [] = Unit {0}
 WritesFit (x ∷ xs) = WriteFits x × WritesFit xs
 
@@ -69,7 +69,7 @@ items_more : (xs : List TraceItem) (x : TraceItem) → ItemsFit xs → ItemFits 
 items_more [] x before one = (one, tt)
 items_more (y ∷ ys) x before one = (before.0, items_more ys x before.1 one)
 
-writes_more : (xs : List Write) (x : Write) → WritesFit xs → WriteFits x → WritesFit (xs ++ x ∷ [])
+writes_more : (xs : List Change) (x : Change) → WritesFit xs → WriteFits x → WritesFit (xs ++ x ∷ [])
 writes_more [] x before one = (one, tt)
 writes_more (y ∷ ys) x before one = (before.0, writes_more ys x before.1 one)
 
@@ -228,8 +228,8 @@ module _ (look : Lookup) (known : (key : List ℕ) (a : Answer) → look key ≡
   answered_get key None s fits = fits
   answered_get key (Some a) s (variables, output, trace, writes) = (tt, (variables, output, items_more s.trace (GetItem key a.value) trace tt, writes))
 
-  found_get : (key : List ℕ) (w : Option Write) (s : Session) → SessionFits s → OutcomeFits ValueFits (get_of look key w s)
-  found_get key (Some w) s (variables, output, trace, writes) = (tt, (variables, output, items_more s.trace (GetItem key (value_of w)) trace tt, writes))
+  found_get : (key : List ℕ) (w : Option Change) (s : Session) → SessionFits s → OutcomeFits ValueFits (get_of look key w s)
+  found_get key (Some w) s (variables, output, trace, writes) = (tt, (variables, output, items_more s.trace (GetItem key (value_written w)) trace tt, writes))
   found_get key None s fits = answered_get key (look key) s fits
 
   get_fits : (key : List ℕ) → Fits ValueFits (get_key look key)
@@ -332,10 +332,10 @@ module _ (look : Lookup) (known : (key : List ℕ) (a : Answer) → look key ≡
       (λ _ t _ h. then_fits Any Any (f t) (λ _. repeat v f left (suc i)) (body t h)
       (λ _ u _ k. repeat_fits v f body left (suc i) (omega (arith, few)) u k))
 
-  abbrev writing : Write → Session → Outcome (Unit {0})
+  abbrev writing : Change → Session → Outcome (Unit {0})
   writing w s = Gives tt (with_write w s)
 
-  writing_fits : (r : Result Write Fault) → ResultFits WriteFits r → Fits Any (λ t. and_then (given r t) writing)
+  writing_fits : (r : Result Change Fault) → ResultFits WriteFits r → Fits Any (λ t. and_then (given r t) writing)
   writing_fits r one s fits =
       then_fits WriteFits Any (given r s) writing (given_fits WriteFits r s one fits)
       (λ w t is h. (tt, (h.0, h.1, h.2, writes_more t.writes w h.3 is)))

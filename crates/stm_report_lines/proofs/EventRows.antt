@@ -24,8 +24,7 @@ use Rattle.stm_events.specs.declared.reply.OpReply.{OpReply}
 use Rattle.stm_events.specs.declared.reply.KeyRead.{KeyRead}
 use Rattle.stm_report_lines.specs.declared.words.EventWord.{EventWord}
 use Rattle.stm_report_lines.specs.declared.words.EventWord.TheVariants as event
-use Rattle.stm_report_lines.specs.FirstFault.{flag_faults, value_faults, plain_faults, list_of as list_faults, fault_names, refusal_names}
-use Rattle.stm_report_lines.specs.FirstFault.{trace_table}
+use Rattle.stm_report_lines.specs.FirstFault.{flag_faults, value_faults, plain_faults, list_of as list_faults, fault_names, refusal_names, trace_table}
 use Rattle.stm_report_lines.specs.FirstFault.{answer_sorts, op_table, read_sorts, expired_sorts, watched_table, numbered_faults}
 use Rattle.stm_report_lines.specs.Grammar.{Spells, SpellsItems, SpellsLine, CountFits, CountsFit, AllCountsFit}
 use Rattle.stm_report_lines.specs.LineData.{list, whole, word, numbered, value_data, trace_data, answer_data, op_data, read_data, expired_data, event_data}
@@ -39,8 +38,7 @@ use Rattle.stm_report_lines.proofs.ArrayLemmas.{numbered_array, numbered_spells}
 use Rattle.stm_report_lines.proofs.WordLaws.{named-is}
 use Rattle.stm_report_lines.proofs.ReadLaws.{list_laws}
 use Rattle.stm_report_lines.proofs.ElementLaws.{trace_laws, answer_laws, op_laws, read_laws, expired_laws, event_laws}
-use Rattle.stm_report_lines.proofs.PartLaws.{number_means, flag_reported, flag_means, flag_reads, fault_reported, fault_means, fault_reads}
-use Rattle.stm_report_lines.proofs.PartLaws.{cause_reported}
+use Rattle.stm_report_lines.proofs.PartLaws.{number_means, flag_reported, flag_means, flag_reads, fault_reported, fault_means, fault_reads, cause_reported}
 use Rattle.stm_report_lines.proofs.PartLaws.{cause_means, cause_reads, value_laws}
 use Rattle.stm_report_lines.proofs.Rows.{Part, part, part_by, list_part, Row, nothing, ◌&◌, second, third, fourth, fifth, sixth}
 use Rattle.stm_report_lines.proofs.Rows.{part_here, counted_reported, counted_ok, exactly_is}

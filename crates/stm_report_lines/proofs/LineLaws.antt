@@ -9,20 +9,17 @@ use Rattle.stm_json.proofs.FaultLemmas.{fault_of, wrong_is}
 use Rattle.stm_events.specs.declared.line.ReportLine.{ReportLine}
 use Rattle.stm_events.specs.declared.line.ReportLine.TheVariants.{Event, Key, Lease, End}
 use Rattle.stm_events.specs.declared.reply.Reply.{Reply}
-use Rattle.stm_events.specs.declared.reply.Reply.TheVariants.{Started, Prefetched, Fetched, Committed, Conflict, GaveUp, Aborted, Faulted, Ended}
-use Rattle.stm_events.specs.declared.reply.Reply.TheVariants.{Txn, Granted}
-use Rattle.stm_events.specs.declared.reply.Reply.TheVariants.{Kept, Revoked, Advanced, Compacted, Watching, Cancelled, Batch, Lost}
+use Rattle.stm_events.specs.declared.reply.Reply.TheVariants.{Started, Prefetched, Fetched, Committed, Conflict, GaveUp, Aborted, Faulted, Ended, Txn}
+use Rattle.stm_events.specs.declared.reply.Reply.TheVariants.{Granted, Kept, Revoked, Advanced, Compacted, Watching, Cancelled, Batch, Lost}
 use Rattle.stm_report_lines.specs.declared.words.EventWord.{EventWord}
 use Rattle.stm_report_lines.specs.declared.words.EventWord.TheVariants as event
 use Rattle.stm_report_lines.specs.FirstFault.{event_table, numbered_faults, line_faults}
 use Rattle.stm_report_lines.specs.Grammar.{Spells, SpellsLine, CountsFit}
 use Rattle.stm_report_lines.specs.LineData.{line_data}
-use Rattle.stm_report_lines.specs.Reading.{lease_of, end_of, event_named}
-use Rattle.stm_report_lines.specs.Reading.{line_of}
+use Rattle.stm_report_lines.specs.Reading.{lease_of, end_of, event_named, line_of}
 use Rattle.stm_report_lines.specs.Words.{named, event_words}
 use Rattle.stm_report_lines.proofs.ArrayLemmas.{numbered_array, numbered_shape}
-use Rattle.stm_report_lines.proofs.EventRows.{event_parts, event_row, event_sorts, event_made, event_text, event_named-text, event_found}
-use Rattle.stm_report_lines.proofs.EventRows.{event_spelled}
+use Rattle.stm_report_lines.proofs.EventRows.{event_parts, event_row, event_sorts, event_made, event_text, event_named-text, event_found, event_spelled}
 use Rattle.stm_report_lines.proofs.EventRows.{event_line_reported, event_line_means, event_line_reads}
 use Rattle.stm_report_lines.proofs.Rows.{nothing, ◌&◌, second, third}
 use Rattle.stm_report_lines.proofs.Forms.{Form, form, also_made, after_reads, Words, no_word, or_word}

@@ -1,6 +1,5 @@
 -- Reading lines one after the other, as a loop does.
-use Rattle.std.proofs.Common.{◌≡◌, ℕ, suc, List, [], ◌∷◌, ◌++◌, length, Ok, Err, refl, sym, ap, subst, ◌∙◌, arith}
-use Rattle.std.proofs.Common.{length-append}
+use Rattle.std.proofs.Common.{◌≡◌, ℕ, suc, List, [], ◌∷◌, ◌++◌, length, Ok, Err, refl, sym, ap, subst, ◌∙◌, arith, length-append}
 use Rattle.std.proofs.lemmas.List.{append-nil}
 use Rattle.stm_json.specs.declared.read_error.ReadError.{ReadError}
 use Rattle.stm_json.specs.declared.read_error.ReadError.TheVariants as error

@@ -15,8 +15,8 @@ use Rattle.stm_outcome.specs.declared.advance.Expired.{Expired}
 use Rattle.stm_events.specs.declared.line.ReportLine.{ReportLine}
 use Rattle.stm_events.specs.declared.line.ReportLine.TheVariants as line
 use Rattle.stm_events.specs.declared.reply.Reply.{Reply}
-use Rattle.stm_events.specs.declared.reply.Reply.TheVariants.{Started, Prefetched, Fetched, Committed, Conflict, GaveUp, Aborted, Faulted, Ended, Txn, Granted}
-use Rattle.stm_events.specs.declared.reply.Reply.TheVariants.{Kept, Revoked, Advanced, Compacted, Watching, Cancelled, Batch, Lost}
+use Rattle.stm_events.specs.declared.reply.Reply.TheVariants.{Prefetched, Fetched, Committed, Conflict, GaveUp, Aborted, Faulted, Ended, Txn}
+use Rattle.stm_events.specs.declared.reply.Reply.TheVariants.{Revoked, Advanced, Batch, Lost}
 use Rattle.stm_events.specs.declared.reply.CommittedRead.{CommittedRead}
 use Rattle.stm_events.specs.declared.refusal.Denied.{Denied}
 use Rattle.stm_keys.specs.declared.event.Event.{Event}
@@ -112,7 +112,6 @@ event_shallow (event.Put key state) = (tt, (tt, (tt, (refl, (refl, (refl, (refl,
 event_shallow (event.Delete key revision) = (tt, (tt, (refl, tt)))
 
 reply_shallow : (n : ℕ) (r : Reply) → IsShallow (reply_data n r) 5
-reply_shallow n (Started runner) = (refl, (tt, (refl, tt)))
 reply_shallow n (Prefetched runner revision reads) = (refl, (tt, (refl, (refl, (listed read_data 3 read_shallow reads, tt)))))
 reply_shallow n (Fetched runner key mod_rev of_rev revision) = (refl, (tt, (refl, (tt, (refl, (refl, (refl, tt)))))))
 reply_shallow n (Committed runner revision attempts output trace answers) =
@@ -123,15 +122,11 @@ reply_shallow n (Aborted runner text) = (refl, (tt, (refl, (tt, tt))))
 reply_shallow n (Faulted runner fault) = (refl, (tt, (refl, (tt, tt))))
 reply_shallow n (Ended runner cause) = (refl, (tt, (refl, (tt, tt))))
 reply_shallow n (Txn succeeded revision answers) = (refl, (tt, (tt, (refl, (listed op_data 3 op_shallow answers, tt)))))
-reply_shallow n (Granted id) = (refl, (tt, (refl, tt)))
-reply_shallow n (Kept id) = (refl, (tt, (refl, tt)))
 reply_shallow n (Revoked id revision) = (refl, (tt, (refl, (refl, tt))))
 reply_shallow n (Advanced now expired) = (refl, (tt, (refl, (listed expired_data 3 expired_shallow expired, tt))))
-reply_shallow n (Compacted revision) = (refl, (tt, (refl, tt)))
-reply_shallow n (Watching id) = (refl, (tt, (refl, tt)))
-reply_shallow n (Cancelled id) = (refl, (tt, (refl, tt)))
 reply_shallow n (Batch id upto events) = (refl, (tt, (refl, (refl, (listed event_data 3 event_shallow events, tt)))))
 reply_shallow n (Lost id floor) = (refl, (tt, (refl, (refl, tt))))
+reply_shallow n _ = (refl, (tt, (refl, tt)))
 
 event_shallow_of : (n : ℕ) (reply : Result Reply Denied) → IsShallow (event_data_of n reply) 5
 event_shallow_of n (Ok reply) = reply_shallow n reply

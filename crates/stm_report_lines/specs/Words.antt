@@ -8,10 +8,9 @@ use Rattle.stm_events.specs.Names.{refusal_name}
 use Rattle.stm_events.specs.declared.refusal.EventRefusal.{EventRefusal}
 use Rattle.stm_events.specs.declared.refusal.EventRefusal.TheVariants as cause
 use Rattle.stm_report_lines.specs.declared.words.EventWord.{EventWord}
-use Rattle.stm_report_lines.specs.declared.words.EventWord.TheVariants.{Started, Prefetched, Fetched, Committed, Conflict, GaveUp, Aborted, Faulted}
-use Rattle.stm_report_lines.specs.declared.words.EventWord.TheVariants.{Ended}
-use Rattle.stm_report_lines.specs.declared.words.EventWord.TheVariants.{Txn, Granted, Kept, Revoked, Advanced, Compacted, Watching, Cancelled}
-use Rattle.stm_report_lines.specs.declared.words.EventWord.TheVariants.{Batch, Lost, Refused}
+use Rattle.stm_report_lines.specs.declared.words.EventWord.TheVariants.{Started, Prefetched, Fetched, Committed, Conflict, GaveUp, Aborted, Faulted, Ended}
+use Rattle.stm_report_lines.specs.declared.words.EventWord.TheVariants.{Txn, Granted, Kept, Revoked, Advanced, Compacted, Watching, Cancelled, Batch, Lost}
+use Rattle.stm_report_lines.specs.declared.words.EventWord.TheVariants.{Refused}
 
 -- what a word stands for in a list of words, if it stands there
 abbrev pub named : {W : Type 0} → List (List ℕ × W) → List ℕ → Option W

@@ -9,8 +9,7 @@ use Rattle.stm_outcome.specs.declared.txn.Txn.{Txn as StoreTxn}
 use Rattle.stm_outcome.specs.declared.answer.TxnAnswer.{TxnAnswer}
 use Rattle.stm_outcome.specs.declared.advance.Expired.{Expired}
 use Rattle.stm_outcome.specs.declared.refusal.Refusal.{Refusal as StoreRefusal}
-use Rattle.stm_outcome.specs.declared.refusal.Refusal.TheVariants.{OutOfMemory, EmptyKey, FutureRevision, Compacted, RevisionsUsedUp, LeaseExists, TtlOutOfRange}
-use Rattle.stm_outcome.specs.declared.refusal.Refusal.TheVariants.{LeaseIdOutOfRange, LeaseNotFound, NoWatcher, TooManyOps, DuplicateKey, TimeGoesBack}
+use Rattle.stm_outcome.specs.declared.refusal.Refusal.TheVariants.{OutOfMemory}
 use Rattle.stm_txn.specs.Standing.{Standing, Step as StoreStep, Advance as StoreAdvance, advanced}
 use Rattle.stm_entries.specs.declared.entry.Entry.{Entry}
 use Rattle.stm_entries.specs.declared.entry.Entry.TheVariants.{Foreign}
@@ -23,7 +22,7 @@ use Rattle.stm_events.specs.declared.reply.Reply.{Reply}
 use Rattle.stm_events.specs.declared.reply.Reply.TheVariants.{Advanced}
 use Rattle.stm_events.specs.declared.refusal.Denied.{Denied}
 use Rattle.stm_events.specs.Replies.{txn_reply, event_refusal, denied, reply_to, store_after_call, advance_reply}
-use Rattle.stm_world.specs.World.{World, Slot, Stepped, called, step}
+use Rattle.stm_world.specs.World.{World, Slot, Stepped, after_call, step}
 use Rattle.stm_world.proofs.Wants.{NeverWants, NoOutOfMemory, advanced_never}
 use Rattle.stm_retry.specs.Returns.{IsStep, IsUnchanged, IsCutShort, OutOfMemoryReturns, RefusalReturns, Returns}
 use Rattle.stm_retry.specs.WorldOf.{world_of}
@@ -36,18 +35,7 @@ pub refusal_reports : (event : WorldEvent) (d : Denied) (cause : StoreRefusal) (
     (cause ≡ OutOfMemory → OutOfMemoryReturns event d.expired old new) → (cause ≢ OutOfMemory → IsStep (step event old) (Err d) new) →
     RefusalReturns (event_refusal cause) event d old new
 refusal_reports event d OutOfMemory old new want other = want refl
-refusal_reports event d EmptyKey old new want other = other (λ e. absurd (cc))
-refusal_reports event d FutureRevision old new want other = other (λ e. absurd (cc))
-refusal_reports event d Compacted old new want other = other (λ e. absurd (cc))
-refusal_reports event d RevisionsUsedUp old new want other = other (λ e. absurd (cc))
-refusal_reports event d LeaseExists old new want other = other (λ e. absurd (cc))
-refusal_reports event d TtlOutOfRange old new want other = other (λ e. absurd (cc))
-refusal_reports event d LeaseIdOutOfRange old new want other = other (λ e. absurd (cc))
-refusal_reports event d LeaseNotFound old new want other = other (λ e. absurd (cc))
-refusal_reports event d NoWatcher old new want other = other (λ e. absurd (cc))
-refusal_reports event d TooManyOps old new want other = other (λ e. absurd (cc))
-refusal_reports event d DuplicateKey old new want other = other (λ e. absurd (cc))
-refusal_reports event d TimeGoesBack old new want other = other (λ e. absurd (cc))
+refusal_reports event d _ old new want other = other (λ e. absurd (cc))
 
 -- ---- a call that is entered ----
 
@@ -108,7 +96,7 @@ call_refused event report before after o cause reply call may never (refused, sa
 -- ---- which calls these are ----
 
 pub entry_is_call : {A : Type 0} (report : A → Reply) (j : JournalState) (runners : List Slot) (entry : Entry) (o : Result (StoreStep A) StoreRefusal) →
-    called (reply_to report o) (store_after_call j.standing o) (if_taken o entry) (world_of j runners) ≡ stepped_as report j runners (one_entry j entry o)
+    after_call (reply_to report o) (store_after_call j.standing o) (if_taken o entry) (world_of j runners) ≡ stepped_as report j runners (one_entry j entry o)
 entry_is_call report j runners entry (Ok done) = refl
 entry_is_call report j runners entry (Err cause) =
     ap (λ (l : List Entry). record { reply = denied (event_refusal cause); next = record { standing = j.standing; runners = runners; entries = l } })
@@ -127,7 +115,7 @@ none_changed s txn =
     ap (λ b. cond b (Foreign txn ∷ []) []) (no_lower (now s.history) (nat_lt (now s.history) (now s.history)) refl)
 
 pub txn_is_call : (j : JournalState) (txn : StoreTxn) (runners : List Slot) (o : Result (StoreStep TxnAnswer) StoreRefusal) →
-    called (reply_to txn_reply o) (store_after_call j.standing o) (if_changed j.standing (store_after_call j.standing o) txn) (world_of j runners)
+    after_call (reply_to txn_reply o) (store_after_call j.standing o) (if_changed j.standing (store_after_call j.standing o) txn) (world_of j runners)
     ≡ stepped_as txn_reply j runners (entered j txn o)
 txn_is_call j txn runners (Ok done) = refl
 txn_is_call j txn runners (Err cause) =

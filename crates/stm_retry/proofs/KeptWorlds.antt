@@ -1,6 +1,5 @@
 -- What is kept of a world goes on as the whole world does.
-use Rattle.std.proofs.Common.{◌≡◌, ◌≢◌, ◌⊎◌, ◌∙◌, inl, inr, ℕ, ◌+◌, ◌-◌, ◌≤◌, Bool, true, false, cond, List, [], ◌∷◌, ◌++◌, length, map, Option, Some}
-use Rattle.std.proofs.Common.{None}
+use Rattle.std.proofs.Common.{◌≡◌, ◌≢◌, ◌⊎◌, ◌∙◌, inl, inr, ℕ, ◌+◌, ◌-◌, ◌≤◌, Bool, true, false, cond, List, [], ◌∷◌, ◌++◌, length, map, Option, Some, None}
 use Rattle.std.proofs.Common.{Result, Ok, Err, refl, sym, ap, subst, arith, append-nil, OnOk, OnErr}
 use Rattle.std.specs.Prelude.{nat_eq, nat_lt, slice_get, IsOk, IfOk}
 use Rattle.std.specs.declared.alloc.AllocError.{AllocError}
@@ -26,10 +25,8 @@ use Rattle.stm_outcome.specs.declared.advance.Expired.{Expired}
 use Rattle.stm_outcome.specs.declared.refusal.Refusal.{Refusal as StoreRefusal}
 use Rattle.stm_outcome.specs.declared.refusal.Refusal.TheVariants.{OutOfMemory, TooManyOps}
 use Rattle.stm_outcome.specs.Outcome.{Done}
-use Rattle.stm_txn.specs.Standing.{Standing, Step as StoreStep, Advance as StoreAdvance, HasKept, with_history, kept, terms_of, transacted, granted, kept_alive}
-use Rattle.stm_txn.specs.Standing.{revoked, advanced, watched, polled, cancelled, raised, IsStopped}
-use Rattle.stm_txn.specs.Standing.{IsCutShort as StoreCutShort}
-use Rattle.stm_txn.specs.Standing.{Setup}
+use Rattle.stm_txn.specs.Standing.{Standing, Step as StoreStep, Advance as StoreAdvance, HasKept, with_history, kept, terms_of, transacted, granted}
+use Rattle.stm_txn.specs.Standing.{kept_alive, revoked, advanced, watched, polled, cancelled, raised, IsStopped, IsCutShort as StoreCutShort, Setup}
 use Rattle.stm_compile.specs.CommitTxn.{reread_keys}
 use Rattle.stm_compile.specs.Committed.{committed}
 use Rattle.stm_compile.specs.Conflicts.{Seen, seen_by, seen_in}
@@ -58,21 +55,21 @@ use Rattle.stm_compaction.proofs.Compacting.{compacted_kept}
 use Rattle.stm_events.specs.declared.event.WorldEvent.{WorldEvent}
 use Rattle.stm_events.specs.declared.event.WorldEvent.TheVariants.{Start, Step, Txn, Grant, Keep, Revoke, Advance, WatchKey, WatchRange, Poll, Cancel, Compact}
 use Rattle.stm_events.specs.declared.reply.Reply.{Reply}
-use Rattle.stm_events.specs.declared.reply.Reply.TheVariants.{Started, Committed, Conflict, GaveUp}
-use Rattle.stm_events.specs.declared.reply.Reply.TheVariants.{Granted, Kept, Revoked, Watching, Cancelled, Compacted}
+use Rattle.stm_events.specs.declared.reply.Reply.TheVariants.{Started, Committed, Conflict, GaveUp, Granted, Kept, Revoked, Watching, Cancelled, Compacted}
 use Rattle.stm_events.specs.declared.refusal.EventRefusal.{EventRefusal}
 use Rattle.stm_events.specs.declared.refusal.EventRefusal.TheVariants.{OutOfMemory as RanOut, BadLimit}
 use Rattle.stm_events.specs.declared.refusal.Denied.{Denied}
+use Rattle.stm_events.specs.Called.{Txn as TxnCall}
 use Rattle.stm_events.specs.Replies.{committed_read, txn_reply, event_refusal, denied, reply_to, store_after_call, advance_reply, poll_reply, store_after_poll}
 use Rattle.stm_world.specs.Task.{Task, with_served, after_conflict}
 use Rattle.stm_world.specs.World.{World, Stepped, Runner, Over, Live, runner_at, with_slot, begin, replied, refused, start_runner, entry_of}
-use Rattle.stm_world.specs.World.{decided, commit_reported, commit, finish, fetch_at, fetch_list, step_on, step_live, step_runner, called}
-use Rattle.stm_world.specs.World.{quietly_called, step, opened as opened_world}
+use Rattle.stm_world.specs.World.{decided, commit_reported, commit, finish, fetch_at, fetch_list, step_on, step_live, step_runner, after_call}
+use Rattle.stm_world.specs.World.{after_quiet_call, step, opened as opened_world}
 use Rattle.stm_world.specs.Sound.{IsSound, after_expiries}
 use Rattle.stm_world.specs.Appended.{HasAppended}
 use Rattle.stm_world.proofs.Wants.{NoOutOfMemory, NeverWants, advanced_never}
 use Rattle.stm_world.proofs.NeverOutOfMemory.{raised_never}
-use Rattle.stm_world.proofs.Calls.{txn_goes_on, at_moment_follows}
+use Rattle.stm_world.proofs.Calls.{call_goes_on, at_moment_follows}
 use Rattle.stm_world.proofs.Appending.{events_append}
 use Rattle.stm_world.proofs.Sound.{opened_is_sound, step_is_sound, base_is_reached}
 use Rattle.stm_retry.specs.Returns.{IsStep, IsUnchanged, IsCutShort, OutOfMemoryReturns, RefusalReturns, Returns, is_out_of_memory}
@@ -252,34 +249,34 @@ runner_kept id (Some r) w reached = live_kept id r w reached
 -- calls
 txn_by : (txn : StoreTxn) (w : World) (o : Result (StoreStep TxnAnswer) StoreRefusal) → HasReached w.standing →
     HasReached (store_after_call w.standing o) →
-    called (reply_to txn_reply (kept_step o)) (store_after_call (kept w.standing) (kept_step o))
+    after_call (reply_to txn_reply (kept_step o)) (store_after_call (kept w.standing) (kept_step o))
     (if_changed (kept w.standing) (store_after_call (kept w.standing) (kept_step o)) txn) (kept_world w)
-    ≡ kept_stepped (called (reply_to txn_reply o) (store_after_call w.standing o) (if_changed w.standing (store_after_call w.standing o) txn) w)
+    ≡ kept_stepped (after_call (reply_to txn_reply o) (store_after_call w.standing o) (if_changed w.standing (store_after_call w.standing o) txn) w)
 txn_by txn w (Ok done) reached still =
     let s : Standing = w.standing in
     let entered : ℕ → ℕ → Stepped = λ before after.
-    called (Ok (txn_reply done.answer)) (kept done.next) (cond (nat_lt before after) (Foreign txn ∷ []) []) (kept_world w) in
+    after_call (Ok (txn_reply done.answer)) (kept done.next) (cond (nat_lt before after) (Foreign txn ∷ []) []) (kept_world w) in
     ap (λ n. entered n (now (kept done.next).history)) (counted s reached) ∙ ap (entered (now s.history)) (counted done.next still)
 txn_by txn w (Err cause) reached still =
     let s : Standing = w.standing in
-    let entered : ℕ → Stepped = λ n. called (denied (event_refusal cause)) (kept s) (cond (nat_lt n n) (Foreign txn ∷ []) []) (kept_world w) in
+    let entered : ℕ → Stepped = λ n. after_call (denied (event_refusal cause)) (kept s) (cond (nat_lt n n) (Foreign txn ∷ []) []) (kept_world w) in
     ap entered (counted s reached)
 
 call_kept : {A : Type 0} (report : A → Reply) (entry : Entry) (o : Result (StoreStep A) StoreRefusal) (w : World) →
-    called (reply_to report (kept_step o)) (store_after_call (kept w.standing) (kept_step o)) (if_taken (kept_step o) entry) (kept_world w)
-    ≡ kept_stepped (called (reply_to report o) (store_after_call w.standing o) (if_taken o entry) w)
+    after_call (reply_to report (kept_step o)) (store_after_call (kept w.standing) (kept_step o)) (if_taken (kept_step o) entry) (kept_world w)
+    ≡ kept_stepped (after_call (reply_to report o) (store_after_call w.standing o) (if_taken o entry) w)
 call_kept report entry (Ok done) w = refl
 call_kept report entry (Err cause) w = refl
 
 quiet_kept : {A : Type 0} (report : A → Reply) (o : Result (StoreStep A) StoreRefusal) (w : World) →
-    quietly_called (reply_to report (kept_step o)) (store_after_call (kept w.standing) (kept_step o)) (kept_world w)
-    ≡ kept_stepped (quietly_called (reply_to report o) (store_after_call w.standing o) w)
+    after_quiet_call (reply_to report (kept_step o)) (store_after_call (kept w.standing) (kept_step o)) (kept_world w)
+    ≡ kept_stepped (after_quiet_call (reply_to report o) (store_after_call w.standing o) w)
 quiet_kept report (Ok done) w = refl
 quiet_kept report (Err cause) w = refl
 
 poll_kept : (id : ℕ) (o : Result (StoreStep Batch) StoreRefusal) (w : World) →
-    quietly_called (poll_reply id w.standing.floor (kept_step o)) (store_after_poll id (kept w.standing) (kept_step o)) (kept_world w)
-    ≡ kept_stepped (quietly_called (poll_reply id w.standing.floor o) (store_after_poll id w.standing o) w)
+    after_quiet_call (poll_reply id w.standing.floor (kept_step o)) (store_after_poll id (kept w.standing) (kept_step o)) (kept_world w)
+    ≡ kept_stepped (after_quiet_call (poll_reply id w.standing.floor o) (store_after_poll id w.standing o) w)
 poll_kept id (Ok done) w = refl
 poll_kept id (Err cause) w = refl
 
@@ -294,50 +291,50 @@ step_kept (Step id) w k = runner_kept id (runner_at id w.runners) w k.reached
 step_kept (Txn txn) w k =
     let s : Standing = w.standing in
     ap (λ (o : Result (StoreStep TxnAnswer) StoreRefusal).
-    called (reply_to txn_reply o) (store_after_call (kept s) o) (if_changed (kept s) (store_after_call (kept s) o) txn) (kept_world w))
+    after_call (reply_to txn_reply o) (store_after_call (kept s) o) (if_changed (kept s) (store_after_call (kept s) o) txn) (kept_world w))
     (transacted_kept s k.reached txn)
-    ∙ txn_by txn w (transacted s txn) k.reached ((txn_goes_on s txn).kept k).reached
+    ∙ txn_by txn w (transacted s txn) k.reached ((call_goes_on s (TxnCall txn)).kept k).reached
 step_kept (Grant id ttl) w k =
     let s : Standing = w.standing in
     ap (λ (o : Result (StoreStep (Unit {0})) StoreRefusal).
-    called (reply_to (λ _. Granted id) o) (store_after_call (kept s) o) (if_taken o (GrantEntry id ttl s.moment)) (kept_world w)) (granted_kept s id ttl)
+    after_call (reply_to (λ _. Granted id) o) (store_after_call (kept s) o) (if_taken o (GrantEntry id ttl s.moment)) (kept_world w)) (granted_kept s id ttl)
     ∙ call_kept (λ _. Granted id) (GrantEntry id ttl s.moment) (granted s id ttl) w
 step_kept (Keep id) w k =
     let s : Standing = w.standing in
     ap (λ (o : Result (StoreStep (Unit {0})) StoreRefusal).
-    called (reply_to (λ _. Kept id) o) (store_after_call (kept s) o) (if_taken o (Renew id s.moment)) (kept_world w)) (kept_alive_kept s id)
+    after_call (reply_to (λ _. Kept id) o) (store_after_call (kept s) o) (if_taken o (Renew id s.moment)) (kept_world w)) (kept_alive_kept s id)
     ∙ call_kept (λ _. Kept id) (Renew id s.moment) (kept_alive s id) w
 step_kept (Revoke id) w k =
     let s : Standing = w.standing in
     ap (λ (o : Result (StoreStep ℕ) StoreRefusal).
-    called (reply_to (Revoked id) o) (store_after_call (kept s) o) (if_taken o (RevokeEntry id)) (kept_world w)) (revoked_kept s k.reached id)
+    after_call (reply_to (Revoked id) o) (store_after_call (kept s) o) (if_taken o (RevokeEntry id)) (kept_world w)) (revoked_kept s k.reached id)
     ∙ call_kept (Revoked id) (RevokeEntry id) (revoked s id) w
 step_kept (Advance moment) w k =
-    ap (λ (a : StoreAdvance). called (advance_reply moment a.expired a.cause) a.leaves (expiries a.expired) (kept_world w))
+    ap (λ (a : StoreAdvance). after_call (advance_reply moment a.expired a.cause) a.leaves (expiries a.expired) (kept_world w))
     (advanced_kept w.standing k.reached moment)
 step_kept (WatchKey key from) w k =
     let s : Standing = w.standing in
-    ap (λ (o : Result (StoreStep ℕ) StoreRefusal). quietly_called (reply_to Watching o) (store_after_call (kept s) o) (kept_world w))
+    ap (λ (o : Result (StoreStep ℕ) StoreRefusal). after_quiet_call (reply_to Watching o) (store_after_call (kept s) o) (kept_world w))
     (watched_kept s k.reached (Key key) from)
     ∙ quiet_kept Watching (watched s (Key key) from) w
 step_kept (WatchRange first end from) w k =
     let s : Standing = w.standing in
-    ap (λ (o : Result (StoreStep ℕ) StoreRefusal). quietly_called (reply_to Watching o) (store_after_call (kept s) o) (kept_world w))
+    ap (λ (o : Result (StoreStep ℕ) StoreRefusal). after_quiet_call (reply_to Watching o) (store_after_call (kept s) o) (kept_world w))
     (watched_kept s k.reached (Range first end) from)
     ∙ quiet_kept Watching (watched s (Range first end) from) w
 step_kept (Poll watcher most) w k =
     let s : Standing = w.standing in
-    ap (λ (o : Result (StoreStep Batch) StoreRefusal). quietly_called (poll_reply watcher s.floor o) (store_after_poll watcher (kept s) o) (kept_world w))
+    ap (λ (o : Result (StoreStep Batch) StoreRefusal). after_quiet_call (poll_reply watcher s.floor o) (store_after_poll watcher (kept s) o) (kept_world w))
     (polled_kept s k watcher most)
     ∙ poll_kept watcher (polled s watcher most) w
 step_kept (Cancel watcher) w k =
     let s : Standing = w.standing in
-    ap (λ (o : Result (StoreStep (Unit {0})) StoreRefusal). quietly_called (reply_to (λ _. Cancelled watcher) o) (store_after_call (kept s) o) (kept_world w))
+    ap (λ (o : Result (StoreStep (Unit {0})) StoreRefusal). after_quiet_call (reply_to (λ _. Cancelled watcher) o) (store_after_call (kept s) o) (kept_world w))
     (cancelled_kept s watcher)
     ∙ quiet_kept (λ _. Cancelled watcher) (cancelled s watcher) w
 step_kept (Compact revision) w k =
     let s : Standing = w.standing in
-    ap (λ (o : Result (StoreStep (Unit {0})) StoreRefusal). quietly_called (reply_to (λ _. Compacted revision) o) (store_after_call (kept s) o) (kept_world w))
+    ap (λ (o : Result (StoreStep (Unit {0})) StoreRefusal). after_quiet_call (reply_to (λ _. Compacted revision) o) (store_after_call (kept s) o) (kept_world w))
     (compacted_kept s k revision)
     ∙ quiet_kept (λ _. Compacted revision) (raised s revision) w
 
@@ -504,18 +501,9 @@ advance_opens moment expired old new (inr cut) = cut_opens moment expired old ne
 
 want_opens : (event : WorldEvent) (expired : List Expired) (old new : World) → OutOfMemoryReturns event expired old new →
     new.standing.history.opening ≡ old.standing.history.opening
-want_opens (Start program level limit) expired old new want = unchanged_opens expired old new want.0
-want_opens (Step id) expired old new want = unchanged_opens expired old new want.0
-want_opens (Txn txn) expired old new want = unchanged_opens expired old new want.0
-want_opens (Grant id ttl) expired old new want = unchanged_opens expired old new want.0
-want_opens (Keep id) expired old new want = unchanged_opens expired old new want.0
-want_opens (Revoke id) expired old new want = unchanged_opens expired old new want.0
 want_opens (Advance moment) expired old new want = advance_opens moment expired old new want.1
-want_opens (WatchKey key from) expired old new want = unchanged_opens expired old new want.0
-want_opens (WatchRange first end from) expired old new want = unchanged_opens expired old new want.0
-want_opens (Poll watcher most) expired old new want = unchanged_opens expired old new want.0
-want_opens (Cancel watcher) expired old new want = unchanged_opens expired old new want.0
 want_opens (Compact revision) expired old new want = absurd want
+want_opens _ expired old new want = unchanged_opens expired old new want.0
 
 is_step_opens : (event : WorldEvent) (reply : Result Reply Denied) (old new : World) → IsSound old → IsStep (step event old) reply new →
     new.standing.history.opening ≡ old.standing.history.opening

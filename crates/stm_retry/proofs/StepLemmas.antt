@@ -8,7 +8,7 @@ use Rattle.stm_history.specs.declared.key_state.ReadAnswer.{ReadAnswer}
 use Rattle.stm_history.specs.History.{History, now, mod_of}
 use Rattle.stm_program.specs.Syntax.{ProgramTree}
 use Rattle.stm_program.specs.declared.level.Level.{Level}
-use Rattle.stm_program.specs.declared.write.Write.{Write}
+use Rattle.stm_history.specs.declared.change.Change.{Change}
 use Rattle.stm_program.specs.Writes.{latest_writes}
 use Rattle.stm_steps.specs.declared.value.Value.{Value}
 use Rattle.stm_steps.specs.declared.trace_item.TraceItem.{TraceItem}
@@ -550,7 +550,7 @@ fail_leaves : (id : ℕ) (r q : Runner) (run : Run) (ready : ReadyRun) (j after 
 fail_leaves id r q run ready j after key seen modified answers reported x y reported_is again slots =
     let w : World = world_around (workplace j r) slots in
     let reads : List ReadAnswer = r.known.reads in
-    let writes : List Write = latest_writes run.writes in
+    let writes : List Change = latest_writes run.writes in
     let answers_are : answers ≡ map (answer_now j.standing.history) (reread_keys r.task.level reads) =
     y.answers_are ∙ ap (λ (p : ReadyRun). map (answer_now j.standing.history) (reread_keys p.level p.answers)) x.is in
     let about : Seen = seen_in (slice_get (seen_by reads writes) y.failed.index) in

@@ -15,19 +15,17 @@ use Rattle.stm_entries.specs.Entered.{expiries}
 use Rattle.stm_events.specs.declared.event.WorldEvent.{WorldEvent}
 use Rattle.stm_events.specs.declared.event.WorldEvent.TheVariants.{Start, Step, Txn, Grant, Keep, Revoke, Advance, WatchKey, WatchRange, Poll, Cancel, Compact}
 use Rattle.stm_events.specs.declared.reply.Reply.{Reply}
-use Rattle.stm_events.specs.declared.reply.Reply.TheVariants.{Started, Prefetched, Fetched, Committed, Conflict, GaveUp, Aborted, Faulted, Ended, Advanced}
-use Rattle.stm_events.specs.declared.reply.Reply.TheVariants.{Txn as TxnDone, Granted, Kept, Revoked, Watching, Batch, Cancelled, Compacted, Lost}
+use Rattle.stm_events.specs.declared.reply.Reply.TheVariants.{Started}
 use Rattle.stm_events.specs.declared.refusal.Denied.{Denied}
 use Rattle.stm_events.specs.Replies.{advance_reply}
-use Rattle.stm_world.specs.Log.{expired_reported}
+use Rattle.stm_events.specs.Called.{expired_reported}
 use Rattle.stm_world.specs.World.{World, step, world_after, replies_to}
 use Rattle.stm_world.specs.Sound.{after_expiries}
-use Rattle.stm_events.proofs.Calls.{advance_ended, advance_due}
+use Rattle.stm_events.proofs.CallMeans.{advance_ended, advance_due}
 use Rattle.stm_retry.specs.declared.world.RunStop.{RunStop}
 use Rattle.stm_retry.proofs.CallLemmas.{world_with}
 use Rattle.stm_retry.specs.Returns.{IsUnchanged, IsCutShort, OutOfMemoryReturns, OutOfMemoryReturnsAt, IsRunStop}
-use Rattle.stm_retry.specs.Stops.{with_expired, first_with_expired, RepeatsAlike, GoesOnAlike, Stop, AreStops, ComeToTheWhole}
-use Rattle.stm_retry.specs.Stops.{StopsGoOn, WrongStops}
+use Rattle.stm_retry.specs.Stops.{with_expired, first_with_expired, RepeatsAlike, GoesOnAlike, Stop, AreStops, ComeToTheWhole, StopsGoOn, WrongStops}
 
 -- ---- an advance ----
 
@@ -128,25 +126,7 @@ cut_repeats moment expired old new above cut =
 -- with nothing in front a reply is as it is
 none_in_front : (reply : Result Reply Denied) → with_expired [] reply ≡ reply
 none_in_front (Ok (Started runner)) = refl
-none_in_front (Ok (Prefetched runner revision reads)) = refl
-none_in_front (Ok (Fetched runner key mod_rev of_rev revision)) = refl
-none_in_front (Ok (Committed runner revision attempts output trace answers)) = refl
-none_in_front (Ok (Conflict runner key seen now)) = refl
-none_in_front (Ok (GaveUp runner attempts key seen now)) = refl
-none_in_front (Ok (Aborted runner text)) = refl
-none_in_front (Ok (Faulted runner fault)) = refl
-none_in_front (Ok (Ended runner cause)) = refl
-none_in_front (Ok (TxnDone succeeded revision answers)) = refl
-none_in_front (Ok (Granted id)) = refl
-none_in_front (Ok (Kept id)) = refl
-none_in_front (Ok (Revoked id revision)) = refl
-none_in_front (Ok (Advanced moment expired)) = refl
-none_in_front (Ok (Watching watcher)) = refl
-none_in_front (Ok (Batch watcher upto events)) = refl
-none_in_front (Ok (Cancelled watcher)) = refl
-none_in_front (Ok (Compacted revision)) = refl
-none_in_front (Ok (Lost watcher floor)) = refl
-none_in_front (Err denied) = refl
+none_in_front _ = refl
 
 none_before : (replies : List (Result Reply Denied)) → first_with_expired [] replies ≡ replies
 none_before [] = refl
@@ -257,18 +237,9 @@ advance_again moment expired old new above (inr cut) some same =
 
 event_again : (event : WorldEvent) (expired : List Expired) (old new : World) → OutOfMemoryReturns event expired old new → expired ≢ [] →
     (step event old).reply ≡ (step event new).reply → ⊥
-event_again (Start program level limit) expired old new want some same = some want.0.0
-event_again (Step id) expired old new want some same = some want.0.0
-event_again (Txn txn) expired old new want some same = some want.0.0
-event_again (Grant id ttl) expired old new want some same = some want.0.0
-event_again (Keep id) expired old new want some same = some want.0.0
-event_again (Revoke id) expired old new want some same = some want.0.0
 event_again (Advance moment) expired old new want some same = advance_again moment expired old new want.0 want.1 some same
-event_again (WatchKey key from) expired old new want some same = some want.0.0
-event_again (WatchRange first end from) expired old new want some same = some want.0.0
-event_again (Poll watcher most) expired old new want some same = some want.0.0
-event_again (Cancel watcher) expired old new want some same = some want.0.0
 event_again (Compact revision) expired old new want some same = absurd want
+event_again _ expired old new want some same = some want.0.0
 
 first_alike : (x y : Result Reply Denied) (xs ys : List (Result Reply Denied)) → x ∷ xs ≡ y ∷ ys → x ≡ y
 first_alike x y xs ys is = cc
@@ -306,18 +277,9 @@ advance_undone moment expired old new (inl unchanged) some same = some unchanged
 advance_undone moment expired old new (inr cut) some same = grown old.entries expired some (ap (λ (w : World). w.entries) (sym same ∙ cut.rest))
 
 event_undone : (event : WorldEvent) (expired : List Expired) (old new : World) → OutOfMemoryReturns event expired old new → expired ≢ [] → new ≡ old → ⊥
-event_undone (Start program level limit) expired old new want some same = some want.0.0
-event_undone (Step id) expired old new want some same = some want.0.0
-event_undone (Txn txn) expired old new want some same = some want.0.0
-event_undone (Grant id ttl) expired old new want some same = some want.0.0
-event_undone (Keep id) expired old new want some same = some want.0.0
-event_undone (Revoke id) expired old new want some same = some want.0.0
 event_undone (Advance moment) expired old new want some same = advance_undone moment expired old new want.1 some same
-event_undone (WatchKey key from) expired old new want some same = some want.0.0
-event_undone (WatchRange first end from) expired old new want some same = some want.0.0
-event_undone (Poll watcher most) expired old new want some same = some want.0.0
-event_undone (Cancel watcher) expired old new want some same = some want.0.0
 event_undone (Compact revision) expired old new want some same = absurd want
+event_undone _ expired old new want some same = some want.0.0
 
 stopped_undone : (o : Option WorldEvent) (expired : List Expired) (before new : World) → OutOfMemoryReturnsAt o expired before new → expired ≢ [] → new ≡ before → ⊥
 stopped_undone None expired before new want some same = absurd want

@@ -16,7 +16,7 @@ use Rattle.stm_events.specs.declared.reply.Reply.{Reply}
 use Rattle.stm_events.specs.declared.reply.Reply.TheVariants.{Lost}
 use Rattle.stm_events.specs.declared.refusal.Denied.{Denied}
 use Rattle.stm_events.specs.Replies.{event_refusal, denied, reply_to, batch_reply, poll_reply, store_after_call, store_after_poll}
-use Rattle.stm_world.specs.World.{Slot, Stepped, step, quietly_called}
+use Rattle.stm_world.specs.World.{Slot, Stepped, step, after_quiet_call}
 use Rattle.stm_retry.specs.Returns.{OutOfMemoryReturns, Returns}
 use Rattle.stm_retry.specs.WorldOf.{world_of}
 use Rattle.stm_retry.specs.CallReturns.{CallReturns}
@@ -29,7 +29,7 @@ use Rattle.stm_retry.proofs.CallLemmas.{refusal_reports, world_with, QuietReturn
 -- the world's step at an event is this call of the store, which is no entry
 abbrev pub IsWatchCall : {A : Type 0} → WorldEvent → (A → Reply) → Standing → Result (StoreStep A) StoreRefusal → Type 0
 IsWatchCall event report s o =
-    (runners : List Slot) (es : List Entry) → step event (world_with runners s es) ≡ quietly_called (reply_to report o) (store_after_call s o) (world_with runners s es)
+    (runners : List Slot) (es : List Entry) → step event (world_with runners s es) ≡ after_quiet_call (reply_to report o) (store_after_call s o) (world_with runners s es)
 
 -- the event may be refused as out of memory where the step takes it
 abbrev pub MayWant : WorldEvent → Standing → Type 0
@@ -57,7 +57,7 @@ taken_by : {A : Type 0} (event : WorldEvent) (report : A → Reply) (s next : St
 taken_by {A = A} event report s next o answer reply call taken replied es runners =
     let one : step event (world_with runners s es) ≡ record { reply = Ok (report answer); next = world_with runners next es } =
     call runners es
-    ∙ ap (λ (x : Result (StoreStep A) StoreRefusal). quietly_called (reply_to report x) (store_after_call s x) (world_with runners s es)) taken in
+    ∙ ap (λ (x : Result (StoreStep A) StoreRefusal). after_quiet_call (reply_to report x) (store_after_call s x) (world_with runners s es)) taken in
     subst (λ (r : Result Reply Denied). Returns event r (world_with runners s es) (world_with runners next es)) (sym replied)
     (record { reply_is = ap (λ (x : Stepped). x.reply) one; next_is = ap (λ (x : Stepped). x.next) one })
 
@@ -87,7 +87,7 @@ poll_of s id most w lost = poll_step s (cond lost (Err LostToPoll) (Ok (record {
 
 -- what the world's step makes of the poll
 abbrev poll_stepped : Standing → ℕ → Result (StoreStep Batch) StoreRefusal → List Slot → List Entry → Stepped
-poll_stepped s id o runners es = quietly_called (poll_reply id s.floor o) (store_after_poll id s o) (world_with runners s es)
+poll_stepped s id o runners es = after_quiet_call (poll_reply id s.floor o) (store_after_poll id s o) (world_with runners s es)
 
 stepped_as : (s : Standing) (id most : ℕ) (o : Result (StoreStep Batch) StoreRefusal) → polled s id most ≡ o → (runners : List Slot) (es : List Entry) →
     step (Poll id most) (world_with runners s es) ≡ poll_stepped s id o runners es

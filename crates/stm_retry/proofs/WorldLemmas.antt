@@ -1,7 +1,6 @@
 -- What the calls of a world keep and report.
-use Rattle.std.proofs.Common.{◌≡◌, ◌<◌, ◌∙◌, ◌⊎◌, inl, inr, ℕ, ◌+◌, List, [], ◌∷◌, ◌++◌, length, Option, Some, None, Result, Ok, Err, Bool}
-use Rattle.std.proofs.Common.{true, false, cond}
-use Rattle.std.proofs.Common.{refl, sym, ap, subst, get_or, drop, take, append_assoc, OnOk, OnErr}
+use Rattle.std.proofs.Common.{◌≡◌, ◌<◌, ◌∙◌, ◌⊎◌, inl, inr, ℕ, ◌+◌, List, [], ◌∷◌, ◌++◌, length, Option, Some, None, Result, Ok, Err, Bool, true, false}
+use Rattle.std.proofs.Common.{cond, refl, sym, ap, subst, get_or, drop, take, append_assoc, OnOk, OnErr}
 use Rattle.std.specs.Prelude.{IsOk, IsTrue, ◌↔◌, nat_eq, nat_lt, slice_get}
 use Rattle.std.specs.declared.alloc.AllocError.{AllocError}
 use Rattle.std.proofs.lemmas.List.{drop_more, take_more}
@@ -21,8 +20,7 @@ use Rattle.stm_outcome.specs.declared.refusal.Refusal.{Refusal as StoreRefusal}
 use Rattle.stm_outcome.specs.declared.refusal.Refusal.TheVariants.{Compacted}
 use Rattle.stm_outcome.specs.Commits.{revision_read}
 use Rattle.stm_outcome.specs.Outcome.{Done}
-use Rattle.stm_txn.specs.Standing.{terms_of}
-use Rattle.stm_txn.specs.Standing.{Setup}
+use Rattle.stm_txn.specs.Standing.{terms_of, Setup}
 use Rattle.stm_outcome.specs.Terms.{is_below_floor}
 use Rattle.stm_events.specs.declared.reply.Reply.TheVariants.{Ended}
 use Rattle.stm_compile.specs.Committed.{committed}
@@ -31,16 +29,15 @@ use Rattle.stm_attempt.specs.Settled.{run_on}
 use Rattle.stm_attempt.specs.Entering.{is_due}
 use Rattle.stm_attempt.specs.Fetches.{at_of}
 use Rattle.stm_events.specs.declared.event.WorldEvent.{WorldEvent}
-use Rattle.stm_events.specs.declared.event.WorldEvent.TheVariants.{Start, Step, Txn, Grant, Keep, Revoke, Advance, WatchKey, WatchRange, Poll, Cancel, Compact}
+use Rattle.stm_events.specs.declared.event.WorldEvent.TheVariants.{Start, Step, Advance, Compact}
 use Rattle.stm_events.specs.declared.reply.Reply.{Reply}
 use Rattle.stm_events.specs.declared.refusal.EventRefusal.{EventRefusal}
 use Rattle.stm_events.specs.declared.refusal.EventRefusal.TheVariants.{OutOfMemory, BadLimit}
 use Rattle.stm_events.specs.Replies.{event_refusal}
 use Rattle.stm_events.specs.declared.refusal.Denied.{Denied}
 use Rattle.stm_world.specs.Task.{Task}
-use Rattle.stm_world.specs.World.{World, Runner, Stepped, Over, runner_at, refused, replied, start_runner, fetch, fail_commit, decided, commit_reported, commit, finish}
-use Rattle.stm_world.specs.World.{fetch_list, step_on, step_live, step_runner}
-use Rattle.stm_world.specs.World.{step, world_after, replies_to}
+use Rattle.stm_world.specs.World.{World, Runner, Stepped, Over, runner_at, refused, replied, start_runner, fetch, fail_commit, decided, commit_reported}
+use Rattle.stm_world.specs.World.{commit, finish, fetch_list, step_on, step_live, step_runner, step, world_after, replies_to}
 use Rattle.stm_world.specs.Sound.{IsSound}
 use Rattle.stm_world.specs.Headline.{Holds}
 use Rattle.stm_compile.proofs.AgreeLemmas.{commit_is_the_run_now}
@@ -173,18 +170,9 @@ advance_sound moment expired old new sound (inl same) = unchanged_sound expired 
 advance_sound moment expired old new sound (inr cut) = cut_sound moment expired old new sound cut
 
 want_sound : (event : WorldEvent) (expired : List Expired) (old new : World) → IsSound old → OutOfMemoryReturns event expired old new → IsSound new
-want_sound (Start program level limit) expired old new sound want = unchanged_sound expired old new sound want.0
-want_sound (Step id) expired old new sound want = unchanged_sound expired old new sound want.0
-want_sound (Txn txn) expired old new sound want = unchanged_sound expired old new sound want.0
-want_sound (Grant id ttl) expired old new sound want = unchanged_sound expired old new sound want.0
-want_sound (Keep id) expired old new sound want = unchanged_sound expired old new sound want.0
-want_sound (Revoke id) expired old new sound want = unchanged_sound expired old new sound want.0
 want_sound (Advance moment) expired old new sound want = advance_sound moment expired old new sound want.1
-want_sound (WatchKey key from) expired old new sound want = unchanged_sound expired old new sound want.0
-want_sound (WatchRange first end from) expired old new sound want = unchanged_sound expired old new sound want.0
-want_sound (Poll watcher most) expired old new sound want = unchanged_sound expired old new sound want.0
-want_sound (Cancel watcher) expired old new sound want = unchanged_sound expired old new sound want.0
 want_sound (Compact revision) expired old new sound want = absurd want
+want_sound _ expired old new sound want = unchanged_sound expired old new sound want.0
 
 is_step_sound : (event : WorldEvent) (reply : Result Reply Denied) (old new : World) → IsSound old → IsStep (step event old) reply new → IsSound new
 is_step_sound event reply old new sound is = subst IsSound is.next_is (step_is_sound event old sound)

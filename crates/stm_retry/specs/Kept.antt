@@ -15,7 +15,7 @@ use Rattle.stm_events.specs.declared.reply.Reply.{Reply}
 use Rattle.stm_events.specs.declared.reply.Reply.TheVariants.{Compacted}
 use Rattle.stm_events.specs.declared.refusal.Denied.{Denied}
 use Rattle.stm_events.specs.Replies.{reply_to, store_after_call}
-use Rattle.stm_world.specs.World.{World, Runner, Stepped, runner_at, quietly_called}
+use Rattle.stm_world.specs.World.{World, Runner, Stepped, runner_at, after_quiet_call}
 use Rattle.stm_world.specs.Sound.{IsSound}
 use Rattle.stm_retry.specs.Returns.{IsStep, Returns}
 
@@ -42,7 +42,7 @@ pub record IsKeptBy (store : Standing) (w : World) : Type 0 where
 abbrev pub compact_kept : ℕ → World → Stepped
 compact_kept revision w =
     let o = compacted w.standing revision in
-    quietly_called (reply_to (λ _. Compacted revision) o) (store_after_call w.standing o) w
+    after_quiet_call (reply_to (λ _. Compacted revision) o) (store_after_call w.standing o) w
 
 -- The reply and the next world are the step's, unless memory ran out; but a compaction drops something.
 abbrev pub KeptReturns : WorldEvent → Result Reply Denied → World → World → Type 0

@@ -1,25 +1,20 @@
 -- The ends of exactly those runners are known that have ended.
-use Rattle.std.proofs.Common.{◌≡◌, ℕ, zero, suc, ◌+◌, ◌-◌, Bool, true, false, cond, nat_eq, List, [], ◌∷◌, ◌++◌, length, Option, Some, None, Result, Ok, Err}
+use Rattle.std.proofs.Common.{◌≡◌, ℕ, zero, suc, ◌+◌, ◌-◌, Bool, true, false, cond, nat_eq, List, [], ◌∷◌, ◌++◌, length, Option, Some, None, Result, Ok}
 use Rattle.std.proofs.Common.{inl, inr, refl, sym, ◌∙◌, ap, subst, arith}
 use Rattle.std.specs.Prelude.{slice_get, slice_set}
-use Rattle.stm_outcome.specs.declared.advance.Expired.{Expired}
-use Rattle.stm_outcome.specs.declared.refusal.Refusal.{Refusal as StoreRefusal}
-use Rattle.stm_txn.specs.Standing.{Step as StoreStep}
-use Rattle.stm_txn.specs.Standing.{transacted, granted, kept_alive, revoked, advanced, watched, cancelled, raised}
-use Rattle.stm_txn.specs.Standing.{Setup}
-use Rattle.stm_watch.specs.declared.watched.Watched.TheVariants.{Key, Range}
+use Rattle.stm_txn.specs.Standing.{Standing, Setup}
 use Rattle.stm_events.specs.declared.event.WorldEvent.{WorldEvent}
-use Rattle.stm_events.specs.declared.event.WorldEvent.TheVariants.{Start, Step, Txn, Grant, Keep, Revoke, Advance}
-use Rattle.stm_events.specs.declared.event.WorldEvent.TheVariants.{WatchKey, WatchRange, Poll, Cancel, Compact}
 use Rattle.stm_events.specs.declared.reply.Reply.{Reply}
-use Rattle.stm_events.specs.declared.reply.Reply.TheVariants.{Started, Granted, Kept, Revoked, Watching, Cancelled, Compacted}
+use Rattle.stm_events.specs.declared.reply.Reply.TheVariants.{Started, Committed, GaveUp, Aborted, Faulted, Ended}
 use Rattle.stm_events.specs.declared.refusal.Denied.{Denied}
 use Rattle.stm_events.specs.declared.refusal.EventRefusal.TheVariants.{BadLimit}
-use Rattle.stm_events.specs.Replies.{txn_reply, reply_to, advance_reply}
-use Rattle.stm_world.specs.World.{World, Runner, Slot, Over, Live, Stepped, live_in, runner_at, with_slot, refused, begin, start_runner, step_runner, step, world_after, replies_to, opened}
+use Rattle.stm_events.specs.Replies.{runner_named}
+use Rattle.stm_events.specs.Called.{Call, Asked, Starts, Steps, Calls, asked, called}
+use Rattle.stm_world.specs.World.{World, Runner, Slot, Over, Live, Stepped, live_in, runner_at, with_slot, refused, begin, start_runner, step_runner, step_asked, step, world_after, replies_to, opened}
 use Rattle.stm_world.specs.Task.{Task}
 use Rattle.stm_world.proofs.Slots.{other_number}
-use Rattle.stm_world.proofs.WatchCalls.{poll_reported}
+use Rattle.stm_events.proofs.CallReplies.{call_replies}
+use Rattle.stm_world.proofs.Calls.{call_adds}
 use Rattle.stm_schedules.specs.declared.moves.Move.{Move}
 use Rattle.stm_schedules.specs.declared.moves.Move.TheVariants.{Step as StepOf}
 use Rattle.stm_schedules.specs.declared.outcome.RunnerEnd.{RunnerEnd}
@@ -115,35 +110,27 @@ unfolding start_runner
 known_start task w ends known = known_start_by (nat_eq task.limit 0) task w ends known
 
 -- a call of the store says nothing of runners
-call_reported : {A : Type 0} (report : A → Reply) (o : Result (StoreStep A) StoreRefusal) (ends : Ends) → ((x : A) → after_reply (report x) ends ≡ ends) →
-    after_reported (reply_to report o) ends ≡ ends
-call_reported report (Ok done) ends each = each done.answer
-call_reported report (Err cause) ends each = refl
+nothing_ends : (ends : Ends) (reply : Reply) → runner_named reply ≡ None → after_reply reply ends ≡ ends
+nothing_ends ends (Started runner) none = absurd (cc)
+nothing_ends ends (Committed runner revision attempts output trace answers) none = absurd (cc)
+nothing_ends ends (GaveUp runner attempts key seen now) none = absurd (cc)
+nothing_ends ends (Aborted runner text) none = absurd (cc)
+nothing_ends ends (Faulted runner fault) none = absurd (cc)
+nothing_ends ends (Ended runner cause) none = absurd (cc)
+nothing_ends ends reply none = refl
 
-advance_reported : (moment : ℕ) (expired : List Expired) (cause : Option StoreRefusal) (ends : Ends) → after_reported (advance_reply moment expired cause) ends ≡ ends
-advance_reported moment expired None ends = refl
-advance_reported moment expired (Some cause) ends = refl
+call_ends_none : (ends : Ends) (s : Standing) (c : Call) → after_reported (called s c).reply ends ≡ ends
+call_ends_none ends =
+    call_replies (λ (r : Result Reply Denied). after_reported r ends ≡ ends) (record { told = nothing_ends ends; refused = λ cause expired. refl })
 
-by_call : {A : Type 0} (report : A → Reply) (o : Result (StoreStep A) StoreRefusal) (w : World) (ends : Ends) → ((x : A) → after_reply (report x) ends ≡ ends) →
-    AreKnown w.runners ends → AreKnown w.runners (after_reported (reply_to report o) ends)
-by_call report o w ends each known = subst (λ (es : Ends). AreKnown w.runners es) (sym (call_reported report o ends each)) known
+known_asked : (a : Asked) (w : World) (ends : Ends) → AreKnown w.runners ends → StaysKnown ends (step_asked a w)
+known_asked (Starts program level limit) w ends known = known_start (record { program = program; level = level; limit = limit }) w ends known
+known_asked (Steps id) w ends known = known_step id (runner_at id w.runners) w ends refl known
+known_asked (Calls c) w ends known =
+    subst (StaysKnown ends) (sym (call_adds c w)) (subst (λ (es : Ends). AreKnown w.runners es) (sym (call_ends_none ends w.standing c)) known)
 
 known_event : (e : WorldEvent) (w : World) (ends : Ends) → AreKnown w.runners ends → StaysKnown ends (step e w)
-known_event (Start program level limit) w ends known = known_start (record { program = program; level = level; limit = limit }) w ends known
-known_event (Step id) w ends known = known_step id (runner_at id w.runners) w ends refl known
-known_event (Txn txn) w ends known = by_call txn_reply (transacted w.standing txn) w ends (λ x. refl) known
-known_event (Grant id ttl) w ends known = by_call (λ _. Granted id) (granted w.standing id ttl) w ends (λ x. refl) known
-known_event (Keep id) w ends known = by_call (λ _. Kept id) (kept_alive w.standing id) w ends (λ x. refl) known
-known_event (Revoke id) w ends known = by_call (Revoked id) (revoked w.standing id) w ends (λ x. refl) known
-known_event (Advance moment) w ends known =
-    let done = advanced w.standing moment in
-    subst (λ (es : Ends). AreKnown w.runners es) (sym (advance_reported moment done.expired done.cause ends)) known
-known_event (WatchKey key from) w ends known = by_call Watching (watched w.standing (Key key) from) w ends (λ x. refl) known
-known_event (WatchRange first end from) w ends known = by_call Watching (watched w.standing (Range first end) from) w ends (λ x. refl) known
-known_event (Poll watcher most) w ends known =
-    poll_reported (λ (reported : Result Reply Denied). AreKnown w.runners (after_reported reported ends)) w.standing watcher most (λ batch. known) known known
-known_event (Cancel watcher) w ends known = by_call (λ _. Cancelled watcher) (cancelled w.standing watcher) w ends (λ x. refl) known
-known_event (Compact revision) w ends known = by_call (λ _. Compacted revision) (raised w.standing revision) w ends (λ x. refl) known
+known_event e w ends known = known_asked (asked e) w ends known
 
 known_run : (events : List WorldEvent) (w : World) (ends : Ends) → AreKnown w.runners ends →
     AreKnown (world_after events w).runners (after_replies (replies_to events w) ends)

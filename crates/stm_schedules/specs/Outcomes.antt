@@ -1,8 +1,7 @@
 -- What whole schedules come to: the state, and how each runner ended.
 --
 -- The ends of runners are reported by the world's replies alone, so they are gathered from these.
-use Rattle.std.specs.Prelude.{◌≡◌, ◌↔◌, ◌≤◌, ℕ, zero, suc, ◌-◌, List, [], ◌∷◌, ◌++◌, map, length, Option, None, Some}
-use Rattle.std.specs.Prelude.{Result, Ok, Err, slice_set, Contains}
+use Rattle.std.specs.Prelude.{◌≡◌, ◌↔◌, ◌≤◌, ℕ, zero, suc, ◌-◌, List, [], ◌∷◌, ◌++◌, map, length, Option, None, Some, Result, Ok, Err, slice_set, Contains}
 use Rattle.std.specs.List.{filter_map, flat_map}
 use Rattle.stm_history.specs.History.{History, key_now, value_of}
 use Rattle.stm_txn.specs.PresentKeys.{keys_present}

@@ -6,8 +6,7 @@ use Rattle.std.proofs.Math.Seq.{drop-cons}
 use Rattle.std.proofs.lemmas.List.{drop_all}
 use Rattle.stm_program.specs.Syntax.{ProgramTree}
 use Rattle.stm_events.specs.declared.event.WorldEvent.{WorldEvent}
-use Rattle.stm_events.specs.declared.event.WorldEvent.TheVariants.{Start, Step, Txn, Grant, Keep, Revoke, Advance}
-use Rattle.stm_events.specs.declared.event.WorldEvent.TheVariants.{WatchKey, WatchRange, Poll, Cancel, Compact}
+use Rattle.stm_events.specs.declared.event.WorldEvent.TheVariants.{Start, Step}
 use Rattle.stm_events.specs.declared.reply.Reply.TheVariants.{Started}
 use Rattle.stm_events.specs.declared.refusal.EventRefusal.TheVariants.{BadLimit}
 use Rattle.stm_world.specs.Task.{Task}
@@ -167,16 +166,7 @@ event_has : (e : WorldEvent) (programs : List ProgramTree) (w : World) → is_st
     HasPrograms (programs ++ program_started e) (step e w).next.runners
 event_has (Start program level limit) programs w none has = start_has programs (record { program = program; level = level; limit = limit }) w has
 event_has (Step id) programs w none has = absurd (cc)
-event_has (Txn txn) programs w none has = no_more programs w.runners has
-event_has (Grant id ttl) programs w none has = no_more programs w.runners has
-event_has (Keep id) programs w none has = no_more programs w.runners has
-event_has (Revoke id) programs w none has = no_more programs w.runners has
-event_has (Advance moment) programs w none has = no_more programs w.runners has
-event_has (WatchKey key from) programs w none has = no_more programs w.runners has
-event_has (WatchRange first end from) programs w none has = no_more programs w.runners has
-event_has (Poll watcher most) programs w none has = no_more programs w.runners has
-event_has (Cancel watcher) programs w none has = no_more programs w.runners has
-event_has (Compact revision) programs w none has = no_more programs w.runners has
+event_has _ programs w none has = no_more programs w.runners has
 
 events_have : (es : List WorldEvent) (programs : List ProgramTree) (w : World) → HaveNoStep es → HasPrograms programs w.runners →
     HasPrograms (programs ++ programs_started es) (world_after es w).runners

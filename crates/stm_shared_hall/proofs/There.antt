@@ -2,7 +2,7 @@
 use Rattle.std.proofs.Common.{◌≡◌, List, Result, Ok, Err}
 use Rattle.stm_history.specs.declared.key_state.ReadAnswer.{ReadAnswer}
 use Rattle.stm_program.specs.declared.level.Level.{Level}
-use Rattle.stm_program.specs.declared.write.Write.{Write}
+use Rattle.stm_history.specs.declared.change.Change.{Change}
 use Rattle.stm_outcome.specs.declared.refusal.Refusal.{Refusal}
 use Rattle.stm_journal.specs.JournalState.{JournalState}
 use Rattle.stm_hall.specs.Locked.{IsLocked}
@@ -12,7 +12,7 @@ use Rattle.stm_closures.specs.Committing.{IsCommittedInHall}
 use Rattle.stm_closures.specs.Outcomes.{CommitReturns}
 use Rattle.stm_shared_hall.specs.Sharing.{IsCommittedThere}
 
-pub is_there : (before after : JournalState) (level : Level) (reads : List ReadAnswer) (writes : List Write) (result : Result CommitOutcome Refusal)
+pub is_there : (before after : JournalState) (level : Level) (reads : List ReadAnswer) (writes : List Change) (result : Result CommitOutcome Refusal)
     → IsLocked before → CommitReturns (IsCommittedInHall before level reads writes after) (after ≡ before) result
     → CommitReturns (IsCommittedThere level reads writes) (Unit {0}) result
 is_there before after level reads writes (Ok Committed) locked done = record { before = before; left = after; locked = locked; committed = done }

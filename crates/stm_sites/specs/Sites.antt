@@ -1,9 +1,8 @@
 -- Where a run stops: in which node of its program, and on which values. The meaning of a program says whether a part stops.
 -- The indices are those of the program's JSON, in whose arrays the word is at 0.
 use Rattle.std.specs.Prelude.{ℕ, zero, suc, Bool, true, false, List, [], ◌∷◌, Result, Ok, Err}
-use Rattle.stm_program.specs.Syntax.{Expression, Condition, Statement, Block}
-use Rattle.stm_program.specs.Syntax.{Text, Number, Variable, Get, Rev, Arithmetic, Cat, TextOf, NumOf, Equal, Less, Not, And, Or, Set, Put, Del, If}
-use Rattle.stm_program.specs.Syntax.{For, Emit, Abort, End, Then}
+use Rattle.stm_program.specs.Syntax.{Expression, Condition, Statement, Block, Text, Number, Variable, Get, Rev, Arithmetic, Cat, TextOf, NumOf, Equal, Less}
+use Rattle.stm_program.specs.Syntax.{Not, And, Or, Set, Put, Del, If, For, Emit, Abort, End, Then}
 use Rattle.stm_steps.specs.declared.value.Value.{Value}
 use Rattle.stm_steps.specs.declared.fault.Fault.{Fault}
 use Rattle.stm_steps.specs.Answer.{Lookup}

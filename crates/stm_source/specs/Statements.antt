@@ -11,8 +11,7 @@ use Rattle.stm_tokens.specs.declared.token.Word.TheVariants as word
 use Rattle.stm_tokens.specs.Same.{same_symbol, same_word}
 use Rattle.stm_program.specs.declared.limits.TheConstants.{MAX_TURNS, MAX_LEASE}
 use Rattle.stm_program.specs.declared.operator.Operator.TheVariants.{Add, Sub}
-use Rattle.stm_program.specs.Syntax.{Expression, Number, Variable}
-use Rattle.stm_program.specs.Syntax.{Statement, Set, Put, Del, If, For, Emit, Abort, Block, End, Then}
+use Rattle.stm_program.specs.Syntax.{Expression, Number, Variable, Statement, Set, Put, Del, If, For, Emit, Abort, Block, End, Then}
 use Rattle.stm_terms.specs.declared.faults.SourceCause.TheVariants as cause
 use Rattle.stm_terms.specs.declared.scope.Scope.{Scope}
 use Rattle.stm_program.specs.BlockView.{block_of}

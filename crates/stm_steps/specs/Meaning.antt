@@ -2,9 +2,8 @@
 pub use Rattle.stm_steps.specs.Steps.{get_answered, rev_answered, get_of, run_of}
 unfoldable pub use Rattle.stm_steps.specs.Steps.{get_key, rev_key}
 use Rattle.std.specs.Prelude.{ℕ, suc, zero, Bool, true, false, not, List}
-use Rattle.stm_program.specs.Syntax.{Expression, Condition, Statement, Block}
-use Rattle.stm_program.specs.Syntax.{Text, Number, Variable, Get, Rev, Arithmetic, Cat, TextOf, NumOf, Equal, Less, Not, And, Or, Set, Put, Del, If}
-use Rattle.stm_program.specs.Syntax.{For, Emit, Abort, End, Then}
+use Rattle.stm_program.specs.Syntax.{Expression, Condition, Statement, Block, Text, Number, Variable, Get, Rev, Arithmetic, Cat, TextOf, NumOf, Equal, Less}
+use Rattle.stm_program.specs.Syntax.{Not, And, Or, Set, Put, Del, If, For, Emit, Abort, End, Then}
 use Rattle.stm_steps.specs.declared.value.Value.{Value}
 use Rattle.stm_steps.specs.declared.value.Value.TheVariants.{Text as TextValue, Number as NumberValue}
 use Rattle.stm_steps.specs.declared.stop.Stop.TheVariants.{Aborted, Faulted, Wants}

@@ -1,7 +1,7 @@
 -- The state of a run in progress, and what each of its steps adds.
 use Rattle.std.specs.Prelude.{ℕ, ◌+◌, bytes_eq, if◌then◌else◌, List, [], ◌∷◌, ◌++◌, replicate, slice_set, slice_index_or, pos}
 use Rattle.std.specs.List.{list_any}
-use Rattle.stm_program.specs.declared.write.Write.{Write}
+use Rattle.stm_history.specs.declared.change.Change.{Change}
 use Rattle.stm_steps.specs.declared.value.Value.{Value}
 use Rattle.stm_steps.specs.declared.value.Value.TheVariants.{Number}
 use Rattle.stm_steps.specs.declared.variables.TheConstants.{VARIABLE_COUNT}
@@ -14,7 +14,7 @@ pub record Session : Type 0 where
   pub turns : ℕ
   pub output : List Value
   pub trace : List TraceItem
-  pub writes : List Write
+  pub writes : List Change
   pub reads : List (List ℕ)
 
 -- each variable starts as the number 0
@@ -33,7 +33,7 @@ with_turn s = record s { turns = s.turns + 1 }
 abbrev pub with_output : Value → Session → Session
 with_output x s = record s { output = s.output ++ x ∷ [] }
 
-abbrev pub with_write : Write → Session → Session
+abbrev pub with_write : Change → Session → Session
 with_write w s = record s { writes = s.writes ++ w ∷ [] }
 
 abbrev pub with_item : TraceItem → Session → Session

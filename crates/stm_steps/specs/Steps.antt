@@ -1,7 +1,8 @@
 -- What a `get` and a `rev` of a key come to, and what a run gives at its end.
 use Rattle.std.specs.Prelude.{List, ℕ, pos, Option, None, Some}
-use Rattle.stm_program.specs.declared.write.Write.{Write}
-use Rattle.stm_program.specs.Writes.{last_write, value_of}
+use Rattle.stm_history.specs.declared.change.Change.{Change}
+use Rattle.stm_history.specs.History.{value_written}
+use Rattle.stm_program.specs.Writes.{last_write}
 use Rattle.stm_steps.specs.declared.value.Value.{Value}
 use Rattle.stm_steps.specs.declared.value.Value.TheVariants.{Text as TextValue, Number as NumberValue}
 use Rattle.stm_steps.specs.declared.stop.Stop.TheVariants.{Wants}
@@ -22,8 +23,8 @@ rev_answered key None s = Stops (Wants key) s
 rev_answered key (Some a) s = Gives (NumberValue (pos a.mod_rev)) (with_item (RevItem key a.mod_rev) (with_read key s))
 
 -- a `get` sees the last write of its key, and the look-up where there is none
-abbrev pub get_of : Lookup → List ℕ → Option Write → Session → Outcome Value
-get_of look key (Some w) s = Gives (TextValue (value_of w)) (with_item (GetItem key (value_of w)) s)
+abbrev pub get_of : Lookup → List ℕ → Option Change → Session → Outcome Value
+get_of look key (Some w) s = Gives (TextValue (value_written w)) (with_item (GetItem key (value_written w)) s)
 get_of look key None s = get_answered key (look key) s
 
 unfoldable pub get_key : Lookup → List ℕ → Session → Outcome Value

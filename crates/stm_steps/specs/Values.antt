@@ -8,8 +8,8 @@ use Rattle.std.specs.Str.{all_ascii_digits}
 use Rattle.std.specs.Str.Parse.{digits_value}
 use Rattle.stm_program.specs.declared.operator.Operator.{Operator}
 use Rattle.stm_program.specs.declared.operator.Operator.TheVariants.{Add, Sub, Mul, Div, Rem}
-use Rattle.stm_program.specs.declared.write.Write.{Write}
-use Rattle.stm_program.specs.declared.write.Write.TheVariants.{Put, Del}
+use Rattle.stm_history.specs.declared.change.Change.{Change}
+use Rattle.stm_history.specs.declared.change.Change.TheVariants.{Put, Del}
 use Rattle.std.specs.declared.cmp.Ordering.{Ordering}
 use Rattle.std.specs.declared.cmp.Ordering.TheVariants.{Less, Equal, Greater}
 use Rattle.stm_steps.specs.declared.value.Value.{Value}
@@ -139,13 +139,13 @@ less (Number a) (Number b) = Ok (int_lt a b)
 -- ---- statements ----
 
 -- a put of a key: the kinds of key and value are checked first, then whether the key is empty
-unfoldable pub put_of : Value → Value → ℕ → Result Write Fault
+unfoldable pub put_of : Value → Value → ℕ → Result Change Fault
 put_of (Number a) y lease = Err Kind
 put_of (Text t) (Number b) lease = Err Kind
 put_of (Text []) (Text u) lease = Err EmptyKey
 put_of (Text (c ∷ cs)) (Text u) lease = Ok (Put (c ∷ cs) u lease)
 
-unfoldable pub del_of : Value → Result Write Fault
+unfoldable pub del_of : Value → Result Change Fault
 del_of (Number a) = Err Kind
 del_of (Text []) = Err EmptyKey
 del_of (Text (c ∷ cs)) = Ok (Del (c ∷ cs))

@@ -36,11 +36,11 @@ impl Model for WriteLog {
     ghost use Rattle.std.specs.Prelude.{List, drop};
     ghost use Rattle.std.specs.Map;
     ghost use Rattle.indexmap.specs.IndexMap.{get_by_text};
-    ghost use Rattle.stm_program.specs.declared.write.Write.{Write};
+    ghost use Rattle.stm_history.specs.declared.change.Change.{Change};
     ghost use Rattle.stm_steps.specs.declared.searched.TheConstants.{MOST_SEARCHED};
     ghost use Rattle.stm_steps.specs.LastPlaces.{AreLastPlaces};
 
-    ghost Value = { List Write };
+    ghost Value = { List Change };
 
     ghost view = { λ s. s.writes.items };
 

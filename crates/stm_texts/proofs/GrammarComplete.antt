@@ -1,6 +1,5 @@
 -- A scenario that bytes spell is read.
-use Rattle.std.proofs.Common.{◌≡◌, ℕ, suc, ◌+◌, ◌<◌, ◌≤◌, List, [], ◌∷◌, length, lt-ltb, Option, Some, None, Ok, inl, inr, refl, sym, codes}
-use Rattle.std.proofs.Common.{ap, ◌∙◌, arith}
+use Rattle.std.proofs.Common.{◌≡◌, ℕ, suc, ◌+◌, ◌<◌, ◌≤◌, List, [], ◌∷◌, length, lt-ltb, Option, Some, None, Ok, inl, inr, refl, sym, codes, ap, ◌∙◌, arith}
 use Rattle.serde_json.specs.Data.{Data, string, Items, item}
 use Rattle.serde_json.specs.View.{items_of}
 use Rattle.stm_json.specs.Outcome.{Outcome, ◌>>=◌, within}

@@ -30,11 +30,10 @@ use Rattle.stm_json.specs.declared.limits.TheConstants.{MOST_BYTES}
 use Rattle.stm_json.specs.Bytes.{data_of}
 use Rattle.stm_texts.specs.Grammar.{level_text, SpellsNumbered, SpellsEvent, SpellsOpening, SpellsElements, SpellsData, SpellsScenario}
 use Rattle.stm_texts.specs.Opens.{setup_at}
-use Rattle.stm_texts.specs.Reading.{level_named, level_of, start_of, grant_of, number_alone, step_of, keep_of, revoke_of, advance_of, compact_of}
-use Rattle.stm_texts.specs.Reading.{txn_event}
-use Rattle.stm_texts.specs.Reading.{watcher_event, event_worded, event_of, event_after, events_from, begins, opening_by, opening_of}
+use Rattle.stm_texts.specs.Reading.{level_named, level_of, start_of, grant_of, number_alone, step_of, keep_of, revoke_of, advance_of, compact_of, txn_event}
+use Rattle.stm_texts.specs.Reading.{watcher_event, event_worded, event_of, event_after, events_from, begins, opening_by, opening_of, scenario_after}
+use Rattle.stm_texts.specs.Reading.{scenario_list, scenario_of, scenario_read, scenario_in}
 use Rattle.stm_texts.proofs.WatcherSound.{watcher_sound}
-use Rattle.stm_texts.specs.Reading.{scenario_after, scenario_list, scenario_of, scenario_read, scenario_in}
 
 -- ---- levels
 

@@ -28,10 +28,9 @@ use Rattle.stm_texts.specs.declared.events.TheConstants.{HIGHEST_LIMIT, MOST_EVE
 use Rattle.stm_json.specs.declared.limits.TheConstants.{MOST_BYTES}
 use Rattle.stm_json.specs.Bytes.{data_of}
 use Rattle.stm_texts.specs.Opens.{setup_at}
-use Rattle.stm_texts.specs.Reading.{level_named, level_of, start_of, grant_of, number_alone, step_of, keep_of, revoke_of, advance_of, compact_of}
-use Rattle.stm_texts.specs.Reading.{txn_event}
-use Rattle.stm_texts.specs.Reading.{watcher_event, event_of, event_after, events_from, begins}
-use Rattle.stm_texts.specs.Reading.{opening_by, opening_of, scenario_after, scenario_of, scenario_read, scenario_in}
+use Rattle.stm_texts.specs.Reading.{level_named, level_of, start_of, grant_of, number_alone, step_of, keep_of, revoke_of, advance_of, compact_of, txn_event}
+use Rattle.stm_texts.specs.Reading.{watcher_event, event_of, event_after, events_from, begins, opening_by, opening_of, scenario_after, scenario_of}
+use Rattle.stm_texts.specs.Reading.{scenario_read, scenario_in}
 use Rattle.stm_texts.specs.FirstFault.{level_words, placed, program_faults, event_table, event_faults, events_faults, opening_sorts, elements_faults, data_faults}
 use Rattle.stm_texts.specs.FirstFault.{first_fault}
 use Rattle.stm_texts.proofs.WatcherFaults.{watcher_rows, watcher_faulted}

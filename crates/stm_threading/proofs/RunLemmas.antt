@@ -1,6 +1,5 @@
 -- From the run of the jobs to what is printed of it, and from there to what the devices saw.
-use Rattle.std.proofs.Common.{◌≡◌, ℕ, List, length, map, Result, Ok, Err, IfOk, IfErr, IfSome, false}
-use Rattle.std.proofs.Common.{refl, sym, ap, subst, ◌∙◌, take, string_bytes}
+use Rattle.std.proofs.Common.{◌≡◌, ℕ, List, length, map, Result, Ok, Err, IfOk, IfErr, IfSome, false, refl, sym, ap, subst, ◌∙◌, take, string_bytes}
 use Rattle.std.specs.Io.KnownBytes.{Appends}
 use Rattle.stm_devices.specs.Transfers.{WritesFront}
 use Rattle.stm_devices.specs.declared.transfer.TheConstants.{MOST_READ}
@@ -12,7 +11,7 @@ use Rattle.stm_texts.specs.declared.scenario.Scenario.{Scenario}
 use Rattle.stm_job_texts.specs.declared.store_call.StoreCall.{StoreCall}
 use Rattle.stm_devices.specs.Ends.{Devices}
 use Rattle.stm_texts.proofs.Fronts.{pending_of_revision}
-use Rattle.stm_txn.specs.Standing.{Standing}
+use Rattle.stm_txn.specs.Standing.{Standing, Setup}
 use Rattle.stm_journal.specs.JournalState.{JournalState, made_over}
 use Rattle.stm_job.specs.declared.job.Job.{Job}
 use Rattle.stm_job.specs.declared.job_end.JobEnd.{JobEnd}
@@ -28,7 +27,6 @@ use Rattle.stm_threading.specs.declared.shown.Printing.{Printing}
 use Rattle.stm_threading.specs.declared.shown.Shown.{Shown}
 use Rattle.stm_threading.specs.Running.{IsTextOf, IsOfRun, IsPrintedOfJobs, IsBrokenOffFor, IsBrokenOff, IsBrokenOffOf, IsPrintedOf}
 use Rattle.stm_threading.specs.Running.{fault_reported, fault_read, judged, Answers, Writes, Does}
-use Rattle.stm_txn.specs.Standing.{Setup}
 
 -- what follows of two things that hold of a value holds of it
 pub of_both : {T E : Type 0} (r : Result T E) (P Q R : T → Type 0) → IfOk r P → IfOk r Q → ((x : T) → P x → Q x → R x) → IfOk r R

@@ -1,9 +1,8 @@
 -- Leases that end, with their keys.
 use Rattle.std.proofs.lemmas.List.{append-nil}
-use Rattle.std.specs.Prelude.{is_ok}
+use Rattle.std.specs.Prelude.{is_ok, bytes_eq, nat_eq, ◌↔◌, ◌⊎◌, ◌&&◌, Contains, Result, Ok, Err, IsOk, IsTrue, OnErr, is_some, IsSome}
 use Rattle.std.proofs.Common.{◌≡◌, ℕ, ◌-◌, ◌<◌, zero, suc, Bool, true, false, cond, List, [], ◌∷◌, ◌++◌, length, map, get_or, Option, Some, None, refl, sym}
 use Rattle.std.proofs.Common.{◌∙◌, ap, arith, append_assoc, inl, inr}
-use Rattle.std.specs.Prelude.{bytes_eq, nat_eq, ◌↔◌, ◌⊎◌, ◌&&◌, Contains, Result, Ok, Err, IsOk, IsTrue, OnErr, is_some}
 use Rattle.std.specs.Ordering.{nat_cmp, is_eq, eq_by_cmp}
 use Rattle.std.specs.Cmp.Lexicographic.{slice_cmp}
 use Rattle.std.specs.Cmp.{nat_cmp_total}
@@ -17,7 +16,6 @@ use Rattle.stm_history.specs.declared.key_state.KeyState.{KeyState}
 use Rattle.stm_history.specs.declared.revisions.TheConstants.{HIGHEST_REVISION}
 use Rattle.stm_history.specs.History.{History, now, key_now, add_revision, change_of, after_change, HasDistinctKeys}
 use Rattle.stm_history.proofs.HistoryLaws.{one_more_revision}
-use Rattle.std.specs.Prelude.{IsSome}
 use Rattle.stm_keys.specs.Keys.{DeletePresent}
 use Rattle.stm_leases.specs.LeaseLog.{LogItem, Expire, Term, term_of}
 use Rattle.stm_leases.specs.Live.{Live, is_live_in}
@@ -179,7 +177,7 @@ pub ended_is : (s next : Standing) (id : ℕ) → ended s id ≡ Ok next → wit
 ended_is s next id is = ended_case (is_used_up s.history (deletions_of s.history id)) (without_lease s id) next is
 
 -- a lease that is taken away leaves fewer
-one_fewer : (live : Live) (id : ℕ) → finmap.contains_key live id ≡ true → finmap.len live ≡ suc (finmap.len (finmap.remove live id))
+pub one_fewer : (live : Live) (id : ℕ) → finmap.contains_key live id ≡ true → finmap.len live ≡ suc (finmap.len (finmap.remove live id))
 one_fewer live id has =
     let less : finmap.len (finmap.remove live id) ≡ finmap.len live - 1 =
     finmap.len-remove nat_cmp_total live id ∙ ap (λ b. cond b (finmap.len live - 1) (finmap.len live)) has in

@@ -1,11 +1,10 @@
 -- A branch that no operation refuses.
 use Rattle.std.proofs.Common.{◌≡◌, ℕ, ◌+◌, Bool, true, false, cond, List, [], ◌∷◌, ◌++◌, Option, Some, None, refl, sym, ◌∙◌, ap, subst}
-use Rattle.std.specs.Prelude.{nat_eq, nat_lt, ◌||◌, ◌&&◌}
+use Rattle.std.specs.Prelude.{nat_eq, nat_lt, ◌||◌, ◌&&◌, is_some, IsSome}
 use Rattle.std.specs.FinMap as finmap
 use Rattle.std.proofs.lemmas.Bool.{le-leb, ltb-false}
 use Rattle.stm_history.specs.declared.change.Change.{Change}
 use Rattle.stm_history.specs.declared.change.Change.TheVariants.{Put as PutChange, Del as DelChange}
-use Rattle.std.specs.Prelude.{is_some, IsSome}
 use Rattle.std.specs.List.{list_any}
 use Rattle.stm_history.specs.declared.key_state.KeyState.{KeyState}
 use Rattle.stm_history.specs.History.{History, now, key_now, key_of, change_of, after_change, HasDistinctKeys}
@@ -16,9 +15,8 @@ use Rattle.stm_outcome.proofs.Branching.{neither, all_fit, HasDistinctKeys-push,
 use Rattle.stm_outcome.specs.declared.txn.Op.{Op}
 use Rattle.stm_outcome.specs.declared.txn.Op.TheVariants.{Get, Put, Del}
 use Rattle.stm_outcome.specs.declared.refusal.Refusal.TheVariants.{Compacted, LeaseNotFound}
-use Rattle.stm_outcome.specs.Branches.{deletion_of, is_readable, are_readable, op_refusal}
+use Rattle.stm_outcome.specs.Branches.{deletion_of, is_readable, are_readable, op_refusal, branch_refusal}
 use Rattle.stm_outcome.specs.LookUps.{copy, with_copied, changes_copied}
-use Rattle.stm_outcome.specs.Branches.{branch_refusal}
 use Rattle.stm_leases.specs.Live.{Live}
 use Rattle.stm_txn.specs.Leasing.{attached_by, with_attach, attached_of, AttachedToLive}
 use Rattle.stm_outcome.specs.Terms.{Terms, is_below_floor}

@@ -1,7 +1,6 @@
 -- Transactions as steps of a store.
-use Rattle.std.proofs.Common.{◌≡◌, ℕ, ◌<◌, false, List, length, Option, Some, None, refl, sym, ◌∙◌}
-use Rattle.std.proofs.Common.{ap, subst}
-use Rattle.std.specs.Prelude.{Result, Ok, Err}
+use Rattle.std.proofs.Common.{◌≡◌, ℕ, ◌<◌, false, List, length, Option, Some, None, refl, sym, ◌∙◌, ap, subst}
+use Rattle.std.specs.Prelude.{Result, Ok, Err, IfOk, IfErr, IfSome}
 use Rattle.stm_history.specs.declared.key_state.KeyState.{KeyState}
 use Rattle.stm_history.specs.History.{key_now}
 use Rattle.stm_outcome.specs.declared.txn.Txn.{Txn}
@@ -14,8 +13,6 @@ use Rattle.stm_outcome.specs.Checks.{has_clash, fault_of}
 use Rattle.stm_outcome.specs.Outcome.{Done, chosen, branch_outcome, outcome}
 use Rattle.stm_outcome.specs.declared.answer.TxnAnswer.{TxnAnswer}
 use Rattle.stm_txn.specs.Standing.{Standing, Step, IsRefusalOf, Returns, with_history, step_of, transacted, terms_of}
-use Rattle.std.specs.Prelude.{IfOk, IfErr}
-use Rattle.std.specs.Prelude.{IfSome}
 use Rattle.stm_outcome.proofs.Folding.{by_look_up}
 use Rattle.stm_outcome.specs.LookUps.{outcome_copied}
 use Rattle.stm_outcome.specs.Terms.{Terms}

@@ -1,6 +1,5 @@
 //! The calls of a store about its leases.
-ghost use Rattle.std.specs.Prelude.{◌≡◌, ◌+◌, ◌≤◌, List, [], ◌∷◌, ◌++◌, IfOk, IfErr, OnOk, OnErr, IsOkUnless};
-ghost use Rattle.std.specs.Prelude.{map, string_bytes, Ok, None, true};
+ghost use Rattle.std.specs.Prelude.{◌≡◌, ◌+◌, ◌≤◌, List, [], ◌∷◌, ◌++◌, IfOk, IfErr, OnOk, OnErr, IsOkUnless, map, string_bytes, Ok, None, true};
 ghost use Rattle.stm_history.specs.declared.revisions.TheConstants.{HIGHEST_NUMBER};
 ghost use Rattle.stm_history.specs.declared.change.Change.{Change};
 ghost use Rattle.stm_leases.specs.LeaseLog.{LogItem, Grant, Renew, Revoke};

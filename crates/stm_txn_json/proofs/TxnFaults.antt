@@ -19,8 +19,7 @@ use Rattle.stm_json.specs.Parts.{same, on_text, text_of}
 use Rattle.stm_txn_json.specs.Words.{order_named, target_named}
 use Rattle.stm_txn_json.specs.Reading.{order_of, target_of, compare_parts, compare_of, get_of, put_of, del_of, operation_of}
 use Rattle.stm_txn_json.specs.Reading.{compares_of, operations_of, txn_parts, txn_of}
-use Rattle.stm_json.specs.Faults.{Sort, AnyText, WordOf, wrong, at, word_faults, faults_by, sorted_faults, worded_faults, list_faults, first_of}
-use Rattle.stm_json.specs.Faults.{any_number}
+use Rattle.stm_json.specs.Faults.{Sort, AnyText, WordOf, wrong, at, word_faults, faults_by, sorted_faults, worded_faults, list_faults, first_of, any_number}
 use Rattle.stm_txn_json.specs.FirstFault.{order_words, compare_table, operation_table, txn_sorts, txn_faults, first_fault}
 use Rattle.stm_json.proofs.FaultLemmas.{fault_of, wrong_is, part_then, made, text_faulted, list_faulted, number_reported}
 
@@ -46,11 +45,8 @@ order_faulted p d = order_reported p (as_str d)
 
 -- the sort of the compare's side
 abbrev side_sort : TargetWord → Sort
-side_sort word.Version = any_number
-side_sort word.Create = any_number
-side_sort word.Mod = any_number
-side_sort word.Lease = any_number
 side_sort word.Value = AnyText
+side_sort _ = any_number
 
 target_faulted : (p : List ℕ) (w : TargetWord) (d : Data) → first_of (faults_by (side_sort w) p d) ≡ fault_of p (target_of w d)
 target_faulted p word.Version d = made p (number_up_to HIGHEST_NUMBER d) Version (faults_by any_number p d) (number_reported p d)

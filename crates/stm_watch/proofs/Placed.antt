@@ -1,7 +1,6 @@
 -- What a poll makes of the watchers at all places.
-use Rattle.std.proofs.Common.{◌≡◌, ℕ, ◌-◌, Bool, true, false, cond}
-use Rattle.std.proofs.Common.{List, Option, Some, None, IsSome, IfSome, IsOk, option_map, slice_index_or, slice_set, Result, Ok, Err, OnErr}
-use Rattle.std.proofs.Common.{refl, sym, ap, subst, ◌∙◌, nat_eq}
+use Rattle.std.proofs.Common.{◌≡◌, ℕ, ◌-◌, Bool, true, false, cond, List, Option, Some, None, IsSome, IfSome, IsOk, option_map, slice_index_or, slice_set}
+use Rattle.std.proofs.Common.{Result, Ok, Err, OnErr, refl, sym, ap, subst, ◌∙◌, nat_eq}
 use Rattle.std.specs.declared.alloc.AllocError.{AllocError}
 use Rattle.std.proofs.lemmas.List.{map-set, set-get_or, get_or-set_same}
 use Rattle.std.proofs.lemmas.Option.{same_Some}

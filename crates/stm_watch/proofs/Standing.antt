@@ -1,8 +1,6 @@
 -- Watchers that stand for a history, from call to call.
-use Rattle.std.proofs.Common.{◌≡◌, ℕ, zero, suc, ◌+◌, ◌-◌, ◌≤◌, Bool, true, false, cond, ◌||◌, inl, inr}
-use Rattle.std.proofs.Common.{List, [], ◌∷◌, ◌++◌, map, slice_index_or, slice_set}
-use Rattle.std.proofs.Common.{Option, Some, None, option_map, refl, sym, ◌∙◌, ap}
-use Rattle.std.proofs.Common.{◌&&◌, is_some}
+use Rattle.std.proofs.Common.{◌≡◌, ℕ, zero, suc, ◌+◌, ◌-◌, ◌≤◌, Bool, true, false, cond, ◌||◌, inl, inr, List, [], ◌∷◌, ◌++◌, map, slice_index_or}
+use Rattle.std.proofs.Common.{slice_set, Option, Some, None, option_map, refl, sym, ◌∙◌, ap, ◌&&◌, is_some}
 use Rattle.std.specs.Prelude.{nat_eq, nat_lt}
 use Rattle.std.proofs.lemmas.Bool.{cases_Bool, le-ltb}
 use Rattle.std.proofs.lemmas.List.{map-append, map-set}

@@ -1,8 +1,7 @@
 -- What each call makes of the watchers of a store.
 --
 -- Watchers have the numbers 1, 2, 3, .. in the order of their making, and a cancelled one keeps its place.
-use Rattle.std.specs.Prelude.{◌≡◌, ℕ, ◌+◌, ◌-◌, nat_eq, Bool, true, false, ◌||◌, if◌then◌else◌}
-use Rattle.std.specs.Prelude.{List, [], ◌∷◌, ◌++◌, length, map, slice_index_or, slice_set}
+use Rattle.std.specs.Prelude.{◌≡◌, ℕ, ◌+◌, ◌-◌, nat_eq, Bool, true, false, ◌||◌, if◌then◌else◌, List, [], ◌∷◌, ◌++◌, length, map, slice_index_or, slice_set}
 use Rattle.std.specs.Prelude.{Option, Some, None, is_some, option_map, IsOk, Result, Ok, Err}
 use Rattle.stm_history.specs.History.{History}
 use Rattle.stm_watch.specs.declared.watched.Watched.{Watched}

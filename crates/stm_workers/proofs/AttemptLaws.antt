@@ -8,10 +8,9 @@ use Rattle.stm_journal.specs.declared.verdict.Verdict.{Verdict}
 use Rattle.stm_journal.specs.declared.verdict.Verdict.TheVariants.{Committed, Failed}
 use Rattle.stm_job.specs.declared.job.Job.{Job}
 use Rattle.stm_job.specs.declared.job_end.JobEnd.{JobEnd}
-use Rattle.stm_job.specs.declared.job_end.JobEnd.TheVariants.{Committed as CommittedJob, Aborted as AbortedJob, Faulted as FaultedJob, Refused as RefusedJob}
 use Rattle.stm_job.specs.declared.job_end.JobEnd.TheVariants.{GaveUp}
 use Rattle.stm_workers.specs.declared.stop.Stop.{Stop}
-use Rattle.stm_workers.specs.declared.stop.Stop.TheVariants.{OutOfMemory, Aborted, Faulted, Refused}
+use Rattle.stm_workers.specs.declared.stop.Stop.TheVariants.{OutOfMemory}
 use Rattle.stm_workers.specs.Attempts.{job_end_reported, end_after, HasCome, HasSomeRun}
 use Rattle.stm_workers.specs.Calls.{committed_by}
 use Rattle.stm_workers.specs.Codes.{numbers_set}
@@ -33,21 +32,16 @@ no_commit (Failed failed seen modified answers) key reported = refl
 -- and no stop is a giving up
 no_stop : (stop : Stop) (key : List ℕ) → job_end_reported stop ≡ Some (GaveUp key) → ⊥
 no_stop OutOfMemory key reported = absurd (cc)
-no_stop (Aborted text reads) key reported = absurd (cc)
-no_stop (Faulted fault reads) key reported = absurd (cc)
-no_stop (Refused refusal) key reported = absurd (cc)
+no_stop _ key reported = absurd (cc)
 
 all_made : (handed : JournalState) (job : Job) (seen : ℕ) (key : List ℕ) (after made : ℕ) → HasCome handed job seen (GaveUp key) after made → made ≡ job.limit
 all_made handed job seen key after made (inl came) = came.then_is.last (no_commit came.then_is.verdict key came.then_is.reported)
 all_made handed job seen key after made (inr came) = absurd (no_stop came.then_is.stop key came.then_is.reported)
 
 if_gave_up : (handed : JournalState) (job : Job) (end : JobEnd) (made : ℕ) → HasSomeRun handed job end made → IfGaveUp end (made ≡ job.limit)
-if_gave_up handed job (CommittedJob index revision) made some = tt
-if_gave_up handed job (AbortedJob text reads) made some = tt
-if_gave_up handed job (FaultedJob fault reads) made some = tt
-if_gave_up handed job (RefusedJob cause) made some = tt
 if_gave_up handed job (GaveUp key) made some =
     ∥∥₁_elim some (numbers_set made job.limit) (λ came. all_made handed job came.0 key came.1 made came.2)
+if_gave_up handed job _ made some = tt
 
 counted : (handed : JournalState) (job : Job) (end : JobEnd) (made : ℕ) → HasSomeRun handed job end made → AreAttemptsOf job end made
 counted handed job end made some = record {

@@ -11,9 +11,8 @@ use Rattle.stm_hall.specs.Showing.{IsShown, AreShownAt}
 use Rattle.stm_workers.specs.declared.start_point.StartPoint.{StartPoint}
 use Rattle.stm_job.specs.declared.job.Job.{Job}
 use Rattle.stm_job.specs.declared.job_end.JobEnd.{JobEnd}
-use Rattle.stm_job.specs.declared.job_end.JobEnd.TheVariants.{Committed, Aborted, Faulted, Refused, GaveUp}
-use Rattle.stm_workers.specs.Ends.{AreOfOneState}
-use Rattle.stm_workers.specs.Ends.{entry_named, names_entry, IsCommitOf, IsBorneOut, BorneOutAt, IsNew, StandsAt, AllStand}
+use Rattle.stm_job.specs.declared.job_end.JobEnd.TheVariants.{Committed, Aborted}
+use Rattle.stm_workers.specs.Ends.{AreOfOneState, entry_named, names_entry, IsCommitOf, IsBorneOut, BorneOutAt, IsNew, StandsAt, AllStand}
 use Rattle.stm_workers.specs.Marks.{NamesWithin, IsNewAt, is_marked, is_named_before, revision_of}
 use Rattle.stm_workers.proofs.EndLaws.{named, there, within}
 
@@ -25,17 +24,11 @@ index_or_none other (Some index) = index
 
 pub names_it : (index : ℕ) (end : JobEnd) → entry_named end ≡ Some index → names_entry index end ≡ true
 names_it index (Committed own revision) is = eq-eqb own index (ap (index_or_none own) is)
-names_it index (Aborted text reads) is = absurd (cc)
-names_it index (Faulted fault reads) is = absurd (cc)
-names_it index (Refused cause) is = absurd (cc)
-names_it index (GaveUp key) is = absurd (cc)
+names_it index _ is = absurd (cc)
 
 pub is_named : (index : ℕ) (end : JobEnd) → names_entry index end ≡ true → entry_named end ≡ Some index
 is_named index (Committed own revision) is = ap (λ (n : ℕ). Some n) (eqb-true own index is)
-is_named index (Aborted text reads) is = absurd (cc)
-is_named index (Faulted fault reads) is = absurd (cc)
-is_named index (Refused cause) is = absurd (cc)
-is_named index (GaveUp key) is = absurd (cc)
+is_named index _ is = absurd (cc)
 
 -- ---- one of the first n ends names it
 
@@ -125,9 +118,7 @@ named_is_there begun hall job (Committed own revision) index borne names =
     subst (λ (n : ℕ). n < length hall.entries) same
     (commit_is_there job revision (slice_get hall.entries own) hall.entries own refl borne.1)
 named_is_there begun hall job (Aborted text reads) index borne names = absurd (cc)
-named_is_there begun hall job (Faulted fault reads) index borne names = absurd (cc)
-named_is_there begun hall job (Refused cause) index borne names = absurd (cc)
-named_is_there begun hall job (GaveUp key) index borne names = absurd (cc)
+named_is_there begun hall job _ index borne names = absurd (cc)
 
 pub names_within : (begun : StartPoint) (hall : JournalState) (jobs : List Job) (ends : List JobEnd) → length ends ≡ length jobs →
     ((place : ℕ) → BorneOutAt begun hall jobs ends place) → NamesWithin ends (length hall.entries)

@@ -18,7 +18,7 @@ use Rattle.stm_program.specs.declared.level.Level.{Level}
 use Rattle.stm_program.specs.declared.level.Level.TheVariants.{SerializableSnapshot, Serializable, RepeatableReads, ReadCommitted}
 use Rattle.stm_attempt.specs.ReadyRun.{ReadyRun}
 use Rattle.stm_entries.specs.declared.entry.Entry.{Entry}
-use Rattle.stm_entries.specs.declared.entry.Entry.TheVariants.{Program, Foreign, Grant, Renew, Revoke, Expire}
+use Rattle.stm_entries.specs.declared.entry.Entry.TheVariants.{Program}
 use Rattle.stm_journal.specs.declared.verdict.Verdict.{Verdict}
 use Rattle.stm_journal.specs.declared.refusal.CommitRefusal.{CommitRefusal}
 use Rattle.stm_journal.specs.JournalState.{JournalState, JournalStep, journal_of}
@@ -182,9 +182,7 @@ same_levels ReadCommitted ReadCommitted is = refl
 
 level_itself : (a : Level) → same_level a a ≡ true
 level_itself SerializableSnapshot = refl
-level_itself Serializable = refl
-level_itself RepeatableReads = refl
-level_itself ReadCommitted = refl
+level_itself _ = refl
 
 -- some job has the program and the level
 abbrev SomeJob : List Job → ProgramTree → Level → Type 0
@@ -207,11 +205,7 @@ some_job (job ∷ jobs) program level is = by_first (is_run_of program level job
 
 entry_of_a_job : (jobs : List Job) (entry : Entry) → is_of_some jobs entry ≡ true → IsOfAJob jobs entry
 entry_of_a_job jobs (Program program level answers output trace revision) is = some_job jobs program level is
-entry_of_a_job jobs (Foreign txn) is = absurd (cc)
-entry_of_a_job jobs (Grant id ttl moment) is = absurd (cc)
-entry_of_a_job jobs (Renew id moment) is = absurd (cc)
-entry_of_a_job jobs (Revoke id) is = absurd (cc)
-entry_of_a_job jobs (Expire id) is = absurd (cc)
+entry_of_a_job jobs _ is = absurd (cc)
 
 same_entry : (x y : Entry) → Some x ≡ Some y → x ≡ y
 same_entry x y is = ap (entry_or x) is

@@ -169,11 +169,8 @@ begun_is_of job answers new is = subst (IsOfJob job) (sym is) (tt, refl)
 -- ---- what an attempt is left as by an answer
 
 left_by_is_of : (job : Job) (old : AttemptState) (next : Next) → IsOfJob job old → IsOfJob job (left_by next (advanced job.program old))
-left_by_is_of job old (FetchAll keys at) of = (refl, of.1)
-left_by_is_of job old (Fetch key at) of = (refl, of.1)
 left_by_is_of job old (Ready ready) of = (tt, of.1)
-left_by_is_of job old (Aborted run) of = (refl, of.1)
-left_by_is_of job old (Faulted run) of = (refl, of.1)
+left_by_is_of job old _ of = (refl, of.1)
 
 pub left_is_of : (job : Job) (old new : AttemptState) (next : Next) → new ≡ left_by next (advanced job.program old) → IsOfJob job old → IsOfJob job new
 left_is_of job old new next left of = subst (IsOfJob job) (sym left) (left_by_is_of job old next of)

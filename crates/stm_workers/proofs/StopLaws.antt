@@ -29,10 +29,9 @@ use Rattle.stm_hall.specs.Showing.{AreShownAt}
 use Rattle.stm_workers.specs.declared.start_point.StartPoint.{StartPoint}
 use Rattle.stm_job.specs.declared.job.Job.{Job}
 use Rattle.stm_job.specs.declared.job_end.JobEnd.{JobEnd}
-use Rattle.stm_job.specs.declared.job_end.JobEnd.TheVariants.{Committed as CommittedJob, Aborted as AbortedJob, Faulted as FaultedJob, Refused as RefusedJob}
-use Rattle.stm_job.specs.declared.job_end.JobEnd.TheVariants.{GaveUp}
+use Rattle.stm_job.specs.declared.job_end.JobEnd.TheVariants.{Aborted as AbortedJob, Faulted as FaultedJob}
 use Rattle.stm_workers.specs.declared.stop.Stop.{Stop}
-use Rattle.stm_workers.specs.declared.stop.Stop.TheVariants.{OutOfMemory, Aborted, Faulted, Refused}
+use Rattle.stm_workers.specs.declared.stop.Stop.TheVariants.{OutOfMemory}
 use Rattle.stm_workers.specs.Ends.{start_point, AreOfOneState, IsBorneOut}
 use Rattle.stm_workers.specs.Attempts.{JobState, end_reported, reads_reported, fetch_refusal_reported, commit_refusal_reported, job_end_reported, end_after}
 use Rattle.stm_workers.specs.Attempts.{IsStop, HasCome, HasSomeRun}
@@ -73,15 +72,11 @@ some_of {A} x y is = ap (value_or x) is
 -- what reports an end reports no refusal
 no_fetch : (stop : Stop) (end : End) (cause : FetchRefusal) → end_reported stop ≡ Some end → fetch_refusal_reported stop ≡ Some cause → ⊥
 no_fetch OutOfMemory end cause reports reported = absurd (cc)
-no_fetch (Aborted text reads) end cause reports reported = absurd (cc)
-no_fetch (Faulted fault reads) end cause reports reported = absurd (cc)
-no_fetch (Refused refusal) end cause reports reported = absurd (cc)
+no_fetch _ end cause reports reported = absurd (cc)
 
 no_commit : (stop : Stop) (end : End) (cause : CommitRefusal) → end_reported stop ≡ Some end → commit_refusal_reported stop ≡ Some cause → ⊥
 no_commit OutOfMemory end cause reports reported = absurd (cc)
-no_commit (Aborted text reads) end cause reports reported = absurd (cc)
-no_commit (Faulted fault reads) end cause reports reported = absurd (cc)
-no_commit (Refused refusal) end cause reports reported = absurd (cc)
+no_commit _ end cause reports reported = absurd (cc)
 
 by_stop : (handed : JournalState) (job : Job) (at : JobState) (stop : Stop) (reads : List ReadAnswer) (end : End) → end_reported stop ≡ Some end →
     reads_reported stop ≡ Some reads →
@@ -99,18 +94,14 @@ by_stop handed job at stop reads end reports on (inr (inr refused)) = absurd (no
 
 -- what an end reports of a run
 abbrev reported_end : JobEnd → Option End
-reported_end (CommittedJob index revision) = None
 reported_end (AbortedJob text reads) = Some (AbortedEnd text)
 reported_end (FaultedJob fault reads) = Some (FaultedEnd fault)
-reported_end (RefusedJob cause) = None
-reported_end (GaveUp key) = None
+reported_end _ = None
 
 abbrev reported_reads : JobEnd → Option (List ReadAnswer)
-reported_reads (CommittedJob index revision) = None
 reported_reads (AbortedJob text reads) = Some reads
 reported_reads (FaultedJob fault reads) = Some reads
-reported_reads (RefusedJob cause) = None
-reported_reads (GaveUp key) = None
+reported_reads _ = None
 
 -- a verdict reports none
 not_by_verdict : (verdict : Verdict) (end : End) → reported_end (end_after verdict) ≡ Some end → ⊥
@@ -120,11 +111,7 @@ not_by_verdict (Failed key seen modified answers) end reported = absurd (cc)
 -- a stop reports what its end does
 same_reported : (stop : Stop) (job_end : JobEnd) → job_end_reported stop ≡ Some job_end → (end_reported stop ≡ reported_end job_end) × (reads_reported stop ≡ reported_reads job_end)
 same_reported OutOfMemory job_end reported = absurd (cc)
-same_reported (Aborted text reads) job_end reported =
-    let same = some_of _ _ reported in (ap reported_end same, ap reported_reads same)
-same_reported (Faulted fault reads) job_end reported =
-    let same = some_of _ _ reported in (ap reported_end same, ap reported_reads same)
-same_reported (Refused refusal) job_end reported =
+same_reported _ job_end reported =
     let same = some_of _ _ reported in (ap reported_end same, ap reported_reads same)
 
 by_come : (handed : JournalState) (job : Job) (seen : ℕ) (job_end : JobEnd) (after attempts : ℕ) (end : End) (reads : List ReadAnswer) →
@@ -175,13 +162,11 @@ ends_alone begun hall job reads end one ran = record {
 
 on_stop : (handed : JournalState) (begun : StartPoint) (hall : JournalState) (job : Job) (job_end : JobEnd) (attempts : ℕ) → is_serializable job.level ≡ true →
     HasSomeRun handed job job_end attempts → IsBorneOut begun hall job job_end → OnStop job_end (IsEndAlone begun hall job)
-on_stop handed begun hall job (CommittedJob index revision) attempts serializable some borne = tt
 on_stop handed begun hall job (AbortedJob text reads) attempts serializable some borne =
     ends_alone begun hall job reads (AbortedEnd text) (borne serializable) (runs_to handed job (AbortedJob text reads) attempts (AbortedEnd text) reads refl refl some)
 on_stop handed begun hall job (FaultedJob fault reads) attempts serializable some borne =
     ends_alone begun hall job reads (FaultedEnd fault) (borne serializable) (runs_to handed job (FaultedJob fault reads) attempts (FaultedEnd fault) reads refl refl some)
-on_stop handed begun hall job (RefusedJob cause) attempts serializable some borne = tt
-on_stop handed begun hall job (GaveUp key) attempts serializable some borne = tt
+on_stop handed begun hall job _ attempts serializable some borne = tt
 
 pub stops_are_of_one_state : StopsAreOfOneState
 stops_are_of_one_state before jobs ends attempts committed after ran place job job_end job_is end_is serializable =

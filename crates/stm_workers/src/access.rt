@@ -78,7 +78,7 @@ impl<'a, R: RunOfJobs, W: Wait, G: Gate> HallAccess<'a, R, W, G> {
         }
     }
 
-    /// Sends one commit. What it writes is made before the lock is taken; its entry is the attempt itself.
+    /// Sends one commit. Its writes and its entry are the attempt itself.
     pub(crate) fn send(
         &self,
         place: usize,
@@ -94,7 +94,7 @@ impl<'a, R: RunOfJobs, W: Wait, G: Gate> HallAccess<'a, R, W, G> {
         ensures judged { IfOk result (λ verdict. JudgedInSomeHall R.before ready (Ok verdict)) }
         ensures refused { IfErr result (λ stop. (stop ≡ OutOfMemory) ⊎ IsTurnedAway R.before ready stop) }
     {
-        let prepared = prepare(self.alloc, ready)?;
+        let prepared = prepare(ready);
         self.gate.before_commit(place);
         // Under the lock: the compares, the look at the values, and the writes; these and the entry are moved in.
         let verdict = self.locked.lock(self.rt).commit(share, prepared);

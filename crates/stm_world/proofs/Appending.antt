@@ -14,48 +14,35 @@ use Rattle.stm_outcome.specs.declared.answer.FailedCompare.{FailedCompare}
 use Rattle.stm_outcome.specs.declared.refusal.Refusal.{Refusal as StoreRefusal}
 use Rattle.stm_outcome.specs.Outcome.{Done}
 use Rattle.stm_outcome.specs.Commits.{revision_read}
-use Rattle.stm_txn.specs.Standing.{Standing, transacted, granted, kept_alive, revoked, advanced, Advance as StoreAdvance, terms_of}
-use Rattle.stm_txn.specs.Standing.{watched, polled, cancelled, raised}
+use Rattle.stm_txn.specs.Standing.{terms_of}
 use Rattle.stm_outcome.specs.Terms.{is_below_floor}
-use Rattle.stm_watch.specs.declared.watched.Watched.TheVariants.{Key, Range}
 use Rattle.stm_compile.specs.Committed.{committed}
 use Rattle.stm_compile.specs.Conflicts.{Seen, seen_by, seen_in}
 use Rattle.stm_attempt.specs.Settled.{run_on}
 use Rattle.stm_attempt.specs.Entering.{is_due}
 use Rattle.stm_attempt.specs.Fetches.{at_of}
 use Rattle.stm_entries.specs.declared.entry.Entry.{Entry}
-use Rattle.stm_entries.specs.declared.entry.Entry.TheVariants.{Grant as GrantEntry, Renew, Revoke as RevokeEntry}
 use Rattle.stm_entries.specs.Replayed.{Replayed, without_moment}
 use Rattle.stm_entries.specs.Replay.{replay}
 use Rattle.stm_entries.specs.Legal.{AreLegal}
 use Rattle.stm_entries.proofs.Replaying.{replay_goes_on, all_legal}
 use Rattle.stm_events.specs.declared.event.WorldEvent.{WorldEvent}
-use Rattle.stm_events.specs.declared.event.WorldEvent.TheVariants.{Start, Step, Txn, Grant, Keep, Revoke, Advance}
-use Rattle.stm_events.specs.declared.event.WorldEvent.TheVariants.{WatchKey, WatchRange, Poll, Cancel, Compact}
 use Rattle.stm_events.specs.declared.reply.Reply.{Reply}
 use Rattle.stm_events.specs.declared.reply.Reply.TheVariants.{Started, Prefetched, Fetched, Conflict, GaveUp, Aborted, Faulted, Ended}
-use Rattle.stm_events.specs.Replies.{store_after_call, store_after_poll}
+use Rattle.stm_events.specs.Called.{Asked, Starts, Steps, Calls, asked, entered}
 use Rattle.stm_world.specs.Task.{Task, answer_at, modified_now, after_list, after_fetch, after_conflict}
 use Rattle.stm_world.specs.World.{World, Runner, Slot, Over, Live, runner_at, with_slot, refused, replied, begin, start_runner, fetch, fetch_list, entry_of}
-use Rattle.stm_world.specs.World.{decided, commit_reported, commit, finish, step_on, step_live, step_runner}
-use Rattle.stm_world.specs.World.{step}
+use Rattle.stm_world.specs.World.{decided, commit_reported, commit, finish, step_on, step_live, step_runner, step_asked, step, Stepped, world_after}
 use Rattle.stm_world.specs.Sound.{IsSound}
 use Rattle.stm_world.proofs.Entered.{EntriesFollow, nothing_follows}
-use Rattle.stm_world.proofs.Calls.{txn_follows, grant_follows, keep_follows, revoke_follows, advance_follows}
-use Rattle.stm_world.proofs.WatchCalls.{watch_follows, poll_follows, cancel_follows, compact_follows}
+use Rattle.stm_world.proofs.Calls.{call_adds, call_follows}
 use Rattle.stm_world.proofs.CommitEntries.{Takes, taken, commit_follows_entry}
 use Rattle.std.proofs.Common.{append_assoc}
-use Rattle.std.proofs.lemmas.List.{append-nil}
 use Rattle.stm_compile.specs.Answers.{AreTrue}
 use Rattle.stm_compile.proofs.AgreeLemmas.{commit_is_the_run_now}
-use Rattle.stm_entries.proofs.Replaying.{replay_goes_on, all_legal}
-use Rattle.stm_entries.specs.Entered.{if_taken, if_changed, expiries}
-use Rattle.stm_events.specs.declared.reply.Reply.{Reply}
 use Rattle.stm_events.specs.declared.refusal.Denied.{Denied}
-use Rattle.stm_events.specs.Replies.{txn_reply, event_refusal, denied, reply_to, advance_reply, poll_reply}
+use Rattle.stm_events.specs.Replies.{event_refusal, denied}
 use Rattle.stm_events.specs.declared.refusal.EventRefusal.TheVariants.{BadLimit, NoRunner, TooManyOps as TooManyOpsRefusal, Compacted as CompactedRefusal}
-use Rattle.stm_events.specs.declared.reply.Reply.TheVariants.{Granted, Kept, Revoked, Watching, Cancelled, Compacted}
-use Rattle.stm_world.specs.World.{Stepped, world_after}
 use Rattle.stm_world.specs.Appended.{HasAppended, EventsAppend}
 use Rattle.stm_world.proofs.SoundSteps.{world_with}
 use Rattle.stm_world.proofs.Sound.{step_is_sound}
@@ -72,14 +59,6 @@ record Appends (w : World) (s : Stepped) : Type 0 where
 stays : (w : World) (reply : Result Reply Denied) (runners : List Slot) →
     Appends w (record { reply = reply; next = world_with w.standing runners w.entries })
 stays w reply runners = record { more = []; entries = sym (append-nil w.entries); follows = nothing_follows w.standing }
-
-called_appends : (w : World) (reply : Result Reply Denied) (after : Standing) (more : List Entry) → EntriesFollow w.standing after more →
-    Appends w (record { reply = reply; next = world_with after w.runners (w.entries ++ more) })
-called_appends w reply after more follows = record { more = more; entries = refl; follows = follows }
-
-quiet_appends : (w : World) (reply : Result Reply Denied) (after : Standing) → EntriesFollow w.standing after [] →
-    Appends w (record { reply = reply; next = world_with after w.runners w.entries })
-quiet_appends w reply after follows = record { more = []; entries = sym (append-nil w.entries); follows = follows }
 
 start_by : (w : World) (task : Task) (none : Bool) →
     Appends w (cond none (refused BadLimit w) (record {
@@ -184,43 +163,14 @@ runner_by : (w : World) (id : ℕ) (o : Option Runner) → IsSound w → runner_
 runner_by w id None sound found = stays w (denied NoRunner) w.runners
 runner_by w id (Some r) sound found = live_appends w id r (sound.truth id r found).0
 
+asked_appends : (a : Asked) (w : World) → IsSound w → Appends w (step_asked a w)
+asked_appends (Starts program level limit) w sound = start_appends w (record { program = program; level = level; limit = limit })
+asked_appends (Steps id) w sound = runner_by w id (runner_at id w.runners) sound refl
+asked_appends (Calls c) w sound =
+    subst (Appends w) (sym (call_adds c w)) (record { more = entered w.standing c; entries = refl; follows = call_follows w.standing c sound.limit })
+
 event_appends : (event : WorldEvent) (w : World) → IsSound w → Appends w (step event w)
-event_appends (Start program level limit) w sound = start_appends w (record { program = program; level = level; limit = limit })
-event_appends (Step id) w sound = runner_by w id (runner_at id w.runners) sound refl
-event_appends (Txn txn) w sound =
-    let s : Standing = w.standing in
-    let next : Standing = store_after_call s (transacted s txn) in
-    called_appends w (reply_to txn_reply (transacted s txn)) next (if_changed s next txn) (txn_follows s txn sound.limit)
-event_appends (Grant lease ttl) w sound =
-    let s : Standing = w.standing in
-    let o = granted s lease ttl in
-    called_appends w (reply_to (λ _. Granted lease) o) (store_after_call s o) (if_taken o (GrantEntry lease ttl s.moment)) (grant_follows s lease ttl)
-event_appends (Keep lease) w sound =
-    let s : Standing = w.standing in
-    let o = kept_alive s lease in
-    called_appends w (reply_to (λ _. Kept lease) o) (store_after_call s o) (if_taken o (Renew lease s.moment)) (keep_follows s lease)
-event_appends (Revoke lease) w sound =
-    let s : Standing = w.standing in
-    let o = revoked s lease in
-    called_appends w (reply_to (Revoked lease) o) (store_after_call s o) (if_taken o (RevokeEntry lease)) (revoke_follows s lease)
-event_appends (Advance moment) w sound =
-    let done : StoreAdvance = advanced w.standing moment in
-    called_appends w (advance_reply moment done.expired done.cause) done.leaves (expiries done.expired) (advance_follows w.standing moment)
-event_appends (WatchKey key from) w sound =
-    let o = watched w.standing (Key key) from in
-    quiet_appends w (reply_to Watching o) (store_after_call w.standing o) (watch_follows w.standing (Key key) from)
-event_appends (WatchRange first end from) w sound =
-    let o = watched w.standing (Range first end) from in
-    quiet_appends w (reply_to Watching o) (store_after_call w.standing o) (watch_follows w.standing (Range first end) from)
-event_appends (Poll watcher most) w sound =
-    let o = polled w.standing watcher most in
-    quiet_appends w (poll_reply watcher w.standing.floor o) (store_after_poll watcher w.standing o) (poll_follows w.standing watcher most)
-event_appends (Cancel watcher) w sound =
-    let o = cancelled w.standing watcher in
-    quiet_appends w (reply_to (λ _. Cancelled watcher) o) (store_after_call w.standing o) (cancel_follows w.standing watcher)
-event_appends (Compact revision) w sound =
-    let o = raised w.standing revision in
-    quiet_appends w (reply_to (λ _. Compacted revision) o) (store_after_call w.standing o) (compact_follows w.standing revision)
+event_appends event w sound = asked_appends (asked event) w sound
 
 -- ---- all events ----
 

@@ -1,7 +1,6 @@
 -- Answers that were added when their keys were wanted are of the keys that the run reads.
-use Rattle.std.proofs.Common.{◌≡◌, ◌⊎◌, inl, inr, ℕ, zero, suc, ◌+◌, ◌≤◌, Bool, true, false, cond, List, [], ◌∷◌, ◌++◌, length, map, take, drop}
-use Rattle.std.proofs.Common.{Option, Some, None, refl, sym, ◌∙◌, ap, subst, arith, length-append}
-use Rattle.std.proofs.Common.{append_assoc, append-nil}
+use Rattle.std.proofs.Common.{◌≡◌, ◌⊎◌, inl, inr, ℕ, zero, suc, ◌+◌, ◌≤◌, Bool, true, false, cond, List, [], ◌∷◌, ◌++◌, length, map, take, drop, Option}
+use Rattle.std.proofs.Common.{Some, None, refl, sym, ◌∙◌, ap, subst, arith, length-append, append_assoc, append-nil}
 use Rattle.std.specs.Prelude.{bytes_eq, is_some, option_map, ◌||◌}
 use Rattle.std.specs.List.{list_any}
 use Rattle.std.proofs.lemmas.List.{drop_all, take-append-le, length-map}
@@ -9,7 +8,7 @@ use Rattle.std.proofs.lemmas.Slice.Eq.{bytes_eq-Decides}
 use Rattle.stm_history.specs.declared.key_state.ReadAnswer.{ReadAnswer}
 use Rattle.stm_history.specs.History.{History}
 use Rattle.stm_program.specs.Syntax.{ProgramTree}
-use Rattle.stm_program.specs.declared.write.Write.{Write}
+use Rattle.stm_history.specs.declared.change.Change.{Change}
 use Rattle.stm_program.specs.Writes.{last_write}
 use Rattle.stm_program.specs.Limits.{has_repeat}
 use Rattle.stm_program.proofs.WriteLemmas.{bytes_eq-flip}
@@ -141,7 +140,7 @@ rev_answered-listed keys answers key None s found is = is
 rev_answered-listed keys answers key (Some a) s found is =
     first_stays keys s.reads key (known_among keys answers s.reads key a is found) ∙ is
 
-get_of-listed : (keys : List (List ℕ)) (answers : List ReadAnswer) (key : List ℕ) (w : Option Write) (s : Session) → IsFirst keys answers s.reads →
+get_of-listed : (keys : List (List ℕ)) (answers : List ReadAnswer) (key : List ℕ) (w : Option Change) (s : Session) → IsFirst keys answers s.reads →
     IsFirst keys answers (session_of (get_of (look_up answers) key w s)).reads
 get_of-listed keys answers key (Some w) s is = is
 get_of-listed keys answers key None s is = get_answered-listed keys answers key (look_up answers key) s refl is

@@ -6,8 +6,7 @@ use Rattle.stm_history.specs.declared.key_state.ReadAnswer.{ReadAnswer}
 use Rattle.stm_history.specs.Opening.{Opening}
 use Rattle.stm_history.specs.History.{History, now}
 use Rattle.stm_outcome.specs.Commits.{revision_read}
-use Rattle.stm_txn.specs.Standing.{Standing}
-use Rattle.stm_txn.specs.Standing.{Setup}
+use Rattle.stm_txn.specs.Standing.{Standing, Setup}
 use Rattle.stm_program.specs.Levels.{is_serializable}
 use Rattle.stm_compile.specs.Answers.{answer_now}
 use Rattle.stm_compile.specs.CommitTxn.{reread_keys}

@@ -4,7 +4,7 @@ use Rattle.std.specs.List.{AllByRecursion}
 use Rattle.stm_history.specs.declared.key_state.ReadAnswer.{ReadAnswer}
 use Rattle.stm_history.specs.History.{History, now, IsTrueAnswer}
 use Rattle.stm_program.specs.declared.level.Level.{Level}
-use Rattle.stm_program.specs.declared.level.Level.TheVariants.{SerializableSnapshot, Serializable, RepeatableReads, ReadCommitted}
+use Rattle.stm_program.specs.declared.level.Level.TheVariants.{ReadCommitted}
 use Rattle.stm_program.specs.Levels.{is_comparing, is_serializable}
 use Rattle.stm_outcome.specs.Commits.{revision_read}
 use Rattle.stm_compile.specs.Answers.{AreTrue, answer_now}
@@ -27,10 +27,8 @@ IsCurrent task known = is_comparing task.level ≡ false → KnowsAll IsOfItsMom
 -- ---- it stays so
 
 not_serializable : (level : Level) → is_comparing level ≡ false → is_serializable level ≡ false
-not_serializable SerializableSnapshot is = absurd (cc)
-not_serializable Serializable is = absurd (cc)
-not_serializable RepeatableReads is = absurd (cc)
 not_serializable ReadCommitted is = refl
+not_serializable _ is = absurd (cc)
 
 -- a fetch is of the current revision
 fetched_now : (h : History) (level : Level) (reads : List ReadAnswer) → is_serializable level ≡ false → revision_read h (at_of level reads) ≡ now h

@@ -1,5 +1,5 @@
 -- What a commit comes to, by whether a compare failed.
-use Rattle.std.proofs.Common.{◌≡◌, List, map, Option, Some, None, Ok, Err, Bool, true, false, cond, refl, sym, ◌∙◌, ap}
+use Rattle.std.proofs.Common.{◌≡◌, List, Option, Some, None, Ok, Err, Bool, true, false, cond, refl, sym, ◌∙◌, ap}
 use Rattle.std.specs.List.{list_any}
 use Rattle.stm_history.specs.declared.change.Change.{Change}
 use Rattle.stm_history.specs.declared.key_state.ReadAnswer.{ReadAnswer}
@@ -12,14 +12,13 @@ use Rattle.stm_outcome.specs.declared.refusal.Refusal.TheVariants.{TooManyOps, L
 use Rattle.stm_outcome.specs.Outcome.{Done, is_used_up, with_changes}
 use Rattle.stm_outcome.specs.Commits.{applied, effective, is_on_dead_lease, turned_down}
 use Rattle.stm_outcome.specs.Terms.{Terms}
-use Rattle.stm_compile.specs.Now.{as_change}
 use Rattle.stm_compile.specs.CommitTxn.{reread_keys}
 use Rattle.stm_compile.specs.Committed.{sends_too_many, conflict_now, judged, committed}
 
 -- a commit that succeeded
 pub record Succeeds (terms : Terms) (level : Level) (reads : List ReadAnswer) (run : Run) (done : Done) : Type 0 where
   pub no_conflict : conflict_now terms.history level reads (latest_writes run.writes) ≡ None
-  pub applies : applied terms (map as_change (latest_writes run.writes)) ≡ Ok done
+  pub applies : applied terms (latest_writes run.writes) ≡ Ok done
 
 -- a commit of which a compare failed
 pub record Fails (h : History) (level : Level) (reads : List ReadAnswer) (run : Run) (failed : FailedCompare) (done : Done) : Type 0 where
@@ -65,7 +64,7 @@ fails_by : (terms : Terms) (level : Level) (reads : List ReadAnswer) (run : Run)
     Fails terms.history level reads run failed done
 fails_by terms level reads run failed done true o found is some = absurd (cc)
 fails_by terms level reads run failed done false None found is some =
-    let none : done.answer.failed ≡ None = applied_failed terms (map as_change (latest_writes run.writes)) done is in
+    let none : done.answer.failed ≡ None = applied_failed terms (latest_writes run.writes) done is in
     let both : None ≡ Some failed = sym none ∙ some in absurd (cc both)
 fails_by terms level reads run failed done false (Some first) found is some =
     let same : turned_down terms.history first (reread_keys level reads) ≡ done = cc in

@@ -1,5 +1,5 @@
 -- What a commit that succeeded leaves of the store is what its entry replays to.
-use Rattle.std.proofs.Common.{◌≡◌, List, [], ◌∷◌, map, None, Ok, Bool, true, false, cond, refl, sym, ◌∙◌, ap, subst}
+use Rattle.std.proofs.Common.{◌≡◌, List, [], ◌∷◌, None, Ok, Bool, true, false, cond, refl, sym, ◌∙◌, ap, subst}
 use Rattle.std.specs.Prelude.{MatchBool}
 use Rattle.stm_history.specs.declared.change.Change.{Change}
 use Rattle.stm_history.specs.declared.key_state.ReadAnswer.{ReadAnswer}
@@ -16,7 +16,6 @@ use Rattle.stm_txn.specs.Standing.{Standing, HasKept, with_history, terms_of}
 use Rattle.stm_outcome.specs.Terms.{Terms}
 use Rattle.stm_program.specs.Levels.{is_comparing}
 use Rattle.stm_compile.specs.Answers.{AreTrue, look_up, state_now}
-use Rattle.stm_compile.specs.Now.{as_change}
 use Rattle.stm_compile.specs.Committed.{conflict_now, committed}
 use Rattle.stm_compile.specs.Laws.{CommitIsTheRunNow}
 use Rattle.stm_attempt.specs.Settled.{run_on}
@@ -45,7 +44,7 @@ reported_truth true h reads t = refl
 reported_truth false h reads t = t
 
 left_by_done : (run : Run) (end : End) (r : Replayed) (done : Done) → end ≡ DoneEnd →
-    applied (replay_terms r) (map as_change (latest_writes run.writes)) ≡ Ok done →
+    applied (replay_terms r) (latest_writes run.writes) ≡ Ok done →
     left_by run end r ≡ record { history = done.history; live = r.live }
 left_by_done run end r done is applies =
     ap (λ (e : End). left_by run e r) is ∙ ap (λ o. record { history = history_left r.history o; live = r.live }) applies
@@ -61,7 +60,7 @@ pub record Takes (s : Standing) (task : Task) (reads : List ReadAnswer) (run : R
 -- what is known of it
 pub record Taken (s : Standing) (task : Task) (reads : List ReadAnswer) (run : Run) (done : Done) : Type 0 where
   pub alone : run_over (seen_at task.level reads s.history) task.program.statements ≡ EndedRun run
-  pub applies : applied (terms_of s) (map as_change (latest_writes run.writes)) ≡ Ok done
+  pub applies : applied (terms_of s) (latest_writes run.writes) ≡ Ok done
   pub replayed : left_by_run (run_over (seen_at task.level (answers_kept task.level reads) s.history) task.program.statements) (without_moment s)
       ≡ record { history = done.history; live = s.live }
 
@@ -76,7 +75,7 @@ committed_run s task reads run done law t clear =
 -- what the commit leaves, as the log and the entry replay it
 replayed_run : (s : Standing) (task : Task) (reads : List ReadAnswer) (run : Run) (done : Done) →
     run_over (seen_at task.level reads s.history) task.program.statements ≡ EndedRun run → run.end ≡ DoneEnd →
-    applied (terms_of s) (map as_change (latest_writes run.writes)) ≡ Ok done →
+    applied (terms_of s) (latest_writes run.writes) ≡ Ok done →
     left_by_run (run_over (seen_at task.level (answers_kept task.level reads) s.history) task.program.statements) (without_moment s)
     ≡ record { history = done.history; live = s.live }
 replayed_run s task reads run done alone is_done applies =
@@ -125,8 +124,8 @@ commit_follows_entry s task reads run done t taken = record {
     },
     tt,
   );
-  keeps = grown_by (terms_of s) (map as_change (latest_writes run.writes)) done taken.applies;
-  kept = kept_by_writes s (terms_of s) (map as_change (latest_writes run.writes)) done refl taken.applies;
+  keeps = grown_by (terms_of s) (latest_writes run.writes) done taken.applies;
+  kept = kept_by_writes s (terms_of s) (latest_writes run.writes) done refl taken.applies;
   floor = floor_stays s;
   limit = refl;
 }

@@ -5,7 +5,7 @@ use Rattle.stm_entries.specs.declared.entry.Entry.{Entry}
 use Rattle.stm_entries.specs.Replayed.{without_moment}
 use Rattle.stm_entries.specs.Replay.{replay}
 use Rattle.stm_entries.specs.Legal.{AreLegal}
-use Rattle.stm_events.proofs.Entered.{Enters, nothing_enters}
+use Rattle.stm_events.proofs.CallEnters.{Enters, nothing_enters}
 use Rattle.stm_world.proofs.Truth.{Keeps, keeps_same}
 
 -- What was true stays true; and so does it that nothing which is pending for a watcher that is not lost is below the floor, which goes down

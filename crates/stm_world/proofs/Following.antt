@@ -1,6 +1,5 @@
 -- A world follows a log: its runners and its store are what the log says, and its entries replay to that store.
-use Rattle.std.proofs.Common.{◌≡◌, ℕ, ◌+◌, ◌<◌, ◌≤◌, List, [], ◌∷◌, ◌++◌, length, Some, None, Ok, true, false, cond, refl, sym, ◌∙◌}
-use Rattle.std.proofs.Common.{ap, subst, arith}
+use Rattle.std.proofs.Common.{◌≡◌, ℕ, ◌+◌, ◌<◌, ◌≤◌, List, [], ◌∷◌, ◌++◌, length, Some, None, Ok, true, false, cond, refl, sym, ◌∙◌, ap, subst, arith}
 use Rattle.std.proofs.lemmas.List.{append-nil}
 use Rattle.std.specs.Prelude.{nat_eq, Result}
 use Rattle.stm_entries.specs.declared.entry.Entry.{Entry}
@@ -20,8 +19,7 @@ use Rattle.stm_world.specs.Headline.{runner_in_log}
 use Rattle.stm_world.proofs.Truth.{known_stays}
 use Rattle.stm_world.proofs.Entered.{EntriesFollow}
 use Rattle.stm_world.proofs.Bases.{IsWellRun}
-use Rattle.stm_world.proofs.Slots.{equal_numbers, other_number, differ, runner_there, runner_own, runner_other}
-use Rattle.stm_world.proofs.Slots.{count_stays}
+use Rattle.stm_world.proofs.Slots.{equal_numbers, other_number, differ, runner_there, runner_own, runner_other, count_stays}
 use Rattle.stm_world.proofs.Untouched.{Untouched, IsFresh, same_in_log, fresh_stays}
 use Rattle.stm_txn.specs.Standing.{Setup}
 

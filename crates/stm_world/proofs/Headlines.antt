@@ -1,36 +1,27 @@
 -- The headline: each step leads to a world that follows its log.
-use Rattle.std.proofs.Common.{◌≡◌, ◌≢◌, ℕ, ◌+◌, ◌<◌, ◌≤◌, List, [], ◌∷◌, ◌++◌, length, Option, Some, None, Ok, Err, Bool, true, false, cond}
-use Rattle.std.proofs.Common.{refl, sym, ◌∙◌, ap}
+use Rattle.std.proofs.Common.{◌≡◌, ◌≢◌, ℕ, ◌+◌, ◌<◌, ◌≤◌, List, [], ◌∷◌, ◌++◌, length, Option, Some, None, Ok, Bool, true, false, cond, refl, sym, ◌∙◌, ap}
 use Rattle.std.proofs.Common.{subst, arith}
 use Rattle.std.proofs.lemmas.List.{append-nil}
-use Rattle.std.specs.Prelude.{nat_eq, option_map, Result}
-use Rattle.stm_outcome.specs.declared.advance.Expired.{Expired}
-use Rattle.stm_outcome.specs.declared.refusal.Refusal.{Refusal as StoreRefusal}
-use Rattle.stm_txn.specs.Standing.{Standing, Step as StoreStep, Advance as StoreAdvance, transacted, granted, kept_alive, revoked, advanced}
-use Rattle.stm_txn.specs.Standing.{watched, polled, cancelled, raised}
-use Rattle.stm_txn.specs.Standing.{Setup}
-use Rattle.stm_watch.specs.declared.watched.Watched.TheVariants.{Key, Range}
+use Rattle.std.specs.Prelude.{nat_eq, option_map}
+use Rattle.stm_txn.specs.Standing.{Standing, Setup}
 use Rattle.stm_program.specs.Levels.{is_serializable}
 use Rattle.stm_program.specs.Limits.{has_repeat}
 use Rattle.stm_attempt.specs.Known.{HaveDistinctKeys}
 use Rattle.stm_entries.specs.declared.entry.Entry.{Entry}
-use Rattle.stm_entries.specs.declared.entry.Entry.TheVariants.{Grant as GrantEntry, Renew, Revoke as RevokeEntry}
 use Rattle.stm_entries.specs.Replayed.{without_moment}
-use Rattle.stm_entries.specs.Entered.{if_changed, if_taken, expiries}
 use Rattle.stm_events.specs.declared.event.WorldEvent.{WorldEvent}
-use Rattle.stm_events.specs.declared.event.WorldEvent.TheVariants.{Start, Step, Txn, Grant, Keep, Revoke, Advance}
-use Rattle.stm_events.specs.declared.event.WorldEvent.TheVariants.{WatchKey, WatchRange, Poll, Cancel, Compact}
-use Rattle.stm_events.specs.declared.reply.Reply.{Reply}
-use Rattle.stm_events.specs.declared.reply.Reply.TheVariants.{Started, Granted, Kept, Revoked, Watching, Cancelled, Compacted, Lost}
+use Rattle.stm_events.specs.declared.event.WorldEvent.TheVariants.{Start, Step}
+use Rattle.stm_events.specs.declared.reply.Reply.TheVariants.{Started}
 use Rattle.stm_events.specs.declared.refusal.EventRefusal.TheVariants.{BadLimit, NoRunner}
-use Rattle.stm_events.specs.declared.refusal.Denied.{Denied}
-use Rattle.stm_events.specs.Replies.{txn_reply, denied, reply_to, store_after_call, advance_reply, batch_reply, poll_reply}
+use Rattle.stm_events.specs.Replies.{denied}
+use Rattle.stm_events.specs.Called.{Call, Asked, Calls, asked, Called, called, entered, entered_by}
+use Rattle.stm_events.proofs.Asking.{by_asked}
+use Rattle.stm_events.proofs.CallReplies.{entered_is}
 use Rattle.stm_world.specs.Task.{Task}
-use Rattle.stm_world.specs.Log.{Line, begun, running, started, store, runner_started, if_reported, expired_reported, entries_reported, known_after_log}
-use Rattle.stm_world.specs.Right.{RunnerIsRight}
-use Rattle.stm_world.specs.World.{World, Runner, Slot, Live, live_in, runner_at, begin, opened, refused, start_runner, step_runner}
-use Rattle.stm_world.specs.World.{step}
-use Rattle.stm_world.specs.World.{world_after, replies_to}
+use Rattle.stm_world.specs.Log.{Line, begun, running, started, store, store_after_asked, entries_asked, line_entries, entries_reported, known_after_log}
+use Rattle.stm_world.specs.Right.{RunnerIsRight, IsRightAsked}
+use Rattle.stm_world.specs.World.{World, Runner, Slot, Live, live_in, runner_at, begin, opened, refused, start_runner, step_runner, make_call, step_asked}
+use Rattle.stm_world.specs.World.{step, world_after, replies_to}
 use Rattle.stm_world.specs.Headline.{runner_for, runner_in_log, AreOfOneState, Headline, OneState, ReadOnce}
 use Rattle.stm_world.specs.Sound.{KnowsTruth}
 use Rattle.stm_world.proofs.Bases.{IsWellRun, begin_runs}
@@ -38,14 +29,12 @@ use Rattle.stm_world.proofs.Asked.{asked_are_distinct}
 use Rattle.stm_world.proofs.OneState.{are_of_one_state}
 use Rattle.stm_world.proofs.Logs.{logged, log_of, log_of_is_log, of_each_log}
 use Rattle.stm_world.proofs.Slots.{equal_numbers, same_number, other_number, differ, runner_new, runner_old, count_grows, no_runner}
-use Rattle.stm_world.proofs.Untouched.{Untouched, IsFresh, none_reported, same_in_log, fresh_stays, by_refusal, by_call, by_advance}
-use Rattle.stm_world.proofs.Untouched.{by_reply}
+use Rattle.stm_world.proofs.Untouched.{IsFresh, none_reported, same_in_log, fresh_stays, by_refusal, by_reply, call_says_nothing}
 use Rattle.stm_world.proofs.Following.{FollowsAt, FollowsStep, with_line, world_at, no_runner_touched, nothing_touched}
 use Rattle.stm_world.proofs.RunnerSteps.{CommitLaws, live_follows}
-use Rattle.stm_world.proofs.Entered.{nothing_follows}
+use Rattle.stm_world.proofs.Entered.{EntriesFollow, nothing_follows}
 use Rattle.stm_world.proofs.EventKeeps.{store_limit}
-use Rattle.stm_world.proofs.Calls.{txn_follows, grant_follows, keep_follows, revoke_follows, advance_follows}
-use Rattle.stm_world.proofs.WatchCalls.{poll_reported, watch_follows, poll_follows, cancel_follows, compact_follows}
+use Rattle.stm_world.proofs.Calls.{call_adds, call_follows}
 
 -- ---- starts ----
 
@@ -146,124 +135,33 @@ runner_follows start log runners entries id laws f =
 
 -- ---- calls ----
 
-no_number : {A : Type 0} (report : A → Reply) (o : Result (StoreStep A) StoreRefusal) → ((x : A) → runner_started (Ok (report x)) ≡ None) →
-    runner_started (reply_to report o) ≡ None
-no_number report (Ok done) none = none done.answer
-no_number report (Err cause) none = refl
-
-no_number_at : (moment : ℕ) (a : StoreAdvance) → runner_started (advance_reply moment a.expired a.cause) ≡ None
-no_number_at moment a = by_cause a.cause
-  where
-    by_cause : (cause : Option StoreRefusal) → runner_started (advance_reply moment a.expired cause) ≡ None
-    by_cause None = refl
-    by_cause (Some cause) = refl
-
--- an entry of the call is one of its reply
-call_entered : {A : Type 0} (report : A → Reply) (o : Result (StoreStep A) StoreRefusal) (entry : Entry) → if_taken o entry ≡ if_reported (reply_to report o) entry
-call_entered report (Ok done) entry = refl
-call_entered report (Err cause) entry = refl
-
--- an advance reports what expired, also where it was refused
-expiries_reported : (moment : ℕ) (expired : List Expired) (cause : Option StoreRefusal) → expired_reported (advance_reply moment expired cause) ≡ expired
-expiries_reported moment expired None = refl
-expiries_reported moment expired (Some cause) = refl
+call_follows_step : (start : Setup) (log : List Line) (runners : List Slot) (entries : List Entry) (event : WorldEvent) (c : Call) → asked event ≡ Calls c →
+    FollowsAt start log runners entries → FollowsStep start log event (make_call c (world_at start log runners entries))
+call_follows_step start log runners entries event c is f =
+    let s : Standing = store start log in
+    let d : Called = called s c in
+    let line : Line = record { event = event; reply = d.reply } in
+    let left : store start (line ∷ log) ≡ d.next = ap (λ (a : Asked). store_after_asked (λ id. begun id log) a d.reply s) is in
+    let says = call_says_nothing s c in
+    let adds : entered s c ≡ line_entries start line log =
+    entered_is s c ∙ ap (λ (x : Standing). entered_by c s x d.reply) (sym left)
+    ∙ ap (λ (a : Asked). entries_asked (λ id. begun id log) s (store start (line ∷ log)) a d.reply) (sym is) in
+    subst (FollowsStep start log event) (sym (call_adds c (world_at start log runners entries))) (record {
+      standing = sym left;
+      follows = no_runner_touched start log runners entries (entered s c) event d.reply f
+          (subst (λ (a : Asked). IsRightAsked start log a d.reply) (sym is) refl) says.not_started says.untouched adds
+          (subst (λ (x : Standing). EntriesFollow s x (entered s c)) (sym left) (call_follows s c (store_limit start log)));
+    })
 
 -- each event
 pub event_follows : (start : Setup) (log : List Line) (runners : List Slot) (entries : List Entry) (event : WorldEvent) → CommitLaws →
     FollowsAt start log runners entries → FollowsStep start log event (step event (world_at start log runners entries))
-event_follows start log runners entries (Start program level limit) laws f =
-    start_follows start log runners entries (record { program = program; level = level; limit = limit }) f
-event_follows start log runners entries (Step id) laws f = runner_follows start log runners entries id laws f
-event_follows start log runners entries (Txn txn) laws f =
-    let s : Standing = store start log in
-    let o = transacted s txn in
-    record {
-      standing = refl;
-      follows = no_runner_touched start log runners entries (if_changed s (store_after_call s o) txn) (Txn txn) (reply_to txn_reply o) f refl
-          (no_number txn_reply o (λ x. refl)) (λ id. by_call id txn_reply o (λ x. by_reply id (txn_reply x) refl)) refl
-          (txn_follows s txn (store_limit start log));
-    }
-event_follows start log runners entries (Grant lease ttl) laws f =
-    let s : Standing = store start log in
-    let o = granted s lease ttl in
-    record {
-      standing = refl;
-      follows = no_runner_touched start log runners entries (if_taken o (GrantEntry lease ttl s.moment)) (Grant lease ttl)
-          (reply_to (λ _. Granted lease) o) f refl (no_number (λ _. Granted lease) o (λ x. refl))
-          (λ id. by_call id (λ _. Granted lease) o (λ x. by_reply id (Granted lease) refl))
-          (call_entered (λ _. Granted lease) o (GrantEntry lease ttl s.moment)) (grant_follows s lease ttl);
-    }
-event_follows start log runners entries (Keep lease) laws f =
-    let s : Standing = store start log in
-    let o = kept_alive s lease in
-    record {
-      standing = refl;
-      follows = no_runner_touched start log runners entries (if_taken o (Renew lease s.moment)) (Keep lease) (reply_to (λ _. Kept lease) o) f refl
-          (no_number (λ _. Kept lease) o (λ x. refl)) (λ id. by_call id (λ _. Kept lease) o (λ x. by_reply id (Kept lease) refl))
-          (call_entered (λ _. Kept lease) o (Renew lease s.moment)) (keep_follows s lease);
-    }
-event_follows start log runners entries (Revoke lease) laws f =
-    let s : Standing = store start log in
-    let o = revoked s lease in
-    record {
-      standing = refl;
-      follows = no_runner_touched start log runners entries (if_taken o (RevokeEntry lease)) (Revoke lease) (reply_to (Revoked lease) o) f refl
-          (no_number (Revoked lease) o (λ x. refl)) (λ id. by_call id (Revoked lease) o (λ x. by_reply id (Revoked lease x) refl))
-          (call_entered (Revoked lease) o (RevokeEntry lease)) (revoke_follows s lease);
-    }
-event_follows start log runners entries (Advance moment) laws f =
-    let a : StoreAdvance = advanced (store start log) moment in
-    record {
-      standing = refl;
-      follows = no_runner_touched start log runners entries (expiries a.expired) (Advance moment) (advance_reply moment a.expired a.cause) f refl
-          (no_number_at moment a) (λ id. by_advance id moment a.expired a.cause)
-          (ap expiries (sym (expiries_reported moment a.expired a.cause))) (advance_follows (store start log) moment);
-    }
-event_follows start log runners entries (WatchKey key from) laws f =
-    let s : Standing = store start log in
-    let o = watched s (Key key) from in
-    record {
-      standing = refl;
-      follows = nothing_touched start log runners entries (WatchKey key from) (reply_to Watching o) f refl (no_number Watching o (λ x. refl))
-          (λ id. by_call id Watching o (λ x. by_reply id (Watching x) refl)) refl (watch_follows s (Key key) from);
-    }
-event_follows start log runners entries (WatchRange first end from) laws f =
-    let s : Standing = store start log in
-    let o = watched s (Range first end) from in
-    record {
-      standing = refl;
-      follows = nothing_touched start log runners entries (WatchRange first end from) (reply_to Watching o) f refl
-          (no_number Watching o (λ x. refl)) (λ id. by_call id Watching o (λ x. by_reply id (Watching x) refl)) refl
-          (watch_follows s (Range first end) from);
-    }
-event_follows start log runners entries (Poll watcher most) laws f =
-    let s : Standing = store start log in
-    let reply : Result Reply Denied = poll_reply watcher s.floor (polled s watcher most) in
-    record {
-      standing = refl;
-      follows = nothing_touched start log runners entries (Poll watcher most) reply f refl
-          (poll_reported (λ (r : Result Reply Denied). runner_started r ≡ None) s watcher most (λ batch. refl) refl refl)
-          (λ id. poll_reported (Untouched id) s watcher most (λ batch. by_reply id (batch_reply watcher batch) refl)
-          (by_reply id (Lost watcher s.floor) refl) (by_refusal id _)) refl (poll_follows s watcher most);
-    }
-event_follows start log runners entries (Cancel watcher) laws f =
-    let s : Standing = store start log in
-    let o = cancelled s watcher in
-    record {
-      standing = refl;
-      follows = nothing_touched start log runners entries (Cancel watcher) (reply_to (λ _. Cancelled watcher) o) f refl
-          (no_number (λ _. Cancelled watcher) o (λ x. refl)) (λ id. by_call id (λ _. Cancelled watcher) o (λ x. by_reply id (Cancelled watcher) refl))
-          refl (cancel_follows s watcher);
-    }
-event_follows start log runners entries (Compact revision) laws f =
-    let s : Standing = store start log in
-    let o = raised s revision in
-    record {
-      standing = refl;
-      follows = nothing_touched start log runners entries (Compact revision) (reply_to (λ _. Compacted revision) o) f refl
-          (no_number (λ _. Compacted revision) o (λ x. refl))
-          (λ id. by_call id (λ _. Compacted revision) o (λ x. by_reply id (Compacted revision) refl)) refl (compact_follows s revision);
-    }
+event_follows start log runners entries event laws f =
+    by_asked (λ e. FollowsStep start log e (step e (world_at start log runners entries)))
+    (λ program level limit. start_follows start log runners entries (record { program = program; level = level; limit = limit }) f)
+    (λ id. runner_follows start log runners entries id laws f)
+    (λ e c is. subst (λ (a : Asked). FollowsStep start log e (step_asked a (world_at start log runners entries))) (sym is)
+    (call_follows_step start log runners entries e c is f)) event
 
 -- ---- whole runs ----
 

@@ -18,7 +18,6 @@ pub mod CommitCases
 pub mod CommitEntries
 pub mod RunnerSteps
 pub mod Calls
-pub mod WatchCalls
 pub mod EventKeeps
 pub mod SoundSteps
 pub mod Sound

@@ -1,5 +1,5 @@
 -- Nothing that is defined is refused as out of memory.
-use Rattle.std.proofs.Common.{◌≡◌, ◌≢◌, inl, inr, ℕ, Bool, true, false, cond, List, map, length, Option, Some, None, Result, Ok, Err, sym, ap, subst}
+use Rattle.std.proofs.Common.{◌≡◌, ◌≢◌, inl, inr, ℕ, Bool, true, false, cond, List, length, Option, Some, None, Result, Ok, Err, sym, ap, subst}
 use Rattle.std.specs.Prelude.{nat_eq, nat_le, nat_lt, not}
 use Rattle.std.specs.List.{list_any}
 use Rattle.std.specs.FinMap as finmap
@@ -13,7 +13,6 @@ use Rattle.stm_program.specs.declared.level.Level.{Level}
 use Rattle.stm_program.specs.Writes.{latest_writes}
 use Rattle.stm_steps.specs.declared.run.Run.{Run}
 use Rattle.stm_watch.specs.declared.watched.Watched.{Watched}
-use Rattle.stm_watch.specs.declared.watched.Watched.TheVariants.{Key, Range}
 use Rattle.stm_watch.specs.Watching.{Watching}
 use Rattle.stm_watch.specs.declared.refusal.WatchRefusal.TheVariants.{EmptyKey as EmptyKeyWatched}
 use Rattle.stm_watch.specs.declared.refusal.PollRefusal.TheVariants.{Compacted as LostToPoll}
@@ -27,15 +26,11 @@ use Rattle.stm_outcome.specs.declared.refusal.Refusal.TheVariants.{OutOfMemory, 
 use Rattle.stm_txn.specs.LeaseKeys.{deletions_of}
 use Rattle.stm_outcome.specs.Outcome.{Done, is_used_up}
 use Rattle.stm_outcome.specs.Commits.{is_on_dead_lease, effective}
-use Rattle.stm_txn.specs.Standing.{Standing, Step as StoreStep, watch_step, poll_step, cancel_step, with_floor, floor_step, terms_of}
-use Rattle.stm_txn.specs.Standing.{transacted, granted, kept_alive, revoked, advanced, watched, polled, cancelled, raised}
-use Rattle.stm_txn.specs.Standing.{Setup}
+use Rattle.stm_txn.specs.Standing.{Standing, Step as StoreStep, watch_step, poll_step, cancel_step, with_floor, floor_step, terms_of, transacted, granted}
+use Rattle.stm_txn.specs.Standing.{kept_alive, revoked, advanced, watched, polled, cancelled, raised, Setup}
 use Rattle.stm_outcome.specs.Terms.{Terms}
-use Rattle.stm_compile.specs.Now.{as_change}
 use Rattle.stm_compile.specs.Committed.{sends_too_many, conflict_now, judged, committed}
 use Rattle.stm_events.specs.declared.event.WorldEvent.{WorldEvent}
-use Rattle.stm_events.specs.declared.event.WorldEvent.TheVariants.{Start, Step, Txn, Grant, Keep, Revoke, Advance}
-use Rattle.stm_events.specs.declared.event.WorldEvent.TheVariants.{WatchKey, WatchRange, Poll, Cancel, Compact}
 use Rattle.stm_events.specs.declared.reply.Reply.{Reply}
 use Rattle.stm_events.specs.declared.reply.Reply.TheVariants.{Ended, Granted, Kept, Revoked, Watching as WatchingReply, Cancelled, Compacted}
 use Rattle.stm_events.specs.declared.refusal.Denied.{Denied}
@@ -43,13 +38,14 @@ use Rattle.stm_events.specs.declared.refusal.EventRefusal.{EventRefusal}
 use Rattle.stm_events.specs.declared.refusal.EventRefusal.TheVariants.{OutOfMemory as OutOfMemoryEvent, BadLimit, NoRunner}
 use Rattle.stm_events.proofs.Refusals.{one_cause}
 use Rattle.stm_events.specs.Replies.{txn_reply, reply_to, advance_reply}
+use Rattle.stm_events.specs.Called.{Call, Txn, Grant, Keep, Revoke, Advance, Watch, Poll, Cancel, Compact, Asked, Starts, Steps, Calls, asked, called}
 use Rattle.stm_world.specs.Task.{Task}
 use Rattle.stm_world.specs.Log.{Line, running, store}
-use Rattle.stm_world.specs.Right.{Situation, Commits, IsRefused, RunnerIsRight, IsRight, situation}
+use Rattle.stm_world.specs.Right.{Situation, Commits, IsRefused, RunnerIsRight, IsRightAsked, IsRight, situation}
 use Rattle.stm_world.specs.NeverOutOfMemory.{NeverOutOfMemory}
 use Rattle.stm_world.proofs.Wants.{NoOutOfMemory, NeverWants, transacted_never, advanced_never}
-use Rattle.stm_events.proofs.Calls.{granted_by, kept_by, revoked_by}
-use Rattle.stm_world.proofs.WatchCalls.{poll_reported}
+use Rattle.stm_events.proofs.CallMeans.{granted_by, kept_by, revoked_by}
+use Rattle.stm_events.proofs.CallReplies.{poll_reported}
 
 -- ---- watchers ----
 
@@ -125,7 +121,7 @@ judged_never : (terms : Terms) (level : Level) (reads : List ReadAnswer) (run : 
     NeverWants (judged terms level reads run o)
 judged_never terms level reads run None =
     let h : History = terms.history in
-    let changes : List Change = map as_change (latest_writes run.writes) in
+    let changes : List Change = (latest_writes run.writes) in
     applied_for (list_any (is_on_dead_lease terms.is_live) changes) (is_used_up h (effective h changes)) _
 judged_never terms level reads run (Some failed) = tt
 
@@ -171,34 +167,27 @@ runner_for_want : (start : Setup) (log : List Line) (id : ℕ) (o : Option Task)
 runner_for_want start log id None expired right = let same : OutOfMemoryEvent ≡ NoRunner = ap cause_of right in absurd (cc)
 runner_for_want start log id (Some task) expired right = right
 
-refusal : (start : Setup) (log : List Line) (event : WorldEvent) (expired : List Expired) → IsRight start log event (wanting expired) → ⊥
-refusal start log (Start program level limit) expired right = let same : OutOfMemoryEvent ≡ BadLimit = ap (λ (d : Denied). d.cause) right.0 in absurd (cc)
-refusal start log (Step id) expired right = runner_for_want start log id (running id log) expired right
-refusal start log (Txn txn) expired right = let s : Standing = store start log in call_for txn_reply (transacted s txn) (transacted_never s txn) (ap cause_of right)
-refusal start log (Grant id ttl) expired right =
-    let s : Standing = store start log in call_for (λ _. Granted id) (granted s id ttl) (granted_never s id ttl) (ap cause_of right)
-refusal start log (Keep id) expired right =
-    let s : Standing = store start log in call_for (λ _. Kept id) (kept_alive s id) (kept_never s id) (ap cause_of right)
-refusal start log (Revoke id) expired right =
-    let s : Standing = store start log in call_for (Revoked id) (revoked s id) (revoked_never s id) (ap cause_of right)
-refusal start log (Advance moment) expired right =
-    let s : Standing = store start log in
-    advance_for moment (advanced s moment).expired (advanced s moment).cause (advanced_never s moment) (ap cause_of right)
-refusal start log (WatchKey key from) expired right =
-    let s : Standing = store start log in call_for WatchingReply (watched s (Key key) from) (watched_never s (Key key) from) (ap cause_of right)
-refusal start log (WatchRange first end from) expired right =
-    let s : Standing = store start log in
-    call_for WatchingReply (watched s (Range first end) from) (watched_never s (Range first end) from) (ap cause_of right)
-refusal start log (Poll watcher most) expired right =
-    let s : Standing = store start log in
+call_never : (s : Standing) (c : Call) → OutOfMemoryEvent ≡ cause_of (called s c).reply → ⊥
+call_never s (Txn txn) = call_for txn_reply (transacted s txn) (transacted_never s txn)
+call_never s (Grant id ttl) = call_for (λ _. Granted id) (granted s id ttl) (granted_never s id ttl)
+call_never s (Keep id) = call_for (λ _. Kept id) (kept_alive s id) (kept_never s id)
+call_never s (Revoke id) = call_for (Revoked id) (revoked s id) (revoked_never s id)
+call_never s (Advance moment) = advance_for moment (advanced s moment).expired (advanced s moment).cause (advanced_never s moment)
+call_never s (Watch keys from) = call_for WatchingReply (watched s keys from) (watched_never s keys from)
+call_never s (Poll watcher most) =
     poll_reported (λ (r : Result Reply Denied). OutOfMemoryEvent ≡ cause_of r → ⊥) s watcher most (λ batch is. absurd (cc)) (λ is. absurd (cc))
-    (λ is. absurd (cc)) (ap cause_of right)
-refusal start log (Cancel watcher) expired right =
-    let s : Standing = store start log in
-    call_for (λ _. Cancelled watcher) (cancelled s watcher) (cancelled_never s watcher) (ap cause_of right)
-refusal start log (Compact revision) expired right =
-    let s : Standing = store start log in
-    call_for (λ _. Compacted revision) (raised s revision) (raised_never s revision) (ap cause_of right)
+    (λ is. absurd (cc))
+call_never s (Cancel watcher) = call_for (λ _. Cancelled watcher) (cancelled s watcher) (cancelled_never s watcher)
+call_never s (Compact revision) = call_for (λ _. Compacted revision) (raised s revision) (raised_never s revision)
+
+asked_never : (start : Setup) (log : List Line) (a : Asked) (expired : List Expired) → IsRightAsked start log a (wanting expired) → ⊥
+asked_never start log (Starts program level limit) expired right =
+    let same : OutOfMemoryEvent ≡ BadLimit = ap (λ (d : Denied). d.cause) right.0 in absurd (cc)
+asked_never start log (Steps id) expired right = runner_for_want start log id (running id log) expired right
+asked_never start log (Calls c) expired right = call_never (store start log) c (ap cause_of right)
+
+refusal : (start : Setup) (log : List Line) (event : WorldEvent) (expired : List Expired) → IsRight start log event (wanting expired) → ⊥
+refusal start log event expired right = asked_never start log (asked event) expired right
 
 commits_for : (at : Situation) → Commits at (Err OutOfMemory) → ⊥
 commits_for at c =

@@ -16,8 +16,7 @@ use Rattle.stm_outcome.specs.declared.refusal.Refusal.{Refusal as StoreRefusal}
 use Rattle.stm_outcome.specs.declared.refusal.Refusal.TheVariants.{TooManyOps as TooManyOpsRefusal, Compacted as CompactedRefusal}
 use Rattle.stm_outcome.specs.Outcome.{Done}
 use Rattle.stm_outcome.specs.Commits.{revision_read}
-use Rattle.stm_txn.specs.Standing.{terms_of}
-use Rattle.stm_txn.specs.Standing.{Setup}
+use Rattle.stm_txn.specs.Standing.{terms_of, Setup}
 use Rattle.stm_outcome.specs.Terms.{is_below_floor}
 use Rattle.stm_compile.specs.Committed.{committed}
 use Rattle.stm_compile.specs.Conflicts.{Seen, seen_by, seen_in}
@@ -25,17 +24,15 @@ use Rattle.stm_attempt.specs.Settled.{run_on}
 use Rattle.stm_attempt.specs.Entering.{is_due}
 use Rattle.stm_attempt.specs.Fetches.{at_of}
 use Rattle.stm_events.specs.declared.event.WorldEvent.{WorldEvent}
-use Rattle.stm_events.specs.declared.event.WorldEvent.TheVariants.{Start, Step, Txn, Grant, Keep, Revoke, Advance}
-use Rattle.stm_events.specs.declared.event.WorldEvent.TheVariants.{WatchKey, WatchRange, Poll, Cancel, Compact}
 use Rattle.stm_events.specs.declared.reply.Reply.{Reply}
 use Rattle.stm_events.specs.declared.reply.Reply.TheVariants.{Started, Prefetched, Fetched, Committed, Conflict, GaveUp, Aborted, Faulted, Ended}
-use Rattle.stm_events.specs.declared.reply.Reply.TheVariants.{Txn as TxnDone, Granted, Kept, Revoked, Advanced, Watching, Batch, Cancelled, Compacted, Lost}
 use Rattle.stm_events.specs.declared.refusal.Denied.{Denied}
 use Rattle.stm_events.specs.Replies.{committed_read, event_refusal}
+use Rattle.stm_events.specs.Called.{Asked, Starts, Steps, Calls, asked}
 use Rattle.stm_world.specs.Task.{Task, modified_now}
 use Rattle.stm_entries.specs.Entered.{answers_kept}
 use Rattle.stm_world.specs.Log.{Line, IsLogOf, running, started}
-use Rattle.stm_world.specs.Right.{Situation, HasList, Commits, IsConflicted, IsRefused, ReplyIsRight, StepIsRight, RunnerIsRight, StartIsRight, IsRight, AreRight, situation}
+use Rattle.stm_world.specs.Right.{Situation, HasList, Commits, IsConflicted, IsRefused, ReplyIsRight, StepIsRight, RunnerIsRight, StartIsRight, IsRightAsked, IsRight, AreRight, situation}
 use Rattle.stm_world.specs.World.{opened, replies_to}
 use Rattle.stm_world.specs.Headline.{Headline}
 use Rattle.stm_world.specs.OneReply.{OneRightReply}
@@ -145,16 +142,7 @@ one_reply at (Ended runner cause) right =
     let reported : Ended runner cause ≡ Ended at.id (event_refusal ended.by_store) = (λ i. Ended (right.0 i) (ended.named i)) in
     reported ∙ sym (by_refusal at ended.by_store ended.refused)
 one_reply at (Started runner) right = absurd right
-one_reply at (TxnDone succeeded revision answers) right = absurd right
-one_reply at (Granted lease) right = absurd right
-one_reply at (Kept lease) right = absurd right
-one_reply at (Revoked lease revision) right = absurd right
-one_reply at (Advanced moment expired) right = absurd right
-one_reply at (Watching watcher) right = absurd right
-one_reply at (Batch watcher upto events) right = absurd right
-one_reply at (Cancelled watcher) right = absurd right
-one_reply at (Compacted revision) right = absurd right
-one_reply at (Lost watcher floor) right = absurd right
+one_reply at _ right = absurd right
 
 step_by : (at : Situation) (a : Result Reply Denied) → StepIsRight at a → a ≡ Ok (reply_at at)
 step_by at (Ok reply) right = ap (λ (r : Reply). Ok r) (one_reply at reply right)
@@ -174,19 +162,13 @@ runner_by start log id None a b first second = first ∙ sym second
 runner_by start log id (Some task) a b first second =
     step_by (situation start log id task) a first ∙ sym (step_by (situation start log id task) b second)
 
+one_asked : (start : Setup) (log : List Line) (asks : Asked) (a b : Result Reply Denied) → IsRightAsked start log asks a → IsRightAsked start log asks b → a ≡ b
+one_asked start log (Starts program level limit) a b first second = start_by (started log) limit a b first second
+one_asked start log (Steps id) a b first second = runner_by start log id (running id log) a b first second
+one_asked start log (Calls c) a b first second = first ∙ sym second
+
 pub one_right : (start : Setup) (log : List Line) (event : WorldEvent) (a b : Result Reply Denied) → IsRight start log event a → IsRight start log event b → a ≡ b
-one_right start log (Start program level limit) a b first second = start_by (started log) limit a b first second
-one_right start log (Step id) a b first second = runner_by start log id (running id log) a b first second
-one_right start log (Txn txn) a b first second = first ∙ sym second
-one_right start log (Grant id ttl) a b first second = first ∙ sym second
-one_right start log (Keep id) a b first second = first ∙ sym second
-one_right start log (Revoke id) a b first second = first ∙ sym second
-one_right start log (Advance moment) a b first second = first ∙ sym second
-one_right start log (WatchKey key from) a b first second = first ∙ sym second
-one_right start log (WatchRange begins end from) a b first second = first ∙ sym second
-one_right start log (Poll watcher most) a b first second = first ∙ sym second
-one_right start log (Cancel watcher) a b first second = first ∙ sym second
-one_right start log (Compact revision) a b first second = first ∙ sym second
+one_right start log event a b first second = one_asked start log (asked event) a b first second
 
 -- ---- whole logs ----
 

@@ -3,7 +3,7 @@ use Rattle.std.proofs.Common.{◌≡◌, ℕ, suc, zero, Bool, true, false, not,
 use Rattle.std.specs.Prelude.{pos, nat_lt, if◌then◌else◌, Result, Ok, Err, Option, None, Some}
 use Rattle.stm_program.specs.Syntax.{Expression, Condition, Statement, Block, Text, Number, Variable, Get, Rev, Arithmetic, Cat, TextOf, NumOf, Equal}
 use Rattle.stm_program.specs.Syntax.{Less, Not, And, Or, Set, Put, Del, If, For, Emit, Abort, End, Then}
-use Rattle.stm_program.specs.declared.write.Write.{Write}
+use Rattle.stm_history.specs.declared.change.Change.{Change}
 use Rattle.stm_program.specs.Writes.{last_write}
 use Rattle.stm_steps.specs.declared.value.Value.TheVariants.{Number as NumberValue}
 use Rattle.stm_steps.specs.declared.fault.Fault.{Fault}
@@ -78,10 +78,10 @@ module _ (known whole : Lookup) (Before After : List (List ℕ) → Type 0) (nex
   beside-given (Ok x) = record { stays = λ s is. is; goes = λ s. refl }
   beside-given (Err fault) = record { stays = λ s is. is; goes = λ s. refl }
 
-  abbrev writing : Write → Session → Outcome (Unit {0})
+  abbrev writing : Change → Session → Outcome (Unit {0})
   writing w s = Gives tt (with_write w s)
 
-  beside-write : (r : Result Write Fault) → Beside (λ t. and_then (given r t) writing) (λ t. and_then (given r t) writing)
+  beside-write : (r : Result Change Fault) → Beside (λ t. and_then (given r t) writing) (λ t. and_then (given r t) writing)
   beside-write r = beside-then (given r) (given r) writing writing (beside-given r) (λ w. record { stays = λ s is. is; goes = λ s. refl })
 
   -- ---- look-ups ----
@@ -94,7 +94,7 @@ module _ (known whole : Lookup) (Before After : List (List ℕ) → Type 0) (nex
   rev_answered-stays key None s found is = is
   rev_answered-stays key (Some a) s found is = more.is_all key a s.reads found is
 
-  get_of-stays : (key : List ℕ) (w : Option Write) (s : Session) → After s.reads → After (reads_of (get_of whole key w s))
+  get_of-stays : (key : List ℕ) (w : Option Change) (s : Session) → After s.reads → After (reads_of (get_of whole key w s))
   get_of-stays key (Some w) s is = is
   get_of-stays key None s is = get_answered-stays key (whole key) s refl is
 
@@ -116,7 +116,7 @@ module _ (known whole : Lookup) (Before After : List (List ℕ) → Type 0) (nex
   rev_answered-goes key None s found = rev_answered-next key s
   rev_answered-goes key (Some a) s found = ap (λ c. rev_answered key c s) (more.agrees key a found)
 
-  get_of-goes : (key : List ℕ) (w : Option Write) (s : Session) → Goes (get_of known key w s) (get_of whole key w s)
+  get_of-goes : (key : List ℕ) (w : Option Change) (s : Session) → Goes (get_of known key w s) (get_of whole key w s)
   get_of-goes key (Some w) s = refl
   get_of-goes key None s = get_answered-goes key (known key) s refl
 

@@ -18,8 +18,7 @@ use Rattle.stm_outcome.specs.declared.answer.FailedCompare.{FailedCompare}
 use Rattle.stm_outcome.specs.declared.refusal.Refusal.{Refusal as StoreRefusal}
 use Rattle.stm_outcome.specs.Outcome.{Done}
 use Rattle.stm_outcome.specs.Commits.{revision_read}
-use Rattle.stm_txn.specs.Standing.{Standing, HasKept, with_history, terms_of}
-use Rattle.stm_txn.specs.Standing.{Setup}
+use Rattle.stm_txn.specs.Standing.{Standing, HasKept, with_history, terms_of, Setup}
 use Rattle.stm_outcome.specs.Terms.{is_below_floor}
 use Rattle.stm_outcome.specs.declared.refusal.Refusal.TheVariants.{TooManyOps as TooManyOpsRefusal, Compacted as CompactedRefusal}
 use Rattle.stm_compile.specs.Answers.{AreTrue}
@@ -40,13 +39,12 @@ use Rattle.stm_events.specs.declared.reply.Reply.{Reply}
 use Rattle.stm_events.specs.declared.reply.Reply.TheVariants.{Prefetched, Fetched, Committed, Conflict, GaveUp, Aborted, Faulted, Ended}
 use Rattle.stm_events.specs.declared.reply.KeyRead.{KeyRead}
 use Rattle.stm_events.specs.declared.reply.CommittedRead.{CommittedRead}
-use Rattle.stm_events.specs.Replies.{committed_read, reads_in, event_refusal}
+use Rattle.stm_events.specs.Replies.{committed_read, reads_in, event_refusal, runner_named}
 use Rattle.stm_world.specs.Task.{Task, answer_at, modified_now, after_list, after_fetch, after_conflict}
 use Rattle.stm_world.specs.Log.{Line, begun, is_over, running, failures, is_id, runner_started, runner_ended, store, known_after_log, with_commit, commit_entry}
 use Rattle.stm_world.specs.Log.{line_entries}
 use Rattle.stm_world.specs.Right.{IsRight, RunnerIsRight, situation, HasList, ReplyIsRight, IsConflicted}
-use Rattle.stm_world.specs.World.{Runner, Slot, Over, Live, live_in, runner_at, with_slot, replied, fetch, fetch_list, entry_of, take_commit}
-use Rattle.stm_world.specs.World.{decided}
+use Rattle.stm_world.specs.World.{Runner, Slot, Over, Live, live_in, runner_at, with_slot, replied, fetch, fetch_list, entry_of, take_commit, decided}
 use Rattle.stm_world.specs.World.{commit_reported, commit, finish, step_on, step_live}
 use Rattle.stm_world.specs.Sound.{KnowsTruth}
 use Rattle.stm_world.specs.Headline.{runner_for, runner_in_log}
@@ -56,7 +54,7 @@ use Rattle.stm_world.proofs.Bases.{IsWellRun, counter_some, list_runs, fetch_run
 use Rattle.stm_world.proofs.Carried.{kept_again}
 use Rattle.stm_world.proofs.Asked.{answers_are_the_reads}
 use Rattle.stm_world.proofs.Slots.{same_number}
-use Rattle.stm_world.proofs.Untouched.{runner_named, by_reply}
+use Rattle.stm_world.proofs.Untouched.{by_reply}
 use Rattle.stm_world.proofs.Following.{FollowsAt, FollowsStep, with_line, world_at, slot_touched}
 use Rattle.stm_world.proofs.CommitCases.{Fails, fails}
 use Rattle.stm_world.proofs.CommitEntries.{Takes, Taken, taken, commit_follows_entry}

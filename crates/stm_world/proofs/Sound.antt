@@ -5,8 +5,7 @@ use Rattle.stm_history.specs.History.{now}
 use Rattle.stm_outcome.specs.declared.advance.Expired.{Expired}
 use Rattle.stm_outcome.specs.declared.refusal.Refusal.{Refusal as StoreRefusal}
 use Rattle.stm_outcome.specs.Terms.{most_operations}
-use Rattle.stm_txn.specs.Standing.{Standing, Advance, at_moment, expire_up_to}
-use Rattle.stm_txn.specs.Standing.{Setup}
+use Rattle.stm_txn.specs.Standing.{Standing, Advance, at_moment, expire_up_to, Setup}
 use Rattle.stm_compile.proofs.AgreeLemmas.{commit_is_the_run_now}
 use Rattle.stm_attempt.specs.Fetches.{at_of}
 use Rattle.stm_events.specs.declared.event.WorldEvent.{WorldEvent}

@@ -15,11 +15,8 @@ use Rattle.stm_outcome.specs.declared.answer.FailedCompare.{FailedCompare}
 use Rattle.stm_outcome.specs.declared.refusal.Refusal.{Refusal as StoreRefusal}
 use Rattle.stm_outcome.specs.Outcome.{Done}
 use Rattle.stm_outcome.specs.Commits.{revision_read}
-use Rattle.stm_txn.specs.Standing.{Standing, with_history, transacted, granted, kept_alive, revoked, advanced, Advance as StoreAdvance}
-use Rattle.stm_txn.specs.Standing.{watched, polled, cancelled, raised}
+use Rattle.stm_txn.specs.Standing.{Standing, with_history, terms_of}
 use Rattle.stm_outcome.specs.Terms.{most_operations, is_below_floor}
-use Rattle.stm_txn.specs.Standing.{terms_of}
-use Rattle.stm_watch.specs.declared.watched.Watched.TheVariants.{Key, Range}
 use Rattle.stm_compile.specs.Committed.{committed}
 use Rattle.stm_compile.specs.Conflicts.{Seen, seen_by, seen_in}
 use Rattle.stm_compile.specs.Laws.{CommitIsTheRunNow}
@@ -27,29 +24,25 @@ use Rattle.stm_attempt.specs.Settled.{run_on}
 use Rattle.stm_attempt.specs.Entering.{is_due}
 use Rattle.stm_attempt.specs.Fetches.{at_of}
 use Rattle.stm_entries.specs.declared.entry.Entry.{Entry}
-use Rattle.stm_entries.specs.declared.entry.Entry.TheVariants.{Grant as GrantEntry, Renew, Revoke as RevokeEntry}
 use Rattle.stm_entries.specs.Replayed.{Replayed, opening, without_moment}
 use Rattle.stm_entries.specs.Replay.{replay}
 use Rattle.stm_entries.specs.Legal.{AreLegal}
 use Rattle.stm_entries.proofs.Replaying.{replay_goes_on, all_legal}
 use Rattle.stm_entries.proofs.Adding.{replay_only_adds}
-use Rattle.stm_entries.specs.Entered.{if_taken, if_changed, expiries}
 use Rattle.stm_events.specs.declared.event.WorldEvent.{WorldEvent}
-use Rattle.stm_events.specs.declared.event.WorldEvent.TheVariants.{Start, Step, Txn, Grant, Keep, Revoke, Advance}
-use Rattle.stm_events.specs.declared.event.WorldEvent.TheVariants.{WatchKey, WatchRange, Poll, Cancel, Compact}
 use Rattle.stm_events.specs.declared.reply.Reply.{Reply}
 use Rattle.stm_events.specs.declared.reply.Reply.TheVariants.{Started, Prefetched, Fetched, Conflict, GaveUp, Aborted, Faulted, Ended}
 use Rattle.stm_events.specs.declared.refusal.EventRefusal.TheVariants.{BadLimit, TooManyOps as TooManyOpsRefusal, Compacted as CompactedRefusal}
-use Rattle.stm_events.specs.Replies.{event_refusal, store_after_call, store_after_poll}
+use Rattle.stm_events.specs.Replies.{event_refusal}
+use Rattle.stm_events.specs.Called.{Asked, Starts, Steps, Calls, asked, called, entered}
 use Rattle.stm_world.specs.Task.{Task, answer_at, modified_now, after_list, after_fetch, after_conflict}
 use Rattle.stm_world.specs.World.{World, Runner, Slot, Over, Live, live_in, runner_at, with_slot, refused, replied, begin, start_runner, fetch, fetch_list, entry_of}
 use Rattle.stm_world.specs.World.{take_commit, decided, commit_reported, commit, finish, step_on, step_live, step_runner}
-use Rattle.stm_world.specs.World.{step}
+use Rattle.stm_world.specs.World.{Stepped, step_asked, step}
 use Rattle.stm_world.specs.Sound.{KnowsTruth, IsSound}
 use Rattle.stm_world.proofs.Truth.{known_stays, prefetch_true, fetch_true, conflict_true}
 use Rattle.stm_world.proofs.Entered.{EntriesFollow, nothing_follows}
-use Rattle.stm_world.proofs.Calls.{txn_follows, grant_follows, keep_follows, revoke_follows, advance_follows}
-use Rattle.stm_world.proofs.WatchCalls.{watch_follows, poll_follows, cancel_follows, compact_follows}
+use Rattle.stm_world.proofs.Calls.{call_adds, call_follows}
 use Rattle.stm_world.proofs.CommitEntries.{Takes, taken, commit_follows_entry}
 use Rattle.stm_world.proofs.Slots.{equal_numbers, differ, runner_there, runner_own, runner_other, runner_new, runner_old}
 
@@ -83,15 +76,11 @@ sound_with w runners after more sound e truth =
       limit = subst (λ n. n ≤ most_operations) (sym e.limit) sound.limit;
     }
 
--- an event that is about no runner
+-- a call of the store
 pub call_sound : (w : World) (after : Standing) (more : List Entry) → IsSound w → EntriesFollow w.standing after more →
     IsSound (world_with after w.runners (w.entries ++ more))
 call_sound w after more sound e =
     sound_with w w.runners after more sound e (λ id r found. known_stays w.standing.history after.history r.known e.keeps (sound.truth id r found))
-
--- an event that is no entry
-quiet_sound : (w : World) (after : Standing) → IsSound w → EntriesFollow w.standing after [] → IsSound (world_with after w.runners w.entries)
-quiet_sound w after sound e = subst (λ (es : List Entry). IsSound (world_with after w.runners es)) (append-nil w.entries) (call_sound w after [] sound e)
 
 -- a step that leads a runner to another place
 slot_sound : (w : World) (id : ℕ) (r : Runner) (slot : Slot) (after : Standing) (more : List Entry) → IsSound w → runner_at id w.runners ≡ Some r →
@@ -258,35 +247,12 @@ runner_by w id (Some r) law sound found = live_sound w id r law sound found
 
 -- ---- every event ----
 
+asked_sound : (a : Asked) (w : World) → CommitIsTheRunNow → IsSound w → IsSound (step_asked a w).next
+asked_sound (Starts program level limit) w law sound = start_sound w (record { program = program; level = level; limit = limit }) sound
+asked_sound (Steps id) w law sound = runner_by w id (runner_at id w.runners) law sound refl
+asked_sound (Calls c) w law sound =
+    subst (λ (x : Stepped). IsSound x.next) (sym (call_adds c w))
+    (call_sound w (called w.standing c).next (entered w.standing c) sound (call_follows w.standing c sound.limit))
+
 pub event_sound : (event : WorldEvent) (w : World) → CommitIsTheRunNow → IsSound w → IsSound (step event w).next
-event_sound (Start program level limit) w law sound = start_sound w (record { program = program; level = level; limit = limit }) sound
-event_sound (Step id) w law sound = runner_by w id (runner_at id w.runners) law sound refl
-event_sound (Txn txn) w law sound =
-    let s : Standing = w.standing in
-    let next : Standing = store_after_call s (transacted s txn) in
-    call_sound w next (if_changed s next txn) sound (txn_follows s txn sound.limit)
-event_sound (Grant lease ttl) w law sound =
-    let s : Standing = w.standing in
-    let o = granted s lease ttl in
-    call_sound w (store_after_call s o) (if_taken o (GrantEntry lease ttl s.moment)) sound (grant_follows s lease ttl)
-event_sound (Keep lease) w law sound =
-    let s : Standing = w.standing in
-    let o = kept_alive s lease in
-    call_sound w (store_after_call s o) (if_taken o (Renew lease s.moment)) sound (keep_follows s lease)
-event_sound (Revoke lease) w law sound =
-    let s : Standing = w.standing in
-    let o = revoked s lease in
-    call_sound w (store_after_call s o) (if_taken o (RevokeEntry lease)) sound (revoke_follows s lease)
-event_sound (Advance moment) w law sound =
-    let done : StoreAdvance = advanced w.standing moment in
-    call_sound w done.leaves (expiries done.expired) sound (advance_follows w.standing moment)
-event_sound (WatchKey key from) w law sound =
-    quiet_sound w (store_after_call w.standing (watched w.standing (Key key) from)) sound (watch_follows w.standing (Key key) from)
-event_sound (WatchRange first end from) w law sound =
-    quiet_sound w (store_after_call w.standing (watched w.standing (Range first end) from)) sound (watch_follows w.standing (Range first end) from)
-event_sound (Poll watcher most) w law sound =
-    quiet_sound w (store_after_poll watcher w.standing (polled w.standing watcher most)) sound (poll_follows w.standing watcher most)
-event_sound (Cancel watcher) w law sound =
-    quiet_sound w (store_after_call w.standing (cancelled w.standing watcher)) sound (cancel_follows w.standing watcher)
-event_sound (Compact revision) w law sound =
-    quiet_sound w (store_after_call w.standing (raised w.standing revision)) sound (compact_follows w.standing revision)
+event_sound event w law sound = asked_sound (asked event) w law sound

@@ -2,19 +2,18 @@
 use Rattle.std.proofs.Common.{◌≡◌, ℕ, ◌+◌, List, [], ◌∷◌, Option, Some, None, Ok, Err, false, cond, refl, ◌∙◌, ap}
 use Rattle.std.specs.Prelude.{option_map, Result, ◌||◌}
 use Rattle.stm_history.specs.History.{History}
-use Rattle.stm_outcome.specs.declared.advance.Expired.{Expired}
-use Rattle.stm_outcome.specs.declared.refusal.Refusal.{Refusal as StoreRefusal}
-use Rattle.stm_txn.specs.Standing.{Step as StoreStep}
-use Rattle.stm_txn.specs.Standing.{Setup}
+use Rattle.stm_txn.specs.Standing.{Standing, Setup}
 use Rattle.stm_attempt.specs.Known.{Known}
 use Rattle.stm_events.specs.declared.reply.Reply.{Reply}
 use Rattle.stm_events.specs.declared.reply.Reply.TheVariants.{Started, Prefetched, Fetched, Committed, Conflict, GaveUp, Aborted, Faulted, Ended}
-use Rattle.stm_events.specs.declared.reply.Reply.TheVariants.{Txn as TxnDone, Granted, Kept, Revoked, Advanced, Watching, Batch, Cancelled, Compacted, Lost}
 use Rattle.stm_events.specs.declared.refusal.Denied.{Denied}
-use Rattle.stm_events.specs.Replies.{reply_to, advance_reply}
+use Rattle.stm_events.specs.Replies.{runner_named, event_refusal}
+use Rattle.stm_events.specs.Called.{Call, called}
+use Rattle.stm_events.proofs.CallReplies.{call_replies}
 use Rattle.stm_world.specs.Task.{Task, nothing_known, answer_at, after_list, after_fetch, after_conflict}
 use Rattle.stm_world.specs.Log.{Line, begun, is_over, running, failures, is_id, task_in, store, known_after_log, known_after}
 use Rattle.stm_world.specs.Log.{runner_started, runner_ended, runner_in_conflict}
+use Rattle.stm_world.specs.Doomed.{failed_commit, stopped}
 use Rattle.stm_world.specs.World.{Runner}
 use Rattle.stm_world.specs.Headline.{runner_for, runner_in_log}
 
@@ -75,28 +74,6 @@ fresh_stays start id line log u fresh = record {
 pub by_refusal : (id : ℕ) (refusal : Denied) → Untouched id (Err refusal)
 by_refusal id refusal = record { not_started = refl; not_ended = refl; no_conflict = refl; known = λ task h k. refl }
 
-pub by_call : {A : Type 0} (id : ℕ) (report : A → Reply) (o : Result (StoreStep A) StoreRefusal) → ((x : A) → Untouched id (Ok (report x))) →
-    Untouched id (reply_to report o)
-by_call id report (Ok done) each = each done.answer
-by_call id report (Err cause) each = record { not_started = refl; not_ended = refl; no_conflict = refl; known = λ task h k. refl }
-
-pub by_advance : (id moment : ℕ) (expired : List Expired) (cause : Option StoreRefusal) → Untouched id (advance_reply moment expired cause)
-by_advance id moment expired None = record { not_started = refl; not_ended = refl; no_conflict = refl; known = λ task h k. refl }
-by_advance id moment expired (Some cause) = record { not_started = refl; not_ended = refl; no_conflict = refl; known = λ task h k. refl }
-
--- the runner whose step, or start, a reply reports
-abbrev pub runner_named : Reply → Option ℕ
-runner_named (Started runner) = Some runner
-runner_named (Prefetched runner revision reads) = Some runner
-runner_named (Fetched runner key mod_rev of_rev revision) = Some runner
-runner_named (Committed runner revision attempts output trace answers) = Some runner
-runner_named (Conflict runner key seen now) = Some runner
-runner_named (GaveUp runner attempts key seen now) = Some runner
-runner_named (Aborted runner text) = Some runner
-runner_named (Faulted runner fault) = Some runner
-runner_named (Ended runner cause) = Some runner
-runner_named other = None
-
 -- a reply that names one runner, or none, is not about another
 pub by_reply : (id : ℕ) (reply : Reply) → is_id id (runner_named reply) ≡ false → Untouched id (Ok reply)
 by_reply id (Started runner) other = record { not_started = other; not_ended = refl; no_conflict = refl; known = λ task h k. refl }
@@ -124,13 +101,32 @@ by_reply id (GaveUp runner attempts key seen now) other = record { not_started =
 by_reply id (Aborted runner text) other = record { not_started = refl; not_ended = other; no_conflict = refl; known = λ task h k. refl }
 by_reply id (Faulted runner fault) other = record { not_started = refl; not_ended = other; no_conflict = refl; known = λ task h k. refl }
 by_reply id (Ended runner cause) other = record { not_started = refl; not_ended = other; no_conflict = refl; known = λ task h k. refl }
-by_reply id (TxnDone succeeded revision answers) other = record { not_started = refl; not_ended = refl; no_conflict = refl; known = λ task h k. refl }
-by_reply id (Granted lease) other = record { not_started = refl; not_ended = refl; no_conflict = refl; known = λ task h k. refl }
-by_reply id (Kept lease) other = record { not_started = refl; not_ended = refl; no_conflict = refl; known = λ task h k. refl }
-by_reply id (Revoked lease revision) other = record { not_started = refl; not_ended = refl; no_conflict = refl; known = λ task h k. refl }
-by_reply id (Advanced moment expired) other = record { not_started = refl; not_ended = refl; no_conflict = refl; known = λ task h k. refl }
-by_reply id (Watching watcher) other = record { not_started = refl; not_ended = refl; no_conflict = refl; known = λ task h k. refl }
-by_reply id (Batch watcher upto events) other = record { not_started = refl; not_ended = refl; no_conflict = refl; known = λ task h k. refl }
-by_reply id (Cancelled watcher) other = record { not_started = refl; not_ended = refl; no_conflict = refl; known = λ task h k. refl }
-by_reply id (Compacted revision) other = record { not_started = refl; not_ended = refl; no_conflict = refl; known = λ task h k. refl }
-by_reply id (Lost watcher floor) other = record { not_started = refl; not_ended = refl; no_conflict = refl; known = λ task h k. refl }
+by_reply id reply other = record { not_started = refl; not_ended = refl; no_conflict = refl; known = λ task h k. refl }
+
+-- ---- the replies to calls of the store ----
+
+-- a reply that says nothing of runners
+pub record SaysNothing (reply : Result Reply Denied) : Type 0 where
+  pub not_started : runner_started reply ≡ None
+  pub no_failure : failed_commit reply ≡ None
+  pub no_stop : stopped reply ≡ None
+  pub untouched : (id : ℕ) → Untouched id reply
+
+pub nothing_by_refusal : (refusal : Denied) → SaysNothing (Err refusal)
+nothing_by_refusal refusal = record { not_started = refl; no_failure = refl; no_stop = refl; untouched = λ id. by_refusal id refusal }
+
+nothing_by_reply : (reply : Reply) → runner_named reply ≡ None → SaysNothing (Ok reply)
+nothing_by_reply (Started runner) none = absurd (cc)
+nothing_by_reply (Prefetched runner revision reads) none = absurd (cc)
+nothing_by_reply (Fetched runner key mod_rev of_rev revision) none = absurd (cc)
+nothing_by_reply (Committed runner revision attempts output trace answers) none = absurd (cc)
+nothing_by_reply (Conflict runner key seen now) none = absurd (cc)
+nothing_by_reply (GaveUp runner attempts key seen now) none = absurd (cc)
+nothing_by_reply (Aborted runner text) none = absurd (cc)
+nothing_by_reply (Faulted runner fault) none = absurd (cc)
+nothing_by_reply (Ended runner cause) none = absurd (cc)
+nothing_by_reply reply none = record { not_started = refl; no_failure = refl; no_stop = refl; untouched = λ id. by_reply id reply (ap (is_id id) none) }
+
+pub call_says_nothing : (s : Standing) (c : Call) → SaysNothing (called s c).reply
+call_says_nothing =
+    call_replies SaysNothing (record { told = nothing_by_reply; refused = λ cause expired. nothing_by_refusal (record { cause = event_refusal cause; expired = expired }) })

@@ -6,12 +6,13 @@ use Rattle.std.specs.Prelude.{◌≡◌, ℕ, List, Ok, Err}
 use Rattle.stm_outcome.specs.declared.refusal.Refusal.{Refusal as StoreRefusal}
 use Rattle.stm_txn.specs.Standing.{Setup}
 use Rattle.stm_events.specs.declared.event.WorldEvent.{WorldEvent}
-use Rattle.stm_events.specs.declared.event.WorldEvent.TheVariants.{Start, Step}
+use Rattle.stm_events.specs.declared.event.WorldEvent.TheVariants.{Step}
 use Rattle.stm_events.specs.declared.reply.Reply.TheVariants.{Ended}
 use Rattle.stm_events.specs.declared.refusal.EventRefusal.{EventRefusal}
 use Rattle.stm_events.specs.declared.refusal.EventRefusal.TheVariants.{BadLimit, NoRunner}
 use Rattle.stm_events.specs.declared.refusal.Denied.{Denied}
 use Rattle.stm_events.specs.Replies.{event_refusal}
+use Rattle.stm_events.specs.Called.{Asked, Starts, Steps, Calls, asked}
 use Rattle.stm_world.specs.Log.{Line}
 use Rattle.stm_world.specs.Right.{IsRight}
 
@@ -19,11 +20,14 @@ use Rattle.stm_world.specs.Right.{IsRight}
 abbrev pub IsOfStore : EventRefusal → Type 0
 IsOfStore cause = (by_store : StoreRefusal) × (cause ≡ event_refusal by_store)
 
+abbrev pub IsCauseAsked : Asked → EventRefusal → Type 0
+IsCauseAsked (Starts program level limit) cause = cause ≡ BadLimit
+IsCauseAsked (Steps id) cause = cause ≡ NoRunner
+IsCauseAsked (Calls c) cause = IsOfStore cause
+
 -- a cause for which an event can be refused
 abbrev pub IsCauseAt : WorldEvent → EventRefusal → Type 0
-IsCauseAt (Start program level limit) cause = cause ≡ BadLimit
-IsCauseAt (Step id) cause = cause ≡ NoRunner
-IsCauseAt other cause = IsOfStore cause
+IsCauseAt event cause = IsCauseAsked (asked event) cause
 
 pub record CausesOfWorlds : Type 0 where
   -- an event that is refused is refused for a cause that it can have

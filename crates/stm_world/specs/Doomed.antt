@@ -8,7 +8,7 @@ use Rattle.stm_history.specs.declared.revisions.TheConstants.{HIGHEST_REVISION}
 use Rattle.stm_history.specs.declared.key_state.ReadAnswer.{ReadAnswer}
 use Rattle.stm_history.specs.History.{History, now}
 use Rattle.stm_program.specs.declared.level.Level.{Level}
-use Rattle.stm_program.specs.declared.write.Write.{Write}
+use Rattle.stm_history.specs.declared.change.Change.{Change}
 use Rattle.stm_program.specs.Writes.{latest_writes}
 use Rattle.stm_steps.specs.declared.run.End.{End}
 use Rattle.stm_steps.specs.declared.run.End.TheVariants.{Done as DoneEnd, Aborted as AbortedEnd, Faulted as FaultedEnd}
@@ -54,7 +54,7 @@ failed_commit other = None
 
 -- The first compare of its commit that fails is a conflict about this key: what is reported as seen is what was seen of the key, and the other
 -- number is the key's modification revision now.
-pub record NamesAConflict (h : History) (level : Level) (reads : List ReadAnswer) (writes : List Write) (failed : FailedCommit) : Type 0 where
+pub record NamesAConflict (h : History) (level : Level) (reads : List ReadAnswer) (writes : List Change) (failed : FailedCommit) : Type 0 where
   pub compare : FailedCompare
   pub fails : conflict_now h level reads writes ≡ Some compare
   pub conflict : IsConflict h reads writes compare

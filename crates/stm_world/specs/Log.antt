@@ -7,24 +7,20 @@ use Rattle.stm_history.specs.History.{History}
 use Rattle.stm_steps.specs.declared.value.Value.{Value}
 use Rattle.stm_steps.specs.declared.trace_item.TraceItem.{TraceItem}
 use Rattle.stm_meaning.specs.Meaning.{run_over}
-use Rattle.stm_outcome.specs.declared.advance.Expired.{Expired}
-use Rattle.stm_txn.specs.Standing.{Standing, opening, with_history, transacted, granted, kept_alive, revoked, advanced, watched, polled, cancelled, raised}
-use Rattle.stm_txn.specs.Standing.{Setup}
-use Rattle.stm_watch.specs.declared.watched.Watched.TheVariants.{Key, Range}
+use Rattle.stm_txn.specs.Standing.{Standing, Setup, opening, with_history}
 use Rattle.stm_attempt.specs.Known.{Known}
 use Rattle.stm_entries.specs.declared.entry.Entry.{Entry}
-use Rattle.stm_entries.specs.declared.entry.Entry.TheVariants.{Program, Grant as GrantEntry, Renew, Revoke as RevokeEntry}
-use Rattle.stm_entries.specs.Entered.{if_changed, expiries}
+use Rattle.stm_entries.specs.declared.entry.Entry.TheVariants.{Program}
 use Rattle.stm_entries.specs.Replayed.{without_moment}
 use Rattle.stm_entries.specs.Alone.{seen_at, left_by_run}
 use Rattle.stm_events.specs.declared.event.WorldEvent.{WorldEvent}
-use Rattle.stm_events.specs.declared.event.WorldEvent.TheVariants.{Start, Step, Txn, Grant, Keep, Revoke, Advance}
-use Rattle.stm_events.specs.declared.event.WorldEvent.TheVariants.{WatchKey, WatchRange, Poll, Cancel, Compact}
+use Rattle.stm_events.specs.declared.event.WorldEvent.TheVariants.{Start}
 use Rattle.stm_events.specs.declared.reply.Reply.{Reply}
-use Rattle.stm_events.specs.declared.reply.Reply.TheVariants.{Started, Prefetched, Fetched, Committed, Conflict, Advanced}
+use Rattle.stm_events.specs.declared.reply.Reply.TheVariants.{Started, Prefetched, Fetched, Committed, Conflict}
 use Rattle.stm_events.specs.declared.reply.CommittedRead.{CommittedRead}
 use Rattle.stm_events.specs.declared.refusal.Denied.{Denied}
-use Rattle.stm_events.specs.Replies.{reads_in, runner_of, ends_run, store_after_call, store_after_poll}
+use Rattle.stm_events.specs.Replies.{reads_in, runner_of, ends_run}
+use Rattle.stm_events.specs.Called.{Asked, Starts, Steps, Calls, asked, called, entered_by}
 use Rattle.stm_world.specs.Task.{Task, nothing_known, answer_at, after_list, after_fetch, after_conflict}
 
 -- an event and the reply to it
@@ -105,20 +101,14 @@ abbrev pub store_after_step : (ℕ → Option Task) → Standing → Result Repl
 store_after_step task_of s (Ok (Committed runner revision attempts output trace answers)) = with_commit s answers (task_of runner)
 store_after_step task_of s other = s
 
+abbrev pub store_after_asked : (ℕ → Option Task) → Asked → Result Reply Denied → Standing → Standing
+store_after_asked task_of (Starts program level limit) reply s = s
+store_after_asked task_of (Steps runner) reply s = store_after_step task_of s reply
+store_after_asked task_of (Calls c) reply s = (called s c).next
+
 -- what an event leaves of the store
 abbrev pub store_after : (ℕ → Option Task) → WorldEvent → Result Reply Denied → Standing → Standing
-store_after task_of (Start program level limit) reply s = s
-store_after task_of (Step runner) reply s = store_after_step task_of s reply
-store_after task_of (Txn txn) reply s = store_after_call s (transacted s txn)
-store_after task_of (Grant id ttl) reply s = store_after_call s (granted s id ttl)
-store_after task_of (Keep id) reply s = store_after_call s (kept_alive s id)
-store_after task_of (Revoke id) reply s = store_after_call s (revoked s id)
-store_after task_of (Advance moment) reply s = (advanced s moment).leaves
-store_after task_of (WatchKey key from) reply s = store_after_call s (watched s (Key key) from)
-store_after task_of (WatchRange first end from) reply s = store_after_call s (watched s (Range first end) from)
-store_after task_of (Poll watcher most) reply s = store_after_poll watcher s (polled s watcher most)
-store_after task_of (Cancel watcher) reply s = store_after_call s (cancelled s watcher)
-store_after task_of (Compact revision) reply s = store_after_call s (raised s revision)
+store_after task_of event reply s = store_after_asked task_of (asked event) reply s
 
 -- the store, which opened so, after a log
 abbrev pub store : Setup → List Line → Standing
@@ -154,27 +144,14 @@ entries_of_step task_of h (Ok (Committed runner revision attempts output trace a
     commit_entry h revision output trace answers (task_of runner)
 entries_of_step task_of h other = []
 
--- a call that was not refused is an entry
-abbrev pub if_reported : Result Reply Denied → Entry → List Entry
-if_reported (Ok reply) entry = entry ∷ []
-if_reported (Err refusal) entry = []
+abbrev pub entries_asked : (ℕ → Option Task) → Standing → Standing → Asked → Result Reply Denied → List Entry
+entries_asked task_of before after (Starts program level limit) reply = []
+entries_asked task_of before after (Steps runner) reply = entries_of_step task_of before.history reply
+entries_asked task_of before after (Calls c) reply = entered_by c before after reply
 
--- the leases that an advance expired, also where it was refused
-abbrev pub expired_reported : Result Reply Denied → List Expired
-expired_reported (Ok (Advanced moment expired)) = expired
-expired_reported (Ok other) = []
-expired_reported (Err refusal) = refusal.expired
-
--- what an event is entered as: a transaction where it changed something, and each lease that an advance expired; no start is entered,
--- nothing about watchers, and no compaction
+-- what an event is entered as: no start is
 abbrev pub entries_of : (ℕ → Option Task) → Standing → Standing → WorldEvent → Result Reply Denied → List Entry
-entries_of task_of before after (Step runner) reply = entries_of_step task_of before.history reply
-entries_of task_of before after (Txn txn) reply = if_changed before after txn
-entries_of task_of before after (Grant id ttl) reply = if_reported reply (GrantEntry id ttl before.moment)
-entries_of task_of before after (Keep id) reply = if_reported reply (Renew id before.moment)
-entries_of task_of before after (Revoke id) reply = if_reported reply (RevokeEntry id)
-entries_of task_of before after (Advance moment) reply = expiries (expired_reported reply)
-entries_of task_of before after other reply = []
+entries_of task_of before after event reply = entries_asked task_of before after (asked event) reply
 
 -- what a line adds to the entries
 abbrev pub line_entries : Setup → Line → List Line → List Entry

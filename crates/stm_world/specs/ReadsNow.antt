@@ -11,7 +11,7 @@ use Rattle.stm_compile.specs.Committed.{conflict_now}
 use Rattle.stm_compile.specs.Laws.{AreNow}
 use Rattle.stm_attempt.specs.Settled.{run_on}
 use Rattle.stm_events.specs.declared.event.WorldEvent.{WorldEvent}
-use Rattle.stm_events.specs.declared.event.WorldEvent.TheVariants.{Step}
+use Rattle.stm_events.specs.Called.{Asked, Steps, asked}
 use Rattle.stm_world.specs.World.{World, Runner, runner_at}
 use Rattle.stm_world.specs.Sound.{IsSound}
 
@@ -22,10 +22,13 @@ HasReadWhatIsNow w r =
     (run : Run) → run_on r.task.program r.known.reads ≡ EndedRun run → is_comparing r.task.level ≡ true
     → conflict_now w.standing.history r.task.level r.known.reads (latest_writes run.writes) ≡ None → AreNow w.standing.history r.known.reads
 
+abbrev pub ReadsAreNowAsked : Asked → World → Type 0
+ReadsAreNowAsked (Steps id) w = (r : Runner) → runner_at id w.runners ≡ Some r → HasReadWhatIsNow w r
+ReadsAreNowAsked other w = Unit {0}
+
 -- the same of the runner that an event steps
 abbrev pub ReadsAreNow : WorldEvent → World → Type 0
-ReadsAreNow (Step id) w = (r : Runner) → runner_at id w.runners ≡ Some r → HasReadWhatIsNow w r
-ReadsAreNow event w = Unit {0}
+ReadsAreNow event w = ReadsAreNowAsked (asked event) w
 
 -- So it is in each sound world, whichever event comes.
 abbrev pub CommitsReadWhatIsNow : Type 0

@@ -18,10 +18,8 @@ use Rattle.stm_outcome.specs.declared.refusal.Refusal.{Refusal as StoreRefusal}
 use Rattle.stm_outcome.specs.declared.refusal.Refusal.TheVariants.{TooManyOps as TooManyOpsRefusal, Compacted as CompactedRefusal}
 use Rattle.stm_outcome.specs.Outcome.{Done}
 use Rattle.stm_outcome.specs.Commits.{revision_read}
-use Rattle.stm_txn.specs.Standing.{Standing, transacted, granted, kept_alive, revoked, advanced, watched, polled, cancelled, raised, terms_of}
-use Rattle.stm_txn.specs.Standing.{Setup}
+use Rattle.stm_txn.specs.Standing.{Standing, Setup, terms_of}
 use Rattle.stm_outcome.specs.Terms.{is_below_floor}
-use Rattle.stm_watch.specs.declared.watched.Watched.TheVariants.{Key, Range}
 use Rattle.stm_compile.specs.Committed.{committed}
 use Rattle.stm_compile.specs.Conflicts.{IsConflict}
 use Rattle.stm_attempt.specs.Settled.{run_on}
@@ -31,17 +29,15 @@ use Rattle.stm_entries.specs.Replayed.{without_moment}
 use Rattle.stm_entries.specs.Alone.{seen_at, applied_run}
 use Rattle.stm_entries.specs.Entered.{answers_kept}
 use Rattle.stm_events.specs.declared.event.WorldEvent.{WorldEvent}
-use Rattle.stm_events.specs.declared.event.WorldEvent.TheVariants.{Start, Step, Txn, Grant, Keep, Revoke, Advance}
-use Rattle.stm_events.specs.declared.event.WorldEvent.TheVariants.{WatchKey, WatchRange, Poll, Cancel, Compact}
 use Rattle.stm_events.specs.declared.reply.Reply.{Reply}
 use Rattle.stm_events.specs.declared.reply.Reply.TheVariants.{Started, Prefetched, Fetched, Committed, Conflict, GaveUp, Aborted, Faulted, Ended}
-use Rattle.stm_events.specs.declared.reply.Reply.TheVariants.{Granted, Kept, Revoked, Watching, Cancelled, Compacted}
 use Rattle.stm_events.specs.declared.reply.KeyRead.{KeyRead}
 use Rattle.stm_events.specs.declared.reply.CommittedRead.{CommittedRead}
 use Rattle.stm_events.specs.declared.refusal.EventRefusal.{EventRefusal}
 use Rattle.stm_events.specs.declared.refusal.EventRefusal.TheVariants.{BadLimit, NoRunner}
 use Rattle.stm_events.specs.declared.refusal.Denied.{Denied}
-use Rattle.stm_events.specs.Replies.{committed_read, txn_reply, event_refusal, denied, reply_to, advance_reply, poll_reply}
+use Rattle.stm_events.specs.Replies.{committed_read, event_refusal, denied}
+use Rattle.stm_events.specs.Called.{Asked, Starts, Steps, Calls, asked, called}
 use Rattle.stm_world.specs.Task.{Task, modified_now}
 use Rattle.stm_events.specs.FirstReads.{keys_first_read}
 use Rattle.stm_world.specs.Asked.{keys_read}
@@ -184,21 +180,14 @@ abbrev pub StartIsRight : ℕ → ℕ → Result Reply Denied → Type 0
 StartIsRight count limit (Ok reply) = (reply ≡ Started (count + 1)) × (limit ≢ 0)
 StartIsRight count limit (Err refusal) = (refusal ≡ record { cause = BadLimit; expired = [] }) × (limit ≡ 0)
 
+abbrev pub IsRightAsked : Setup → List Line → Asked → Result Reply Denied → Type 0
+IsRightAsked start log (Starts program level limit) reply = StartIsRight (started log) limit reply
+IsRightAsked start log (Steps id) reply = RunnerIsRight start log id (running id log) reply
+IsRightAsked start log (Calls c) reply = reply ≡ (called (store start log) c).reply
+
 -- the reply to an event after a log, in a world whose store opened so
 abbrev pub IsRight : Setup → List Line → WorldEvent → Result Reply Denied → Type 0
-IsRight start log (Start program level limit) reply = StartIsRight (started log) limit reply
-IsRight start log (Step id) reply = RunnerIsRight start log id (running id log) reply
-IsRight start log (Txn txn) reply = reply ≡ reply_to txn_reply (transacted (store start log) txn)
-IsRight start log (Grant id ttl) reply = reply ≡ reply_to (λ _. Granted id) (granted (store start log) id ttl)
-IsRight start log (Keep id) reply = reply ≡ reply_to (λ _. Kept id) (kept_alive (store start log) id)
-IsRight start log (Revoke id) reply = reply ≡ reply_to (Revoked id) (revoked (store start log) id)
-IsRight start log (Advance moment) reply =
-    reply ≡ advance_reply moment (advanced (store start log) moment).expired (advanced (store start log) moment).cause
-IsRight start log (WatchKey key from) reply = reply ≡ reply_to Watching (watched (store start log) (Key key) from)
-IsRight start log (WatchRange first end from) reply = reply ≡ reply_to Watching (watched (store start log) (Range first end) from)
-IsRight start log (Poll watcher most) reply = reply ≡ poll_reply watcher (store start log).floor (polled (store start log) watcher most)
-IsRight start log (Cancel watcher) reply = reply ≡ reply_to (λ _. Cancelled watcher) (cancelled (store start log) watcher)
-IsRight start log (Compact revision) reply = reply ≡ reply_to (λ _. Compacted revision) (raised (store start log) revision)
+IsRight start log event reply = IsRightAsked start log (asked event) reply
 
 -- each line of a log is right after the lines before it
 abbrev pub AreRight : Setup → List Line → Type 0

@@ -7,8 +7,7 @@ use Rattle.stm_history.specs.History.{History, now}
 use Rattle.stm_outcome.specs.declared.advance.Expired.{Expired}
 use Rattle.stm_outcome.specs.declared.refusal.Refusal.{Refusal as StoreRefusal}
 use Rattle.stm_outcome.specs.Terms.{most_operations}
-use Rattle.stm_txn.specs.Standing.{Standing, HasKept, at_moment, expire_up_to}
-use Rattle.stm_txn.specs.Standing.{Setup}
+use Rattle.stm_txn.specs.Standing.{Standing, HasKept, at_moment, expire_up_to, Setup}
 use Rattle.stm_compile.specs.Answers.{AreTrue}
 use Rattle.stm_attempt.specs.Known.{Known}
 use Rattle.stm_attempt.specs.Fetches.{at_of}

@@ -21,11 +21,8 @@ use Rattle.stm_outcome.specs.declared.refusal.Refusal.{Refusal as StoreRefusal}
 use Rattle.stm_outcome.specs.declared.refusal.Refusal.TheVariants.{TooManyOps as TooManyOpsRefusal, Compacted as CompactedRefusal}
 use Rattle.stm_outcome.specs.Outcome.{Done}
 use Rattle.stm_outcome.specs.Commits.{revision_read}
-use Rattle.stm_txn.specs.Standing.{Standing, opening, with_history, transacted, granted, kept_alive, revoked, advanced, watched, polled, cancelled}
-use Rattle.stm_txn.specs.Standing.{terms_of, raised}
-use Rattle.stm_txn.specs.Standing.{Setup}
+use Rattle.stm_txn.specs.Standing.{Standing, opening, with_history, terms_of, Setup}
 use Rattle.stm_outcome.specs.Terms.{is_below_floor}
-use Rattle.stm_watch.specs.declared.watched.Watched.TheVariants.{Key, Range}
 use Rattle.stm_compile.specs.Committed.{committed}
 use Rattle.stm_compile.specs.Conflicts.{Seen, seen_in, seen_by}
 use Rattle.stm_attempt.specs.Known.{Known}
@@ -33,18 +30,16 @@ use Rattle.stm_attempt.specs.Settled.{run_on}
 use Rattle.stm_attempt.specs.Entering.{is_due}
 use Rattle.stm_attempt.specs.Fetches.{at_of}
 use Rattle.stm_entries.specs.declared.entry.Entry.{Entry}
-use Rattle.stm_entries.specs.declared.entry.Entry.TheVariants.{Program, Grant as GrantEntry, Renew, Revoke as RevokeEntry}
-use Rattle.stm_entries.specs.Entered.{if_taken, if_changed, expiries, answers_kept}
+use Rattle.stm_entries.specs.declared.entry.Entry.TheVariants.{Program}
+use Rattle.stm_entries.specs.Entered.{answers_kept}
 use Rattle.stm_events.specs.declared.event.WorldEvent.{WorldEvent}
-use Rattle.stm_events.specs.declared.event.WorldEvent.TheVariants.{Start, Step, Txn, Grant, Keep, Revoke, Advance}
-use Rattle.stm_events.specs.declared.event.WorldEvent.TheVariants.{WatchKey, WatchRange, Poll, Cancel, Compact}
 use Rattle.stm_events.specs.declared.reply.Reply.{Reply}
 use Rattle.stm_events.specs.declared.reply.Reply.TheVariants.{Started, Prefetched, Fetched, Committed, Conflict, GaveUp, Aborted, Faulted, Ended}
-use Rattle.stm_events.specs.declared.reply.Reply.TheVariants.{Granted, Kept, Revoked, Watching, Cancelled, Compacted}
 use Rattle.stm_events.specs.declared.refusal.EventRefusal.{EventRefusal}
 use Rattle.stm_events.specs.declared.refusal.EventRefusal.TheVariants.{BadLimit, NoRunner}
 use Rattle.stm_events.specs.declared.refusal.Denied.{Denied}
-use Rattle.stm_events.specs.Replies.{committed_read, txn_reply, event_refusal, denied, reply_to, store_after_call, advance_reply, poll_reply, store_after_poll}
+use Rattle.stm_events.specs.Replies.{committed_read, event_refusal, denied}
+use Rattle.stm_events.specs.Called.{Call, Asked, Starts, Steps, Calls, asked, called, is_entered, entered}
 use Rattle.stm_world.specs.Task.{Task, nothing_known, answer_at, modified_now, after_list, after_fetch, after_conflict}
 
 -- a runner whose run goes on: its task, the commits of it that failed, and what it knows in its attempt
@@ -191,53 +186,29 @@ step_runner id (Some r) w = step_live id r w
 
 -- ---- the calls of the store ----
 
--- a call of the store, which is an entry where it is one
-abbrev pub called : Result Reply Denied → Standing → List Entry → World → Stepped
-called reply next entries w =
+-- after a call of the store, which adds these entries
+abbrev pub after_call : Result Reply Denied → Standing → List Entry → World → Stepped
+after_call reply next entries w =
     record { reply = reply; next = record { standing = next; runners = w.runners; entries = w.entries ++ entries } }
 
--- a call that is no entry: one about watchers, or a compaction
-abbrev pub quietly_called : Result Reply Denied → Standing → World → Stepped
-quietly_called reply next w = record { reply = reply; next = record { standing = next; runners = w.runners; entries = w.entries } }
+-- after a call that is no entry: one about watchers, or a compaction
+abbrev pub after_quiet_call : Result Reply Denied → Standing → World → Stepped
+after_quiet_call reply next w = record { reply = reply; next = record { standing = next; runners = w.runners; entries = w.entries } }
 
--- the step of the world
+abbrev pub make_call : Call → World → Stepped
+make_call c w =
+    let s = w.standing in
+    if is_entered c then after_call (called s c).reply (called s c).next (entered s c) w else after_quiet_call (called s c).reply (called s c).next w
+
+-- ---- the step of the world ----
+
+abbrev pub step_asked : Asked → World → Stepped
+step_asked (Starts program level limit) w = start_runner (record { program = program; level = level; limit = limit }) w
+step_asked (Steps id) w = step_runner id (runner_at id w.runners) w
+step_asked (Calls c) w = make_call c w
+
 abbrev pub step : WorldEvent → World → Stepped
-step (Start program level limit) w = start_runner (record { program = program; level = level; limit = limit }) w
-step (Step id) w = step_runner id (runner_at id w.runners) w
-step (Txn txn) w =
-    let s = w.standing in
-    let next = store_after_call s (transacted s txn) in
-    called (reply_to txn_reply (transacted s txn)) next (if_changed s next txn) w
-step (Grant id ttl) w =
-    let s = w.standing in
-    let o = granted s id ttl in
-    called (reply_to (λ _. Granted id) o) (store_after_call s o) (if_taken o (GrantEntry id ttl s.moment)) w
-step (Keep id) w =
-    let s = w.standing in
-    let o = kept_alive s id in
-    called (reply_to (λ _. Kept id) o) (store_after_call s o) (if_taken o (Renew id s.moment)) w
-step (Revoke id) w =
-    let s = w.standing in
-    let o = revoked s id in
-    called (reply_to (Revoked id) o) (store_after_call s o) (if_taken o (RevokeEntry id)) w
-step (Advance moment) w =
-    let done = advanced w.standing moment in
-    called (advance_reply moment done.expired done.cause) done.leaves (expiries done.expired) w
-step (WatchKey key from) w =
-    let o = watched w.standing (Key key) from in
-    quietly_called (reply_to Watching o) (store_after_call w.standing o) w
-step (WatchRange first end from) w =
-    let o = watched w.standing (Range first end) from in
-    quietly_called (reply_to Watching o) (store_after_call w.standing o) w
-step (Poll watcher most) w =
-    let o = polled w.standing watcher most in
-    quietly_called (poll_reply watcher w.standing.floor o) (store_after_poll watcher w.standing o) w
-step (Cancel watcher) w =
-    let o = cancelled w.standing watcher in
-    quietly_called (reply_to (λ _. Cancelled watcher) o) (store_after_call w.standing o) w
-step (Compact revision) w =
-    let o = raised w.standing revision in
-    quietly_called (reply_to (λ _. Compacted revision) o) (store_after_call w.standing o) w
+step event w = step_asked (asked event) w
 
 -- ---- whole runs ----
 

@@ -1,21 +1,19 @@
 -- What a log says of attempts that come to nothing: from the headline, line by line.
-use Rattle.std.proofs.Common.{cond, map, arith, Bool, false, refl, ◌∷◌, None, Option, ◌≡◌, ℕ, ◌≤◌, List, [], Some, Ok, Err, true, sym, ◌∙◌, ap, subst}
+use Rattle.std.proofs.Common.{cond, arith, Bool, false, refl, ◌∷◌, None, Option, ◌≡◌, ℕ, ◌≤◌, List, [], Some, Ok, Err, true, sym, ◌∙◌, ap, subst}
 use Rattle.std.specs.Prelude.{option_map, Result}
 use Rattle.stm_history.specs.declared.key_state.ReadAnswer.{ReadAnswer}
-use Rattle.stm_history.specs.History.{History, key_now, mod_of}
+use Rattle.stm_history.specs.History.{History, now}
 use Rattle.stm_steps.specs.declared.run.End.{End}
 use Rattle.stm_steps.specs.declared.run.End.TheVariants.{Aborted as AbortedEnd, Faulted as FaultedEnd}
 use Rattle.stm_steps.specs.declared.run.Answered.{Answered}
 use Rattle.stm_meaning.specs.Laws.{IsContinuedBy}
 use Rattle.stm_meaning.specs.Meaning.{run_over}
-use Rattle.stm_compile.specs.Answers.{state_as_of}
-use Rattle.stm_compile.specs.Conflicts.{IsChangedAbove}
+use Rattle.stm_compile.specs.Answers.{state_as_of, AreTrue}
 use Rattle.stm_program.specs.Levels.{is_serializable}
-use Rattle.stm_attempt.specs.Fetches.{base_of}
+use Rattle.stm_attempt.specs.Fetches.{base_of, HaveOneBase}
 use Rattle.std.specs.List.{list_any}
 use Rattle.std.proofs.lemmas.List.Elements.{All-from_recursion}
 use Rattle.stm_history.specs.declared.change.Change.{Change}
-use Rattle.stm_history.specs.History.{now}
 use Rattle.stm_program.specs.declared.level.Level.{Level}
 use Rattle.stm_steps.specs.declared.run.Run.{Run}
 use Rattle.stm_outcome.specs.declared.answer.FailedCompare.{FailedCompare}
@@ -23,22 +21,17 @@ use Rattle.stm_outcome.specs.declared.refusal.Refusal.TheVariants.{LeaseNotFound
 use Rattle.stm_outcome.specs.Outcome.{Done, is_used_up}
 use Rattle.stm_outcome.specs.Commits.{revision_read, turned_down, effective, is_on_dead_lease}
 use Rattle.stm_outcome.specs.Terms.{Terms}
-use Rattle.stm_txn.specs.Standing.{terms_of}
-use Rattle.stm_txn.specs.Standing.{Setup}
-use Rattle.stm_compile.specs.Answers.{AreTrue}
-use Rattle.stm_compile.specs.Now.{as_change}
+use Rattle.stm_txn.specs.Standing.{terms_of, Setup}
 use Rattle.stm_compile.specs.CommitTxn.{reread_keys}
 use Rattle.stm_compile.specs.Committed.{sends_too_many, conflict_now, judged}
 use Rattle.stm_compile.proofs.AgreeLemmas.{answers_of_one_revision}
-use Rattle.stm_attempt.specs.Fetches.{HaveOneBase}
 use Rattle.stm_program.specs.Writes.{latest_writes}
 use Rattle.stm_attempt.specs.Settled.{run_on}
 use Rattle.stm_steps.specs.declared.run.Answered.TheVariants.{Ended as EndedRun}
 use Rattle.stm_world.proofs.Slots.{other_number}
 use Rattle.stm_events.specs.declared.event.WorldEvent.{WorldEvent}
 use Rattle.stm_events.specs.declared.reply.Reply.{Reply}
-use Rattle.stm_events.specs.declared.reply.Reply.TheVariants.{Started, Prefetched, Fetched, Committed, Conflict, GaveUp, Aborted, Faulted, Ended}
-use Rattle.stm_events.specs.declared.reply.Reply.TheVariants.{Txn as TxnDone, Granted, Kept, Revoked, Advanced, Watching, Batch, Cancelled, Compacted, Lost}
+use Rattle.stm_events.specs.declared.reply.Reply.TheVariants.{Started, Conflict, GaveUp, Aborted, Faulted}
 use Rattle.stm_events.specs.declared.refusal.Denied.{Denied}
 use Rattle.stm_world.specs.Task.{Task}
 use Rattle.stm_world.specs.Log.{Line, running, store, known_after_log}
@@ -66,7 +59,7 @@ judged_fails : (terms : Terms) (level : Level) (reads : List ReadAnswer) (run : 
     (failed : FailedCompare) → judged terms level reads run o ≡ Ok done → done.answer.failed ≡ Some failed → o ≡ Some failed
 judged_fails terms level reads run None done failed is some =
     let h : History = terms.history in
-    let changes : List Change = map as_change (latest_writes run.writes) in
+    let changes : List Change = latest_writes run.writes in
     absurd (applied_fails_none (list_any (is_on_dead_lease terms.is_live) changes) (is_used_up h (effective h changes)) _ done failed refl is some)
 judged_fails terms level reads run (Some first) done failed is some =
     let same : turned_down terms.history first (reread_keys level reads) ≡ done = cc in
@@ -112,23 +105,7 @@ reply_is_real start log id task (Ok (Conflict runner key seen now)) runs right =
 reply_is_real start log id task (Ok (GaveUp runner attempts key seen now)) runs right =
     real_failure start log id runner task key seen now runs right.0 right.3
 reply_is_real start log id task (Ok (Started runner)) runs right = tt
-reply_is_real start log id task (Ok (Prefetched runner revision reads)) runs right = tt
-reply_is_real start log id task (Ok (Fetched runner key mod_rev of_rev revision)) runs right = tt
-reply_is_real start log id task (Ok (Committed runner revision attempts output trace answers)) runs right = tt
-reply_is_real start log id task (Ok (Aborted runner text)) runs right = tt
-reply_is_real start log id task (Ok (Faulted runner fault)) runs right = tt
-reply_is_real start log id task (Ok (Ended runner cause)) runs right = tt
-reply_is_real start log id task (Ok (TxnDone succeeded revision answers)) runs right = tt
-reply_is_real start log id task (Ok (Granted lease)) runs right = tt
-reply_is_real start log id task (Ok (Kept lease)) runs right = tt
-reply_is_real start log id task (Ok (Revoked lease revision)) runs right = tt
-reply_is_real start log id task (Ok (Advanced moment expired)) runs right = tt
-reply_is_real start log id task (Ok (Watching watcher)) runs right = tt
-reply_is_real start log id task (Ok (Batch watcher upto events)) runs right = tt
-reply_is_real start log id task (Ok (Cancelled watcher)) runs right = tt
-reply_is_real start log id task (Ok (Compacted revision)) runs right = tt
-reply_is_real start log id task (Ok (Lost watcher floor)) runs right = tt
-reply_is_real start log id task (Err refusal) runs right = tt
+reply_is_real start log id task _ runs right = tt
 
 pub failures_are_conflicts : CommitLaws → FailuresAreConflicts
 failures_are_conflicts laws =
@@ -199,23 +176,7 @@ reply_is_of_one_state start log id task (Ok (Aborted runner text)) w f some runs
 reply_is_of_one_state start log id task (Ok (Faulted runner fault)) w f some runs right =
     of_one_state start log id runner task (FaultedEnd fault) w f some runs right.0 right.1
 reply_is_of_one_state start log id task (Ok (Started runner)) w f some runs right = tt
-reply_is_of_one_state start log id task (Ok (Prefetched runner revision reads)) w f some runs right = tt
-reply_is_of_one_state start log id task (Ok (Fetched runner key mod_rev of_rev revision)) w f some runs right = tt
-reply_is_of_one_state start log id task (Ok (Committed runner revision attempts output trace answers)) w f some runs right = tt
-reply_is_of_one_state start log id task (Ok (Conflict runner key seen now)) w f some runs right = tt
-reply_is_of_one_state start log id task (Ok (GaveUp runner attempts key seen now)) w f some runs right = tt
-reply_is_of_one_state start log id task (Ok (Ended runner cause)) w f some runs right = tt
-reply_is_of_one_state start log id task (Ok (TxnDone succeeded revision answers)) w f some runs right = tt
-reply_is_of_one_state start log id task (Ok (Granted lease)) w f some runs right = tt
-reply_is_of_one_state start log id task (Ok (Kept lease)) w f some runs right = tt
-reply_is_of_one_state start log id task (Ok (Revoked lease revision)) w f some runs right = tt
-reply_is_of_one_state start log id task (Ok (Advanced moment expired)) w f some runs right = tt
-reply_is_of_one_state start log id task (Ok (Watching watcher)) w f some runs right = tt
-reply_is_of_one_state start log id task (Ok (Batch watcher upto events)) w f some runs right = tt
-reply_is_of_one_state start log id task (Ok (Cancelled watcher)) w f some runs right = tt
-reply_is_of_one_state start log id task (Ok (Compacted revision)) w f some runs right = tt
-reply_is_of_one_state start log id task (Ok (Lost watcher floor)) w f some runs right = tt
-reply_is_of_one_state start log id task (Err refusal) w f some runs right = tt
+reply_is_of_one_state start log id task _ w f some runs right = tt
 
 pub stops_are_of_one_state : CommitLaws → StopsAreOfOneState
 stops_are_of_one_state laws =

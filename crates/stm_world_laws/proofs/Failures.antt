@@ -16,7 +16,6 @@ use Rattle.stm_events.specs.declared.event.WorldEvent.{WorldEvent}
 use Rattle.stm_events.specs.declared.event.WorldEvent.TheVariants.{Start, Step}
 use Rattle.stm_events.specs.declared.reply.Reply.{Reply}
 use Rattle.stm_events.specs.declared.reply.Reply.TheVariants.{Started, Prefetched, Fetched, Committed, Conflict, GaveUp, Aborted, Faulted, Ended}
-use Rattle.stm_events.specs.declared.reply.Reply.TheVariants.{Txn as TxnDone, Granted, Kept, Revoked, Advanced, Watching, Batch, Cancelled, Compacted, Lost}
 use Rattle.stm_events.specs.declared.refusal.Denied.{Denied}
 use Rattle.stm_events.specs.declared.reply.KeyRead.{KeyRead}
 use Rattle.stm_world.specs.Task.{Task, answer_at, after_list, after_fetch, after_conflict}
@@ -27,7 +26,8 @@ use Rattle.stm_world.specs.World.{World, opened, replies_to, step}
 use Rattle.stm_world.specs.Doomed.{FailedCommit, failed_commit, IsRealFailure, is_of_runner, since, failed_commits, FailuresMoveOn}
 use Rattle.stm_world.proofs.Slots.{equal_numbers, same_number}
 use Rattle.std.proofs.lemmas.List.{length-append}
-use Rattle.stm_world.proofs.Untouched.{runner_named, Untouched, IsFresh, by_reply, same_running, same_reported}
+use Rattle.stm_events.specs.Replies.{runner_named}
+use Rattle.stm_world.proofs.Untouched.{Untouched, IsFresh, by_reply, same_running, same_reported}
 use Rattle.stm_world.proofs.Following.{FollowsStep, with_line}
 use Rattle.stm_world.proofs.RunnerSteps.{CommitLaws}
 use Rattle.stm_world.proofs.Headlines.{Follows, step_follows, opened_follows}
@@ -100,16 +100,7 @@ failed_by id failed conflicts over (Ok (Committed runner revision attempts outpu
 failed_by id failed conflicts over (Ok (Aborted runner text)) on none = on (of_both (nat_eq runner id) over none).1
 failed_by id failed conflicts over (Ok (Faulted runner fault)) on none = on (of_both (nat_eq runner id) over none).1
 failed_by id failed conflicts over (Ok (Ended runner cause)) on none = on (of_both (nat_eq runner id) over none).1
-failed_by id failed conflicts over (Ok (TxnDone succeeded revision answers)) on none = on none
-failed_by id failed conflicts over (Ok (Granted lease)) on none = on none
-failed_by id failed conflicts over (Ok (Kept lease)) on none = on none
-failed_by id failed conflicts over (Ok (Revoked lease revision)) on none = on none
-failed_by id failed conflicts over (Ok (Advanced moment expired)) on none = on none
-failed_by id failed conflicts over (Ok (Watching watcher)) on none = on none
-failed_by id failed conflicts over (Ok (Batch watcher upto events)) on none = on none
-failed_by id failed conflicts over (Ok (Cancelled watcher)) on none = on none
-failed_by id failed conflicts over (Ok (Compacted revision)) on none = on none
-failed_by id failed conflicts over (Ok (Lost watcher floor)) on none = on none
+failed_by id failed conflicts over _ on none = on none
 
 -- of a run that is not over only conflicts were reported as failures
 none_failed : (id : ℕ) (log : List Line) → is_over id log ≡ false → failed_commits id log ≡ failures id log
@@ -305,17 +296,7 @@ step_moves_on start log id task (Ok (Ended runner cause)) runs right all =
     (λ other is. about_others id other (Ended id cause) is refl)
     (ends_by start log id task (Ended id cause) runs (same_number id) refl refl (all id) grows))
 step_moves_on start log id task (Ok (Started runner)) runs right all = absurd right
-step_moves_on start log id task (Ok (TxnDone succeeded revision answers)) runs right all = absurd right
-step_moves_on start log id task (Ok (Granted lease)) runs right all = absurd right
-step_moves_on start log id task (Ok (Kept lease)) runs right all = absurd right
-step_moves_on start log id task (Ok (Revoked lease revision)) runs right all = absurd right
-step_moves_on start log id task (Ok (Advanced moment expired)) runs right all = absurd right
-step_moves_on start log id task (Ok (Watching watcher)) runs right all = absurd right
-step_moves_on start log id task (Ok (Batch watcher upto events)) runs right all = absurd right
-step_moves_on start log id task (Ok (Cancelled watcher)) runs right all = absurd right
-step_moves_on start log id task (Ok (Compacted revision)) runs right all = absurd right
-step_moves_on start log id task (Ok (Lost watcher floor)) runs right all = absurd right
-step_moves_on start log id task (Err refusal) runs right all = absurd right
+step_moves_on start log id task _ runs right all = absurd right
 
 event_moves_on : (start : Setup) (log : List Line) (w : World) (event : WorldEvent) (reply : Result Reply Denied) → Follows start log w →
     IsRight start log event reply → ((other : ℕ) → HasMovedOn start log other) → Grows start log (record { event = event; reply = reply }) →

@@ -25,7 +25,6 @@ use Rattle.stm_outcome.specs.Outcome.{Done, outcome, branch_outcome, chosen, fin
 use Rattle.stm_txn.specs.LeaseKeys.{deletions_of}
 use Rattle.stm_outcome.specs.Commits.{applied, effective, is_on_dead_lease, write_answer}
 use Rattle.stm_outcome.specs.Terms.{Terms}
-use Rattle.stm_compile.specs.Now.{as_change}
 use Rattle.stm_entries.specs.declared.entry.Entry.{Entry}
 use Rattle.stm_entries.specs.declared.entry.Entry.TheVariants.{Program, Foreign, Grant, Renew, Revoke, Expire}
 use Rattle.stm_entries.specs.Replayed.{Replayed, replay_terms}
@@ -82,7 +81,7 @@ outcome_low terms txn low =
     unless_low h (fault_of terms.limit txn) (branch_outcome terms failed (chosen failed txn)) low (branch_low terms failed (chosen failed txn) low)
 
 run_low : (r : Replayed) (run : Run) (end : End) → IsLow r.history → IsLow (left_by run end r).history
-run_low r run DoneEnd low = applied_low (replay_terms r) (map as_change (latest_writes run.writes)) low
+run_low r run DoneEnd low = applied_low (replay_terms r) (latest_writes run.writes) low
 run_low r run (Aborted text) low = low
 run_low r run (Faulted fault) low = low
 

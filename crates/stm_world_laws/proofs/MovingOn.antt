@@ -1,6 +1,5 @@
 -- A run's commits fail only as often as the store's revision grows since its start.
-use Rattle.std.proofs.Common.{◌≡◌, ℕ, ◌+◌, ◌<◌, ◌≤◌, zero, suc, List, [], ◌∷◌, ◌++◌, map, Some, Bool}
-use Rattle.std.proofs.Common.{true, false, cond, refl, sym, subst, arith}
+use Rattle.std.proofs.Common.{◌≡◌, ℕ, ◌+◌, ◌<◌, ◌≤◌, zero, suc, List, [], ◌∷◌, ◌++◌, map, Some, Bool, true, false, cond, refl, sym, subst, arith}
 use Rattle.std.specs.Prelude.{nat_eq, nat_lt, min, fold, ◌&&◌, ◌||◌, is_some, slice_get}
 use Rattle.std.specs.List.{AllByRecursion}
 use Rattle.std.proofs.lemmas.Bool.{ltb-true}
@@ -11,7 +10,6 @@ use Rattle.stm_history.specs.Opening.{Opening, opened_state}
 use Rattle.stm_history.specs.History.{History, now, number_of_last, change_of, mod_of}
 use Rattle.stm_history.proofs.HistoryLaws.{mod_is_reached}
 use Rattle.stm_program.specs.declared.level.Level.{Level}
-use Rattle.stm_program.specs.declared.write.Write.{Write}
 use Rattle.stm_outcome.specs.Commits.{revision_read}
 use Rattle.stm_program.specs.Levels.{is_serializable}
 use Rattle.stm_compile.specs.Answers.{answer_now}
@@ -86,7 +84,7 @@ reads_seen : (lowest : ℕ) (reads : List ReadAnswer) → AreFrom lowest reads �
 reads_seen lowest [] are = tt
 reads_seen lowest (a ∷ reads) are = (are.0.0, reads_seen lowest reads are.1)
 
-writes_seen : (lowest first : ℕ) (writes : List Write) → lowest ≤ first → SeenFrom lowest (map (seen_of_write first) writes)
+writes_seen : (lowest first : ℕ) (writes : List Change) → lowest ≤ first → SeenFrom lowest (map (seen_of_write first) writes)
 writes_seen lowest first [] from = tt
 writes_seen lowest first (w ∷ writes) from = (from, writes_seen lowest first writes from)
 
@@ -99,7 +97,7 @@ first_from : (lowest : ℕ) (reads : List ReadAnswer) → lowest ≤ HIGHEST_REV
 first_from lowest [] low are = low
 first_from lowest (a ∷ reads) low are = least_from lowest a.revision reads are.0.1 are.1
 
-seen_from : (lowest : ℕ) (reads : List ReadAnswer) (writes : List Write) → lowest ≤ HIGHEST_REVISION → AreFrom lowest reads → SeenFrom lowest (seen_by reads writes)
+seen_from : (lowest : ℕ) (reads : List ReadAnswer) (writes : List Change) → lowest ≤ HIGHEST_REVISION → AreFrom lowest reads → SeenFrom lowest (seen_by reads writes)
 seen_from lowest reads writes low are =
     both_seen (λ (s : Seen). lowest ≤ s.at) (map seen_of_read reads) (map (seen_of_write (first_carried reads)) writes) (reads_seen lowest reads are)
     (writes_seen lowest (first_carried reads) writes (first_from lowest reads low are))
@@ -130,7 +128,7 @@ above_all opening r key (changes ∷ older) changed =
     changes older refl (above_all opening r key older) changed
 
 -- after a conflict the store is above all that the attempt has seen
-pub conflict_moves_on : (lowest : ℕ) (h : History) (reads : List ReadAnswer) (writes : List Write) (seen : Seen) (index : ℕ) (key : List ℕ) →
+pub conflict_moves_on : (lowest : ℕ) (h : History) (reads : List ReadAnswer) (writes : List Change) (seen : Seen) (index : ℕ) (key : List ℕ) →
     lowest ≤ HIGHEST_REVISION → AreFrom lowest reads → slice_get (seen_by reads writes) index ≡ Some seen → IsChangedAbove h seen.at key → lowest + 1 ≤ now h
 conflict_moves_on lowest h reads writes seen index key low are among changed =
     let from : lowest ≤ seen.at = seen_at_index (λ (s : Seen). lowest ≤ s.at) (seen_by reads writes) index seen (seen_from lowest reads writes low are) among in

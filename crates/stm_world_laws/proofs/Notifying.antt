@@ -3,12 +3,7 @@ use Rattle.std.proofs.Common.{◌≡◌, ◌≢◌, ◌⊎◌, inl, inr, ℕ, �
 use Rattle.std.proofs.Common.{Bool, true, false, cond, refl, sym, ◌∙◌, ap, subst, arith, append-nil, slice_index_or, slice_set}
 use Rattle.std.proofs.lemmas.List.{length-set, length-append, length-map, get_or-set_same, get_or-set_other}
 use Rattle.std.specs.Prelude.{nat_eq, nat_lt, nat_le, option_map, Result, ◌||◌}
-use Rattle.std.specs.FinMap as finmap
 use Rattle.stm_history.specs.History.{History, now}
-use Rattle.stm_leases.specs.LeaseLog.{Term}
-use Rattle.stm_leases.specs.Live.{is_live_in, grant_refusal}
-use Rattle.stm_leases.specs.declared.errors.GrantError.{GrantError}
-use Rattle.stm_leases.specs.DueFirst.{first_due}
 use Rattle.stm_keys.specs.declared.event.Event.{Event}
 use Rattle.stm_watch.specs.declared.watched.Watched.{Watched}
 use Rattle.stm_watch.specs.declared.watched.Watched.TheVariants.{Key, Range}
@@ -23,12 +18,7 @@ use Rattle.stm_watch.specs.Calls.{watcher_at, is_one_lost, cancelled as without_
 use Rattle.stm_watch.specs.declared.refusal.PollRefusal.TheVariants.{Compacted as LostToPoll}
 use Rattle.stm_outcome.specs.declared.refusal.Refusal.{Refusal as StoreRefusal}
 use Rattle.stm_outcome.specs.declared.refusal.Refusal.TheVariants.{Compacted as CompactedRefusal, FutureRevision}
-use Rattle.stm_outcome.specs.Outcome.{Done, outcome, is_used_up}
-use Rattle.stm_txn.specs.LeaseKeys.{deletions_of}
-use Rattle.stm_txn.specs.Standing.{Standing, Step as StoreStep, step_of, ended, expire_up_to, at_moment, with_watchers, terms_of}
-use Rattle.stm_txn.specs.Standing.{watch_step, poll_step, cancel_step, with_floor, floor_step, IsKeptFor}
-use Rattle.stm_txn.specs.Standing.{Setup}
-use Rattle.stm_txn.proofs.Ending.{ended_is}
+use Rattle.stm_txn.specs.Standing.{Standing, Step as StoreStep, with_watchers, watch_step, poll_step, cancel_step, with_floor, floor_step, IsKeptFor, Setup}
 use Rattle.stm_events.specs.declared.event.WorldEvent.{WorldEvent}
 use Rattle.stm_events.specs.declared.event.WorldEvent.TheVariants.{Start, Step, Txn, Grant, Keep, Revoke, Advance}
 use Rattle.stm_events.specs.declared.event.WorldEvent.TheVariants.{WatchKey, WatchRange, Poll, Cancel, Compact}
@@ -45,10 +35,12 @@ use Rattle.stm_world_laws.specs.Notifying.{made, made_by, or_earlier, begun_watc
 use Rattle.stm_world_laws.specs.Notifying.{IsLostFor, IsNotifiedSo, WatchersAreNotified}
 use Rattle.stm_world.proofs.Polling.{HasReported, begun_reports, polled_reports, lost_under}
 use Rattle.stm_world.proofs.Truth.{Keeps}
-use Rattle.stm_world.proofs.EventKeeps.{event_keeps, event_floor, store_kept}
+use Rattle.stm_world.proofs.EventKeeps.{event_goes_on, store_kept}
 use Rattle.stm_world.proofs.KeptFor.{kept_at}
 use Rattle.stm_world.proofs.Slots.{equal_numbers, same_number, other_number, differ}
-use Rattle.stm_events.proofs.Calls.{granted_by, kept_by, revoked_by, advance_ended, advance_due, advance_back}
+use Rattle.stm_events.specs.Called as call
+use Rattle.stm_events.specs.Called.{Call}
+use Rattle.stm_events.proofs.StoreKeeps.{StoreKeeps, store_keeps}
 
 -- ---- the watchers stay at an event that is about no watcher
 
@@ -61,40 +53,22 @@ step_stays task_of s (Ok (Committed runner revision attempts output trace answer
 step_stays task_of s (Ok other) = refl
 step_stays task_of s (Err refusal) = refl
 
-txn_stays : (s : Standing) (o : Result Done StoreRefusal) → (store_after_call s (step_of s o)).watchers ≡ s.watchers
-txn_stays s (Ok done) = refl
-txn_stays s (Err cause) = refl
+watchers_kept : StoreKeeps (λ c. call.is_entered c ≡ true) (λ s next. next.watchers ≡ s.watchers)
+watchers_kept = record {
+  same = λ s. refl;
+  joined = λ a b c first second. second ∙ first;
+  changed = λ s changes. refl;
+  leased = λ s live. refl;
+  moved = λ s moment of. refl;
+  watching = λ s keys from of. absurd (cc);
+  polled = λ s id most w of found lost. absurd (cc);
+  lost = λ s id most of. absurd (cc);
+  cancelled = λ s id of. absurd (cc);
+  raised = λ s revision of above reached. absurd (cc);
+}
 
-grant_stays : (s : Standing) (id ttl : ℕ) (o : Option GrantError) → (store_after_call s (granted_by s id ttl o)).watchers ≡ s.watchers
-grant_stays s id ttl None = refl
-grant_stays s id ttl (Some cause) = refl
-
-keep_stays : (s : Standing) (id : ℕ) (o : Option Term) → (store_after_call s (kept_by s id o)).watchers ≡ s.watchers
-keep_stays s id None = refl
-keep_stays s id (Some term) = refl
-
-revoke_stays : (s : Standing) (id : ℕ) (live used : Bool) → (store_after_call s (revoked_by s id live used)).watchers ≡ s.watchers
-revoke_stays s id false used = refl
-revoke_stays s id true true = refl
-revoke_stays s id true false = refl
-
-ended_stays : (many : ℕ) (s : Standing) (id : ℕ) (o : Result Standing StoreRefusal) → ended s id ≡ o →
-    ((next : Standing) → (expire_up_to many next).leaves.watchers ≡ next.watchers) → (advance_ended many s id o).leaves.watchers ≡ s.watchers
-ended_stays many s id (Err cause) is goes = refl
-ended_stays many s id (Ok next) is goes = goes next ∙ sym (ap (λ (x : Standing). x.watchers) (ended_is s next id is))
-
-due_stays : (many : ℕ) (s : Standing) (o : Option ℕ) → ((next : Standing) → (expire_up_to many next).leaves.watchers ≡ next.watchers) →
-    (advance_due many s o).leaves.watchers ≡ s.watchers
-due_stays many s None goes = refl
-due_stays many s (Some id) goes = ended_stays many s id (ended s id) refl goes
-
-expiries_stay : (many : ℕ) (s : Standing) → (expire_up_to many s).leaves.watchers ≡ s.watchers
-expiries_stay zero s = refl
-expiries_stay (suc many) s = due_stays many s (first_due s.live s.moment) (λ next. expiries_stay many next)
-
-advance_stays : (s : Standing) (moment : ℕ) (back : Bool) → (advance_back s moment back).leaves.watchers ≡ s.watchers
-advance_stays s moment true = refl
-advance_stays s moment false = expiries_stay (finmap.len s.live) (at_moment s moment)
+watchers_stay : (s : Standing) (c : Call) → call.is_entered c ≡ true → (call.called s c).next.watchers ≡ s.watchers
+watchers_stay s c of = store_keeps (λ x. call.is_entered x ≡ true) (λ s next. next.watchers ≡ s.watchers) watchers_kept s c of
 
 -- ---- line by line
 
@@ -149,7 +123,7 @@ same_reported start log event reply id (Some w) q is =
     let s : Standing = store start log in
     let next : Standing = store start (with_line event reply log) in
     let after : History = next.history in
-    let keeps : Keeps s.history after = event_keeps (λ runner. begun runner log) event reply s in
+    let keeps : Keeps s.history after = (event_goes_on (λ runner. begun runner log) event reply s).keeps in
     let same : events_to id log ≡ events_to id (with_line event reply log) =
     sym (ap (λ (es : List Event). events_to id log ++ es) q.reported ∙ append-nil (events_to id log)) in
     record {
@@ -157,7 +131,7 @@ same_reported start log event reply id (Some w) q is =
       is_begun = same_watching start log event reply id q ∙ is.is_begun;
       reports = subst (λ (es : List Event). HasReported after es is.begun w) same
           (keeps.carries (events_to id log) is.begun w is.reports);
-      because = cause_stays s next is.begun w keeps (event_floor (λ runner. begun runner log) event reply s) is.because;
+      because = cause_stays s next is.begun w keeps (event_goes_on (λ runner. begun runner log) event reply s).floor is.because;
     }
 
 still_new : (log : List Line) (event : WorldEvent) (reply : Result Reply Denied) (id : ℕ) → reported_by id event reply ≡ [] →
@@ -544,24 +518,15 @@ reported_more start log (Step runner) reply right are =
     quiet start log (Step runner) reply are (λ id. record { reported = refl; made = refl; kept = refl })
     (step_stays (λ n. begun n log) (store start log) reply)
 reported_more start log (Txn txn) reply right are =
-    let s : Standing = store start log in
-    quiet start log (Txn txn) reply are (λ id. record { reported = refl; made = refl; kept = refl })
-    (txn_stays s (outcome (terms_of s) txn))
+    quiet start log (Txn txn) reply are (λ id. record { reported = refl; made = refl; kept = refl }) (watchers_stay (store start log) (call.Txn txn) refl)
 reported_more start log (Grant lease ttl) reply right are =
-    let s : Standing = store start log in
-    quiet start log (Grant lease ttl) reply are (λ id. record { reported = refl; made = refl; kept = refl })
-    (grant_stays s lease ttl (grant_refusal s.live lease ttl))
+    quiet start log (Grant lease ttl) reply are (λ id. record { reported = refl; made = refl; kept = refl }) (watchers_stay (store start log) (call.Grant lease ttl) refl)
 reported_more start log (Keep lease) reply right are =
-    let s : Standing = store start log in
-    quiet start log (Keep lease) reply are (λ id. record { reported = refl; made = refl; kept = refl }) (keep_stays s lease (finmap.get s.live lease))
+    quiet start log (Keep lease) reply are (λ id. record { reported = refl; made = refl; kept = refl }) (watchers_stay (store start log) (call.Keep lease) refl)
 reported_more start log (Revoke lease) reply right are =
-    let s : Standing = store start log in
-    quiet start log (Revoke lease) reply are (λ id. record { reported = refl; made = refl; kept = refl })
-    (revoke_stays s lease (is_live_in s.live lease) (is_used_up s.history (deletions_of s.history lease)))
+    quiet start log (Revoke lease) reply are (λ id. record { reported = refl; made = refl; kept = refl }) (watchers_stay (store start log) (call.Revoke lease) refl)
 reported_more start log (Advance moment) reply right are =
-    let s : Standing = store start log in
-    quiet start log (Advance moment) reply are (λ id. record { reported = refl; made = refl; kept = refl })
-    (advance_stays s moment (nat_lt moment s.moment))
+    quiet start log (Advance moment) reply are (λ id. record { reported = refl; made = refl; kept = refl }) (watchers_stay (store start log) (call.Advance moment) refl)
 reported_more start log (WatchKey key from) reply right are =
     watch_by start log (WatchKey key from) reply (Key key) from (nat_eq (length (first_key (Key key))) 0) are (λ id. refl) (λ id. refl)
     (λ id. refl) right refl

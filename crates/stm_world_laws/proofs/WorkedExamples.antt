@@ -13,7 +13,6 @@ use Rattle.stm_program.specs.Writes.{last_write, latest_writes}
 use Rattle.stm_program.specs.declared.operator.Operator.TheVariants.{Add, Sub, Div}
 use Rattle.stm_program.specs.declared.level.Level.{Level}
 use Rattle.stm_program.specs.declared.level.Level.TheVariants.{SerializableSnapshot, Serializable, RepeatableReads}
-use Rattle.stm_program.specs.declared.write.Write.TheVariants.{Put as PutWrite}
 use Rattle.stm_steps.specs.Session.{fresh}
 use Rattle.stm_steps.specs.Steps.{get_key}
 use Rattle.stm_steps.specs.Values.{text_in, key_in, num_of, written_number, arithmetic, computed, put_of}
@@ -388,7 +387,7 @@ copy_is_appended = record {
         end = Done;
         output = [];
         trace = seen.Get (codes "x") (codes "1") ∷ [];
-        writes = PutWrite (codes "z") (codes "1") 0 ∷ [];
+        writes = PutChange (codes "z") (codes "1") 0 ∷ [];
         reads = codes "x" ∷ [];
       };
       is_run = refl;

@@ -1,7 +1,6 @@
 -- Wrong logs are rejected.
-use Rattle.std.proofs.Common.{◌≡◌, ◌≢◌, inl, inr, ℕ, ◌+◌, ◌-◌, ◌<◌, ◌≤◌, zero, suc, List, [], ◌∷◌, length, take, Option, Some, None, Ok, Err, Bool}
-use Rattle.std.proofs.Common.{true, false, cond}
-use Rattle.std.proofs.Common.{refl, sym, ◌∙◌, ap, subst, arith}
+use Rattle.std.proofs.Common.{◌≡◌, ◌≢◌, inl, inr, ℕ, ◌+◌, ◌-◌, ◌<◌, ◌≤◌, zero, suc, List, [], ◌∷◌, length, take, Option, Some, None, Ok, Err, Bool, true}
+use Rattle.std.proofs.Common.{false, cond, refl, sym, ◌∙◌, ap, subst, arith}
 use Rattle.std.specs.Prelude.{nat_eq, nat_lt, slice_set, Result}
 use Rattle.std.proofs.lemmas.Bool.{le-leb}
 use Rattle.std.specs.Cmp.{unsigned_Decides}
@@ -26,35 +25,32 @@ use Rattle.stm_events.specs.declared.refusal.EventRefusal.{EventRefusal}
 use Rattle.stm_attempt.specs.Fetches.{at_of}
 use Rattle.stm_history.specs.History.{now}
 use Rattle.stm_events.specs.declared.event.WorldEvent.{WorldEvent}
-use Rattle.stm_events.specs.declared.event.WorldEvent.TheVariants.{Start, Step, Txn, Grant, Keep, Revoke, Advance}
-use Rattle.stm_events.specs.declared.event.WorldEvent.TheVariants.{WatchKey, WatchRange, Poll, Cancel, Compact}
+use Rattle.stm_events.specs.declared.event.WorldEvent.TheVariants.{Start, Step, Poll, Compact}
 use Rattle.stm_events.specs.declared.reply.Reply.{Reply}
 use Rattle.stm_events.specs.declared.reply.Reply.TheVariants.{Started, Prefetched, Fetched, Committed, Conflict, GaveUp, Aborted, Faulted, Ended}
-use Rattle.stm_events.specs.declared.reply.Reply.TheVariants.{Txn as TxnDone, Granted, Kept, Revoked, Advanced, Watching as WatchingReply, Batch, Cancelled, Compacted, Lost}
+use Rattle.stm_events.specs.declared.reply.Reply.TheVariants.{Batch, Compacted, Lost}
 use Rattle.stm_events.specs.declared.refusal.Denied.{Denied}
 use Rattle.stm_events.specs.declared.refusal.EventRefusal.TheVariants.{NoRunner}
-use Rattle.stm_outcome.specs.declared.advance.Expired.{Expired}
 use Rattle.stm_outcome.specs.declared.refusal.Refusal.{Refusal as StoreRefusal}
 use Rattle.stm_outcome.specs.declared.refusal.Refusal.TheVariants.{Compacted as CompactedRefusal, FutureRevision}
 use Rattle.stm_outcome.specs.Terms.{is_below_floor}
 use Rattle.stm_watch.specs.declared.refusal.PollRefusal.TheVariants.{Compacted as LostToPoll}
-use Rattle.stm_txn.specs.Standing.{Standing, Step as StoreStep, transacted, granted, kept_alive, revoked, advanced, watched, poll_step, polled, cancelled, with_floor, floor_step, raised}
-use Rattle.stm_txn.specs.Standing.{Setup}
+use Rattle.stm_txn.specs.Standing.{Standing, poll_step, polled, with_floor, floor_step, Setup}
 use Rattle.stm_keys.specs.declared.event.Event.{Event}
 use Rattle.stm_watch.specs.declared.pending_revision.PendingRevision.{PendingRevision}
-use Rattle.stm_watch.specs.declared.watched.Watched.TheVariants.{Key, Range}
 use Rattle.stm_watch.specs.Watching.{Watching}
 use Rattle.stm_watch.specs.Pending.{pending, pending_events, batch_of, after_poll}
 use Rattle.stm_watch.specs.Calls.{watcher_at, poll_found}
-use Rattle.stm_events.specs.Replies.{runner_of, txn_reply, denied, reply_to, advance_reply, poll_reply}
+use Rattle.stm_events.specs.Replies.{runner_of, denied, reply_to, poll_reply}
 use Rattle.stm_world.specs.Task.{Task, modified_now}
 use Rattle.stm_world.specs.Log.{Line, begun, running, failures, started, is_start, runner_started, is_id, task_in, store, known_after_log}
-use Rattle.stm_world.specs.Right.{IsRight, AreRight, RunnerIsRight, Situation, HasList, ReplyIsRight, EndsWith, IsCommitted, IsRefused, situation}
+use Rattle.stm_world.specs.Right.{IsRight, AreRight, RunnerIsRight, Situation, HasList, ReplyIsRight, EndsWith, IsCommitted, IsRefused, situation, IsRightAsked}
 use Rattle.stm_world.specs.World.{World}
 use Rattle.stm_world.specs.Headline.{Holds}
 use Rattle.stm_world_laws.specs.WrongLogs.{WrongLogs}
 use Rattle.stm_world.proofs.Logs.{as_many}
-use Rattle.stm_world.proofs.WatchCalls.{poll_reported}
+use Rattle.stm_events.specs.Called.{Asked, Starts, Steps, Calls, asked}
+use Rattle.stm_world.proofs.Untouched.{call_says_nothing}
 
 causeless_refusal : (start : Setup) (log : List Line) (id : ℕ) (task : Task) (refusal : Denied) → running id log ≡ Some task
     → IsRight start log (Step id) (Err refusal) → ⊥
@@ -70,15 +66,6 @@ equal_numbers : (a b : ℕ) → nat_eq a b ≡ true → a ≡ b
 equal_numbers a b h = (unsigned_Decides a b).0 h
 
 -- only a start answers a number
-call_gives_none : {A : Type 0} (report : A → Reply) (o : Result (StoreStep A) StoreRefusal) → ((x : A) → runner_started (Ok (report x)) ≡ None) →
-    runner_started (reply_to report o) ≡ None
-call_gives_none report (Ok done) none = none done.answer
-call_gives_none report (Err cause) none = refl
-
-advance_gives_none : (moment : ℕ) (expired : List Expired) (cause : Option StoreRefusal) → runner_started (advance_reply moment expired cause) ≡ None
-advance_gives_none moment expired None = refl
-advance_gives_none moment expired (Some cause) = refl
-
 step_gives_none : (at : Situation) (reply : Reply) → ReplyIsRight at reply → runner_started (Ok reply) ≡ None
 step_gives_none at (Started runner) right = absurd right
 step_gives_none at other right = refl
@@ -89,36 +76,19 @@ runner_gives_none start log id None reply right = ap runner_started right
 runner_gives_none start log id (Some task) (Ok reply) right = step_gives_none (situation start log id task) reply right
 runner_gives_none start log id (Some task) (Err refusal) right = refl
 
+given_asked : (start : Setup) (log : List Line) (a : Asked) (reply : Result Reply Denied) (id : ℕ) → IsRightAsked start log a reply →
+    runner_started reply ≡ Some id → id ≡ started log + 1
+given_asked start log (Starts program level limit) (Ok reply) id right named =
+    let next : Some id ≡ Some (started log + 1) = sym named ∙ ap (λ (r : Reply). runner_started (Ok r)) right.0 in cc
+given_asked start log (Starts program level limit) (Err refusal) id right named = absurd (cc)
+given_asked start log (Steps runner) reply id right named = let none = runner_gives_none start log runner (running runner log) reply right in absurd (cc)
+given_asked start log (Calls c) reply id right named =
+    let none : runner_started reply ≡ None = ap runner_started right ∙ (call_says_nothing (store start log) c).not_started in absurd (cc)
+
 -- a start that is right gives the number after those that were given
 pub given_next : (start : Setup) (log : List Line) (event : WorldEvent) (reply : Result Reply Denied) (id : ℕ) → IsRight start log event reply →
     runner_started reply ≡ Some id → id ≡ started log + 1
-given_next start log (Start program level limit) (Ok reply) id right named =
-    let next : Some id ≡ Some (started log + 1) = sym named ∙ ap (λ (r : Reply). runner_started (Ok r)) right.0 in cc
-given_next start log (Start program level limit) (Err refusal) id right named = absurd (cc)
-given_next start log (Step runner) reply id right named = let none = runner_gives_none start log runner (running runner log) reply right in absurd (cc)
-given_next start log (Txn txn) reply id right named =
-    let none = ap runner_started right ∙ call_gives_none txn_reply (transacted (store start log) txn) (λ x. refl) in absurd (cc)
-given_next start log (Grant lease ttl) reply id right named =
-    let none = ap runner_started right ∙ call_gives_none (λ _. Granted lease) (granted (store start log) lease ttl) (λ x. refl) in absurd (cc)
-given_next start log (Keep lease) reply id right named =
-    let none = ap runner_started right ∙ call_gives_none (λ _. Kept lease) (kept_alive (store start log) lease) (λ x. refl) in absurd (cc)
-given_next start log (Revoke lease) reply id right named =
-    let none = ap runner_started right ∙ call_gives_none (Revoked lease) (revoked (store start log) lease) (λ x. refl) in absurd (cc)
-given_next start log (Advance moment) reply id right named =
-    let done = advanced (store start log) moment in
-    let none = ap runner_started right ∙ advance_gives_none moment done.expired done.cause in absurd (cc)
-given_next start log (WatchKey key from) reply id right named =
-    let none = ap runner_started right ∙ call_gives_none WatchingReply (watched (store start log) (Key key) from) (λ x. refl) in absurd (cc)
-given_next start log (WatchRange first end from) reply id right named =
-    let none = ap runner_started right ∙ call_gives_none WatchingReply (watched (store start log) (Range first end) from) (λ x. refl) in absurd (cc)
-given_next start log (Poll watcher most) reply id right named =
-    let s : Standing = store start log in
-    let none : runner_started reply ≡ None =
-    ap runner_started right ∙ poll_reported (λ (r : Result Reply Denied). runner_started r ≡ None) s watcher most (λ batch. refl) refl refl in absurd (cc)
-given_next start log (Cancel watcher) reply id right named =
-    let none = ap runner_started right ∙ call_gives_none (λ _. Cancelled watcher) (cancelled (store start log) watcher) (λ x. refl) in absurd (cc)
-given_next start log (Compact revision) reply id right named =
-    let none = ap runner_started right ∙ call_gives_none (λ _. Compacted revision) (raised (store start log) revision) (λ x. refl) in absurd (cc)
+given_next start log event reply id right named = given_asked start log (asked event) reply id right named
 
 begun_here : (id runner count : ℕ) (b : Bool) (here rest : Option Task) (task : Task) → nat_eq runner id ≡ b → runner ≡ count + 1 →
     (rest ≡ Some task → id ≤ count) → cond b here rest ≡ Some task → id ≤ count + 1
@@ -157,16 +127,7 @@ another at (GaveUp r attempts key seen now) runner named right = let same : r �
 another at (Aborted r text) runner named right = let same : r ≡ runner = cc in sym same ∙ right.0
 another at (Faulted r fault) runner named right = let same : r ≡ runner = cc in sym same ∙ right.0
 another at (Ended r cause) runner named right = let same : r ≡ runner = cc in sym same ∙ right.0
-another at (TxnDone succeeded revision answers) runner named right = absurd right
-another at (Granted lease) runner named right = absurd right
-another at (Kept lease) runner named right = absurd right
-another at (Revoked lease revision) runner named right = absurd right
-another at (Advanced moment expired) runner named right = absurd right
-another at (WatchingReply watcher) runner named right = absurd right
-another at (Batch watcher upto events) runner named right = absurd right
-another at (Cancelled watcher) runner named right = absurd right
-another at (Compacted revision) runner named right = absurd right
-another at (Lost watcher floor) runner named right = absurd right
+another at _ runner named right = absurd right
 
 another_by : (start : Setup) (log : List Line) (id runner : ℕ) (o : Option Task) (reply : Reply) → runner_of reply ≡ Some runner → runner ≢ id
     → RunnerIsRight start log id o (Ok reply) → ⊥

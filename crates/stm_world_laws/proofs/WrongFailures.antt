@@ -1,5 +1,5 @@
 -- Wrong failures, ends and runs are rejected.
-use Rattle.std.proofs.Common.{◌≡◌, ◌≢◌, ◌⊎◌, inl, inr, ℕ, ◌+◌, ◌<◌, ◌≤◌, zero, suc, List, [], ◌∷◌, ◌++◌, length, map, Option, Some, None, Ok, Err}
+use Rattle.std.proofs.Common.{◌≡◌, ◌≢◌, ◌⊎◌, inl, inr, ℕ, ◌+◌, ◌<◌, ◌≤◌, zero, suc, List, [], ◌∷◌, ◌++◌, length, map, Option, Some, None, Ok}
 use Rattle.std.proofs.Common.{Bool, true, false, cond, refl, sym, ◌∙◌, ap, subst, arith}
 use Rattle.std.specs.Prelude.{nat_eq, nat_lt, nat_le, bytes_eq, is_some, ◌&&◌, ◌||◌, slice_get, Result}
 use Rattle.std.specs.List.{AllByRecursion}
@@ -11,12 +11,11 @@ use Rattle.stm_history.specs.declared.change.Change.TheVariants.{Put, Del}
 use Rattle.stm_history.specs.declared.key_state.KeyState.{KeyState}
 use Rattle.stm_history.specs.declared.key_state.ReadAnswer.{ReadAnswer}
 use Rattle.stm_history.specs.Opening.{Opening, opening_at, opened_state}
-use Rattle.stm_history.specs.History.{History, now, key_now, key_after, mod_of, number_of_last, revisions_up_to, change_of, after_change}
+use Rattle.stm_history.specs.History.{History, now, key_now, key_after, mod_of, number_of_last, revisions_up_to, change_of, after_change, key_of}
 use Rattle.stm_history.proofs.HistoryLaws.{one_more as one_more_revision, mod_is_reached}
 use Rattle.stm_program.specs.declared.level.Level.{Level}
 use Rattle.stm_program.specs.declared.level.Level.TheVariants.{SerializableSnapshot, Serializable, RepeatableReads, ReadCommitted}
-use Rattle.stm_program.specs.declared.write.Write.{Write}
-use Rattle.stm_program.specs.Writes.{key_of, last_write, is_written, latest_writes}
+use Rattle.stm_program.specs.Writes.{last_write, is_written, latest_writes}
 use Rattle.stm_program.proofs.WriteLemmas.{bytes_eq-self, or_else, last_write-append, last_write-one}
 use Rattle.stm_program.proofs.LatestLemmas.{latest_writes-last}
 use Rattle.stm_steps.specs.declared.run.End.TheVariants.{Done as DoneEnd}
@@ -42,13 +41,11 @@ use Rattle.stm_entries.specs.declared.entry.Entry.{Entry}
 use Rattle.stm_entries.specs.Replayed.{without_moment}
 use Rattle.stm_entries.specs.Replay.{replay}
 use Rattle.stm_events.specs.declared.reply.Reply.{Reply}
-use Rattle.stm_events.specs.declared.reply.Reply.TheVariants.{Started, Prefetched, Fetched, Committed, Conflict, GaveUp, Aborted, Faulted, Ended}
-use Rattle.stm_events.specs.declared.reply.Reply.TheVariants.{Txn as TxnDone, Granted, Kept, Revoked, Advanced, Watching, Batch, Cancelled, Compacted, Lost}
+use Rattle.stm_events.specs.declared.reply.Reply.TheVariants.{Started, Prefetched, Fetched, Conflict}
 use Rattle.stm_events.specs.declared.refusal.Denied.{Denied}
 use Rattle.stm_world.specs.Task.{Task, answer_at, after_list, after_fetch, after_conflict}
 use Rattle.stm_world.specs.Log.{Line, begun, running, store, known_after, known_after_log}
-use Rattle.stm_world.specs.Doomed.{FailedCommit, NamesAConflict, IsRealFailure, Stopped, IsEndOnOneState, IsRealStop, since, failed_commits}
-use Rattle.stm_world.specs.Doomed.{FailuresMoveOn}
+use Rattle.stm_world.specs.Doomed.{FailedCommit, NamesAConflict, IsRealFailure, Stopped, IsEndOnOneState, IsRealStop, since, failed_commits, FailuresMoveOn}
 use Rattle.stm_world.specs.World.{opened, replies_to}
 use Rattle.stm_world_laws.specs.WrongFailures.{reads_of, WrongFailures, WrongRuns}
 use Rattle.stm_world.proofs.EventKeeps.{store_opens}
@@ -113,22 +110,7 @@ known_small number id task h (Ok (Conflict runner key seen now)) known opens all
     small_by (nat_eq runner id) (after_conflict task h known) known
     (served_all IsSmall task (record { reads = []; prefetched = map (answer_now h) keys }) (tt, rereads_small h keys)) all
 known_small number id task h (Ok (Started runner)) known opens all = all
-known_small number id task h (Ok (Committed runner revision attempts output trace answers)) known opens all = all
-known_small number id task h (Ok (GaveUp runner attempts key seen now)) known opens all = all
-known_small number id task h (Ok (Aborted runner text)) known opens all = all
-known_small number id task h (Ok (Faulted runner fault)) known opens all = all
-known_small number id task h (Ok (Ended runner cause)) known opens all = all
-known_small number id task h (Ok (TxnDone succeeded revision answers)) known opens all = all
-known_small number id task h (Ok (Granted lease)) known opens all = all
-known_small number id task h (Ok (Kept lease)) known opens all = all
-known_small number id task h (Ok (Revoked lease revision)) known opens all = all
-known_small number id task h (Ok (Advanced moment expired)) known opens all = all
-known_small number id task h (Ok (Watching watcher)) known opens all = all
-known_small number id task h (Ok (Batch watcher upto events)) known opens all = all
-known_small number id task h (Ok (Cancelled watcher)) known opens all = all
-known_small number id task h (Ok (Compacted revision)) known opens all = all
-known_small number id task h (Ok (Lost watcher floor)) known opens all = all
-known_small number id task h (Err refusal) known opens all = all
+known_small number id task h _ known opens all = all
 
 reported_small : (start : Setup) (id : ℕ) (task : Task) (log : List Line) → KnowsAll IsSmall (known_after_log start id task log)
 reported_small start id task [] = (tt, tt)
@@ -144,11 +126,11 @@ reads_small : (reads : List ReadAnswer) → AllByRecursion IsSmall reads → All
 reads_small [] all = tt
 reads_small (a ∷ reads) all = (all.0, reads_small reads all.1)
 
-writes_small : (first : ℕ) (writes : List Write) → AllByRecursion IsSeenSmall (map (seen_of_write first) writes)
+writes_small : (first : ℕ) (writes : List Change) → AllByRecursion IsSeenSmall (map (seen_of_write first) writes)
 writes_small first [] = tt
 writes_small first (w ∷ writes) = (omega arith, writes_small first writes)
 
-seen_small : (reads : List ReadAnswer) (writes : List Write) → AllByRecursion IsSmall reads → AllByRecursion IsSeenSmall (seen_by reads writes)
+seen_small : (reads : List ReadAnswer) (writes : List Change) → AllByRecursion IsSmall reads → AllByRecursion IsSeenSmall (seen_by reads writes)
 seen_small reads writes all =
     both_seen IsSeenSmall (map seen_of_read reads) (map (seen_of_write (first_carried reads)) writes) (reads_small reads all)
     (writes_small (first_carried reads) writes)
@@ -190,7 +172,7 @@ record IsOfRead (h : History) (reads : List ReadAnswer) (seen : Seen) : Type 0 w
   differs : mod_of (key_now h seen.key) ≢ seen.mod_rev
 
 -- a key that was written, and is not as it was seen
-record IsOfWrite (h : History) (writes : List Write) (seen : Seen) : Type 0 where
+record IsOfWrite (h : History) (writes : List Change) (seen : Seen) : Type 0 where
   was_written : is_written seen.key writes ≡ true
   differs : mod_of (key_now h seen.key) ≢ seen.mod_rev
 
@@ -224,26 +206,26 @@ of_read h (a ∷ reads) more zero c seen at fails about =
 of_read h (a ∷ reads) more (suc i) c seen at fails about = of_later h a reads seen (of_read h reads more i c seen at fails about)
 
 -- the last write of a key in a list with one write before it
-written_by : (w : Write) (ws : List Write) (key : List ℕ) →
+written_by : (w : Change) (ws : List Change) (key : List ℕ) →
     is_written key (w ∷ ws) ≡ is_some (or_else (last_write key ws) (cond (bytes_eq (key_of w) key) (Some w) None))
 written_by w ws key =
-    ap is_some (last_write-append key (w ∷ []) ws ∙ ap (λ (o : Option Write). or_else (last_write key ws) o) (last_write-one key w))
+    ap is_some (last_write-append key (w ∷ []) ws ∙ ap (λ (o : Option Change). or_else (last_write key ws) o) (last_write-one key w))
 
-some_write : (later : Option Write) (w : Write) → is_some (or_else later (Some w)) ≡ true
+some_write : (later : Option Change) (w : Change) → is_some (or_else later (Some w)) ≡ true
 some_write None w = refl
 some_write (Some x) w = refl
 
-later_write : (later first : Option Write) → is_some later ≡ true → is_some (or_else later first) ≡ true
+later_write : (later first : Option Change) → is_some later ≡ true → is_some (or_else later first) ≡ true
 later_write None first some = absurd (cc)
 later_write (Some x) first some = refl
 
-write_differs : (h : History) (first : ℕ) (w : Write) → holds (is_unmodified first w) (key_now h (key_of w)) ≡ false → mod_of (key_now h (key_of w)) ≢ first
+write_differs : (h : History) (first : ℕ) (w : Change) → holds (is_unmodified first w) (key_now h (key_of w)) ≡ false → mod_of (key_now h (key_of w)) ≢ first
 write_differs h first w fails same =
     let held : holds (is_unmodified first w) (key_now h (key_of w)) ≡ true =
     (mod_compares.below (key_of w) (first + 1) (key_now h (key_of w))).1 (omega (arith, same)) in
     absurd (cc)
 
-of_first_write : (h : History) (first : ℕ) (w : Write) (ws : List Write) (c : Compare) (seen : Seen) → c ≡ is_unmodified first w →
+of_first_write : (h : History) (first : ℕ) (w : Change) (ws : List Change) (c : Compare) (seen : Seen) → c ≡ is_unmodified first w →
     seen ≡ seen_of_write first w → holds c (key_now h c.key) ≡ false → IsOfWrite h (w ∷ ws) seen
 of_first_write h first w ws c seen compares about fails =
     subst (IsOfWrite h (w ∷ ws)) (sym about)
@@ -254,20 +236,20 @@ of_first_write h first w ws c seen compares about fails =
       differs = write_differs h first w (subst (λ (d : Compare). holds d (key_now h d.key) ≡ false) compares fails);
     })
 
-of_later_write : (h : History) (w : Write) (ws : List Write) (seen : Seen) → IsOfWrite h ws seen → IsOfWrite h (w ∷ ws) seen
+of_later_write : (h : History) (w : Change) (ws : List Change) (seen : Seen) → IsOfWrite h ws seen → IsOfWrite h (w ∷ ws) seen
 of_later_write h w ws seen of = record {
   was_written = written_by w ws seen.key ∙ later_write (last_write seen.key ws) (cond (bytes_eq (key_of w) seen.key) (Some w) None) of.was_written;
   differs = of.differs;
 }
 
-of_write : (h : History) (first : ℕ) (ws : List Write) (i : ℕ) (c : Compare) (seen : Seen) → slice_get (map (is_unmodified first) ws) i ≡ Some c →
+of_write : (h : History) (first : ℕ) (ws : List Change) (i : ℕ) (c : Compare) (seen : Seen) → slice_get (map (is_unmodified first) ws) i ≡ Some c →
     holds c (key_now h c.key) ≡ false → slice_get (map (seen_of_write first) ws) i ≡ Some seen → IsOfWrite h ws seen
 of_write h first [] i c seen at fails about = absurd (cc)
 of_write h first (w ∷ ws) zero c seen at fails about =
     of_first_write h first w ws c seen (same_Some c (is_unmodified first w) (sym at)) (same_Some seen (seen_of_write first w) (sym about)) fails
 of_write h first (w ∷ ws) (suc i) c seen at fails about = of_later_write h w ws seen (of_write h first ws i c seen at fails about)
 
-of_either : (h : History) (first : ℕ) (reads : List ReadAnswer) (ws : List Write) (i : ℕ) (c : Compare) (seen : Seen) →
+of_either : (h : History) (first : ℕ) (reads : List ReadAnswer) (ws : List Change) (i : ℕ) (c : Compare) (seen : Seen) →
     slice_get (map is_as_read reads ++ map (is_unmodified first) ws) i ≡ Some c → holds c (key_now h c.key) ≡ false →
     slice_get (map seen_of_read reads ++ map (seen_of_write first) ws) i ≡ Some seen → IsOfRead h reads seen ⊎ IsOfWrite h ws seen
 of_either h first [] ws i c seen at fails about = inr (of_write h first ws i c seen at fails about)
@@ -279,13 +261,13 @@ of_either h first (a ∷ reads) ws (suc i) c seen at fails about = more (of_eith
     more (inl of) = inl (of_later h a reads seen of)
     more (inr of) = inr of
 
-reads_alone : (h : History) (reads : List ReadAnswer) (writes : List Write) (failed : FailedCompare) (seen : Seen) →
+reads_alone : (h : History) (reads : List ReadAnswer) (writes : List Change) (failed : FailedCompare) (seen : Seen) →
     FailsAt (key_now h) (map is_as_read reads) failed → slice_get (seen_by reads writes) failed.index ≡ Some seen → IsOfRead h reads seen
 reads_alone h reads writes failed seen f about =
     of_read h reads (map (seen_of_write (first_carried reads)) writes) failed.index f.compare seen f.stands f.fails about
 
 -- at a level that compares no written keys it is about one that was read
-of_level : (h : History) (level : Level) (reads : List ReadAnswer) (writes : List Write) (failed : FailedCompare) (seen : Seen) →
+of_level : (h : History) (level : Level) (reads : List ReadAnswer) (writes : List Change) (failed : FailedCompare) (seen : Seen) →
     level ≢ SerializableSnapshot → conflict_now h level reads writes ≡ Some failed → slice_get (seen_by reads writes) failed.index ≡ Some seen →
     IsOfRead h reads seen
 of_level h SerializableSnapshot reads writes failed seen other fails about = absurd (other refl)
@@ -295,7 +277,7 @@ of_level h RepeatableReads reads writes failed seen other fails about =
     reads_alone h reads writes failed seen (failed_has_its_place (key_now h) (map is_as_read reads) failed fails) about
 of_level h ReadCommitted reads writes failed seen other fails about = absurd (cc)
 
-touched : (h : History) (level : Level) (reads : List ReadAnswer) (writes : List Write) (failed : FailedCompare) (seen : Seen) →
+touched : (h : History) (level : Level) (reads : List ReadAnswer) (writes : List Change) (failed : FailedCompare) (seen : Seen) →
     conflict_now h level reads writes ≡ Some failed → slice_get (seen_by reads writes) failed.index ≡ Some seen →
     IsOfRead h reads seen ⊎ IsOfWrite h writes seen
 touched h SerializableSnapshot reads writes failed seen fails about =
@@ -342,7 +324,7 @@ still_wants start log task failed key trace runs wants real =
     let both : Wants key trace ≡ EndedRun f.run = sym wants ∙ f.is_run in
     absurd (cc)
 
-none_at : (h : History) (level : Level) (reads : List ReadAnswer) (writes : List Write) (compare : FailedCompare) → level ≡ ReadCommitted →
+none_at : (h : History) (level : Level) (reads : List ReadAnswer) (writes : List Change) (compare : FailedCompare) → level ≡ ReadCommitted →
     conflict_now h level reads writes ≡ Some compare → ⊥
 none_at h level reads writes compare is fails =
     let none : conflict_now h ReadCommitted reads writes ≡ Some compare =
@@ -371,7 +353,7 @@ never_read start log task failed runs level none real =
     unread h reads failed.key f.named.conflict.seen f.named.key none
     (of_level h task.level reads (latest_writes f.run.writes) f.named.compare f.named.conflict.seen level f.named.fails f.named.conflict.about)
 
-untouched : (h : History) (reads : List ReadAnswer) (writes : List Write) (key : List ℕ) (seen : Seen) → key ≡ seen.key → answer_in key reads ≡ None →
+untouched : (h : History) (reads : List ReadAnswer) (writes : List Change) (key : List ℕ) (seen : Seen) → key ≡ seen.key → answer_in key reads ≡ None →
     is_written key writes ≡ false → IsOfRead h reads seen ⊎ IsOfWrite h (latest_writes writes) seen → ⊥
 untouched h reads writes key seen same none unwritten (inl of) = unread h reads key seen same none of
 untouched h reads writes key seen same none unwritten (inr of) =
@@ -390,7 +372,7 @@ never_touched start log task failed run runs is none unwritten real =
     untouched h reads f.run.writes failed.key f.named.conflict.seen f.named.key none (ap (λ (r : Run). is_written failed.key r.writes) (sym same) ∙ unwritten)
     (touched h task.level reads (latest_writes f.run.writes) f.named.compare f.named.conflict.seen f.named.fails f.named.conflict.about)
 
-other_number : (h : History) (reads : List ReadAnswer) (writes : List Write) (seen : Seen) → IsOfRead h reads seen ⊎ IsOfWrite h writes seen →
+other_number : (h : History) (reads : List ReadAnswer) (writes : List Change) (seen : Seen) → IsOfRead h reads seen ⊎ IsOfWrite h writes seen →
     mod_of (key_now h seen.key) ≢ seen.mod_rev
 other_number h reads writes seen (inl of) = of.differs
 other_number h reads writes seen (inr of) = of.differs
@@ -399,7 +381,7 @@ as_it_was : (start : Setup) (log : List Line) (failed : FailedCommit) → failed
 as_it_was start log failed equal real =
     let h : History = (store start log).history in
     let reads : List ReadAnswer = reads_of start log failed.runner real.task in
-    let writes : List Write = latest_writes real.run.writes in
+    let writes : List Change = latest_writes real.run.writes in
     let c : NamesAConflict h real.task.level reads writes failed = real.named in
     other_number h reads writes c.conflict.seen (touched h real.task.level reads writes c.compare c.conflict.seen c.fails c.conflict.about)
     (sym c.conflict.reported ∙ sym c.is ∙ equal ∙ c.was)
@@ -409,7 +391,7 @@ not_above : (start : Setup) (log : List Line) (failed : FailedCommit) → 0 < fa
 not_above start log failed present below real =
     let h : History = (store start log).history in
     let reads : List ReadAnswer = reads_of start log failed.runner real.task in
-    let writes : List Write = latest_writes real.run.writes in
+    let writes : List Change = latest_writes real.run.writes in
     let c : NamesAConflict h real.task.level reads writes failed = real.named in
     let seen : Seen = c.conflict.seen in
     let small : seen.mod_rev ≤ seen.at =

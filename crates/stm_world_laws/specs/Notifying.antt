@@ -11,8 +11,7 @@ use Rattle.stm_watch.specs.Watching.{Watching}
 use Rattle.stm_watch.specs.Places.{is_lost}
 use Rattle.stm_watch.specs.Pending.{watching_from, pending, first_pending, pending_events}
 use Rattle.stm_watch.specs.Calls.{watcher_at}
-use Rattle.stm_txn.specs.Standing.{Standing, IsKeptFor}
-use Rattle.stm_txn.specs.Standing.{Setup}
+use Rattle.stm_txn.specs.Standing.{Standing, IsKeptFor, Setup}
 use Rattle.stm_events.specs.declared.event.WorldEvent.{WorldEvent}
 use Rattle.stm_events.specs.declared.event.WorldEvent.TheVariants.{WatchKey, WatchRange, Poll, Cancel}
 use Rattle.stm_events.specs.declared.reply.Reply.{Reply}

@@ -109,7 +109,7 @@ fn commit_prepared(
     hall: &mut Hall,
     ready: Ready,
 ) -> Result<(), AllocError> {
-    let prepared = prepare(alloc, ready)?;
+    let prepared = prepare(ready);
     let judged = hall.commit_prepared(prepared);
     let done = report_judged(reported, &judged);
     drop(judged);

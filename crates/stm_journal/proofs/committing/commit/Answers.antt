@@ -1,7 +1,6 @@
-use Rattle.std.proofs.Common.{◌∙◌, List, Result, IfOk, map, sym, ap, subst}
+use Rattle.std.proofs.Common.{◌∙◌, List, Result, IfOk, sym, ap, subst}
 use Rattle.stm_txn.specs.Standing.{Standing}
 use Rattle.stm_entries.specs.declared.entry.Entry.{Entry}
-use Rattle.stm_compile.specs.Now.{as_change}
 use Rattle.stm_attempt.specs.ReadyRun.{ReadyRun, IsRunOnItsAnswers}
 use Rattle.stm_journal.specs.declared.verdict.Verdict.{Verdict}
 use Rattle.stm_journal.specs.declared.refusal.CommitRefusal.{CommitRefusal}
@@ -15,13 +14,10 @@ pub make-requires-clause-clear : goal.make-requires-clause-clear
 make-requires-clause-clear c =
     let s : Standing = c.args.store.now.standing in
     let clear = without_cause s c.args.prepared (sym c.find_cause.ensures.cause ∙ c.in-None.is) in
-    subst (IsClear s) (sym c.into_parts-ready.ensures.ready) (record { right = clear.right; compared = clear.compared })
+    subst (IsClear s) (sym c.into_attempt-ready.ensures) (record { right = clear.right; compared = clear.compared })
 
 pub make-requires-clause-run : goal.make-requires-clause-run
-make-requires-clause-run c = subst IsRunOnItsAnswers (sym c.into_parts-ready.ensures.ready) c.find_cause.ensures.run
-
-pub make-requires-clause-changes : goal.make-requires-clause-changes
-make-requires-clause-changes c = c.into_parts-ready.ensures.changes ∙ ap (λ (r : ReadyRun). map as_change r.writes) (sym c.into_parts-ready.ensures.ready)
+make-requires-clause-run c = subst IsRunOnItsAnswers (sym c.into_attempt-ready.ensures) c.find_cause.ensures.run
 
 pub returns-in-None-clause-verdict : goal.returns-in-None-clause-verdict
 returns-in-None-clause-verdict c =
@@ -30,7 +26,7 @@ returns-in-None-clause-verdict c =
     subst (λ (r : Result Verdict CommitRefusal). CommitsAs c.args.prepared r s es c.make.new.store.standing c.make.new.entries.items) (sym c.of_store.ensures)
     (commits_as_taken s c.make.new.store.standing es c.make.new.entries.items c.args.prepared c.make.result (sym c.find_cause.ensures.cause ∙ c.in-None.is)
     (subst (λ (r : ReadyRun). SendsAs (λ journal. taken_by_store journal r) c.make.result s es c.make.new.store.standing c.make.new.entries.items)
-    c.into_parts-ready.ensures.ready c.make.ensures.verdict))
+    c.into_attempt-ready.ensures c.make.ensures.verdict))
 
 pub returns-in-None-clause-answers : goal.returns-in-None-clause-answers
 returns-in-None-clause-answers c =

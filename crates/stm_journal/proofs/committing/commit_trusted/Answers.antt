@@ -7,8 +7,8 @@ use Rattle.stm_journal.proofs.CauseLemmas.{checked_clear, sent_wrong, sent_as_ta
 use Rattle.stm_journal.proofs.committing.commit_trusted.Goals as goal
 
 -- no compare fails
-pub write-requires-clause-clear : goal.write-requires-clause-clear
-write-requires-clause-clear c =
+pub make-requires-clause-clear : goal.make-requires-clause-clear
+make-requires-clause-clear c =
     let found : checked c.args.store.now.standing c.args.ready ≡ Ok None =
     sym c.check.ensures ∙ c.in-Ok-None.is ∙ ap (λ (o : Option FailedCompare). Ok o) c.in-Ok-None.field-0-is in
     let clear = checked_clear c.args.store.now.standing c.args.ready None found in
@@ -22,7 +22,7 @@ returns-in-Ok-None-clause-verdict c =
     sym c.check.ensures ∙ c.in-Ok-None.is ∙ ap (λ (o : Option FailedCompare). Ok o) c.in-Ok-None.field-0-is in
     let clear = checked_clear s c.args.ready None found in
     let is_clear : IsClear s c.args.ready = record { right = clear.0; compared = clear.1 } in
-    sent_as_taken s c.write.new.store.standing es c.write.new.entries.items c.args.ready c.write.result is_clear c.write.ensures.verdict
+    sent_as_taken s c.make.new.store.standing es c.make.new.entries.items c.args.ready c.make.result is_clear c.make.ensures.verdict
 
 -- a compare fails
 pub turn_down_trusted-reported-requires-clause-right : goal.turn_down_trusted-reported-requires-clause-right

@@ -1,7 +1,6 @@
 use Rattle.std.proofs.Common.{◌≡◌, ◌+◌, ◌≤◌, ℕ, List, length, Option, map, refl, ◌∙◌, ap, arith}
 use Rattle.stm_history.specs.declared.key_state.KeyState.{KeyState}
-use Rattle.stm_history.specs.History.{key_now, mod_of}
-use Rattle.stm_program.specs.Writes.{key_of}
+use Rattle.stm_history.specs.History.{key_now, mod_of, key_of}
 use Rattle.stm_outcome.specs.Compares.{first_failed}
 use Rattle.stm_compile.specs.CommitTxn.{is_unmodified}
 use Rattle.stm_journal.proofs.FirstFailed.{passed_by, failed_here, none_fails, write_holds, write_fails}

@@ -1,10 +1,9 @@
-use Rattle.std.proofs.Common.{rules, ◌∙◌}
+use Rattle.std.proofs.Common.{rules, ◌∙◌, List, ap}
 use Rattle.std.proofs.lemmas.List.Sorted.{IsNonDecreasingBy-from_sort_by_key}
 use Rattle.stm_workers.specs.declared.worker.EndOf.{EndOf}
 use Rattle.stm_workers.specs.Drawn.{attempts_in}
 use Rattle.stm_workers.proofs.SeatLemmas.{sorted_length, sorted_attempts_length, sorted_counted, sorted_places, sorted_ran}
 use Rattle.stm_workers.proofs.placing.place_ends.Goals as goal
-use Rattle.std.proofs.Common.{List, ap}
 
 pub returns-clause-places : goal.returns-clause-places
 returns-clause-places c =

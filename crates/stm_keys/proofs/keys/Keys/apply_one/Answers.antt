@@ -23,14 +23,14 @@ keyed n before change event key made is = is ∙ sym (ap key_of_event made ∙ k
 
 pub add_only-requires-clause-none : goal.add_only-requires-clause-none
 add_only-requires-clause-none c = λ none.
-    let is = keyed (now c.args.self.now.history + 1) (key_now c.args.self.now.history) c.args.change c.in_ok-event.event c.as_str.result.now
-    c.in_ok-event.ensures (c.as_str.ensures ∙ c.key.ensures) in
+    let is = keyed (now c.args.self.now.history + 1) (key_now c.args.self.now.history) c.args.change c.in_ok-event.event c.key.result.now
+    c.in_ok-event.ensures c.key.ensures in
     subst (λ (k : List ℕ). get_by_text c.self.inside.chains k ≡ None) is (c.find_place-place.ensures.none none)
 
 pub add_only-requires-clause-named : goal.add_only-requires-clause-named
 add_only-requires-clause-named c =
-    let is = keyed (now c.args.self.now.history + 1) (key_now c.args.self.now.history) c.args.change c.in_ok-event.event c.as_str.result.now
-    c.in_ok-event.ensures (c.as_str.ensures ∙ c.key.ensures) in
+    let is = keyed (now c.args.self.now.history + 1) (key_now c.args.self.now.history) c.args.change c.in_ok-event.event c.key.result.now
+    c.in_ok-event.ensures c.key.ensures in
     subst (λ (k : List ℕ). IfSome c.find_place-place.result (λ index. slice_get (names_of c.self.inside.chains) index ≡ Some k)) is c.find_place-place.ensures.named
 
 pub add_only-requires-clause-bound : goal.add_only-requires-clause-bound

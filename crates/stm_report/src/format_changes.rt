@@ -1,5 +1,5 @@
 //! What a key is, and what a revision changed, as words.
-ghost use Rattle.std.specs.Prelude.{◌≡◌, ◌++◌, option_copied, IfOk, OnOk};
+ghost use Rattle.std.specs.Prelude.{◌≡◌, ◌++◌, [], nat_eq, codes, if◌then◌else◌, option_copied, IfOk, OnOk};
 ghost use Rattle.stm_report.specs.FormatChanges.{state_words, known_words, change_words, between, counted_change, changes_after, revision_words, changed_since};
 
 use crate::format_pieces::{Piece, push_pieces, said};
@@ -119,6 +119,13 @@ fn revision_words(alloc: Global, keys: &Keys, revision: u64) -> Result<Vec<u8>, 
     changes_words(alloc, keys.events_at(revision))
 }
 
+/// That there are more revisions after one, up to another.
+fn more_after(shown: u64, after: u64) -> &'static str
+    ensures { result.now ≡ (if nat_eq after shown then [] else codes "  ..") }
+{
+    if after == shown { "" } else { "  .." }
+}
+
 /// The words of what the revisions above one and up to another changed.
 pub(crate) fn changed_since(
     alloc: Global,
@@ -136,11 +143,10 @@ pub(crate) fn changed_since(
         return Ok(first);
     }
     let second = revision_words(alloc, keys, before + 2)?;
-    let rest = if after == before + 2 { "" } else { "  .." };
     let pieces = [
         Piece::Raw(first.as_slice()),
         Piece::Raw(second.as_slice()),
-        Piece::Say(rest),
+        Piece::Say(more_after(before + 2, after)),
     ];
     Ok(said(alloc, &pieces)?.into_vec())
 }

@@ -4,6 +4,7 @@ pub mod LeaseLemmas
 pub mod LiveLeases
 pub mod Joining
 pub mod FormatFronts
+pub mod FormatBacks
 pub mod FormatPlain
 pub mod FormatRowLemmas
 pub mod FormatScriptLemmas

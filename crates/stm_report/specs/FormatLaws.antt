@@ -1,5 +1,6 @@
 -- Laws of the formats.
 use Rattle.std.specs.Prelude.{◌≡◌, ℕ, List, [], ◌∷◌, ◌+◌, ◌||◌, length, map, Bool, false, if◌then◌else◌, nat_eq, Result}
+use Rattle.stm_history.specs.History.{History}
 use Rattle.stm_events.specs.declared.event.WorldEvent.{WorldEvent}
 use Rattle.stm_events.specs.declared.reply.Reply.{Reply}
 use Rattle.stm_events.specs.declared.refusal.Denied.{Denied}
@@ -13,8 +14,8 @@ use Rattle.stm_report.specs.FormatText.{rows_text}
 -- A run has one row for each event, and they are numbered in its order from 1.
 abbrev pub OneRowAnEvent : Type 0
 OneRowAnEvent =
-    (events : List WorldEvent) (w : World) →
-    (length (rows_of 1 events (replies_to events w)) ≡ length events) × AreNumbered 1 (rows_of 1 events (replies_to events w))
+    (h : History) (before : ℕ) (events : List WorldEvent) (w : World) →
+    (length (rows_of h before 1 events (replies_to events w)) ≡ length events) × AreNumbered 1 (rows_of h before 1 events (replies_to events w))
 
 -- and one object for each event
 abbrev pub OneObjectAnEvent : Type 0
@@ -31,8 +32,8 @@ count b (x ∷ xs) = if nat_eq x b then count b xs + 1 else count b xs
 
 -- Rows have as many line feeds as there are rows: the words of a row have none.
 abbrev pub OneLineARow : Type 0
-OneLineARow = (w n : ℕ) (events : List WorldEvent) (replies : List (Result Reply Denied)) →
-    count 10 (rows_text w (rows_of n events replies)) ≡ length (rows_of n events replies)
+OneLineARow = (places : List ℕ) (n : ℕ) (h : History) (before : ℕ) (events : List WorldEvent) (replies : List (Result Reply Denied)) →
+    count 10 (rows_text places (rows_of h before n events replies)) ≡ length (rows_of h before n events replies)
 
 -- What stands escaped has no `<`, `>` or quote.
 pub record NothingUnescaped : Type 0 where

@@ -14,7 +14,7 @@ use Rattle.stm_report.specs.FormatPieces.{joined}
 
 -- a key with its value, and the revision of its last change
 abbrev pub key_note : List ℕ → KeyState → List ℕ
-key_note key state = joined (codes "key " ∷ shown key ∷ codes " = " ∷ shown state.value ∷ codes " @" ∷ decimal state.mod_rev ∷ [])
+key_note key state = joined (codes "key " ∷ shown key ∷ codes " = \"" ∷ shown state.value ∷ codes "\" @" ∷ decimal state.mod_rev ∷ [])
 
 abbrev pub notes_of_key : List ℕ → Option KeyState → List (List ℕ)
 notes_of_key key None = []

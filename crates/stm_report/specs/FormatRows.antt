@@ -1,5 +1,6 @@
 -- The rows of a report: one for each event.
 use Rattle.std.specs.Prelude.{◌≡◌, ℕ, suc, List, [], ◌∷◌, Result, Ok, Err}
+use Rattle.stm_history.specs.History.{History}
 use Rattle.stm_events.specs.declared.event.WorldEvent.{WorldEvent}
 use Rattle.stm_events.specs.declared.event.WorldEvent.TheVariants as event
 use Rattle.stm_events.specs.declared.reply.Reply.{Reply}
@@ -10,6 +11,7 @@ use Rattle.stm_report.specs.declared.format_row.Lane.TheVariants.{Store, Runner}
 use Rattle.stm_report.specs.declared.format_row.Mark.{Mark}
 use Rattle.stm_report.specs.declared.format_row.Mark.TheVariants.{Committed, Failed, Plain}
 use Rattle.stm_report.specs.declared.format_row.Row.{Row}
+use Rattle.stm_reasons.specs.Counters.{counter_after}
 use Rattle.stm_report.specs.FormatWords.{words_of}
 
 -- the column of an event that was taken: its runner's
@@ -45,15 +47,17 @@ mark_of (Ok (reply.Lost watcher floor)) = Failed
 mark_of (Ok other) = Plain
 mark_of (Err denied) = Failed
 
--- the row of an event with its reply
-abbrev pub row_of : ℕ → WorldEvent → Result Reply Denied → Row
-row_of n event reply = record { number = n; lane = lane_of event reply; mark = mark_of reply; words = words_of event reply }
+-- the row of an event before which the store was at a revision, with its reply
+abbrev pub row_of : History → ℕ → ℕ → WorldEvent → Result Reply Denied → Row
+row_of h before n event reply =
+    record { number = n; lane = lane_of event reply; mark = mark_of reply; words = words_of h before event reply }
 
--- a row for each event, numbered from n
-abbrev pub rows_of : ℕ → List WorldEvent → List (Result Reply Denied) → List Row
-rows_of n [] replies = []
-rows_of n (event ∷ events) [] = []
-rows_of n (event ∷ events) (reply ∷ replies) = row_of n event reply ∷ rows_of (suc n) events replies
+-- a row for each event, numbered from n, where the store was at a revision before them and has this history since
+abbrev pub rows_of : History → ℕ → ℕ → List WorldEvent → List (Result Reply Denied) → List Row
+rows_of h before n [] replies = []
+rows_of h before n (event ∷ events) [] = []
+rows_of h before n (event ∷ events) (reply ∷ replies) =
+    row_of h before n event reply ∷ rows_of h (counter_after before reply) (suc n) events replies
 
 -- the rows are numbered from n
 abbrev pub AreNumbered : ℕ → List Row → Type 0

@@ -1,10 +1,14 @@
 -- What a script does in a format: from the bytes of a source to the report in a sink.
-use Rattle.std.specs.Prelude.{◌≡◌, ℕ, List, Bool, true, false, Option, Result, Ok, Err, IfSome, IsUtf8}
+use Rattle.std.specs.Prelude.{◌≡◌, ℕ, List, ◌++◌, Bool, true, false, Option, Result, Ok, Err, IfSome, IsUtf8}
 use Rattle.std.specs.Io.KnownBytes.{Appends, Keeps}
 use Rattle.stm_events.specs.declared.event.WorldEvent.{WorldEvent}
 use Rattle.stm_events.specs.declared.reply.Reply.{Reply}
 use Rattle.stm_events.specs.declared.refusal.Denied.{Denied}
 use Rattle.stm_world.specs.World.{World, opened, world_after, replies_to}
+use Rattle.stm_history.specs.History.{History}
+use Rattle.stm_txn.specs.Standing.{kept}
+use Rattle.stm_reasons.specs.Reasons.{reasons_of}
+use Rattle.stm_report.specs.declared.format_row.Row.{Row}
 use Rattle.stm_texts.specs.declared.scenario.Scenario.{Scenario}
 use Rattle.stm_json.specs.Outcome.{Outcome}
 use Rattle.stm_texts.specs.Reading.{scenario_in}
@@ -19,17 +23,34 @@ use Rattle.stm_report.specs.declared.format.Format.TheVariants.{Lines, Json, Tex
 use Rattle.stm_report.specs.Forms.{json_text}
 use Rattle.stm_report.specs.FormatRows.{rows_of}
 use Rattle.stm_report.specs.FormatNotes.{notes_of}
+use Rattle.stm_report.specs.FormatReasons.{reason_notes}
 use Rattle.stm_report.specs.FormatText.{text_of}
 use Rattle.stm_report.specs.FormatSvg.{svg_of}
 
 -- ---- the report of a run in a format
 
--- the text is the report of these events, of their replies and of the world that they left; one of lines is in UTF-8
+-- the history as the store of a world has it, without the revisions that were compacted: values that only these had are not shown
+abbrev pub history_kept : World → History
+history_kept w = (kept w.standing).history
+
+-- The rows of events that led to a world from a revision of the store, and the notes: what is left, and why commits failed.
+abbrev pub rows_from : World → ℕ → List WorldEvent → List (Result Reply Denied) → List Row
+rows_from w since events replies = rows_of (history_kept w) since 1 events replies
+
+abbrev pub notes_from : World → ℕ → List (Result Reply Denied) → List (List ℕ)
+notes_from w since replies = notes_of w replies ++ reason_notes (reasons_of (history_kept w) since replies)
+
+-- the text is the report of these events, before which the store was at a revision, of their replies and of the world that they left; one of lines is in
+-- UTF-8
+abbrev pub IsTextSince : ℕ → Format → World → List WorldEvent → List (Result Reply Denied) → List ℕ → Type 0
+IsTextSince since Lines w events replies text = IsReport w replies text × IsUtf8 text
+IsTextSince since Json w events replies text = text ≡ json_text w replies
+IsTextSince since Text w events replies text = text ≡ text_of (rows_from w since events replies) (notes_from w since replies)
+IsTextSince since Svg w events replies text = text ≡ svg_of (rows_from w since events replies) (notes_from w since replies)
+
+-- the same of all events since the world opened
 abbrev pub IsTextOf : Format → World → List WorldEvent → List (Result Reply Denied) → List ℕ → Type 0
-IsTextOf Lines w events replies text = IsReport w replies text × IsUtf8 text
-IsTextOf Json w events replies text = text ≡ json_text w replies
-IsTextOf Text w events replies text = text ≡ text_of (rows_of 1 events replies) (notes_of w replies)
-IsTextOf Svg w events replies text = text ≡ svg_of (rows_of 1 events replies) (notes_of w replies)
+IsTextOf format w events replies text = IsTextSince w.standing.history.opening.number format w events replies text
 
 -- the text is that of these events' run from a world
 abbrev pub IsTextFrom : Format → World → List WorldEvent → List ℕ → Type 0

@@ -1,18 +1,36 @@
 -- A report as a picture: a line down for each column, and for each event a mark on the line of its column with its words.
 --
 -- The W3C's "Scalable Vector Graphics (SVG) 1.1", "Basic Shapes" and "Text". A row is 1000 units high: its middle is its number and three zeros.
-use Rattle.std.specs.Prelude.{ℕ, ◌+◌, ◌*◌, ◌^◌, ◌-◌, min, zero, suc, List, [], ◌∷◌, ◌++◌, length, map, codes, decimal}
+use Rattle.std.specs.Prelude.{ℕ, ◌+◌, ◌*◌, ◌^◌, ◌-◌, min, max, zero, suc, List, [], ◌∷◌, ◌++◌, length, map, codes, decimal}
 use Rattle.stm_report.specs.declared.format_row.Lane.{Lane}
 use Rattle.stm_report.specs.declared.format_row.Mark.{Mark}
 use Rattle.stm_report.specs.declared.format_row.Mark.TheVariants.{Committed, Failed, Plain}
 use Rattle.stm_report.specs.declared.format_row.Row.{Row}
 use Rattle.stm_report.specs.FormatPieces.{joined, title, tag_text}
 use Rattle.stm_report.specs.FormatEscaped.{escaped}
-use Rattle.stm_report.specs.FormatColumns.{column, last_column, width}
+use Rattle.stm_report.specs.FormatColumns.{column, last_column, places, place}
+use Rattle.stm_report.specs.declared.format_svg.TheConstants.{MOST_LETTERS}
 
--- where a column's line stands, of columns of such a width: a letter is 360 units wide
-abbrev pub place : ℕ → ℕ → ℕ
-place w c = 3500 + (360 * w + 1500) * c
+-- where a column's line stands: a letter is 360 units wide
+abbrev pub line_at : List ℕ → ℕ → ℕ
+line_at places c = 3500 + 360 * place places c + 780 * c
+
+-- how far words go: of very long ones the rest is cut off
+abbrev pub letters : List ℕ → ℕ
+letters words = 360 * min (length words) MOST_LETTERS
+
+-- how far rows and notes go to the right
+abbrev pub rows_reach : List ℕ → List Row → ℕ
+rows_reach places [] = 0
+rows_reach places (row ∷ rows) = max (line_at places (column row.lane) + letters row.words + 1500) (rows_reach places rows)
+
+abbrev pub notes_reach : List (List ℕ) → ℕ
+notes_reach [] = 0
+notes_reach (note ∷ notes) = max (letters note + 2000) (notes_reach notes)
+
+-- how wide the picture is
+abbrev pub across : List ℕ → List Row → List (List ℕ) → ℕ
+across places rows notes = max (line_at places (last_column rows + 1)) (max (rows_reach places rows) (notes_reach notes))
 
 -- how a mark is drawn, and the colour of its words
 abbrev pub shape : Mark → List ℕ
@@ -27,16 +45,16 @@ colour Plain = codes "#24292f"
 
 -- ---- a column, with that many rows
 
-unfoldable pub column_svg : ℕ → ℕ → ℕ → List ℕ
-column_svg w rows c =
-    joined (codes "<line x1=\"" ∷ decimal (place w c) ∷ codes "\" y1=\"400\" x2=\"" ∷ decimal (place w c)
-    ∷ codes "\" y2=\"" ∷ decimal rows ∷ codes "500\" stroke=\"#d0d7de\" stroke-width=\"60\"/>\n<text x=\"" ∷ decimal (place w c)
+unfoldable pub column_svg : List ℕ → ℕ → ℕ → List ℕ
+column_svg places rows c =
+    joined (codes "<line x1=\"" ∷ decimal (line_at places c) ∷ codes "\" y1=\"400\" x2=\"" ∷ decimal (line_at places c)
+    ∷ codes "\" y2=\"" ∷ decimal rows ∷ codes "500\" stroke=\"#d0d7de\" stroke-width=\"60\"/>\n<text x=\"" ∷ decimal (line_at places c)
     ∷ codes "\" y=\"0\" dy=\"210\" text-anchor=\"middle\" fill=\"#24292f\" font-weight=\"bold\">" ∷ title c ∷ codes "</text>\n" ∷ [])
 
 -- the columns before c
-abbrev pub columns_svg : ℕ → ℕ → ℕ → List ℕ
-columns_svg w rows zero = []
-columns_svg w rows (suc c) = columns_svg w rows c ++ column_svg w rows c
+abbrev pub columns_svg : List ℕ → ℕ → ℕ → List ℕ
+columns_svg places rows zero = []
+columns_svg places rows (suc c) = columns_svg places rows c ++ column_svg places rows c
 
 -- ---- a row
 
@@ -48,11 +66,11 @@ placed_svg x n drawn colour lane words =
     ∷ codes "/>\n<text x=\"" ∷ decimal (x + 500) ∷ codes "\" y=\"" ∷ decimal n ∷ codes "000\" dy=\"210\" fill=\""
     ∷ colour ∷ codes "\">" ∷ tag_text lane ∷ escaped words ∷ codes "</text>\n" ∷ [])
 
-abbrev pub row_svg : ℕ → Row → List ℕ
-row_svg w row = placed_svg (place w (column row.lane)) row.number (shape row.mark) (colour row.mark) row.lane row.words
+abbrev pub row_svg : List ℕ → Row → List ℕ
+row_svg places row = placed_svg (line_at places (column row.lane)) row.number (shape row.mark) (colour row.mark) row.lane row.words
 
-abbrev pub rows_svg : ℕ → List Row → List ℕ
-rows_svg w rows = joined (map (row_svg w) rows)
+abbrev pub rows_svg : List ℕ → List Row → List ℕ
+rows_svg places rows = joined (map (row_svg places) rows)
 
 -- ---- a note, below the rows
 
@@ -87,5 +105,6 @@ under_svg rows = joined (codes "<g transform=\"translate(0 " ∷ decimal rows �
 
 unfoldable pub svg_of : List Row → List (List ℕ) → List ℕ
 svg_of rows notes =
-    joined (frame_svg (place (width rows) (last_column rows + 1)) (lines_of rows notes) ∷ columns_svg (width rows) (length rows) (last_column rows + 1)
-    ∷ rows_svg (width rows) rows ∷ under_svg (length rows) ∷ notes_svg 1 notes ∷ codes "</g>\n</svg>\n" ∷ [])
+    let at : List ℕ = places rows 11 in
+    joined (frame_svg (across at rows notes) (lines_of rows notes) ∷ columns_svg at (length rows) (last_column rows + 1) ∷ rows_svg at rows
+    ∷ under_svg (length rows) ∷ notes_svg 1 notes ∷ codes "</g>\n</svg>\n" ∷ [])

@@ -4,6 +4,8 @@ pub mod Format
 pub mod FormatShown
 pub mod FormatEscaped
 pub mod FormatPieces
+pub mod FormatChanges
+pub mod FormatReasons
 pub mod FormatWords
 pub mod FormatRows
 pub mod FormatColumns

@@ -21,9 +21,9 @@ fn key_note<'a>(
     let pieces = [
         Piece::Say("key "),
         Piece::Shown(key),
-        Piece::Say(" = "),
+        Piece::Say(" = \""),
         Piece::Shown(state.value.as_str()),
-        Piece::Say(" @"),
+        Piece::Say("\" @"),
         Piece::Number(state.mod_rev),
     ];
     said(alloc, &pieces)

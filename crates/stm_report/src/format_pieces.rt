@@ -1,6 +1,6 @@
 //! Writing a text piece by piece.
 ghost use Rattle.std.specs.Prelude.{◌≡◌, ◌++◌, ◌<◌, ◌≤◌, ◌+◌, drop, get_or, decimal, replicate, length, map, take, IfOk, OnOk};
-ghost use Rattle.stm_report.specs.FormatShown.{front, hidden, plain, plain_after, shown, is_continuation};
+ghost use Rattle.stm_report.specs.FormatShown.{front, back, from_character, hidden, plain, plain_after, shown, is_continuation};
 ghost use Rattle.stm_report.specs.FormatEscaped.{entity, escaped};
 ghost use Rattle.stm_report.specs.FormatPieces.{joined, padded, title, tag_text, piece_text};
 
@@ -12,18 +12,21 @@ use stm_history::Sequence;
 /// So many columns a report has for runners at most. All runners from this number on stand in the last one, each row with its runner's number.
 pub(crate) const MOST_COLUMNS: u64 = 9;
 
-/// A key or value of more bytes than this is shortened.
-const MOST_SHOWN: usize = 20;
+/// A key or value of more bytes than this is shown without its middle.
+const MOST_SHOWN: usize = 32;
 
-/// So many bytes of a shortened text are shown, and the rest of the character that they end in.
-const KEPT: usize = 18;
+/// So many bytes at the front of a long text are shown, and the rest of the character that they end in.
+const FRONT: usize = 12;
+
+/// So many bytes at the end of a long text are shown, but for the rest of a character that began before them.
+const BACK: usize = 18;
 
 /// A piece of what is written.
 #[derive(Clone, Copy)]
 pub(crate) enum Piece<'a> {
     /// A text of this crate.
     Say(&'a str),
-    /// A key or value, shortened, with a `?` for each control character.
+    /// A key or value, a long one without its middle, with a `?` for each control character.
     Shown(&'a str),
     /// A number in decimal.
     Number(u64),
@@ -91,6 +94,18 @@ fn end_of_front(bytes: &[u8], kept: usize) -> usize
     end
 }
 
+/// Where that many bytes at the end begin, without the rest of a character that began before them.
+fn start_of_back(bytes: &[u8], kept: usize) -> usize
+    ensures within { result ≤ length bytes.now }
+    ensures back { drop result bytes.now ≡ back kept bytes.now }
+{
+    let mut start = bytes.len().saturating_sub(kept);
+    while start < bytes.len() && is_continuation(bytes[start]) {
+        start += 1;
+    }
+    start
+}
+
 /// Adds the byte at an index as it is shown, where so many more bytes belong to a character that was shown; how many do behind it.
 fn push_next(
     out: &mut Vec<u8>,
@@ -134,9 +149,11 @@ fn push_shown(out: &mut Vec<u8>, text: &str) -> Result<(), AllocError>
     if bytes.len() <= MOST_SHOWN {
         return push_plain(out, bytes);
     }
-    let end = end_of_front(bytes, KEPT);
-    push_plain(out, &bytes[..end])?;
-    out.extend_from_slice(b"..")
+    let (front, _) = bytes.split_at(end_of_front(bytes, FRONT));
+    let (_, back) = bytes.split_at(start_of_back(bytes, BACK));
+    push_plain(out, front)?;
+    out.extend_from_slice(b"..")?;
+    push_plain(out, back)
 }
 
 /// Adds a number in decimal.

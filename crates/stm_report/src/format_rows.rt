@@ -5,6 +5,8 @@ ghost use Rattle.stm_report.specs.FormatRows.{reply_lane, refused_lane, lane_of,
 use crate::format_row::{Lane, Mark, Row};
 use crate::format_words::words_of;
 use std::alloc::{AllocError, Global};
+use stm_keys::Keys;
+use stm_reasons::counter_after;
 use stm_retry::{Denied, Reply, WorldEvent};
 
 /// The column of an event that was taken.
@@ -62,16 +64,18 @@ fn mark_of(reply: &Result<Reply, Denied>) -> Mark
     }
 }
 
-/// The row of an event with its reply.
+/// The row of an event before which the store was at a revision, with its reply.
 fn row_of(
     alloc: Global,
+    keys: &Keys,
+    before: u64,
     number: u64,
     event: &WorldEvent,
     reply: &Result<Reply, Denied>,
 ) -> Result<Row, AllocError>
-    ensures { IfOk result (λ row. row ≡ row_of number event.now reply.now) }
+    ensures { IfOk result (λ row. row ≡ row_of keys.now.history before number event.now reply.now) }
 {
-    let words = words_of(alloc, event, reply)?;
+    let words = words_of(alloc, keys, before, event, reply)?;
     Ok(Row {
         number,
         lane: lane_of(event, reply),
@@ -80,19 +84,31 @@ fn row_of(
     })
 }
 
-/// The rows of events with their replies, one for each, numbered from 1. It fails where a growth was refused.
+/// The rows of events with their replies, one for each, numbered from 1, where the store was at this revision before them and has these keys since. It fails
+/// where a growth was refused.
 pub fn rows_of(
     alloc: Global,
+    keys: &Keys,
+    opened: u64,
     events: &[WorldEvent],
     replies: &[Result<Reply, Denied>],
 ) -> Result<Vec<Row>, AllocError>
     requires { length events.now ≡ length replies.now }
-    ensures { IfOk result (λ rows. rows.items ≡ rows_of 1 events.now replies.now) }
+    ensures { IfOk result (λ rows. rows.items ≡ rows_of keys.now.history opened 1 events.now replies.now) }
 {
     let mut rows = Vec::new(alloc);
+    let mut counter = opened;
     for (before, reply) in replies.iter().enumerate() {
-        let row = row_of(alloc, before as u64 + 1, &events[before], reply)?;
+        let row = row_of(
+            alloc,
+            keys,
+            counter,
+            before as u64 + 1,
+            &events[before],
+            reply,
+        )?;
         rows.push(row)?;
+        counter = counter_after(counter, reply);
     }
     Ok(rows)
 }

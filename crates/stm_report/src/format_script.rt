@@ -1,14 +1,14 @@
 //! From the bytes of a source to the report in a sink, in a format.
 ghost use Rattle.std.specs.Prelude.{◌≡◌, ◌≤◌, ◌+◌, false, length, IfOk};
 ghost use Rattle.stm_devices.specs.declared.transfer.TheConstants.{MOST_READ};
-ghost use Rattle.stm_report.specs.FormatScript.{IsTextOf, IsTextFrom, IsRunText, Answers, Writes, DoesAs};
-ghost use Rattle.stm_report.specs.FormatRows.{rows_of};
-ghost use Rattle.stm_report.specs.FormatNotes.{notes_of};
+ghost use Rattle.stm_report.specs.FormatScript.{rows_from, notes_from, IsTextSince, IsTextOf, IsTextFrom, IsRunText, Answers, Writes, DoesAs};
 ghost use Rattle.stm_report.specs.FormatText.{text_of};
 ghost use Rattle.stm_report.specs.FormatSvg.{svg_of};
 
 use crate::format::Format;
 use crate::format_notes::notes_of;
+use crate::format_reasons::push_reasons;
+use crate::format_row::Row;
 use crate::format_rows::rows_of;
 use crate::format_svg::svg_of;
 use crate::format_text::text_of;
@@ -16,42 +16,95 @@ use crate::report_text::{report, report_objects};
 use crate::run_script::ScriptFault;
 use std::alloc::{AllocError, Global};
 use stm_devices::{ReadFault, Sink, Source, read_all, write_all};
+use stm_history::Sequence;
+use stm_reasons::reasons_of;
 use stm_retry::{Denied, Reply, World, WorldEvent};
 use stm_texts::{ReadError, Scenario, opens_with, read_scenario};
 
-/// The text of a world, of the events that led to it, and of their replies.
+/// The rows of events that led to a world from a revision of its store.
+fn rows_from(
+    alloc: Global,
+    world: &World,
+    since: u64,
+    events: &[WorldEvent],
+    replies: &[Result<Reply, Denied>],
+) -> Result<Vec<Row>, AllocError>
+    requires { length events.now ≡ length replies.now }
+    ensures { IfOk result (λ rows. rows.items ≡ rows_from world.now since events.now replies.now) }
+{
+    rows_of(alloc, world.store().keys(), since, events, replies)
+}
+
+/// What is left after events that led to a world from a revision of its store, and why commits failed.
+fn notes_from(
+    alloc: Global,
+    world: &World,
+    since: u64,
+    replies: &[Result<Reply, Denied>],
+) -> Result<Vec<Sequence<u8>>, AllocError>
+    ensures { IfOk result (λ notes. notes.items ≡ notes_from world.now since replies.now) }
+{
+    let mut notes = notes_of(alloc, world, replies)?;
+    let reasons = reasons_of(alloc, world.store().keys(), since, replies)?;
+    push_reasons(alloc, &mut notes, reasons.as_slice())?;
+    Ok(notes)
+}
+
+/// The text of a world, of the events that led to it from a revision of its store, and of their replies.
 fn text_from(
     alloc: Global,
     world: &World,
+    since: u64,
     events: &[WorldEvent],
     replies: &[Result<Reply, Denied>],
 ) -> Result<Vec<u8>, AllocError>
     requires { length events.now ≡ length replies.now }
-    ensures { IfOk result (λ text. text.items ≡ text_of (rows_of 1 events.now replies.now) (notes_of world.now replies.now)) }
+    ensures { IfOk result (λ text. text.items ≡ text_of (rows_from world.now since events.now replies.now) (notes_from world.now since replies.now)) }
 {
-    let rows = rows_of(alloc, events, replies)?;
-    let notes = notes_of(alloc, world, replies)?;
+    let rows = rows_from(alloc, world, since, events, replies)?;
+    let notes = notes_from(alloc, world, since, replies)?;
     text_of(alloc, rows.as_slice(), notes.as_slice())
 }
 
-/// The picture of a world, of the events that led to it, and of their replies.
+/// The picture of a world, of the events that led to it from a revision of its store, and of their replies.
 fn svg_from(
     alloc: Global,
+    world: &World,
+    since: u64,
+    events: &[WorldEvent],
+    replies: &[Result<Reply, Denied>],
+) -> Result<Vec<u8>, AllocError>
+    requires { length events.now ≡ length replies.now }
+    ensures { IfOk result (λ svg. svg.items ≡ svg_of (rows_from world.now since events.now replies.now) (notes_from world.now since replies.now)) }
+{
+    let rows = rows_from(alloc, world, since, events, replies)?;
+    let notes = notes_from(alloc, world, since, replies)?;
+    svg_of(alloc, rows.as_slice(), notes.as_slice())
+}
+
+/// The report of a world, of the events that led to it from a world whose store was at this revision, and of their replies, in a format.
+///
+/// There is a reply to each event. It fails where a growth was refused.
+pub fn render_since(
+    alloc: Global,
+    format: Format,
+    since: u64,
     world: &World,
     events: &[WorldEvent],
     replies: &[Result<Reply, Denied>],
 ) -> Result<Vec<u8>, AllocError>
     requires { length events.now ≡ length replies.now }
-    ensures { IfOk result (λ svg. svg.items ≡ svg_of (rows_of 1 events.now replies.now) (notes_of world.now replies.now)) }
+    ensures { IfOk result (λ text. IsTextSince since format world.now events.now replies.now text.items) }
 {
-    let rows = rows_of(alloc, events, replies)?;
-    let notes = notes_of(alloc, world, replies)?;
-    svg_of(alloc, rows.as_slice(), notes.as_slice())
+    match format {
+        Format::Lines => Ok(report(alloc, world, replies)?.into_bytes()),
+        Format::Json => Ok(report_objects(alloc, world, replies)?.into_bytes()),
+        Format::Text => text_from(alloc, world, since, events, replies),
+        Format::Svg => svg_from(alloc, world, since, events, replies),
+    }
 }
 
-/// The report of a world, of the events that led to it, and of their replies, in a format.
-///
-/// There is a reply to each event. It fails where a growth was refused.
+/// The report of a world, of all events that led to it since it opened, and of their replies, in a format, as `render_since` has it.
 pub fn render(
     alloc: Global,
     format: Format,
@@ -62,12 +115,7 @@ pub fn render(
     requires { length events.now ≡ length replies.now }
     ensures { IfOk result (λ text. IsTextOf format world.now events.now replies.now text.items) }
 {
-    match format {
-        Format::Lines => Ok(report(alloc, world, replies)?.into_bytes()),
-        Format::Json => Ok(report_objects(alloc, world, replies)?.into_bytes()),
-        Format::Text => text_from(alloc, world, events, replies),
-        Format::Svg => svg_from(alloc, world, events, replies),
-    }
+    render_since(alloc, format, world.opened_at(), world, events, replies)
 }
 
 /// The report of what a world replies to these events.

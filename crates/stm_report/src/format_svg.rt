@@ -1,22 +1,62 @@
 //! A report as a picture.
 ghost use Rattle.std.specs.Prelude.{◌≡◌, ◌++◌, ◌+◌, ◌≤◌, IfOk, OnOk};
-ghost use Rattle.stm_report.specs.FormatSvg.{place, shape, colour, column_svg, columns_svg, row_svg, rows_svg, note_svg, notes_svg};
+ghost use Rattle.stm_report.specs.FormatSvg.{line_at, letters, rows_reach, notes_reach, across, shape, colour, column_svg, columns_svg, row_svg, rows_svg, note_svg, notes_svg};
 ghost use Rattle.stm_report.specs.FormatSvg.{lines_of, frame_svg, under_svg, svg_of};
 
-use crate::format_columns::{column, last_column, width};
+use crate::format_columns::{column, last_column, place, places};
 use crate::format_pieces::{Piece, push_pieces};
 use crate::format_row::{Mark, Row};
 use std::alloc::{AllocError, Global};
 use stm_history::Sequence;
 
+/// So many letters of a row or a note are counted for how wide the picture is.
+const MOST_LETTERS: u64 = 240;
+
 /// Where a column's line stands.
-fn place(width: u64, column: u64) -> u64
-    requires narrow { width ≤ 60 }
+fn line_at(places: &[u64], column: u64) -> u64
     requires few { column ≤ 10 }
-    ensures place { result ≡ place width column }
+    ensures place { result ≡ line_at places.now column }
     ensures within { result ≤ 234500 }
 {
-    3500 + (360 * width + 1500) * column
+    3500 + 360 * place(places, column) + 780 * column
+}
+
+/// How far words go.
+fn letters(words: &Sequence<u8>) -> u64
+    ensures reach { result ≡ letters words.now }
+    ensures within { result ≤ 86400 }
+{
+    360 * (words.len() as u64).min(MOST_LETTERS)
+}
+
+/// How far rows go to the right.
+fn rows_reach(places: &[u64], rows: &[Row]) -> u64
+    ensures { result ≡ rows_reach places.now rows.now }
+{
+    let mut reach = 0;
+    for row in rows {
+        reach = (line_at(places, column(row.lane)) + letters(&row.words) + 1500).max(reach);
+    }
+    reach
+}
+
+/// How far notes go to the right.
+fn notes_reach(notes: &[Sequence<u8>]) -> u64
+    ensures { result ≡ notes_reach notes.now }
+{
+    let mut reach = 0;
+    for note in notes {
+        reach = (letters(note) + 2000).max(reach);
+    }
+    reach
+}
+
+/// How wide a picture of these rows and notes is.
+fn across(places: &[u64], rows: &[Row], notes: &[Sequence<u8>]) -> u64
+    ensures { result ≡ across places.now rows.now notes.now }
+{
+    let columns = line_at(places, last_column(rows) + 1);
+    columns.max(rows_reach(places, rows).max(notes_reach(notes)))
 }
 
 /// How a mark is drawn.
@@ -43,12 +83,11 @@ fn colour(mark: Mark) -> &'static str
 
 /// Adds the line and the title of a column.
 #[tactic(auto, unfolding(crate::specs::FormatSvg::column_svg))]
-fn push_column(out: &mut Vec<u8>, width: u64, rows: u64, column: u64) -> Result<(), AllocError>
-    requires narrow { width ≤ 60 }
-    requires few { column ≤ 9 }
-    ensures { OnOk result (out.new.items ≡ out.old.items ++ column_svg width rows column) }
+fn push_column(out: &mut Vec<u8>, places: &[u64], rows: u64, column: u64) -> Result<(), AllocError>
+    requires { column ≤ 9 }
+    ensures { OnOk result (out.new.items ≡ out.old.items ++ column_svg places.now rows column) }
 {
-    let x = place(width, column);
+    let x = line_at(places, column);
     let pieces = [
         Piece::Say("<line x1=\""),
         Piece::Number(x),
@@ -68,24 +107,22 @@ fn push_column(out: &mut Vec<u8>, width: u64, rows: u64, column: u64) -> Result<
 }
 
 /// Adds the lines and titles of the columns up to this one.
-fn push_columns(out: &mut Vec<u8>, width: u64, rows: u64, last: u64) -> Result<(), AllocError>
-    requires narrow { width ≤ 60 }
-    requires few { last ≤ 9 }
-    ensures { OnOk result (out.new.items ≡ out.old.items ++ columns_svg width rows (last + 1)) }
+fn push_columns(out: &mut Vec<u8>, places: &[u64], rows: u64, last: u64) -> Result<(), AllocError>
+    requires { last ≤ 9 }
+    ensures { OnOk result (out.new.items ≡ out.old.items ++ columns_svg places.now rows (last + 1)) }
 {
     for column in 0..last + 1 {
-        push_column(out, width, rows, column)?;
+        push_column(out, places, rows, column)?;
     }
     Ok(())
 }
 
 /// Adds a row: its number, its mark, and its words with what XML wants escaped.
 #[tactic(auto, unfolding(crate::specs::FormatSvg::placed_svg))]
-fn push_row(out: &mut Vec<u8>, width: u64, row: &Row) -> Result<(), AllocError>
-    requires { width ≤ 60 }
-    ensures { OnOk result (out.new.items ≡ out.old.items ++ row_svg width row.now) }
+fn push_row(out: &mut Vec<u8>, places: &[u64], row: &Row) -> Result<(), AllocError>
+    ensures { OnOk result (out.new.items ≡ out.old.items ++ row_svg places.now row.now) }
 {
-    let x = place(width, column(row.lane));
+    let x = line_at(places, column(row.lane));
     let pieces = [
         Piece::Say("<text x=\"2400\" y=\""),
         Piece::Number(row.number),
@@ -112,12 +149,11 @@ fn push_row(out: &mut Vec<u8>, width: u64, row: &Row) -> Result<(), AllocError>
 }
 
 /// Adds the rows.
-fn push_rows(out: &mut Vec<u8>, width: u64, rows: &[Row]) -> Result<(), AllocError>
-    requires { width ≤ 60 }
-    ensures { OnOk result (out.new.items ≡ out.old.items ++ rows_svg width rows.now) }
+fn push_rows(out: &mut Vec<u8>, places: &[u64], rows: &[Row]) -> Result<(), AllocError>
+    ensures { OnOk result (out.new.items ≡ out.old.items ++ rows_svg places.now rows.now) }
 {
     for row in rows {
-        push_row(out, width, row)?;
+        push_row(out, places, row)?;
     }
     Ok(())
 }
@@ -198,12 +234,12 @@ pub(crate) fn svg_of(
 ) -> Result<Vec<u8>, AllocError>
     ensures { IfOk result (λ svg. svg.items ≡ svg_of rows.now notes.now) }
 {
-    let width = width(rows);
-    let last = last_column(rows);
+    let places = places(alloc, rows)?;
+    let places = places.as_slice();
     let mut out = Vec::new(alloc);
-    push_frame(&mut out, place(width, last + 1), lines_of(rows, notes))?;
-    push_columns(&mut out, width, rows.len() as u64, last)?;
-    push_rows(&mut out, width, rows)?;
+    push_frame(&mut out, across(places, rows, notes), lines_of(rows, notes))?;
+    push_columns(&mut out, places, rows.len() as u64, last_column(rows))?;
+    push_rows(&mut out, places, rows)?;
     push_under(&mut out, rows.len() as u64)?;
     push_notes(&mut out, notes)?;
     out.extend_from_slice(b"</g>\n</svg>\n")?;

@@ -2,41 +2,42 @@
 ghost use Rattle.std.specs.Prelude.{◌≡◌, ◌++◌, ◌≤◌, IfOk, OnOk};
 ghost use Rattle.stm_report.specs.FormatText.{heading, headings, row_text, rows_text, note_text, notes_text, text_of};
 
-use crate::format_columns::{column, last_column, width};
+use crate::format_columns::{column, last_column, place, places};
 use crate::format_pieces::{Piece, push_pieces};
 use crate::format_row::Row;
 use std::alloc::{AllocError, Global};
 use stm_history::Sequence;
 
 /// Adds the title of a runner's column.
-fn push_heading(out: &mut Vec<u8>, width: u64, number: u64) -> Result<(), AllocError>
-    ensures { OnOk result (out.new.items ≡ out.old.items ++ heading width number) }
+fn push_heading(out: &mut Vec<u8>, places: &[u64], number: u64) -> Result<(), AllocError>
+    ensures { OnOk result (out.new.items ≡ out.old.items ++ heading places.now number) }
 {
-    let taken = if number == 1 { 3 } else { 6 };
+    let taken = if number == 1 { 5 } else { 8 };
+    let before = place(places, number.saturating_sub(1));
+    let left = place(places, number).saturating_sub(before);
     let pieces = [
-        Piece::Spaces(width.saturating_sub(taken)),
+        Piece::Spaces(left.saturating_sub(taken)),
         Piece::Title(number),
     ];
     push_pieces(out, &pieces)
 }
 
 /// Adds the titles of the runners' columns.
-fn push_headings(out: &mut Vec<u8>, width: u64, last: u64) -> Result<(), AllocError>
+fn push_headings(out: &mut Vec<u8>, places: &[u64], last: u64) -> Result<(), AllocError>
     requires { last ≤ 9 }
-    ensures { OnOk result (out.new.items ≡ out.old.items ++ headings width last) }
+    ensures { OnOk result (out.new.items ≡ out.old.items ++ headings places.now last) }
 {
     for before in 0..last {
-        push_heading(out, width, before + 1)?;
+        push_heading(out, places, before + 1)?;
     }
     Ok(())
 }
 
 /// Adds a row.
-fn push_row(out: &mut Vec<u8>, width: u64, row: &Row) -> Result<(), AllocError>
-    requires { width ≤ 60 }
-    ensures { OnOk result (out.new.items ≡ out.old.items ++ row_text width row.now) }
+fn push_row(out: &mut Vec<u8>, places: &[u64], row: &Row) -> Result<(), AllocError>
+    ensures { OnOk result (out.new.items ≡ out.old.items ++ row_text places.now row.now) }
 {
-    let indent = 2 + (width + 2) * column(row.lane);
+    let indent = 2 + place(places, column(row.lane));
     let pieces = [
         Piece::Padded(row.number),
         Piece::Spaces(indent),
@@ -48,12 +49,11 @@ fn push_row(out: &mut Vec<u8>, width: u64, row: &Row) -> Result<(), AllocError>
 }
 
 /// Adds the rows, one line for each.
-fn push_rows(out: &mut Vec<u8>, width: u64, rows: &[Row]) -> Result<(), AllocError>
-    requires { width ≤ 60 }
-    ensures { OnOk result (out.new.items ≡ out.old.items ++ rows_text width rows.now) }
+fn push_rows(out: &mut Vec<u8>, places: &[u64], rows: &[Row]) -> Result<(), AllocError>
+    ensures { OnOk result (out.new.items ≡ out.old.items ++ rows_text places.now rows.now) }
 {
     for row in rows {
-        push_row(out, width, row)?;
+        push_row(out, places, row)?;
     }
     Ok(())
 }
@@ -83,12 +83,12 @@ pub(crate) fn text_of(
 ) -> Result<Vec<u8>, AllocError>
     ensures { IfOk result (λ text. text.items ≡ text_of rows.now notes.now) }
 {
-    let width = width(rows);
+    let places = places(alloc, rows)?;
     let mut out = Vec::new(alloc);
     out.extend_from_slice(b" event  store")?;
-    push_headings(&mut out, width, last_column(rows))?;
+    push_headings(&mut out, places.as_slice(), last_column(rows))?;
     out.push(b'\n')?;
-    push_rows(&mut out, width, rows)?;
+    push_rows(&mut out, places.as_slice(), rows)?;
     out.push(b'\n')?;
     push_notes(&mut out, notes)?;
     Ok(out)

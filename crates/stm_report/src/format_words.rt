@@ -1,14 +1,18 @@
 //! What a row says of an event and its reply.
-ghost use Rattle.std.specs.Prelude.{◌≡◌, codes, IfOk};
+ghost use Rattle.std.specs.Prelude.{◌≡◌, ◌++◌, codes, IfOk, OnOk};
 ghost use Rattle.stm_texts.specs.Grammar.{level_text};
-ghost use Rattle.stm_report.specs.FormatWords.{named_words, reported_words, changed_words, start_words, listed_words, fetched_words, commit_words, compared_words};
-ghost use Rattle.stm_report.specs.FormatWords.{txn_words, revoked_words, advanced_words, batch_words, lost_words, reply_words, asked_word, refused_words, words_of};
+ghost use Rattle.stm_report.specs.FormatWords.{named_words, reported_words, changed_words, start_words, link, seen_words, as_of, fetched_words, counted_read};
+ghost use Rattle.stm_report.specs.FormatWords.{reads_after, listed_words, attempt_words, commit_words, compared_words, txn_words, revoked_words};
+ghost use Rattle.stm_report.specs.FormatWords.{advanced_words, batch_words, lost_words, reply_words, asked_word, refused_words, told_words, words_of};
 
-use crate::format_pieces::{Piece, said};
+use crate::format_changes::{MOST_CHANGES, between, changed_since, known_words};
+use crate::format_pieces::{Piece, push_pieces, said};
 use std::alloc::{AllocError, Global};
-use stm_events::EventRefusal;
+use stm_events::{EventRefusal, KeyRead};
 use stm_history::Sequence;
+use stm_keys::Keys;
 use stm_program::Level;
+use stm_reasons::counter_after;
 use stm_retry::{Denied, Reply, WorldEvent};
 
 /// The name of a level.
@@ -60,43 +64,138 @@ fn started(alloc: Global, event: &WorldEvent) -> Result<Sequence<u8>, AllocError
     }
 }
 
-/// The words of a list that was fetched.
-fn listed(alloc: Global, count: u64, revision: u64) -> Result<Sequence<u8>, AllocError>
-    ensures { IfOk result (λ words. words ≡ listed_words count revision) }
+/// What stands between a key that was seen at a modification revision and its value.
+fn link(mod_rev: u64) -> &'static str
+    ensures { result.now ≡ link mod_rev }
 {
+    if mod_rev == 0 { ": " } else { " = " }
+}
+
+/// The words of a key that was seen as of a revision, at a modification revision.
+fn seen_words(
+    alloc: Global,
+    keys: &Keys,
+    key: &str,
+    mod_rev: u64,
+    revision: u64,
+) -> Result<Sequence<u8>, AllocError>
+    ensures { IfOk result (λ words. words ≡ seen_words keys.now.history key.now mod_rev revision) }
+{
+    let known = known_words(alloc, keys, key, mod_rev, revision)?;
     let pieces = [
-        Piece::Say("read the list, "),
-        Piece::Number(count),
-        Piece::Say(" keys, as of "),
-        Piece::Number(revision),
+        Piece::Shown(key),
+        Piece::Say(link(mod_rev)),
+        Piece::Raw(known.as_slice()),
     ];
     said(alloc, &pieces)
 }
 
-/// The words of a fetch.
-fn fetched(alloc: Global, key: &str, mod_rev: u64, of_rev: u64) -> Result<Sequence<u8>, AllocError>
-    ensures { IfOk result (λ words. words ≡ fetched_words key.now mod_rev of_rev) }
+/// The words for the revision that a read shows, where the store was at another one.
+fn as_of(alloc: Global, of_rev: u64, revision: u64) -> Result<Sequence<u8>, AllocError>
+    ensures { IfOk result (λ words. words ≡ as_of of_rev revision) }
 {
+    if of_rev == revision {
+        return Ok(Sequence::new(alloc));
+    }
+    said(alloc, &[Piece::Say(", as of "), Piece::Number(of_rev)])
+}
+
+/// The words of a fetch.
+fn fetched(
+    alloc: Global,
+    keys: &Keys,
+    key: &str,
+    mod_rev: u64,
+    of_rev: u64,
+    revision: u64,
+) -> Result<Sequence<u8>, AllocError>
+    ensures { IfOk result (λ words. words ≡ fetched_words keys.now.history key.now mod_rev of_rev revision) }
+{
+    let seen = seen_words(alloc, keys, key, mod_rev, of_rev)?;
+    let shows = as_of(alloc, of_rev, revision)?;
     let pieces = [
         Piece::Say("read "),
-        Piece::Shown(key),
-        Piece::Say(" @"),
-        Piece::Number(mod_rev),
-        Piece::Say(", as of "),
-        Piece::Number(of_rev),
+        Piece::Raw(seen.as_slice()),
+        Piece::Raw(shows.as_slice()),
     ];
     said(alloc, &pieces)
+}
+
+/// Adds a key of a list that was read after so many others.
+fn push_read(
+    alloc: Global,
+    out: &mut Vec<u8>,
+    keys: &Keys,
+    revision: u64,
+    count: u64,
+    read: &KeyRead,
+) -> Result<(), AllocError>
+    ensures { OnOk result (out.new.items ≡ out.old.items ++ counted_read keys.now.history revision count read.now) }
+{
+    if count < MOST_CHANGES {
+        let seen = seen_words(alloc, keys, read.key.as_str(), read.mod_rev, revision)?;
+        return push_pieces(
+            out,
+            &[Piece::Say(between(count)), Piece::Raw(seen.as_slice())],
+        );
+    }
+    if count == MOST_CHANGES {
+        return out.extend_from_slice(b", ..");
+    }
+    Ok(())
+}
+
+/// The words of the keys of a list that were read as of a revision.
+fn reads_words(
+    alloc: Global,
+    keys: &Keys,
+    revision: u64,
+    reads: &[KeyRead],
+) -> Result<Vec<u8>, AllocError>
+    ensures { IfOk result (λ words. words.items ≡ reads_after keys.now.history revision 0 reads.now) }
+{
+    let mut out = Vec::new(alloc);
+    for (count, read) in reads.iter().enumerate() {
+        push_read(alloc, &mut out, keys, revision, count as u64, read)?;
+    }
+    Ok(out)
+}
+
+/// The words of a list that was fetched.
+fn listed(
+    alloc: Global,
+    keys: &Keys,
+    revision: u64,
+    reads: &[KeyRead],
+) -> Result<Sequence<u8>, AllocError>
+    ensures { IfOk result (λ words. words ≡ listed_words keys.now.history revision reads.now) }
+{
+    let read = reads_words(alloc, keys, revision, reads)?;
+    said(
+        alloc,
+        &[Piece::Say("read the list"), Piece::Raw(read.as_slice())],
+    )
+}
+
+/// The words for which attempt a commit was of, from the second on.
+fn attempt_words(alloc: Global, attempts: u64) -> Result<Sequence<u8>, AllocError>
+    ensures { IfOk result (λ words. words ≡ attempt_words attempts) }
+{
+    if attempts == 1 {
+        return Ok(Sequence::new(alloc));
+    }
+    said(alloc, &[Piece::Say(", attempt "), Piece::Number(attempts)])
 }
 
 /// The words of a commit.
 fn committed(alloc: Global, revision: u64, attempts: u64) -> Result<Sequence<u8>, AllocError>
     ensures { IfOk result (λ words. words ≡ commit_words revision attempts) }
 {
+    let attempt = attempt_words(alloc, attempts)?;
     let pieces = [
         Piece::Say("COMMIT @"),
         Piece::Number(revision),
-        Piece::Say(", attempt "),
-        Piece::Number(attempts),
+        Piece::Raw(attempt.as_slice()),
     ];
     said(alloc, &pieces)
 }
@@ -104,21 +203,24 @@ fn committed(alloc: Global, revision: u64, attempts: u64) -> Result<Sequence<u8>
 /// The words of a commit of which a compare failed.
 fn compared<'a>(
     alloc: Global,
+    keys: &Keys,
     word: &'a str,
     key: &'a str,
     seen: u64,
     now: u64,
 ) -> Result<Sequence<u8>, AllocError>
-    ensures { IfOk result (λ words. words ≡ compared_words word.now key.now seen now) }
+    ensures { IfOk result (λ words. words ≡ compared_words keys.now.history word.now key.now seen now) }
 {
+    let before = known_words(alloc, keys, key, seen, seen)?;
+    let after = known_words(alloc, keys, key, now, now)?;
     let pieces = [
         Piece::Say(word),
         Piece::Say(" "),
         Piece::Shown(key),
-        Piece::Say(": read @"),
-        Piece::Number(seen),
-        Piece::Say(", now @"),
-        Piece::Number(now),
+        Piece::Say(": was "),
+        Piece::Raw(before.as_slice()),
+        Piece::Say(", is "),
+        Piece::Raw(after.as_slice()),
     ];
     said(alloc, &pieces)
 }
@@ -128,7 +230,7 @@ fn transacted(alloc: Global, succeeded: bool, revision: u64) -> Result<Sequence<
     ensures { IfOk result (λ words. words ≡ txn_words succeeded revision) }
 {
     if succeeded {
-        changed(alloc, "txn succeeded", revision)
+        changed(alloc, "txn", revision)
     } else {
         changed(alloc, "txn failed", revision)
     }
@@ -190,8 +292,13 @@ fn lost(alloc: Global, watcher: u64, floor: u64) -> Result<Sequence<u8>, AllocEr
 }
 
 /// The words of an event that was taken.
-fn taken_words(alloc: Global, event: &WorldEvent, reply: &Reply) -> Result<Sequence<u8>, AllocError>
-    ensures { IfOk result (λ words. words ≡ reply_words event.now reply.now) }
+fn taken_words(
+    alloc: Global,
+    keys: &Keys,
+    event: &WorldEvent,
+    reply: &Reply,
+) -> Result<Sequence<u8>, AllocError>
+    ensures { IfOk result (λ words. words ≡ reply_words keys.now.history event.now reply.now) }
 {
     match reply {
         Reply::Started { .. } => started(alloc, event),
@@ -199,23 +306,24 @@ fn taken_words(alloc: Global, event: &WorldEvent, reply: &Reply) -> Result<Seque
             revision,
             reads,
             ..
-        } => listed(alloc, reads.len() as u64, *revision),
+        } => listed(alloc, keys, *revision, reads.as_slice()),
         Reply::Fetched {
             key,
             mod_rev,
             of_rev,
+            revision,
             ..
-        } => fetched(alloc, key.as_str(), *mod_rev, *of_rev),
+        } => fetched(alloc, keys, key.as_str(), *mod_rev, *of_rev, *revision),
         Reply::Committed {
             revision,
             attempts,
             ..
         } => committed(alloc, *revision, *attempts),
         Reply::Conflict { key, seen, now, .. } => {
-            compared(alloc, "CONFLICT", key.as_str(), *seen, *now)
+            compared(alloc, keys, "CONFLICT", key.as_str(), *seen, *now)
         }
         Reply::GaveUp { key, seen, now, .. } => {
-            compared(alloc, "GAVE UP", key.as_str(), *seen, *now)
+            compared(alloc, keys, "GAVE UP", key.as_str(), *seen, *now)
         }
         Reply::Aborted { text, .. } => reported(alloc, "ABORT", text.as_str()),
         Reply::Faulted { fault, .. } => reported(alloc, "FAULT", fault.name()),
@@ -278,16 +386,36 @@ fn refused(
     said(alloc, &pieces)
 }
 
-/// What a row says of an event and its reply. It fails where a growth was refused.
-pub(crate) fn words_of(
+/// The words of an event by its reply.
+fn told_words(
     alloc: Global,
+    keys: &Keys,
     event: &WorldEvent,
     reply: &Result<Reply, Denied>,
 ) -> Result<Sequence<u8>, AllocError>
-    ensures { IfOk result (λ words. words ≡ words_of event.now reply.now) }
+    ensures { IfOk result (λ words. words ≡ told_words keys.now.history event.now reply.now) }
 {
     match reply {
-        Ok(reply) => taken_words(alloc, event, reply),
+        Ok(reply) => taken_words(alloc, keys, event, reply),
         Err(denied) => refused(alloc, event, denied.cause),
     }
+}
+
+/// What a row says of an event before which the store was at a revision: of its reply, and what it changed. The keys are those of the store since. It fails
+/// where a growth was refused.
+pub(crate) fn words_of(
+    alloc: Global,
+    keys: &Keys,
+    before: u64,
+    event: &WorldEvent,
+    reply: &Result<Reply, Denied>,
+) -> Result<Sequence<u8>, AllocError>
+    ensures { IfOk result (λ words. words ≡ words_of keys.now.history before event.now reply.now) }
+{
+    let told = told_words(alloc, keys, event, reply)?;
+    let changed = changed_since(alloc, keys, before, counter_after(before, reply))?;
+    said(
+        alloc,
+        &[Piece::Raw(told.as_slice()), Piece::Raw(changed.as_slice())],
+    )
 }

@@ -2,7 +2,8 @@
 //!
 //! A report has a line for each event, each key that is present, each live lease and the end (`specs/Report.antt`). The files `format_*` write
 //! it in other forms: the same lines as objects with named fields, a column of text for each runner, and a picture. Text and picture are two
-//! writers over the same rows, one for each event (`specs/FormatRows.antt`). The objects are the lines of the report, each element under the
+//! writers over the same rows, one for each event (`specs/FormatRows.antt`), with what was read, and what was there, from the store's history; below these
+//! stands why commits failed (`stm_reasons`). The objects are the lines of the report, each element under the
 //! name of its field (`specs/FormatFields.antt`).
 //!
 //! The files `whole_*` compare a text with the report that a script writes of its scenario, line by line. `stm_check` judges a report by the
@@ -11,10 +12,12 @@
 #![tactic(auto)]
 
 mod format;
+mod format_changes;
 mod format_columns;
 mod format_fields;
 mod format_notes;
 mod format_pieces;
+mod format_reasons;
 mod format_row;
 mod format_rows;
 mod format_script;
@@ -32,7 +35,7 @@ mod whole_lines;
 pub use format::Format;
 pub use format_row::{Lane, Mark, Row};
 pub use format_rows::rows_of;
-pub use format_script::{render, script_as};
+pub use format_script::{render, render_since, script_as};
 pub use leases::live_leases;
 pub use report_text::report;
 pub use run_script::{ScriptFault, script};
@@ -43,6 +46,7 @@ pub use stm_events::{
     CommittedRead, Event, EventRefusal, Expired, Fault, KeyRead, OpReply, TraceItem, Value,
 };
 pub use stm_history::{KeyState, Sequence, Text};
+pub use stm_keys::Keys;
 pub use stm_report_lines::{Report, ReportLine, read_report};
 pub use stm_retry::{Denied, Reply, World};
 pub use stm_texts::{BadInput, Cause, Opening, ReadError, Scenario, WorldEvent, read_scenario};

@@ -5,10 +5,6 @@ use Rattle.stm_events.specs.declared.event.WorldEvent.{WorldEvent}
 use Rattle.stm_events.specs.declared.reply.Reply.{Reply}
 use Rattle.stm_events.specs.declared.refusal.Denied.{Denied}
 use Rattle.stm_world.specs.World.{World, opened, world_after, replies_to}
-use Rattle.stm_history.specs.History.{History}
-use Rattle.stm_txn.specs.Standing.{kept}
-use Rattle.stm_reasons.specs.Reasons.{reasons_of}
-use Rattle.stm_report.specs.declared.format_row.Row.{Row}
 use Rattle.stm_texts.specs.declared.scenario.Scenario.{Scenario}
 use Rattle.stm_json.specs.Outcome.{Outcome}
 use Rattle.stm_texts.specs.Reading.{scenario_in}
@@ -21,32 +17,17 @@ use Rattle.stm_devices.specs.Ends.{Devices, IsUntouched}
 use Rattle.stm_report.specs.declared.format.Format.{Format}
 use Rattle.stm_report.specs.declared.format.Format.TheVariants.{Lines, Json, Text, Svg}
 use Rattle.stm_report.specs.Forms.{json_text}
-use Rattle.stm_report.specs.FormatRows.{rows_of}
-use Rattle.stm_report.specs.FormatNotes.{notes_of}
-use Rattle.stm_report.specs.FormatReasons.{reason_notes}
-use Rattle.stm_report.specs.FormatText.{text_of}
-use Rattle.stm_report.specs.FormatSvg.{svg_of}
+use Rattle.stm_formats.specs.FormatRuns.{text_from, svg_from}
 
 -- ---- the report of a run in a format
-
--- the history as the store of a world has it, without the revisions that were compacted: values that only these had are not shown
-abbrev pub history_kept : World → History
-history_kept w = (kept w.standing).history
-
--- The rows of events that led to a world from a revision of the store, and the notes: what is left, and why commits failed.
-abbrev pub rows_from : World → ℕ → List WorldEvent → List (Result Reply Denied) → List Row
-rows_from w since events replies = rows_of (history_kept w) since 1 events replies
-
-abbrev pub notes_from : World → ℕ → List (Result Reply Denied) → List (List ℕ)
-notes_from w since replies = notes_of w replies ++ reason_notes (reasons_of (history_kept w) since replies)
 
 -- the text is the report of these events, before which the store was at a revision, of their replies and of the world that they left; one of lines is in
 -- UTF-8
 abbrev pub IsTextSince : ℕ → Format → World → List WorldEvent → List (Result Reply Denied) → List ℕ → Type 0
 IsTextSince since Lines w events replies text = IsReport w replies text × IsUtf8 text
 IsTextSince since Json w events replies text = text ≡ json_text w replies
-IsTextSince since Text w events replies text = text ≡ text_of (rows_from w since events replies) (notes_from w since replies)
-IsTextSince since Svg w events replies text = text ≡ svg_of (rows_from w since events replies) (notes_from w since replies)
+IsTextSince since Text w events replies text = text ≡ text_from w since events replies
+IsTextSince since Svg w events replies text = text ≡ svg_from w since events replies
 
 -- the same of all events since the world opened
 abbrev pub IsTextOf : Format → World → List WorldEvent → List (Result Reply Denied) → List ℕ → Type 0

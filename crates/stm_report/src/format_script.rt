@@ -1,86 +1,16 @@
 //! From the bytes of a source to the report in a sink, in a format.
 ghost use Rattle.std.specs.Prelude.{◌≡◌, ◌≤◌, ◌+◌, false, length, IfOk};
 ghost use Rattle.stm_devices.specs.declared.transfer.TheConstants.{MOST_READ};
-ghost use Rattle.stm_report.specs.FormatScript.{rows_from, notes_from, IsTextSince, IsTextOf, IsTextFrom, IsRunText, Answers, Writes, DoesAs};
-ghost use Rattle.stm_report.specs.FormatText.{text_of};
-ghost use Rattle.stm_report.specs.FormatSvg.{svg_of};
+ghost use Rattle.stm_report.specs.FormatScript.{IsTextSince, IsTextOf, IsTextFrom, IsRunText, Answers, Writes, DoesAs};
 
 use crate::format::Format;
-use crate::format_notes::notes_of;
-use crate::format_reasons::push_reasons;
-use crate::format_row::Row;
-use crate::format_rows::rows_of;
-use crate::format_svg::svg_of;
-use crate::format_text::text_of;
 use crate::report_text::{report, report_objects};
 use crate::run_script::ScriptFault;
 use std::alloc::{AllocError, Global};
 use stm_devices::{ReadFault, Sink, Source, read_all, write_all};
-use stm_history::Sequence;
-use stm_reasons::reasons_of;
+use stm_formats::{svg_from, text_from};
 use stm_retry::{Denied, Reply, World, WorldEvent};
 use stm_texts::{ReadError, Scenario, opens_with, read_scenario};
-
-/// The rows of events that led to a world from a revision of its store.
-fn rows_from(
-    alloc: Global,
-    world: &World,
-    since: u64,
-    events: &[WorldEvent],
-    replies: &[Result<Reply, Denied>],
-) -> Result<Vec<Row>, AllocError>
-    requires { length events.now ≡ length replies.now }
-    ensures { IfOk result (λ rows. rows.items ≡ rows_from world.now since events.now replies.now) }
-{
-    rows_of(alloc, world.store().keys(), since, events, replies)
-}
-
-/// What is left after events that led to a world from a revision of its store, and why commits failed.
-fn notes_from(
-    alloc: Global,
-    world: &World,
-    since: u64,
-    replies: &[Result<Reply, Denied>],
-) -> Result<Vec<Sequence<u8>>, AllocError>
-    ensures { IfOk result (λ notes. notes.items ≡ notes_from world.now since replies.now) }
-{
-    let mut notes = notes_of(alloc, world, replies)?;
-    let reasons = reasons_of(alloc, world.store().keys(), since, replies)?;
-    push_reasons(alloc, &mut notes, reasons.as_slice())?;
-    Ok(notes)
-}
-
-/// The text of a world, of the events that led to it from a revision of its store, and of their replies.
-fn text_from(
-    alloc: Global,
-    world: &World,
-    since: u64,
-    events: &[WorldEvent],
-    replies: &[Result<Reply, Denied>],
-) -> Result<Vec<u8>, AllocError>
-    requires { length events.now ≡ length replies.now }
-    ensures { IfOk result (λ text. text.items ≡ text_of (rows_from world.now since events.now replies.now) (notes_from world.now since replies.now)) }
-{
-    let rows = rows_from(alloc, world, since, events, replies)?;
-    let notes = notes_from(alloc, world, since, replies)?;
-    text_of(alloc, rows.as_slice(), notes.as_slice())
-}
-
-/// The picture of a world, of the events that led to it from a revision of its store, and of their replies.
-fn svg_from(
-    alloc: Global,
-    world: &World,
-    since: u64,
-    events: &[WorldEvent],
-    replies: &[Result<Reply, Denied>],
-) -> Result<Vec<u8>, AllocError>
-    requires { length events.now ≡ length replies.now }
-    ensures { IfOk result (λ svg. svg.items ≡ svg_of (rows_from world.now since events.now replies.now) (notes_from world.now since replies.now)) }
-{
-    let rows = rows_from(alloc, world, since, events, replies)?;
-    let notes = notes_from(alloc, world, since, replies)?;
-    svg_of(alloc, rows.as_slice(), notes.as_slice())
-}
 
 /// The report of a world, of the events that led to it from a world whose store was at this revision, and of their replies, in a format.
 ///

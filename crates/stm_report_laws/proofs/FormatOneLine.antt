@@ -21,21 +21,21 @@ use Rattle.stm_events.specs.declared.refusal.Denied.{Denied}
 use Rattle.stm_events.specs.declared.refusal.EventRefusal.{EventRefusal}
 use Rattle.stm_events.specs.Names.{refusal_name}
 use Rattle.stm_meaning.specs.Faults.{fault_name}
-use Rattle.stm_report.specs.declared.format_row.Lane.{Lane}
-use Rattle.stm_report.specs.declared.format_row.Lane.TheVariants.{Store, Runner}
-use Rattle.stm_report.specs.FormatShown.{shown, plain, plain_after, hidden, front, back}
-use Rattle.stm_report.specs.FormatPieces.{joined, padded, tag_text}
+use Rattle.stm_formats.specs.declared.format_row.Lane.{Lane}
+use Rattle.stm_formats.specs.declared.format_row.Lane.TheVariants.{Store, Runner}
+use Rattle.stm_formats.specs.FormatShown.{shown, plain, plain_after, hidden, front, back}
+use Rattle.stm_formats.specs.FormatPieces.{joined, padded, tag_text}
 use Rattle.stm_events.specs.declared.reply.KeyRead.{KeyRead}
 use Rattle.stm_reasons.specs.Counters.{counter_after}
 use Rattle.stm_reasons.specs.Causes.{state_by}
-use Rattle.stm_report.specs.FormatChanges.{state_words, known_words, change_words, between, counted_change, changes_after, revision_words, changed_since}
-use Rattle.stm_report.specs.FormatWords.{named_words, reported_words, start_words, link, seen_words, as_of, fetched_words, counted_read, reads_after, listed_words}
-use Rattle.stm_report.specs.FormatWords.{attempt_words, commit_words, compared_words, txn_words, revoked_words, changed_words, advanced_words, batch_words}
-use Rattle.stm_report.specs.FormatWords.{lost_words, asked_word, refused_words, reply_words, told_words, words_of}
-use Rattle.stm_report.specs.FormatRows.{lane_of, row_of, rows_of}
-use Rattle.stm_report.specs.FormatColumns.{column, place}
-use Rattle.stm_report.specs.FormatText.{spaces, row_text, rows_text}
-use Rattle.stm_report.specs.FormatLaws.{has, count, OneLineARow}
+use Rattle.stm_formats.specs.FormatChanges.{state_words, known_words, change_words, between, counted_change, changes_after, revision_words, changed_since}
+use Rattle.stm_formats.specs.FormatWords.{named_words, reported_words, start_words, link, seen_words, as_of, fetched_words, counted_read, reads_after, listed_words}
+use Rattle.stm_formats.specs.FormatWords.{attempt_words, commit_words, compared_words, txn_words, revoked_words, changed_words, advanced_words, batch_words}
+use Rattle.stm_formats.specs.FormatWords.{lost_words, asked_word, refused_words, reply_words, told_words, words_of}
+use Rattle.stm_formats.specs.FormatRows.{lane_of, row_of, rows_of}
+use Rattle.stm_formats.specs.FormatColumns.{column, place}
+use Rattle.stm_formats.specs.FormatText.{spaces, row_text, rows_text}
+use Rattle.stm_report_laws.specs.FormatLaws.{has, count, OneLineARow}
 use Rattle.stm_report_laws.proofs.FormatEscapedLaws.{has-append}
 
 abbrev AllWithout : List (List ℕ) → Type 0

@@ -4,3 +4,5 @@ pub mod FormatBacks
 pub mod FormatPlain
 pub mod FormatKeptKeys
 pub mod FormatLoops
+pub mod FormatRowLemmas
+pub mod FormatWidths

@@ -39,6 +39,10 @@ abbrev pub places : List Row → ℕ → List ℕ
 places rows zero = []
 places rows (suc c) = places rows c ++ begin rows c ∷ []
 
+-- where the columns begin, and where one behind the last would
+unfoldable pub all_places : List Row → List ℕ
+all_places rows = places rows 11
+
 -- where a column begins
 abbrev pub place : List ℕ → ℕ → ℕ
 place places c = min (get_or places c 0) MOST_PLACE

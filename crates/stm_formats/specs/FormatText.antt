@@ -2,7 +2,7 @@
 use Rattle.std.specs.Prelude.{ℕ, ◌+◌, ◌-◌, zero, suc, List, [], ◌∷◌, ◌++◌, map, nat_eq, if◌then◌else◌, codes, replicate}
 use Rattle.stm_formats.specs.declared.format_row.Row.{Row}
 use Rattle.stm_formats.specs.FormatPieces.{joined, padded, title, tag_text}
-use Rattle.stm_formats.specs.FormatColumns.{column, last_column, places, place}
+use Rattle.stm_formats.specs.FormatColumns.{column, last_column, all_places, place}
 
 abbrev pub spaces : ℕ → List ℕ
 spaces n = replicate n 32
@@ -32,5 +32,5 @@ notes_text notes = joined (map note_text notes)
 
 abbrev pub text_of : List Row → List (List ℕ) → List ℕ
 text_of rows notes =
-    joined (codes " event  store" ∷ headings (places rows 11) (last_column rows) ∷ codes "\n" ∷ rows_text (places rows 11) rows ∷ codes "\n"
+    joined (codes " event  store" ∷ headings (all_places rows) (last_column rows) ∷ codes "\n" ∷ rows_text (all_places rows) rows ∷ codes "\n"
     ∷ notes_text notes ∷ [])

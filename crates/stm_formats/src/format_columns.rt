@@ -1,6 +1,6 @@
 //! The columns of a report.
 ghost use Rattle.std.specs.Prelude.{◌≡◌, ◌≤◌, IfOk};
-ghost use Rattle.stm_formats.specs.FormatColumns.{lane_number, column, last_column, width_in, width, places, place};
+ghost use Rattle.stm_formats.specs.FormatColumns.{lane_number, column, last_column, width_in, width, all_places, place};
 
 use crate::format_pieces::MOST_COLUMNS;
 use crate::format_row::{Lane, Row};
@@ -70,8 +70,9 @@ fn width(number: u64, rows: &[Row]) -> u64
 }
 
 /// Where the columns of these rows begin, and where one behind the last would.
-pub(crate) fn places(alloc: Global, rows: &[Row]) -> Result<Vec<u64>, AllocError>
-    ensures { IfOk result (λ v. v.items ≡ places rows.now 11) }
+#[tactic(auto, unfolding(crate::specs::FormatColumns::all_places))]
+pub(crate) fn all_places(alloc: Global, rows: &[Row]) -> Result<Vec<u64>, AllocError>
+    ensures { IfOk result (λ v. v.items ≡ all_places rows.now) }
 {
     let mut places = Vec::new(alloc);
     let mut begin = 0;

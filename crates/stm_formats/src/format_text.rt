@@ -2,7 +2,7 @@
 ghost use Rattle.std.specs.Prelude.{◌≡◌, ◌++◌, ◌≤◌, IfOk, OnOk};
 ghost use Rattle.stm_formats.specs.FormatText.{heading, headings, row_text, rows_text, note_text, notes_text, text_of};
 
-use crate::format_columns::{column, last_column, place, places};
+use crate::format_columns::{all_places, column, last_column, place};
 use crate::format_pieces::{Piece, push_pieces};
 use crate::format_row::Row;
 use std::alloc::{AllocError, Global};
@@ -83,7 +83,7 @@ pub(crate) fn text_of(
 ) -> Result<Vec<u8>, AllocError>
     ensures { IfOk result (λ text. text.items ≡ text_of rows.now notes.now) }
 {
-    let places = places(alloc, rows)?;
+    let places = all_places(alloc, rows)?;
     let mut out = Vec::new(alloc);
     out.extend_from_slice(b" event  store")?;
     push_headings(&mut out, places.as_slice(), last_column(rows))?;

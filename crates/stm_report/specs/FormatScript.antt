@@ -4,6 +4,7 @@ use Rattle.std.specs.Io.KnownBytes.{Appends, Keeps}
 use Rattle.stm_events.specs.declared.event.WorldEvent.{WorldEvent}
 use Rattle.stm_events.specs.declared.reply.Reply.{Reply}
 use Rattle.stm_events.specs.declared.refusal.Denied.{Denied}
+use Rattle.stm_history.specs.History.{now}
 use Rattle.stm_world.specs.World.{World, opened, world_after, replies_to}
 use Rattle.stm_texts.specs.declared.scenario.Scenario.{Scenario}
 use Rattle.stm_json.specs.Outcome.{Outcome}
@@ -29,13 +30,9 @@ IsTextSince since Json w events replies text = text ≡ json_text w replies
 IsTextSince since Text w events replies text = text ≡ text_from w since events replies
 IsTextSince since Svg w events replies text = text ≡ svg_from w since events replies
 
--- the same of all events since the world opened
-abbrev pub IsTextOf : Format → World → List WorldEvent → List (Result Reply Denied) → List ℕ → Type 0
-IsTextOf format w events replies text = IsTextSince w.standing.history.opening.number format w events replies text
-
 -- the text is that of these events' run from a world
 abbrev pub IsTextFrom : Format → World → List WorldEvent → List ℕ → Type 0
-IsTextFrom format w events text = IsTextOf format (world_after events w) events (replies_to events w) text
+IsTextFrom format w events text = IsTextSince (now w.standing.history) format (world_after events w) events (replies_to events w) text
 
 -- the text is that of a scenario's run, over an empty store at its opening revision
 unfoldable pub IsRunText : Format → Scenario → List ℕ → Type 0

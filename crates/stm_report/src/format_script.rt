@@ -1,7 +1,8 @@
 //! From the bytes of a source to the report in a sink, in a format.
 ghost use Rattle.std.specs.Prelude.{◌≡◌, ◌≤◌, ◌+◌, false, length, IfOk};
 ghost use Rattle.stm_devices.specs.declared.transfer.TheConstants.{MOST_READ};
-ghost use Rattle.stm_report.specs.FormatScript.{IsTextSince, IsTextOf, IsTextFrom, IsRunText, Answers, Writes, DoesAs};
+ghost use Rattle.stm_history.specs.History.{now};
+ghost use Rattle.stm_report.specs.FormatScript.{IsTextSince, IsTextFrom, IsRunText, Answers, Writes, DoesAs};
 
 use crate::format::Format;
 use crate::report_text::{report, report_objects};
@@ -15,7 +16,7 @@ use stm_texts::{ReadError, Scenario, opens_with, read_scenario};
 /// The report of a world, of the events that led to it from a world whose store was at this revision, and of their replies, in a format.
 ///
 /// There is a reply to each event. It fails where a growth was refused.
-pub fn render_since(
+pub fn render(
     alloc: Global,
     format: Format,
     since: u64,
@@ -34,18 +35,11 @@ pub fn render_since(
     }
 }
 
-/// The report of a world, of all events that led to it since it opened, and of their replies, in a format, as `render_since` has it.
-pub fn render(
-    alloc: Global,
-    format: Format,
-    world: &World,
-    events: &[WorldEvent],
-    replies: &[Result<Reply, Denied>],
-) -> Result<Vec<u8>, AllocError>
-    requires { length events.now ≡ length replies.now }
-    ensures { IfOk result (λ text. IsTextOf format world.now events.now replies.now text.items) }
+/// The store's revision.
+pub fn revision_of(world: &World) -> u64
+    ensures { result ≡ now world.now.standing.history }
 {
-    render_since(alloc, format, world.opened_at(), world, events, replies)
+    world.store().keys().revision()
 }
 
 /// The report of what a world replies to these events.
@@ -57,8 +51,9 @@ fn report_from(
 ) -> Result<Vec<u8>, AllocError>
     ensures { IfOk result (λ text. IsTextFrom format world.old events.now text.items) }
 {
+    let since = revision_of(world);
     match world.run(events) {
-        Ok(replies) => render(alloc, format, world, events, replies.as_slice()),
+        Ok(replies) => render(alloc, format, since, world, events, replies.as_slice()),
         Err(_) => Err(AllocError),
     }
 }

@@ -21,7 +21,7 @@ mod whole_judging;
 mod whole_lines;
 
 pub use format::Format;
-pub use format_script::{render, render_since, script_as};
+pub use format_script::{render, revision_of, script_as};
 pub use leases::live_leases;
 pub use report_text::report;
 pub use run_script::{ScriptFault, script};

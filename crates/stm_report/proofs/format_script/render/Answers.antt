@@ -3,7 +3,7 @@ use Rattle.std.proofs.lemmas.Str.{IsUtf8-string_bytes}
 use Rattle.stm_report.specs.declared.format.Format.{Format}
 use Rattle.stm_report.specs.FormatScript.{IsTextSince}
 use Rattle.stm_report.specs.Report.{IsReport}
-use Rattle.stm_report.proofs.format_script.render_since.Goals as goal
+use Rattle.stm_report.proofs.format_script.render.Goals as goal
 
 pub returns-in_ok-report-in-Lines : goal.returns-in_ok-report-in-Lines
 returns-in_ok-report-in-Lines c =

@@ -1,6 +1,6 @@
 use Rattle.std.proofs.Common.{◌≡◌, ◌≤◌, ◌*◌}
 use Rattle.stm_formats.specs.FormatColumns.{begin, places}
-use Rattle.stm_formats.proofs.format_columns.places.Given as goal
+use Rattle.stm_formats.proofs.format_columns.all_places.Given as goal
 
 -- the places of the columns so far, and where the next one begins
 abbrev pub invariant-loop-number : goal.invariant-loop-number

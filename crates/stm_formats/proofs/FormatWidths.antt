@@ -1,5 +1,5 @@
 -- A column has its least width.
-use Rattle.std.proofs.Common.{◌≡◌, ℕ, ◌≤◌, max, List, [], ◌∷◌, refl, arith}
+use Rattle.std.proofs.Common.{◌≡◌, ℕ, ◌≤◌, max, List, [], ◌∷◌, arith}
 use Rattle.std.proofs.Math.Nat.{le-max_right}
 use Rattle.stm_formats.specs.declared.format_row.Row.{Row}
 use Rattle.stm_formats.specs.FormatColumns.{width_in, width}

@@ -1,4 +1,4 @@
-use Rattle.std.proofs.Common.{◌≡◌, ◌++◌, ◌<◌, ℕ, List, rules, ap, drop, arith}
+use Rattle.std.proofs.Common.{◌≡◌, ◌++◌, ℕ, List, rules, ap, drop, arith}
 use Rattle.stm_formats.specs.FormatShown.{hidden}
 use Rattle.stm_formats.proofs.FormatPlain.{passed_over, hidden_added}
 use Rattle.stm_formats.proofs.format_pieces.push_next.Goals as goal

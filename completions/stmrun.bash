@@ -4,26 +4,37 @@ _stmrun() {
     local word="${COMP_WORDS[COMP_CWORD]}" before="${COMP_WORDS[COMP_CWORD-1]}" words=""
     COMPREPLY=()
     if [ "$COMP_CWORD" -eq 1 ]; then
-        words="script check threads recipe explore show compile help --help --version"
+        words="script check threads recipe explore audit show compile run store help --help --version"
     else
         case "${COMP_WORDS[1]} $before" in
+        "script --store") compopt -o default; return ;;
         "script --format") words="lines json text svg" ;;
         "threads --workers") words="" ;;
         "threads --repeat") words="" ;;
         "explore --keeps") compopt -o default; return ;;
-        "explore --level") words="SerializableSnapshot Serializable RepeatableReads ReadCommitted" ;;
+        "explore --level") words="SerializableSnapshot Serializable RepeatableReads ReadCommitted all" ;;
         "explore --budget") words="" ;;
         "explore --after") words="" ;;
+        "run --store") compopt -o default; return ;;
+        "run --level") words="SerializableSnapshot Serializable RepeatableReads ReadCommitted" ;;
+        "run --attempts") words="" ;;
+        "store --at") words="" ;;
+        "store --since") words="" ;;
+        "store --key") words="" ;;
+        "store --range") words="" ;;
         *)
             case "${COMP_WORDS[1]}" in
-            script) case "$word" in -*) ;; *) compopt -o default; return ;; esac; words="--format --explain --explain=never --help" ;;
+            script) case "$word" in -*) ;; *) compopt -o default; return ;; esac; words="--store --format --explain --explain=never --help" ;;
             check) case "$word" in -*) ;; *) compopt -o default; return ;; esac; words="--whole --explain --explain=never --help" ;;
             threads) case "$word" in -*) ;; *) compopt -o default; return ;; esac; words="--workers --ends --repeat --explain --explain=never --help" ;;
             recipe) words="transfer deposit enqueue dequeue reserve_slot release_slot --help" ;;
             explore) case "$word" in -*) ;; *) compopt -o default; return ;; esac; words="--keeps --level --budget --after --explain --explain=never --help" ;;
+            audit) case "$word" in -*) ;; *) compopt -o default; return ;; esac; words="--help" ;;
             show) case "$word" in -*) ;; *) compopt -o default; return ;; esac; words="--program --help" ;;
             compile) case "$word" in -*) ;; *) compopt -o default; return ;; esac; words="--explain --explain=never --help" ;;
-            help) words="script check threads recipe explore show compile language stm source formats causes" ;;
+            run) case "$word" in -*) ;; *) compopt -o default; return ;; esac; words="--store --level --attempts --explain --explain=never --help" ;;
+            store) case "$word" in -*) ;; *) compopt -o default; return ;; esac; words="--check --at --since --key --range --help" ;;
+            help) words="script check threads recipe explore audit show compile run store language stm source formats causes" ;;
             esac ;;
         esac
     fi

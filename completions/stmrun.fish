@@ -2,6 +2,7 @@
 complete -c stmrun -f
 complete -c stmrun -n __fish_use_subcommand -a script -d 'Runs a scenario, and prints its report'
 complete -c stmrun -n '__fish_seen_subcommand_from script' -F
+complete -c stmrun -n '__fish_seen_subcommand_from script' -l store -d 'The file of a store that the scenario goes on from, which is made where it is missing' -r -F
 complete -c stmrun -n '__fish_seen_subcommand_from script' -l format -d 'The form of the report' -x -a 'lines json text svg'
 complete -c stmrun -n '__fish_seen_subcommand_from script' -l explain -d 'Explains faults, of an input or of a run'
 complete -c stmrun -n '__fish_seen_subcommand_from script' -a '--explain=never'
@@ -25,13 +26,16 @@ complete -c stmrun -n '__fish_seen_subcommand_from recipe' -a 'transfer deposit 
 complete -c stmrun -n '__fish_seen_subcommand_from recipe' -l help -d 'Print help'
 complete -c stmrun -n __fish_use_subcommand -a explore -d 'Looks through every interleaving of a scenario, for one that breaks a rule or for what they come to'
 complete -c stmrun -n '__fish_seen_subcommand_from explore' -F
-complete -c stmrun -n '__fish_seen_subcommand_from explore' -l keeps -d 'The file of a program that is to come to its last statement after every schedule' -r -F
-complete -c stmrun -n '__fish_seen_subcommand_from explore' -l level -d 'The level of every start, in the place of its own' -x -a 'SerializableSnapshot Serializable RepeatableReads ReadCommitted'
+complete -c stmrun -n '__fish_seen_subcommand_from explore' -l keeps -d 'The file of a rule, which is asked after every schedule' -r -F
+complete -c stmrun -n '__fish_seen_subcommand_from explore' -l level -d 'The level of every start, in the place of its own' -x -a 'SerializableSnapshot Serializable RepeatableReads ReadCommitted all'
 complete -c stmrun -n '__fish_seen_subcommand_from explore' -l budget -d 'How many events are taken at most, 1500000 if not said' -x -a ''
 complete -c stmrun -n '__fish_seen_subcommand_from explore' -l after -d 'Which runners make no step before another has ended' -x -a ''
 complete -c stmrun -n '__fish_seen_subcommand_from explore' -l explain -d 'Explains faults, of an input or of a run'
 complete -c stmrun -n '__fish_seen_subcommand_from explore' -a '--explain=never'
 complete -c stmrun -n '__fish_seen_subcommand_from explore' -l help -d 'Print help'
+complete -c stmrun -n __fish_use_subcommand -a audit -d 'Says of transactions that committed elsewhere whether each kept its levels promise'
+complete -c stmrun -n '__fish_seen_subcommand_from audit' -F
+complete -c stmrun -n '__fish_seen_subcommand_from audit' -l help -d 'Print help'
 complete -c stmrun -n __fish_use_subcommand -a show -d 'Prints a scenario, or a program, as a source'
 complete -c stmrun -n '__fish_seen_subcommand_from show' -F
 complete -c stmrun -n '__fish_seen_subcommand_from show' -l program -d 'Whether the input is a program, and no scenario'
@@ -41,5 +45,21 @@ complete -c stmrun -n '__fish_seen_subcommand_from compile' -F
 complete -c stmrun -n '__fish_seen_subcommand_from compile' -l explain -d 'Explains faults, of an input or of a run'
 complete -c stmrun -n '__fish_seen_subcommand_from compile' -a '--explain=never'
 complete -c stmrun -n '__fish_seen_subcommand_from compile' -l help -d 'Print help'
+complete -c stmrun -n __fish_use_subcommand -a run -d 'Runs a program over a store that is kept in a file'
+complete -c stmrun -n '__fish_seen_subcommand_from run' -F
+complete -c stmrun -n '__fish_seen_subcommand_from run' -l store -d 'The file of the store, which is made where it is missing' -r -F
+complete -c stmrun -n '__fish_seen_subcommand_from run' -l level -d 'Its level, SerializableSnapshot if not said' -x -a 'SerializableSnapshot Serializable RepeatableReads ReadCommitted'
+complete -c stmrun -n '__fish_seen_subcommand_from run' -l attempts -d 'How many commits it may send, 1 if not said' -x -a ''
+complete -c stmrun -n '__fish_seen_subcommand_from run' -l explain -d 'Explains faults, of an input or of a run'
+complete -c stmrun -n '__fish_seen_subcommand_from run' -a '--explain=never'
+complete -c stmrun -n '__fish_seen_subcommand_from run' -l help -d 'Print help'
+complete -c stmrun -n __fish_use_subcommand -a store -d 'Prints what a store that is kept in a file has'
+complete -c stmrun -n '__fish_seen_subcommand_from store' -F
+complete -c stmrun -n '__fish_seen_subcommand_from store' -l check -d 'Whether the file is whole'
+complete -c stmrun -n '__fish_seen_subcommand_from store' -l at -d 'The keys at this revision' -x -a ''
+complete -c stmrun -n '__fish_seen_subcommand_from store' -l since -d 'The events from this revision on' -x -a ''
+complete -c stmrun -n '__fish_seen_subcommand_from store' -l key -d 'Only the events of this key' -x -a ''
+complete -c stmrun -n '__fish_seen_subcommand_from store' -l range -d 'Only the events of the keys from FIRST to before END' -x -a ''
+complete -c stmrun -n '__fish_seen_subcommand_from store' -l help -d 'Print help'
 complete -c stmrun -n __fish_use_subcommand -a help -d 'Prints the help of a command or a topic'
-complete -c stmrun -n '__fish_seen_subcommand_from help' -a 'script check threads recipe explore show compile language stm source formats causes'
+complete -c stmrun -n '__fish_seen_subcommand_from help' -a 'script check threads recipe explore audit show compile run store language stm source formats causes'

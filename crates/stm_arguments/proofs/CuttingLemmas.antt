@@ -1,7 +1,7 @@
 -- Where the arguments of a program begin, by the words of which a command line has the texts.
-use Rattle.std.proofs.Common.{◌≡◌, ◌+◌, ◌-◌, take_all, ◌<◌, ◌≤◌, ℕ, suc, List, [], ◌∷◌, ◌∙◌, length, map, take, drop, slice_index_or, true, false, bytes_eq, codes, refl, sym, ap, ap₂, subst, arith}
+use Rattle.std.proofs.Common.{◌≡◌, ◌+◌, ◌-◌, take_all, ◌<◌, ◌≤◌, ℕ, suc, List, [], ◌∷◌, ◌∙◌, length, map, take, drop, slice_index_or, true, false, refl, sym, ap, ap₂, subst, arith}
 use Rattle.std.proofs.lemmas.List.{take-map, drop-map, length-drop, length-map}
-use Rattle.stm_arguments.specs.Cutting.{before_arguments, cut, up_to_name, up_to_place}
+use Rattle.stm_arguments.specs.Cutting.{before_arguments, cut, names_program, up_to_name, up_to_place}
 
 pub behind : {A : Type 0} (words : List A) (file : ℕ) → take (length words - file) (drop file words) ≡ drop file words
 behind words file = take_all (length words - file) (drop file words) (let short = length-drop file words in omega (arith, short))
@@ -17,13 +17,13 @@ module _ {A : Type 0} (text : A → List ℕ) where
   fewer (a ∷ []) few = refl
   fewer (a ∷ (b ∷ rest)) few = absurd (omega (arith, few))
 
-  pub compiled : (words : List A) (d : A) → 2 ≤ length words → bytes_eq (text (slice_index_or words 1 d)) (codes "compile") ≡ true
+  pub named_at : (words : List A) (d : A) → 2 ≤ length words → names_program (text (slice_index_or words 1 d)) ≡ true
       → before_arguments (map text words) ≡ 2 + up_to_name (map text (drop 2 words))
-  compiled [] d two is = absurd (omega (arith, two))
-  compiled (a ∷ []) d two is = absurd (omega (arith, two))
-  compiled (a ∷ (b ∷ rest)) d two is = rw is refl
+  named_at [] d two is = absurd (omega (arith, two))
+  named_at (a ∷ []) d two is = absurd (omega (arith, two))
+  named_at (a ∷ (b ∷ rest)) d two is = rw is refl
 
-  pub other : (words : List A) (d : A) → 2 ≤ length words → bytes_eq (text (slice_index_or words 1 d)) (codes "compile") ≡ false
+  pub other : (words : List A) (d : A) → 2 ≤ length words → names_program (text (slice_index_or words 1 d)) ≡ false
       → before_arguments (map text words) ≡ length words
   other [] d two is = absurd (omega (arith, two))
   other (a ∷ []) d two is = absurd (omega (arith, two))

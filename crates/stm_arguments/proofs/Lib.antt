@@ -1,4 +1,5 @@
-pub mod CommandLemmas
-pub mod WholeCommands
 pub mod CuttingLemmas
+pub mod NumberLemmas
+pub mod RangeLemmas
 pub mod TopicLemmas
+pub mod WordLemmas

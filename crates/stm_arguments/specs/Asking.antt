@@ -1,126 +1,133 @@
--- What a command line asks for.
-use Rattle.std.specs.Prelude.{◌≡◌, ◌⊎◌, ℕ, ◌≤◌, List, [], Bool, false, bytes_eq, if◌then◌else◌, Option, None, Some, IsSome, IsSomeAnd, IfSome, codes}
-use Rattle.std.specs.Prelude.{option_map}
-use Rattle.std.specs.Str.Parse.{digits_value, without_leading_plus}
-use Rattle.clap.specs.Words.{IsUnsignedIn, Text, Row, first_of, subcommand_of}
-use Rattle.stm_program.specs.declared.level.Level.{Level}
-use Rattle.stm_program.specs.declared.level.Level.TheVariants.{SerializableSnapshot, Serializable, RepeatableReads, ReadCommitted}
-use Rattle.stm_arguments.specs.declared.exploring.TheConstants.{USUAL_BUDGET}
-use Rattle.stm_arguments.specs.declared.arguments.TheConstants.{MOST_WORKERS}
-use Rattle.stm_arguments.specs.declared.repeating.TheConstants.{MOST_RUNS}
+-- What a command line asks for, by what `clap` has found in it: rows, each with the name of an argument and the words that stand there.
+use Rattle.std.specs.Prelude.{◌≡◌, ◌≤◌, List, [], ◌∷◌, Bool, true, false, bytes_eq, Option, None, Some, codes, map, option_map, string_bytes, unwrap_or}
+use Rattle.std.specs.Borrow.{Bor}
+use Rattle.clap.specs.Words.{Row, Text, all_of, first_of, subcommand_rows_of}
+use Rattle.clap.specs.declared.parser.matches.ArgMatches.{ArgMatches}
+use Rattle.stm_recipe_lines.specs.declared.words.RecipeWords.{RecipeWords}
+use Rattle.stm_arguments.specs.Levels.{LevelAt, LevelsAt}
+use Rattle.stm_arguments.specs.Numbers.{AttemptsAt, BudgetAt, NumberAt, RunsAt}
+use Rattle.stm_arguments.specs.declared.numbers.TheConstants.{MOST_WORKERS}
 use Rattle.stm_arguments.specs.declared.arguments.Asked.{Asked}
-use Rattle.stm_arguments.specs.declared.arguments.Asked.TheVariants.{Script, Check, Threads, Recipe, Explore, Show, Compile, Nothing}
-use Rattle.stm_arguments.specs.CommandLine.{stmrun_app, faults_of, IsStatusOf}
+use Rattle.stm_arguments.specs.declared.arguments.Asked.TheVariants.{Script, Check, Threads, Recipe, Explore, Audit, Show, Compile, Run, Store}
+use Rattle.stm_arguments.specs.declared.auditing.AuditWords.{AuditWords}
+use Rattle.stm_arguments.specs.declared.checking.CheckWords.{CheckWords}
+use Rattle.stm_arguments.specs.declared.compiling.CompileWords.{CompileWords}
+use Rattle.stm_arguments.specs.declared.exploring.ExploreWords.{ExploreWords}
+use Rattle.stm_arguments.specs.declared.running.RunWords.{RunWords}
+use Rattle.stm_arguments.specs.declared.scripting.ScriptWords.{ScriptWords}
+use Rattle.stm_arguments.specs.declared.showing.ShowWords.{ShowWords}
+use Rattle.stm_arguments.specs.declared.storing.StoreWords.{StoreWords}
+use Rattle.stm_arguments.specs.declared.storing.Shown.{Shown}
+use Rattle.stm_arguments.specs.declared.storing.Shown.TheVariants.{Now, At, Since, Whole}
+use Rattle.stm_arguments.specs.declared.storing.Which.{Which}
+use Rattle.stm_arguments.specs.declared.storing.Which.TheVariants.{All, Key, Range}
+use Rattle.stm_arguments.specs.declared.threading.ThreadsWords.{ThreadsWords}
 
--- the text spells this number
-abbrev pub NamesNumber : Text → ℕ → Type 0
-NamesNumber text n = n ≡ digits_value 10 (without_leading_plus text)
-
--- the text at a place is there, and spells this number
-abbrev pub NumberAt : Option Text → ℕ → Type 0
-NumberAt None n = ⊥
-NumberAt (Some text) n = NamesNumber text n
-
--- the flag is set of which this text, if any, was found
+-- the flag is set of which this word, if any, was found
 abbrev pub is_set : Option Text → Bool
 is_set None = false
 is_set (Some text) = bytes_eq text (codes "true")
 
--- the level of a name
-abbrev pub level_named : Text → Option Level
-level_named name =
-    if bytes_eq name (codes "SerializableSnapshot") then Some SerializableSnapshot
-    else (if bytes_eq name (codes "Serializable") then Some Serializable
-    else (if bytes_eq name (codes "RepeatableReads") then Some RepeatableReads
-    else (if bytes_eq name (codes "ReadCommitted") then Some ReadCommitted
-    else None)))
+-- the words of an argument that may be there several times
+abbrev pub words_at : Text → List Row → List Text
+words_at name rows = unwrap_or (all_of name rows) []
 
--- the level that a text names, where there is one, and none where there is none
-abbrev pub LevelAt : Option Text → Option Level → Type 0
-LevelAt None level = level ≡ None
-LevelAt (Some name) level = IsSome level × (level_named name ≡ level)
+-- this is the word of an argument, if it has one
+abbrev pub HasWord : List Row → Text → Option (Bor Text) → Type 0
+HasWord rows name word = option_map (λ w. w.now) word ≡ first_of name rows
 
--- the number that the text at a place spells, and the usual one where nothing stands there
-abbrev pub BudgetAt : Option Text → ℕ → Type 0
-BudgetAt None n = n ≡ USUAL_BUDGET
-BudgetAt (Some text) n = NamesNumber text n
+-- this is whether the flag is set
+abbrev pub HasFlag : List Row → Text → Bool → Type 0
+HasFlag rows name flag = flag ≡ is_set (first_of name rows)
 
--- the number of runs that the text at a place spells, from 1 to MOST_RUNS, and none where nothing stands there
-abbrev pub RunsAt : Option Text → Option ℕ → Type 0
-RunsAt None runs = runs ≡ None
-RunsAt (Some text) runs = IsSomeAnd runs (λ n. (1 ≤ n) × (n ≤ MOST_RUNS) × NamesNumber text n)
+abbrev pub IsScript : List Row → ScriptWords → Type 0
+IsScript rows words =
+    HasWord rows (codes "store") words.store × HasWord rows (codes "FILE") words.scenario × HasWord rows (codes "format") words.format
+    × HasFlag rows (codes "explain") words.explain
 
--- a command of this name, with what stands in the places of its arguments, asks for a script of its file, or of standard input where it names none,
--- in the format that it names, for a check of its files, a whole one where that flag is set, for a run of its file by the number of threads that it
--- names, 1 to MOST_WORKERS, with the ends of its jobs where that flag is set, or for as many runs as it names, for the recipe of its words, for a search of
--- its files, at the level of a name, with at most the events that it names, each but a recipe with its fault explained, where that flag is set, or for
--- the source of its file, or of standard input, that of a program where that flag is set, or for the scenario of the source that is its file,
--- or the program of the name in its place
-abbrev pub AsksAt : Text → List Row → Asked → Type 0
-AsksAt name rows (Script file format explain) =
-    (name ≡ codes "script") × (first_of (codes "FILE") rows ≡ option_map (λ path. path.now) file)
-    × (first_of (codes "format") rows ≡ option_map (λ word. word.now) format) × (explain ≡ is_set (first_of (codes "explain") rows))
-AsksAt name rows (Check scenario report whole explain) =
-    (name ≡ codes "check") × (first_of (codes "SCENARIO") rows ≡ Some scenario.now) × (first_of (codes "REPORT") rows ≡ Some report.now)
-    × (whole ≡ is_set (first_of (codes "whole") rows)) × (explain ≡ is_set (first_of (codes "explain") rows))
-AsksAt name rows (Threads file workers ends repeat explain) =
-    (name ≡ codes "threads") × (first_of (codes "FILE") rows ≡ option_map (λ path. path.now) file)
-    × NumberAt (first_of (codes "workers") rows) workers × (1 ≤ workers) × (workers ≤ MOST_WORKERS)
-    × (ends ≡ is_set (first_of (codes "ends") rows)) × RunsAt (first_of (codes "repeat") rows) repeat
-    × (explain ≡ is_set (first_of (codes "explain") rows))
-AsksAt name rows (Recipe words) =
-    (name ≡ codes "recipe") × (first_of (codes "NAME") rows ≡ Some words.name.now)
-    × (first_of (codes "FIRST") rows ≡ option_map (λ word. word.now) words.first)
-    × (first_of (codes "SECOND") rows ≡ option_map (λ word. word.now) words.second)
-    × (first_of (codes "THIRD") rows ≡ option_map (λ word. word.now) words.third)
-AsksAt name rows (Explore scenario keeps level budget after explain) =
-    (name ≡ codes "explore") × (first_of (codes "SCENARIO") rows ≡ Some scenario.now)
-    × (first_of (codes "keeps") rows ≡ option_map (λ path. path.now) keeps)
-    × (first_of (codes "level") rows ≡ option_map (λ name. name.now) level)
-    × BudgetAt (first_of (codes "budget") rows) budget × (first_of (codes "after") rows ≡ option_map (λ waits. waits.now) after)
-    × (explain ≡ is_set (first_of (codes "explain") rows))
-AsksAt name rows (Show file program) =
-    (name ≡ codes "show") × (first_of (codes "FILE") rows ≡ option_map (λ path. path.now) file) × (program ≡ is_set (first_of (codes "program") rows))
-AsksAt name rows (Compile file program explain) =
-    (name ≡ codes "compile") × (first_of (codes "FILE") rows ≡ option_map (λ path. path.now) file)
-    × (first_of (codes "NAME") rows ≡ option_map (λ word. word.now) program) × (explain ≡ is_set (first_of (codes "explain") rows))
-AsksAt name rows (Nothing status) = ⊥
+abbrev pub IsCheck : List Row → CheckWords → Type 0
+IsCheck rows words =
+    HasWord rows (codes "SCENARIO") (Some words.scenario) × HasWord rows (codes "REPORT") (Some words.report)
+    × HasFlag rows (codes "whole") words.whole × HasFlag rows (codes "explain") words.explain
 
--- the same, of the command that the words name
-abbrev pub AsksBy : Option (Text × List Row) → Asked → Type 0
-AsksBy None asked = ⊥
-AsksBy (Some named) asked = AsksAt named.0 named.1 asked
+abbrev pub IsThreads : List Row → ThreadsWords → Type 0
+IsThreads rows words =
+    HasWord rows (codes "FILE") words.scenario × NumberAt (first_of (codes "workers") rows) words.workers
+    × (1 ≤ words.workers) × (words.workers ≤ MOST_WORKERS)
+    × HasFlag rows (codes "ends") words.ends × RunsAt (first_of (codes "repeat") rows) words.repeat
+    × HasFlag rows (codes "explain") words.explain
 
--- a script, a check with its files, a run by threads, a recipe, a search, a source, or the scenario of one, where the words have no fault, and else the status of their fault
-abbrev pub Asks : List Text → Asked → Type 0
-Asks words (Nothing status) = IsStatusOf (faults_of words) status
-Asks words asked = (faults_of words ≡ []) × AsksBy (subcommand_of stmrun_app words) asked
+abbrev pub IsRecipe : List Row → RecipeWords → Type 0
+IsRecipe rows words =
+    HasWord rows (codes "NAME") (Some words.name) × HasWord rows (codes "FIRST") words.first
+    × HasWord rows (codes "SECOND") words.second × HasWord rows (codes "THIRD") words.third
 
--- both files stand in the places of the arguments
-abbrev pub HasFiles : List Row → Type 0
-HasFiles rows = IsSome (first_of (codes "SCENARIO") rows) × IsSome (first_of (codes "REPORT") rows)
+abbrev pub IsExplore : List Row → ExploreWords → Type 0
+IsExplore rows words =
+    HasWord rows (codes "SCENARIO") (Some words.scenario) × (map (λ w. w.now) words.keeps.items ≡ words_at (codes "keeps") rows)
+    × LevelsAt (first_of (codes "level") rows) words.levels × BudgetAt (first_of (codes "budget") rows) words.budget
+    × HasWord rows (codes "after") words.after × HasFlag rows (codes "explain") words.explain
 
--- a number from 1 to MOST_WORKERS stands in the place of the number of threads, and where a number of runs is named, it is one
-abbrev pub HasNumbers : List Row → Type 0
-HasNumbers rows =
-    IsSomeAnd (first_of (codes "workers") rows) (IsUnsignedIn 1 MOST_WORKERS) × IfSome (first_of (codes "repeat") rows) (IsUnsignedIn 1 MOST_RUNS)
+abbrev pub IsAudit : List Row → AuditWords → Type 0
+IsAudit rows words = HasWord rows (codes "FILE") words.trace
 
--- the name of a recipe stands in its place
-abbrev pub HasName : List Row → Type 0
-HasName rows = IsSome (first_of (codes "NAME") rows)
+abbrev pub IsShow : List Row → ShowWords → Type 0
+IsShow rows words = HasWord rows (codes "FILE") words.input × HasFlag rows (codes "program") words.program
 
--- a scenario stands in its place, and where a number of events is named, it is one
-abbrev pub HasSearch : List Row → Type 0
-HasSearch rows = IsSome (first_of (codes "SCENARIO") rows) × IfSome (first_of (codes "budget") rows) (IsUnsignedIn 0 18446744073709551615)
+-- with the arguments of the program behind its name
+abbrev pub IsCompile : List Row → List Text → CompileWords → Type 0
+IsCompile rows arguments words =
+    HasWord rows (codes "FILE") words.source × HasWord rows (codes "NAME") words.program × (map string_bytes words.arguments.now ≡ arguments)
+    × HasFlag rows (codes "explain") words.explain
 
--- what is found of the command that the words name is that of a script, of a check with its files, of a run by a number of threads, of
--- a recipe with a name, of a search, of a source, or of the scenario of one
-abbrev pub IsWhole : Option (Text × List Row) → Type 0
-IsWhole None = ⊥
-IsWhole (Some named) =
-    (named.0 ≡ codes "script")
-    ⊎ (((named.0 ≡ codes "check") × HasFiles named.1)
-    ⊎ (((named.0 ≡ codes "threads") × HasNumbers named.1)
-    ⊎ (((named.0 ≡ codes "recipe") × HasName named.1)
-    ⊎ (((named.0 ≡ codes "explore") × HasSearch named.1)
-    ⊎ ((named.0 ≡ codes "show") ⊎ (named.0 ≡ codes "compile"))))))
+abbrev pub IsRun : List Row → List Text → RunWords → Type 0
+IsRun rows arguments words =
+    HasWord rows (codes "store") (Some words.store) × HasWord rows (codes "FILE") words.input × HasWord rows (codes "NAME") words.program
+    × (map string_bytes words.arguments.now ≡ arguments) × LevelAt (first_of (codes "level") rows) words.level
+    × AttemptsAt (first_of (codes "attempts") rows) words.attempts × HasFlag rows (codes "explain") words.explain
+
+-- the two keys of a range
+abbrev pub range_in : List Text → Option (Text × Text)
+range_in (first ∷ end ∷ []) = Some (first, end)
+range_in _ = None
+
+-- one key, else the keys of a range, else all
+abbrev pub IsWhich : List Row → Which → Type 0
+IsWhich rows (Key key) = HasWord rows (codes "key") (Some key)
+IsWhich rows (Range first end) = (first_of (codes "key") rows ≡ None) × (range_in (words_at (codes "range") rows) ≡ Some (first.now, end.now))
+IsWhich rows All = (first_of (codes "key") rows ≡ None) × (range_in (words_at (codes "range") rows) ≡ None)
+
+-- whether the file is whole, else the keys at a revision, else the events since one, else what there is now
+abbrev pub IsShown : List Row → Shown → Type 0
+IsShown rows Whole = is_set (first_of (codes "check") rows) ≡ true
+IsShown rows (At revision) = (is_set (first_of (codes "check") rows) ≡ false) × HasWord rows (codes "at") (Some revision)
+IsShown rows (Since revision which) =
+    (is_set (first_of (codes "check") rows) ≡ false) × (first_of (codes "at") rows ≡ None) × HasWord rows (codes "since") (Some revision)
+    × IsWhich rows which
+IsShown rows Now =
+    (is_set (first_of (codes "check") rows) ≡ false) × (first_of (codes "at") rows ≡ None) × (first_of (codes "since") rows ≡ None)
+
+abbrev pub IsStore : List Row → StoreWords → Type 0
+IsStore rows words = HasWord rows (codes "FILE") (Some words.store) × IsShown rows words.shown
+
+-- a command of this name, with what was found of it and the arguments of a program behind it, asks for this
+abbrev pub AsksAt : Text → List Row → List Text → Asked → Type 0
+AsksAt name rows arguments (Script words) = (name ≡ codes "script") × IsScript rows words
+AsksAt name rows arguments (Check words) = (name ≡ codes "check") × IsCheck rows words
+AsksAt name rows arguments (Threads words) = (name ≡ codes "threads") × IsThreads rows words
+AsksAt name rows arguments (Recipe words) = (name ≡ codes "recipe") × IsRecipe rows words
+AsksAt name rows arguments (Explore words) = (name ≡ codes "explore") × IsExplore rows words
+AsksAt name rows arguments (Audit words) = (name ≡ codes "audit") × IsAudit rows words
+AsksAt name rows arguments (Show words) = (name ≡ codes "show") × IsShow rows words
+AsksAt name rows arguments (Compile words) = (name ≡ codes "compile") × IsCompile rows arguments words
+AsksAt name rows arguments (Run words) = (name ≡ codes "run") × IsRun rows arguments words
+AsksAt name rows arguments (Store words) = (name ≡ codes "store") × IsStore rows words
+
+-- the same, of the command that was found, with its name
+abbrev pub AsksBy : Option (Text × List Row) → List Text → Asked → Type 0
+AsksBy None arguments asked = ⊥
+AsksBy (Some named) arguments asked = AsksAt named.0 named.1 arguments asked
+
+-- this is asked for by something that `clap` may find in a command line
+abbrev pub IsAsked : List Text → Asked → Type 0
+IsAsked arguments asked = (found : ArgMatches) × AsksBy (subcommand_rows_of found) arguments asked

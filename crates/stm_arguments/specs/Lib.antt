@@ -1,5 +1,7 @@
 pub mod Asking
-pub mod CommandLine
 pub mod Cutting
 pub mod HelpTopics
+pub mod Levels
+pub mod Numbers
+pub mod Statuses
 pub mod Wording

@@ -1,10 +1,9 @@
 //! The command line of `compile`.
-ghost use Rattle.std.specs.Prelude.{◌≡◌, codes, IfOk};
+ghost use Rattle.std.specs.Prelude.{◌≡◌, map, string_bytes};
 ghost use Rattle.clap.specs.Words.{found_of, rows_of};
-ghost use Rattle.stm_arguments.specs.Asking.{AsksAt};
-ghost use Rattle.stm_arguments.specs.CommandLine.{compile_app, IsAddedAs};
+ghost use Rattle.stm_arguments.specs.Asking.{IsCompile};
 
-use crate::arguments::{Asked, explain, flag_of, optional, word_of};
+use crate::words::{explain, flag_of, optional, word_of};
 use clap::{ArgMatches, Command};
 use std::alloc::{AllocError, Global};
 
@@ -25,8 +24,8 @@ then stmrun compile s.stm prints
 A file whose name ends in .stm is such a source for script, check, threads and explore, too. stmrun show prints the source of
 a scenario that is JSON.
 
-With NAME it prints the program of that name, with the words behind NAME in place of its parameters: one that is spelled as a whole
-number of 64 bits is a number, each other one a text. Behind the word --text each is a text. If s.stm holds
+With NAME it prints the program, or the rule, of that name, with the words behind NAME in place of its parameters: one that is spelled
+as a whole number of 64 bits is a number, each other one a text. Behind the word --text each is a text. If s.stm holds
 
   program claim(job, holder, lease) { if get(job) == \"\" { put(job, holder, lease) } }
 
@@ -44,10 +43,21 @@ With --explain, or where standard error is a terminal, one more line says what w
 
 Statuses: 0 done, 2 bad input or usage, 3 out of memory or a failed device.";
 
+/// The words of `compile`.
+#[derive(Clone, Copy)]
+pub struct CompileWords<'a> {
+    /// The path of the source; standard input, where there is none.
+    pub source: Option<&'a str>,
+    /// The name of the program that is asked for in the place of the scenario.
+    pub program: Option<&'a str>,
+    /// The program's arguments, as they are spelled: what stands behind its name.
+    pub arguments: &'a [String],
+    /// Whether a fault is explained.
+    pub explain: bool,
+}
+
 /// The command `compile`.
-pub(crate) fn compile_command<'a>(alloc: Global) -> Result<Command<'a>, AllocError>
-    ensures { IfOk result (IsAddedAs compile_app) }
-{
+pub(crate) fn compile_command<'a>(alloc: Global) -> Result<Command<'a>, AllocError> {
     Command::new(alloc, "compile")
         .about("Prints the scenario of a source as JSON, or one of its programs")
         .after_long_help(EXAMPLE)
@@ -64,16 +74,14 @@ pub(crate) fn compile_command<'a>(alloc: Global) -> Result<Command<'a>, AllocErr
         .arg(explain(alloc))
 }
 
-/// What a source that is to be compiled asks for.
-pub(crate) fn compile_of<'a>(found: &ArgMatches<'a>) -> Asked<'a>
-    ensures { AsksAt (codes "compile") (rows_of (found_of found.now)) result }
+/// The words of `compile` that were found, and the arguments that stand behind them.
+pub(crate) fn compile_of<'a>(found: &ArgMatches<'a>, arguments: &'a [String]) -> CompileWords<'a>
+    ensures { IsCompile (rows_of (found_of found.now)) (map string_bytes arguments.now) result }
 {
-    let source = word_of(found, "FILE");
-    let program = word_of(found, "NAME");
-    let explain = flag_of(found, "explain");
-    Asked::Compile {
-        source,
-        program,
-        explain,
+    CompileWords {
+        source: word_of(found, "FILE"),
+        program: word_of(found, "NAME"),
+        arguments,
+        explain: flag_of(found, "explain"),
     }
 }

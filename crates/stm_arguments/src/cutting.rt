@@ -1,15 +1,15 @@
-//! Which words of a command line are the arguments of a program that is compiled.
+//! Which words of a command line are the arguments of a program of a source.
 ghost use Rattle.std.specs.Prelude.{◌≡◌, ◌≤◌, length, map, IfOk, string_bytes};
 ghost use Rattle.stm_arguments.specs.Cutting as spec;
 
 use std::alloc::AllocError;
 
-/// The words of a command line, and behind them the arguments of a program that is compiled, which are read as they are.
+/// The words of a command line, and behind them the arguments of a program of a source, which are read as they are.
 #[derive(Drop)]
 pub struct CutWords {
     /// The words.
     pub words: Vec<String>,
-    /// The arguments: what stands behind a file and the program's name. None where no program is compiled.
+    /// The arguments: what stands behind a file and the program's name. None where no program is named.
     pub arguments: Vec<String>,
 }
 
@@ -23,13 +23,25 @@ fn is_option(word: &[u8]) -> bool
     }
 }
 
+/// Whether a word is an option whose value is the word behind it.
+fn takes_value(word: &str) -> bool
+    ensures { result ≡ spec.takes_value word.now }
+{
+    word == "--store" || word == "--level" || word == "--attempts"
+}
+
 /// How many words there are up to the next one in a place, and with it; all, where there is none.
 fn up_to_place(words: &[String]) -> usize
     ensures is { result ≡ spec.up_to_place (map string_bytes words.now) }
     ensures within { result ≤ length words.now }
 {
+    let mut is_value = false;
     for (index, word) in words.iter().enumerate() {
-        if !is_option(word.as_str().as_bytes()) {
+        if is_value {
+            is_value = false;
+        } else if is_option(word.as_str().as_bytes()) {
+            is_value = takes_value(word.as_str());
+        } else {
             return index + 1;
         }
     }
@@ -45,8 +57,15 @@ fn up_to_name(words: &[String]) -> usize
     file + up_to_place(&words[file..])
 }
 
-/// How many words of a command line stand before the arguments of a program that is compiled.
-#[tactic(auto, using(crate::proofs::CuttingLemmas::fewer, crate::proofs::CuttingLemmas::compiled, crate::proofs::CuttingLemmas::other))]
+/// Whether a command takes a program's name, and its arguments behind that.
+fn names_program(command: &str) -> bool
+    ensures { result ≡ spec.names_program command.now }
+{
+    command == "compile" || command == "run"
+}
+
+/// How many words of a command line stand before the arguments of a program.
+#[tactic(auto, using(crate::proofs::CuttingLemmas::fewer, crate::proofs::CuttingLemmas::named_at, crate::proofs::CuttingLemmas::other))]
 fn before_arguments(words: &[String]) -> usize
     ensures is { result ≡ spec.before_arguments (map string_bytes words.now) }
     ensures within { result ≤ length words.now }
@@ -54,7 +73,7 @@ fn before_arguments(words: &[String]) -> usize
     if words.len() < 2 {
         return words.len();
     }
-    if words[1].as_str() == "compile" {
+    if names_program(words[1].as_str()) {
         2 + up_to_name(&words[2..])
     } else {
         words.len()

@@ -1,17 +1,14 @@
 //! The command line of `explore`.
-ghost use Rattle.std.specs.Prelude.{◌≡◌, codes, false, IfErr, IfNone, IfOk, IfSome, IsSomeAnd, None, option_map};
-ghost use Rattle.clap.specs.Words.{IsUnsignedIn, found_of, rows_of, rule_of};
-ghost use Rattle.stm_arguments.specs.Asking.{AsksAt, HasSearch, NamesNumber, LevelAt, BudgetAt, level_named};
-ghost use Rattle.stm_arguments.specs.CommandLine.{explore_app, option_rule, IsAddedAs};
+ghost use Rattle.std.specs.Prelude.{◌≡◌, IfOk};
+ghost use Rattle.clap.specs.Words.{found_of, rows_of};
+ghost use Rattle.stm_arguments.specs.Asking.{IsExplore};
 
-use crate::arguments::{Asked, explain, fail, flag_of, required, word_of};
+use crate::levels::{Levels, SEARCH_LEVELS, levels_at};
+use crate::numbers::budget_at;
+use crate::words::{Unasked, explain, flag_of, option, required, required_word, word_of, words_of};
 use clap::builder::ValueParser;
-use clap::{Arg, ArgMatches, Command};
+use clap::{ArgAction, ArgMatches, Command};
 use std::alloc::{AllocError, Global};
-use stm_program::Level;
-
-/// At most this many events are taken, where no number is named.
-pub const USUAL_BUDGET: u64 = 1500000;
 
 const EXAMPLE: &str =
     "The steps of SCENARIO are left out. Its events up to the last start are run first. Then every schedule is looked
@@ -29,11 +26,19 @@ it comes to its last statement the schedule keeps the rule; where it aborts, or 
                            is the scenario with its steps in it, which stmrun script takes
   [\"open\",LENGTH]          N events were taken before that was decided; every schedule of up to LENGTH moves keeps it
 
+PROGRAM is a file of JSON, or a source: FILE.stm for each rule in it, FILE.stm:NAME for one of them, or for a program of it
+without parameters. A SCENARIO that is a source asks its own rules where no --keeps is said, and its runners wait as its after
+says. Several rules have a line each, which ends with the rule's name, as [\"always\",11,\"at_least_one\"]; the next line, if
+one is broken, is the scenario that breaks the first that is.
+
+With --level all the rules are searched for at each level, the weakest first. Each line ends with the level, and the last one is
+[\"enough\",LEVEL]: from that level on every schedule keeps them, at none where LEVEL is null.
+
 With --after 3:1 runner 3, as starts are numbered from 1, makes no step before runner 1 has ended: it is a later call of the
 same client. With --after 3:1:committed it makes none at all unless runner 1 committed. Several are separated by commas. They
-are for a search with --keeps, which then looks at every schedule in which the runners wait, and at no serial orders.
+are for a search with a rule, which then looks at every schedule in which the runners wait, and at no serial orders.
 
-Without --keeps, what whole schedules come to is printed, after which no move is left, each once: the keys with their
+Without a rule, what whole schedules come to is printed, after which no move is left, each once: the keys with their
 values, and how each runner ended ([\"committed\",OUTPUT], [\"gaveup\",KEY], [\"aborted\",TEXT], [\"faulted\",FAULT] or
 [\"ended\",CAUSE]). If s.json holds two programs that each put a key when the other is not put,
 
@@ -52,36 +57,25 @@ and of stmrun explore --level Serializable s.json none of the lines has both key
 Statuses: 0 always, or all outcomes were found, 1 broken, 2 bad input or usage, 3 out of memory or a failed device,
 4 open.";
 
-/// What is said of a name that no level has, in the manner of the other usage faults.
-const UNKNOWN_LEVEL: &str = "error: unknown level for '--level <LEVEL>'
-  [possible values: SerializableSnapshot, Serializable, RepeatableReads, ReadCommitted]
-
-Usage: stmrun explore [OPTIONS] <SCENARIO>
-
-For more information, try '--help'.";
-
-/// An option with a value that may be there.
-pub(crate) fn option<'a>(
-    alloc: Global,
-    name: &'a str,
-    value: &'a str,
-    parser: ValueParser<'a>,
-    help: &'a str,
-) -> Arg<'a>
-    ensures rule { rule_of result ≡ option_rule name.now parser.entry }
-    ensures local { result.global ≡ false }
-{
-    Arg::new(alloc, name)
-        .long(name)
-        .value_name(value)
-        .value_parser(parser)
-        .help(help)
+/// The words of `explore`.
+#[derive(Drop)]
+pub struct ExploreWords<'a> {
+    /// The path of the scenario.
+    pub scenario: &'a str,
+    /// The rules, in their order: each the path of a program, that of a source, or `SOURCE.stm:NAME`.
+    pub keeps: Vec<&'a str>,
+    /// At which levels the starts are taken.
+    pub levels: Levels,
+    /// At most this many events are taken.
+    pub budget: u64,
+    /// Which runners wait for which others, as it is spelled.
+    pub after: Option<&'a str>,
+    /// Whether a fault is explained.
+    pub explain: bool,
 }
 
 /// The command `explore`.
-pub(crate) fn explore_command<'a>(alloc: Global) -> Result<Command<'a>, AllocError>
-    ensures { IfOk result (IsAddedAs explore_app) }
-{
+pub(crate) fn explore_command<'a>(alloc: Global) -> Result<Command<'a>, AllocError> {
     Command::new(alloc, "explore")
         .about(
             "Looks through every interleaving of a scenario, for one that breaks a rule or for what they come to",
@@ -93,14 +87,15 @@ pub(crate) fn explore_command<'a>(alloc: Global) -> Result<Command<'a>, AllocErr
             "keeps",
             "PROGRAM",
             ValueParser::String,
-            "The file of a program that is to come to its last statement after every schedule",
-        ))?
+            "The file of a rule, which is asked after every schedule: of a program, of a source with rules, or FILE.stm:NAME; as often as need be",
+        )
+        .action(ArgAction::Append))?
         .arg(option(
             alloc,
             "level",
             "LEVEL",
-            ValueParser::String,
-            "The level of every start, in the place of its own: SerializableSnapshot, Serializable, RepeatableReads or ReadCommitted",
+            ValueParser::Names(SEARCH_LEVELS),
+            "The level of every start, in the place of its own; all: a search at each of the four",
         ))?
         .arg(option(
             alloc,
@@ -119,89 +114,23 @@ pub(crate) fn explore_command<'a>(alloc: Global) -> Result<Command<'a>, AllocErr
         .arg(explain(alloc))
 }
 
-/// The level of a name.
-fn level_named(name: &str) -> Option<Level>
-    ensures { result ≡ level_named name.now }
+/// The words of `explore` that were found.
+pub(crate) fn explore_of<'a>(
+    alloc: Global,
+    found: &ArgMatches<'a>,
+) -> Result<ExploreWords<'a>, Unasked>
+    ensures { IfOk result (IsExplore (rows_of (found_of found.now))) }
 {
-    if name == "SerializableSnapshot" {
-        Some(Level::SerializableSnapshot)
-    } else if name == "Serializable" {
-        Some(Level::Serializable)
-    } else if name == "RepeatableReads" {
-        Some(Level::RepeatableReads)
-    } else if name == "ReadCommitted" {
-        Some(Level::ReadCommitted)
-    } else {
-        None
-    }
-}
-
-/// The level that is named, where one is, or status 2 where no level has the name. What is wrong was then printed, or could not be.
-pub fn read_level<R: Eprint>(rt: &R, name: Option<&str>) -> Result<Option<Level>, u8>
-    ensures level { IfOk result (LevelAt (option_map (λ n. n.now) name.entry)) }
-    ensures unknown { IfErr result (λ status. (status ≡ 2) × IsSomeAnd name.entry (λ n. level_named n.now ≡ None)) }
-{
-    match name {
-        None => Ok(None),
-        Some(name) => match level_named(name) {
-            Some(level) => Ok(Some(level)),
-            None => Err(fail(rt, UNKNOWN_LEVEL, 2)),
-        },
-    }
-}
-
-/// What is said of waits that are spelled wrongly, or of which there is no use, in the manner of the other usage faults.
-const NO_WAITS: &str =
-    "error: invalid value for '--after <RUNNER:FIRST,..>': RUNNER:FIRST or RUNNER:FIRST:committed, with commas between them, and with --keeps
-
-Usage: stmrun explore [OPTIONS] <SCENARIO>
-
-For more information, try '--help'.";
-
-/// Says that waits are spelled wrongly, and gives the status.
-pub fn refuse_waits<R: Eprint>(rt: &R) -> u8
-    ensures { result ≡ 2 }
-{
-    fail(rt, NO_WAITS, 2)
-}
-
-/// The number that a text spells.
-fn number_in(text: &str) -> Option<u64>
-    ensures number { IfSome result (NamesNumber text.now) }
-    ensures none { IfNone result (IsUnsignedIn 0 18446744073709551615 text.now → ⊥) }
-{
-    match text.parse::<u64>() {
-        Ok(number) => Some(number),
-        Err(_) => None,
-    }
-}
-
-/// How many events are taken at most; `None` where the word is no number.
-fn budget_at(text: Option<&str>) -> Option<u64>
-    ensures budget { IfSome result (BudgetAt (option_map (λ t. t.now) text.entry)) }
-    ensures none { IfNone result (IfSome text.entry (λ t. IsUnsignedIn 0 18446744073709551615 t.now) → ⊥) }
-{
-    match text {
-        None => Some(USUAL_BUDGET),
-        Some(text) => number_in(text),
-    }
-}
-
-/// What a search with these arguments asks for; `None` where the scenario is missing, or the number is none.
-pub(crate) fn explore_of<'a>(found: &ArgMatches<'a>) -> Option<Asked<'a>>
-    ensures asks { IfSome result (AsksAt (codes "explore") (rows_of (found_of found.now))) }
-    ensures missing { IfNone result (HasSearch (rows_of (found_of found.now)) → ⊥) }
-{
-    let scenario = word_of(found, "SCENARIO")?;
-    let keeps = word_of(found, "keeps");
-    let level = word_of(found, "level");
+    let scenario = required_word(found, "SCENARIO")?;
+    let levels = levels_at(word_of(found, "level"))?;
     let budget = budget_at(word_of(found, "budget"))?;
     let after = word_of(found, "after");
     let explain = flag_of(found, "explain");
-    Some(Asked::Explore {
+    let keeps = words_of(alloc, found, "keeps")?;
+    Ok(ExploreWords {
         scenario,
         keeps,
-        level,
+        levels,
         budget,
         after,
         explain,

@@ -22,9 +22,11 @@ Statements
   n = EXPRESSION                      it is set again; n += NUMBER,         n += 1
                                       n -= NUMBER, n ++= TEXT, too
   put(KEY, VALUE)                     a key is put                          put(\"a\", \"1\")
-  put(KEY, VALUE, LEASE)              on a lease, a number as it stands     put(\"a\", \"1\", 7)
+  put(KEY, VALUE, LEASE)              on a lease: a number as it stands,    put(\"a\", \"1\", 7)
+                                      or a parameter
   del(KEY)                            a key is deleted                      del(\"a\")
   if CONDITION { .. } else { .. }     then these statements, else those     if get(\"a\") == \"\" { put(\"a\", \"1\") }
+    else if CONDITION { .. }          between them, as often as need be     else if get(\"b\") == \"\" { put(\"b\", \"1\") }
   for i in 0..COUNT max LIMIT { .. }  COUNT turns, i counting from 0; a     for i in 0..3 { emit(i) }
                                       fault above LIMIT, 0 to 1000, which
                                       may be left out of a number
@@ -62,6 +64,9 @@ Events
     at LEVEL                          SerializableSnapshot if not said, or
                                       Serializable, RepeatableReads, ReadCommitted
     limit COMMITS                     how many its run may send, 2 if not said
+    after RUNNER                      no step of it before that one has ended;
+                                      after RUNNER committed: none at all unless
+                                      that one committed
   step RUNNER ..                      steps, by name or number              step left right*2 3
   txn { .. }                          another client's transaction          txn { put(\"a\", \"1\") get(\"b\") del(\"c\") }
   txn if COMPARE && .. { .. }         where all compares hold, and else     txn if mod(\"a\") == 0 { put(\"a\", \"1\") }
@@ -72,4 +77,13 @@ Events
   watch KEY from REVISION             a key, or with .. the keys between    watch \"a\"..\"b\"
   poll WATCHER max REVISIONS          what is pending                       poll 1 max 10
   cancel WATCHER                      a watcher is given up                 cancel 1
-  compact REVISION                    the revisions below are dropped       compact 5";
+  compact REVISION                    the revisions below are dropped       compact 5
+
+Rules, of a search
+  rule NAME { .. }                    statements that run at every place    rule one { if get(\"x\") == \"0\" { abort(\"x\") } }
+                                      of it: broken where they abort or
+                                      come to a fault
+  rule NAME = PROGRAM(ARGUMENT, ..)   a program of the source as a rule     rule one = zero(\"x\", \"y\")
+    from LEVEL                        behind NAME: to be kept from that     rule one from Serializable { .. }
+                                      level on
+  finally NAME { .. }                 where nothing is left to do           finally done { .. }";

@@ -2,22 +2,40 @@
 #![tactic(auto)]
 
 mod arguments;
+mod auditing;
+mod checking;
 mod compiling;
 mod cutting;
 mod exploring;
 mod given;
 mod language;
+mod levels;
+mod numbers;
 mod plain;
-mod repeating;
+mod recipes;
+mod running;
+mod scripting;
 mod showing;
+mod storing;
+mod threading;
 mod topics;
+mod words;
 
-pub use arguments::{Asked, MOST_WORKERS, asked_of};
+pub use arguments::{Asked, asked_of};
+pub use auditing::AuditWords;
+pub use checking::CheckWords;
+pub use compiling::CompileWords;
 pub use cutting::{CutWords, cut_words};
-pub use exploring::{USUAL_BUDGET, read_level, refuse_waits};
+pub use exploring::ExploreWords;
 pub use given::read_words;
+pub use levels::Levels;
+pub use numbers::{MOST_ATTEMPTS, MOST_RUNS, MOST_WORKERS, USUAL_BUDGET};
 pub use plain::{PlainWords, plain_words};
-pub use repeating::MOST_RUNS;
+pub use running::RunWords;
+pub use scripting::ScriptWords;
+pub use showing::ShowWords;
 pub use stm_program::Level;
 pub use stm_recipe_lines::RecipeWords;
+pub use storing::{Shown, StoreWords, Which};
+pub use threading::ThreadsWords;
 pub use topics::{Topic, print_topic, topic_of};

@@ -1,10 +1,9 @@
 //! The command line of `show`.
-ghost use Rattle.std.specs.Prelude.{◌≡◌, codes, IfOk};
+ghost use Rattle.std.specs.Prelude.{◌≡◌};
 ghost use Rattle.clap.specs.Words.{found_of, rows_of};
-ghost use Rattle.stm_arguments.specs.Asking.{AsksAt};
-ghost use Rattle.stm_arguments.specs.CommandLine.{show_app, IsAddedAs};
+ghost use Rattle.stm_arguments.specs.Asking.{IsShow};
 
-use crate::arguments::{Asked, flag, flag_of, optional, word_of};
+use crate::words::{flag, flag_of, optional, word_of};
 use clap::{ArgMatches, Command};
 use std::alloc::{AllocError, Global};
 
@@ -27,10 +26,17 @@ With --program the input is a program, as stmrun recipe prints one, and what is 
 
 Statuses: 0 done, 2 bad input or usage, 3 out of memory or a failed device.";
 
+/// The words of `show`.
+#[derive(Clone, Copy)]
+pub struct ShowWords<'a> {
+    /// The path of the scenario or of the program; standard input, where there is none.
+    pub input: Option<&'a str>,
+    /// Whether it is a program.
+    pub program: bool,
+}
+
 /// The command `show`.
-pub(crate) fn show_command<'a>(alloc: Global) -> Result<Command<'a>, AllocError>
-    ensures { IfOk result (IsAddedAs show_app) }
-{
+pub(crate) fn show_command<'a>(alloc: Global) -> Result<Command<'a>, AllocError> {
     Command::new(alloc, "show")
         .about("Prints a scenario, or a program, as a source")
         .after_long_help(EXAMPLE)
@@ -46,11 +52,12 @@ pub(crate) fn show_command<'a>(alloc: Global) -> Result<Command<'a>, AllocError>
         ))
 }
 
-/// What a printed source asks for.
-pub(crate) fn show_of<'a>(found: &ArgMatches<'a>) -> Asked<'a>
-    ensures { AsksAt (codes "show") (rows_of (found_of found.now)) result }
+/// The words of `show` that were found.
+pub(crate) fn show_of<'a>(found: &ArgMatches<'a>) -> ShowWords<'a>
+    ensures { IsShow (rows_of (found_of found.now)) result }
 {
-    let input = word_of(found, "FILE");
-    let program = flag_of(found, "program");
-    Asked::Show { input, program }
+    ShowWords {
+        input: word_of(found, "FILE"),
+        program: flag_of(found, "program"),
+    }
 }

@@ -10,9 +10,7 @@ ghost use Rattle.stm_recipes.specs.declared.names.TheConstants.{MAX_NAME};
 ghost use Rattle.stm_json.specs.declared.limits.TheConstants.{MOST_BYTES};
 ghost use Rattle.stm_devices.specs.declared.transfer.TheConstants.{MOST_READ};
 ghost use Rattle.stm_texts.specs.declared.events.TheConstants.{MOST_EVENTS, HIGHEST_LIMIT};
-ghost use Rattle.stm_arguments.specs.declared.arguments.TheConstants.{MOST_WORKERS as MOST_NAMED_WORKERS};
-ghost use Rattle.stm_arguments.specs.declared.repeating.TheConstants.{MOST_RUNS};
-ghost use Rattle.stm_arguments.specs.declared.exploring.TheConstants.{USUAL_BUDGET};
+ghost use Rattle.stm_arguments.specs.declared.numbers.TheConstants.{MOST_RUNS, MOST_WORKERS as MOST_NAMED_WORKERS, USUAL_BUDGET};
 ghost use Rattle.stm_workers.specs.declared.run.TheConstants.{MOST_WORKERS};
 
 /// A revision is at most one below the highest number of 64 bits with a sign, and every other number is at most that.

@@ -8,23 +8,31 @@ use Rattle.stm_json.specs.declared.limits.TheConstants.{MOST_BYTES}
 use Rattle.stm_terms.specs.declared.faults.BadSource.{BadSource}
 use Rattle.stm_terms.specs.declared.faults.SourceCause.TheVariants.{TooLong}
 use Rattle.stm_terms.specs.Outcome.{Outcome}
-use Rattle.stm_source.specs.Sources.{scenario_in, source_in}
+use Rattle.stm_source.specs.Sources.{source_in}
 use Rattle.stm_tokens.specs.Positions.{place_after}
-use Rattle.stm_compiling.specs.Parts.{line_by, text_by}
+use Rattle.stm_compiling.specs.Parts.{printed_by}
+use Rattle.stm_compiling.specs.Wholes.{compiled_in}
 use Rattle.stm_compiling.specs.declared.part.Part.{Part}
 use Rattle.stm_compiling.specs.declared.part.Part.TheVariants as of
 use Rattle.stm_compiling.specs.Faults.{SaysAt, SaysFault, SaysWrong, place_of}
 
-abbrev too_long : BadSource
+abbrev pub too_long : BadSource
 too_long = record { at = 0; cause = TooLong }
 
-scenario_in-long : (bytes : List ℕ) → MOST_BYTES < length bytes → scenario_in bytes ≡ Err too_long
-unfolding scenario_in source_in
-scenario_in-long bytes long = grind (arith, nat_tests)
+-- a way of reading answers so of what is too long
+abbrev pub RefusesLong : {A : Type 0} → (List ℕ → Outcome A) → Type 0
+RefusesLong read = (bytes : List ℕ) → MOST_BYTES < length bytes → read bytes ≡ Err too_long
 
-line_by-long : (part : Part) (bytes : List ℕ) → MOST_BYTES < length bytes → line_by part bytes ≡ Err too_long
-line_by-long of.Scenario bytes long = rw (scenario_in-long bytes long) refl
-line_by-long (of.Program name words) bytes long = rw (scenario_in-long bytes long) refl
+source_in-long : (bytes : List ℕ) → MOST_BYTES < length bytes → source_in bytes ≡ Err too_long
+unfolding source_in
+source_in-long bytes long = grind (arith, nat_tests)
+
+pub compiled_in-long : RefusesLong compiled_in
+compiled_in-long bytes long = rw (source_in-long bytes long) refl
+
+pub printed_by-long : (part : Part) → RefusesLong (printed_by part)
+printed_by-long of.Scenario bytes long = rw (source_in-long bytes long) refl
+printed_by-long (of.Program name words) bytes long = rw (source_in-long bytes long) refl
 
 -- what is read of a source that is too long is too long, too
 front-long : (all : List ℕ) → MOST_BYTES < length all → MOST_BYTES < length (take MOST_READ all)
@@ -33,8 +41,8 @@ front-long all long =
     omega arith
 
 -- the fault of an answer
-abbrev fault_or : BadSource → Outcome (List ℕ) → BadSource
-fault_or other (Ok line) = other
+abbrev fault_or : {A : Type 0} → BadSource → Outcome A → BadSource
+fault_or other (Ok answer) = other
 fault_or other (Err bad) = bad
 
 -- nothing stands before the first byte
@@ -49,12 +57,6 @@ same_place : (name : Option (List ℕ)) (said front all : List ℕ) → SaysFaul
 same_place name said front all =
     subst (λ (place : ℕ × ℕ). SaysAt name place TooLong said) (first_place front ∙ sym (first_place all))
 
-same_saying : (part : Part) (name : Option (List ℕ)) (said front all : List ℕ) → line_by part front ≡ Err too_long → line_by part all ≡ Err too_long
-    → SaysWrong name (text_by part front) (line_by part front) said → SaysWrong name (text_by part all) (line_by part all) said
-same_saying part name said front all short whole (bad, e, says) =
-    let is : bad ≡ too_long = ap (fault_or too_long) (sym e ∙ short) in
-    (too_long, whole, same_place name said (text_by part front) (text_by part all) (subst (λ (b : BadSource). SaysFault name (text_by part front) b said) is says))
-
 front_by_length : (P : List ℕ → Type 0) → ((all : List ℕ) → MOST_BYTES < length all → P (take MOST_READ all) → P all) → (long : Bool) (all : List ℕ)
     → nat_lt MOST_BYTES (length all) ≡ long → P (take MOST_READ all) → P all
 front_by_length P when_long true all is holds = when_long all (ltb-true MOST_BYTES (length all) is) holds
@@ -62,16 +64,22 @@ front_by_length P when_long false all is holds =
     let short : length all ≤ MOST_BYTES = ltb-false MOST_BYTES (length all) is in
     subst P (take_all MOST_READ all (omega arith)) holds
 
-pub line_by-front : (part : Part) (line all : List ℕ) → line_by part (take MOST_READ all) ≡ Ok line → line_by part all ≡ Ok line
-line_by-front part line all =
-    front_by_length (λ (s : List ℕ). line_by part s ≡ Ok line)
-    (λ whole long holds. line_by-long part whole long ∙ sym (line_by-long part (take MOST_READ whole) (front-long whole long)) ∙ holds)
-    (nat_lt MOST_BYTES (length all)) all refl
+module _ {A : Type 0} (read : List ℕ → Outcome A) (text : List ℕ → List ℕ) (refuses : RefusesLong read) where
+  same_saying : (name : Option (List ℕ)) (said front all : List ℕ) → MOST_BYTES < length front → MOST_BYTES < length all
+      → SaysWrong name (text front) (read front) said → SaysWrong name (text all) (read all) said
+  same_saying name said front all short whole (bad, e, says) =
+      let is : bad ≡ too_long = ap (fault_or too_long) (sym e ∙ refuses front short) in
+      (too_long, refuses all whole, same_place name said (text front) (text all) (subst (λ (b : BadSource). SaysFault name (text front) b said) is says))
 
-pub SaysWrong-front : (part : Part) (name : Option (List ℕ)) (said all : List ℕ)
-    → SaysWrong name (text_by part (take MOST_READ all)) (line_by part (take MOST_READ all)) said → SaysWrong name (text_by part all) (line_by part all) said
-SaysWrong-front part name said all =
-    front_by_length (λ (s : List ℕ). SaysWrong name (text_by part s) (line_by part s) said)
-    (λ whole long holds. same_saying part name said (take MOST_READ whole) whole (line_by-long part (take MOST_READ whole) (front-long whole long))
-    (line_by-long part whole long) holds)
-    (nat_lt MOST_BYTES (length all)) all refl
+  pub Ok-front : (answer : A) (all : List ℕ) → read (take MOST_READ all) ≡ Ok answer → read all ≡ Ok answer
+  Ok-front answer all =
+      front_by_length (λ (s : List ℕ). read s ≡ Ok answer)
+      (λ whole long holds. refuses whole long ∙ sym (refuses (take MOST_READ whole) (front-long whole long)) ∙ holds)
+      (nat_lt MOST_BYTES (length all)) all refl
+
+  pub SaysWrong-front : (name : Option (List ℕ)) (said all : List ℕ)
+      → SaysWrong name (text (take MOST_READ all)) (read (take MOST_READ all)) said → SaysWrong name (text all) (read all) said
+  SaysWrong-front name said all =
+      front_by_length (λ (s : List ℕ). SaysWrong name (text s) (read s) said)
+      (λ whole long holds. same_saying name said (take MOST_READ whole) whole (front-long whole long) long holds)
+      (nat_lt MOST_BYTES (length all)) all refl

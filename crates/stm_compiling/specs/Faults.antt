@@ -35,8 +35,8 @@ abbrev pub SaysFault : Option (List ℕ) → List ℕ → BadSource → List ℕ
 SaysFault name source bad text = SaysAt name (place_of source bad.at) bad.cause text
 
 -- it says the fault that reading a text answers
-abbrev pub SaysWrong : Option (List ℕ) → List ℕ → Outcome (List ℕ) → List ℕ → Type 0
-SaysWrong name source line text = (bad : BadSource) × (line ≡ Err bad) × SaysFault name source bad text
+abbrev pub SaysWrong : {A : Type 0} → Option (List ℕ) → List ℕ → Outcome A → List ℕ → Type 0
+SaysWrong name source reading text = (bad : BadSource) × (reading ≡ Err bad) × SaysFault name source bad text
 
 -- 2 for a bad source, 3 where memory ran out or a device failed
 abbrev pub fault_status : CompileFault → ℕ

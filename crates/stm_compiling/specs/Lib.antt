@@ -1,5 +1,6 @@
 pub mod Command
 pub mod Faults
-pub mod Lines
+pub mod Notes
 pub mod Parts
 pub mod Programs
+pub mod Wholes

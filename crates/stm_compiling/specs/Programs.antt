@@ -1,5 +1,5 @@
--- A program of a source, by its name and its arguments: what the source has with one more line behind it, which starts the program.
-use Rattle.std.specs.Prelude.{ℕ, suc, ◌+◌, ◌-◌, List, [], ◌∷◌, ◌++◌, length, map, take, drop, Bool, true, false, ◌&&◌, nat_eq, nat_le, nat_lt, bytes_eq, if◌then◌else◌, Option, Some, None, Ok, Err, codes, slice_get}
+-- A rule of a source, by its name, or a program, by its name and its arguments: what the source has with one more line behind it, which starts the program.
+use Rattle.std.specs.Prelude.{ℕ, suc, ◌+◌, ◌-◌, List, [], ◌∷◌, ◌++◌, length, map, take, drop, Bool, true, false, ◌&&◌, nat_eq, nat_le, nat_lt, bytes_eq, if◌then◌else◌, find, Option, Some, None, Ok, Err, codes, slice_get}
 use Rattle.json.specs.Print.{quoted}
 use Rattle.stm_events.specs.declared.event.WorldEvent.{WorldEvent}
 use Rattle.stm_events.specs.declared.event.WorldEvent.TheVariants.{Start}
@@ -7,14 +7,15 @@ use Rattle.stm_program_json.specs.Writing.{written_program}
 use Rattle.stm_program_source.specs.Texts.{separated}
 use Rattle.stm_report_lines.specs.Text.{line_text}
 use Rattle.stm_source.specs.Sources.{scenario_in}
+use Rattle.stm_source.specs.declared.story.Rule.{Rule}
 use Rattle.stm_terms.specs.Outcome.{Outcome, bad, ◌>>=◌}
 use Rattle.stm_terms.specs.declared.faults.SourceCause.TheVariants as cause
-use Rattle.stm_texts.specs.declared.scenario.Scenario.{Scenario}
 use Rattle.stm_tokens.specs.Numbers.{number_length, value_from}
 use Rattle.stm_tokens.specs.Tokens.{tokens_in}
 use Rattle.stm_tokens.specs.declared.token.Token.{Token}
 use Rattle.stm_tokens.specs.declared.token.TokenKind.{TokenKind}
 use Rattle.stm_tokens.specs.declared.token.TokenKind.TheVariants as kind
+use Rattle.stm_compiling.specs.Wholes.{rules_in}
 
 -- ---- arguments, as they stand in a source
 
@@ -84,11 +85,29 @@ abbrev pub line_behind : ℕ → List ℕ → List ℕ → Outcome (List ℕ)
 line_behind at name text =
     (if is_name name then scenario_in text else bad (at + 6) cause.Name) >>= λ s. line_of_start at (slice_get s.events (length s.events - 1))
 
--- The program of a name as one line of compact JSON: the last start of the source with one more line behind it. The source's own fault comes first.
+-- the rule of a name, where there is one
+abbrev pub rule_named : List ℕ → List Rule → Option Rule
+rule_named name rules = find (λ r. bytes_eq r.name name) rules
+
+-- the line of a rule, which takes no arguments: else it is the name that is wrong in the last line of a text, which begins at a byte
+abbrev pub line_of_rule : ℕ → Rule → List (List ℕ) → Outcome (List ℕ)
+line_of_rule at rule words =
+    if nat_eq (length (arguments words)) 0 then Ok (line_text (written_program rule.program)) else bad (at + 6) cause.Arguments
+
+abbrev pub line_by : Option Rule → ℕ → List ℕ → List (List ℕ) → List ℕ → Outcome (List ℕ)
+line_by (Some rule) at name words text = line_of_rule at rule words
+line_by None at name words text = line_behind at name text
+
+-- the line of a rule, or else of the program that the last line of a text starts
+abbrev pub line_named : ℕ → List Rule → List ℕ → List (List ℕ) → List ℕ → Outcome (List ℕ)
+line_named at rules name words text = line_by (rule_named name rules) at name words text
+
+-- The rule or program of a name as one line of compact JSON; of a program, the last start of the source with one more line behind it. The source's own
+-- fault comes first.
 abbrev pub program_line_in : List ℕ → List ℕ → List (List ℕ) → Outcome (List ℕ)
-program_line_in source name words = scenario_in source >>= λ _. line_behind (start_at source) name (started source name words)
+program_line_in source name words = rules_in source >>= λ rules. line_named (start_at source) rules name words (started source name words)
 
 -- the text in which its fault stands: the source, where that has one, else it with the line behind it
-abbrev pub text_read : Outcome Scenario → List ℕ → List ℕ → List ℕ
+abbrev pub text_read : {A : Type 0} → Outcome A → List ℕ → List ℕ → List ℕ
 text_read (Err fault) source longer = source
-text_read (Ok scenario) source longer = longer
+text_read (Ok rules) source longer = longer

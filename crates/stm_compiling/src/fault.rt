@@ -56,15 +56,15 @@ pub(crate) fn report<E: Sink>(err: &mut E, fault: &CompileFault) -> u8
     match fault {
         CompileFault::OutOfMemory => Message::OutOfMemory.report(err),
         CompileFault::Device => Message::Device.report(err),
-        CompileFault::Bad(text) => say(err, text.as_str()),
+        CompileFault::Bad(text) => say(err, text.as_str(), 2),
     }
 }
 
-/// Says what is wrong with a source, and gives the status.
-fn say<E: Sink>(err: &mut E, text: &str) -> u8
+/// Says a text, and gives a status, whether it was said or not.
+pub(crate) fn say<E: Sink>(err: &mut E, text: &str, status: u8) -> u8
     requires { E.failed err.old ≡ false }
-    ensures { Reports 2 text.now (E.held err.old) (E.held err.new) (E.failed err.new) result }
+    ensures { Reports status text.now (E.held err.old) (E.held err.new) (E.failed err.new) result }
 {
     let _ = write_text(err, text);
-    2
+    status
 }

@@ -1,8 +1,8 @@
-//! The command `compile`: from a source, a scenario as people write it, to the line of JSON of its scenario or of one of its programs, and what is
-//! said of a source that is bad.
+//! The command `compile`: from a source, a scenario as people write it, to the line of JSON of its scenario, of a rule or of one of its programs, to what
+//! JSON has no place for, and to what is said of a source that is bad.
 //!
-//! `specs/Lines.antt` says which line a scenario has, `specs/Programs.antt` which one a program with its arguments, `specs/Command.antt` what the
-//! command does to its devices.
+//! `specs/Wholes.antt` says what a source comes to, `specs/Programs.antt` which line a rule has, and a program with its arguments, `specs/Notes.antt` what
+//! is said of what a scenario has no place for, and `specs/Command.antt` what the command does to its devices.
 #![tactic(auto)]
 
 mod calls;
@@ -11,11 +11,16 @@ mod explaining;
 mod fault;
 mod line;
 mod naming;
+mod notes;
 mod part;
 mod program;
 mod spots;
 mod wanted;
+mod whole;
 
-pub use command::{compile_to, compiled};
-pub use part::Part;
+pub use command::{compile_to, compiled, compiled_part};
+pub use notes::notes_of;
+pub use part::{Part, Printed};
 pub use stm_devices::{Sink, Source};
+pub use stm_source::{Names, Rule, Wait};
+pub use whole::{Beside, Compiled};

@@ -1,15 +1,15 @@
-//! The line of a source: the scenario that it spells, as JSON.
-ghost use Rattle.std.specs.Prelude.{◌≡◌, ◌++◌, [], ◌∷◌, map, IfOk, OnOk, string_bytes};
+//! Scenarios and programs as lines of JSON.
+ghost use Rattle.std.specs.Prelude.{◌≡◌, [], ◌∷◌, ◌++◌, map, IfOk, OnOk, string_bytes};
 ghost use Rattle.serde_json.specs.View.{view};
+ghost use Rattle.stm_program_json.specs.Writing.{written_program};
 ghost use Rattle.stm_report_lines.specs.Text.{line_text};
 ghost use Rattle.stm_texts.specs.Writing.{opening_elements, written_event, written_scenario};
-ghost use Rattle.stm_terms.specs.Outcome.{Returns};
-ghost use Rattle.stm_compiling.specs.Lines.{line_in};
 
 use serde_json::Value as Json;
 use std::alloc::{AllocError, Global};
+use stm_program::Program;
+use stm_program_json::write_program;
 use stm_report_lines::push_line;
-use stm_source::{SourceError, read_source};
 use stm_texts::{Opening, Scenario, WorldEvent, event_json, opening_json};
 
 /// The elements of a scenario before its events.
@@ -57,7 +57,7 @@ fn scenario_json(alloc: Global, scenario: &Scenario) -> Result<Json, AllocError>
 }
 
 /// The line of a scenario: it as compact JSON, in its one spelling, and a line feed.
-fn scenario_line(alloc: Global, scenario: &Scenario) -> Result<String, AllocError>
+pub(crate) fn scenario_line(alloc: Global, scenario: &Scenario) -> Result<String, AllocError>
     ensures { IfOk result (λ line. string_bytes line ≡ line_text (written_scenario scenario.now)) }
 {
     let value = scenario_json(alloc, scenario)?;
@@ -66,13 +66,12 @@ fn scenario_line(alloc: Global, scenario: &Scenario) -> Result<String, AllocErro
     Ok(line)
 }
 
-/// The line of the scenario that a source spells: compact JSON and a line feed. It fails by the first fault of the source, or as `OutOfMemory`.
-pub(crate) fn source_line(alloc: Global, source: &[u8]) -> Result<String, SourceError>
-    ensures { Returns string_bytes result (line_in source.now) }
+/// The line of a program: it as compact JSON, in its one spelling, and a line feed.
+pub(crate) fn program_line(alloc: Global, program: &Program) -> Result<String, AllocError>
+    ensures { IfOk result (λ line. string_bytes line ≡ line_text (written_program program.now)) }
 {
-    let scenario = read_source(alloc, source)?;
-    match scenario_line(alloc, &scenario) {
-        Ok(line) => Ok(line),
-        Err(_) => Err(SourceError::OutOfMemory),
-    }
+    let value = write_program(alloc, program)?;
+    let mut line = String::new(alloc);
+    push_line(alloc, &mut line, &value)?;
+    Ok(line)
 }

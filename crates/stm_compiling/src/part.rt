@@ -1,11 +1,21 @@
 //! What of a source is printed.
+use stm_history::Text;
 
 /// What of a source is printed.
 #[derive(Clone, Copy, Debug, PartialEq, Eq)]
 pub enum Part<'a> {
     /// Its scenario.
     Scenario,
-    /// The program of a name, with the words that its arguments are: one that is a whole number of 64 bits by its spelling is a number, and each
-    /// other one a text; behind `--text`, which is none itself, each is a text.
+    /// The rule of a name, which takes no words; or the program of that name, with the words that its arguments are: one that is a whole number of
+    /// 64 bits by its spelling is a number, and each other one a text; behind `--text`, which is none itself, each is a text.
     Program { name: &'a str, words: &'a [String] },
+}
+
+/// What is printed of a source.
+#[derive(Debug, Drop)]
+pub struct Printed {
+    /// The line of its part.
+    pub line: Text,
+    /// What is said beside it, of what the line has no place for.
+    pub notes: Text,
 }

@@ -1,20 +1,16 @@
-//! The line of a program of a source: it with its arguments, as JSON.
+//! The line of a rule of a source, or of a program with its arguments, as JSON.
 ghost use Rattle.std.specs.Prelude.{◌≡◌, ◌≤◌, ◌+◌, ◌++◌, codes, drop, if◌then◌else◌, length, map, IfOk, OnOk, option_copied, string_bytes};
 ghost use Rattle.json.specs.Print.{quoted};
-ghost use Rattle.stm_program_json.specs.Writing.{written_program};
 ghost use Rattle.stm_program_source.specs.Texts.{joined, separated};
-ghost use Rattle.stm_report_lines.specs.Text.{line_text};
 ghost use Rattle.stm_source.specs.Sources.{scenario_in};
 ghost use Rattle.stm_terms.specs.Outcome.{Returns, bad};
 ghost use Rattle.stm_terms.specs.declared.faults.SourceCause.TheVariants as cause;
 ghost use Rattle.stm_compiling.specs.Programs as spec;
 
+use crate::line::program_line;
 use std::alloc::{AllocError, Global};
-use stm_program::Program;
-use stm_program_json::write_program;
 use stm_program_source::push_quoted;
-use stm_report_lines::push_line;
-use stm_source::{Scenario, SourceCause, SourceError, read_source};
+use stm_source::{Rule, Scenario, SourceCause, SourceError, read_source};
 use stm_terms::fault;
 use stm_texts::WorldEvent;
 use stm_tokens::{TokenKind, number_length, number_of, tokens_of};
@@ -212,16 +208,6 @@ fn is_name(alloc: Global, word: &str) -> Result<bool, AllocError>
     Ok(is)
 }
 
-/// The line of a program.
-fn line_of(alloc: Global, program: &Program) -> Result<String, AllocError>
-    ensures { IfOk result (λ line. string_bytes line ≡ line_text (written_program program.now)) }
-{
-    let value = write_program(alloc, program)?;
-    let mut line = String::new(alloc);
-    push_line(alloc, &mut line, &value)?;
-    Ok(line)
-}
-
 /// The line of the program that an event starts, which stands at a place of its source.
 fn line_of_start(
     alloc: Global,
@@ -231,7 +217,7 @@ fn line_of_start(
     ensures { Returns string_bytes result (spec.line_of_start at (option_copied event.entry)) }
 {
     match event {
-        Some(WorldEvent::Start { program, .. }) => Ok(line_of(alloc, program)?),
+        Some(WorldEvent::Start { program, .. }) => Ok(program_line(alloc, program)?),
         _ => Err(fault(at, SourceCause::Syntax)),
     }
 }
@@ -254,15 +240,53 @@ fn started_scenario(
 }
 
 /// The line of the program that the line of a text from a byte on starts, the last one.
-pub(crate) fn line_behind(
-    alloc: Global,
-    at: usize,
-    name: &str,
-    text: &[u8],
-) -> Result<String, SourceError>
+fn line_behind(alloc: Global, at: usize, name: &str, text: &[u8]) -> Result<String, SourceError>
     requires { at + 6 ≤ usize.MAX }
     ensures { Returns string_bytes result (spec.line_behind at name.now text.now) }
 {
     let scenario = started_scenario(alloc, at, name, text)?;
     line_of_start(alloc, at, scenario.events.as_slice().last())
+}
+
+/// The rule of a name.
+fn rule_named<'a>(rules: &'a [Rule], name: &str) -> Option<&'a Rule>
+    ensures { option_copied result ≡ spec.rule_named name.now rules.now }
+{
+    rules.iter().find(|rule| rule.name.as_str() == name)
+}
+
+/// The line of a rule, which takes no arguments. In the last line of a text, which begins at a byte, it is named.
+fn line_of_rule(
+    alloc: Global,
+    at: usize,
+    rule: &Rule,
+    words: &[String],
+) -> Result<String, SourceError>
+    requires { at + 6 ≤ usize.MAX }
+    ensures { Returns string_bytes result (spec.line_of_rule at rule.now (map string_bytes words.now)) }
+{
+    let arguments = arguments(alloc, words)?;
+    if arguments.is_empty() {
+        Ok(program_line(alloc, &rule.program)?)
+    } else {
+        Err(fault(at + BEFORE_NAME, SourceCause::Arguments))
+    }
+}
+
+/// The line of the rule of a name, or else of the program that the line of a text from a byte on starts, the last one.
+pub(crate) fn line_named(
+    alloc: Global,
+    at: usize,
+    rules: &[Rule],
+    name: &str,
+    words: &[String],
+    text: &[u8],
+) -> Result<String, SourceError>
+    requires { at + 6 ≤ usize.MAX }
+    ensures { Returns string_bytes result (spec.line_named at rules.now name.now (map string_bytes words.now) text.now) }
+{
+    match rule_named(rules, name) {
+        Some(rule) => line_of_rule(alloc, at, rule, words),
+        None => line_behind(alloc, at, name, text),
+    }
 }

@@ -35,7 +35,7 @@ step_at level (Poll watcher most) none = refl
 step_at level (Cancel watcher) none = refl
 step_at level (Compact revision) none = refl
 
-steps_at : (level : Level) (es : List WorldEvent) → HaveNoStep es → HaveNoStep (map (at_level level) es)
+pub steps_at : (level : Level) (es : List WorldEvent) → HaveNoStep es → HaveNoStep (map (at_level level) es)
 steps_at level [] none = tt
 steps_at level (x ∷ es) none = (step_at level x none.0, steps_at level es none.1)
 

@@ -54,3 +54,9 @@ joined_next f xs i d front old new within so_far written =
     ap concat more ∙ concat-append (map f (take i xs)) (f x ∷ []) ∙ ap (λ (ys : List ℕ). concat (map f (take i xs)) ++ ys) (append-nil (f x)) in
     written ∙ ap (λ (ys : List ℕ). ys ++ f x) so_far ∙ append_assoc front (concat (map f (take i xs))) (f x)
     ∙ ap (λ (ys : List ℕ). front ++ ys) (sym all)
+
+-- the same, where the item has a name
+pub joined_item : {A : Type 0} (f : A → List ℕ) (xs : List A) (i : ℕ) (x : A) (front old new : List ℕ) → i < length xs → x ≡ get_or xs i x →
+    old ≡ front ++ concat (map f (take i xs)) → new ≡ old ++ f x → new ≡ front ++ concat (map f (take (i + 1) xs))
+joined_item f xs i x front old new within at so_far written =
+    joined_next f xs i x front old new within so_far (written ∙ ap (λ y. old ++ f y) at)

@@ -1,19 +1,27 @@
 -- No line of a search has a float.
-use Rattle.std.proofs.Common.{◌≡◌, ℕ, false, List, [], ◌∷◌, map, ℤ, pos, negsuc, refl}
-use Rattle.serde_json.specs.Data.{Data}
+use Rattle.std.proofs.Common.{◌≡◌, ℕ, false, List, [], ◌∷◌, ◌++◌, map, Option, None, Some, ℤ, pos, negsuc, refl}
+use Rattle.serde_json.specs.Data.{Data, string}
 use Rattle.serde_json.specs.Find.{is_float, of_integer}
 use Rattle.serde_json.specs.View.{items_of}
 use Rattle.serde_json.specs.Written.{has_float, items_have_float}
-use Rattle.stm_report_lines.specs.LineData.{value_data}
+use Rattle.stm_report_lines.specs.LineData.{list, value_data}
 use Rattle.stm_steps.specs.declared.run.End.{End}
 use Rattle.stm_steps.specs.declared.run.End.TheVariants.{Done, Aborted as ByAbort, Faulted as ByFault}
 use Rattle.stm_steps.specs.declared.value.Value.{Value}
 use Rattle.stm_steps.specs.declared.value.Value.TheVariants.{Text, Number}
+use Rattle.stm_program.specs.declared.level.Level.{Level}
+use Rattle.stm_texts.specs.Grammar.{level_text}
 use Rattle.stm_schedules.specs.declared.outcome.KeyValue.{KeyValue}
 use Rattle.stm_schedules.specs.declared.outcome.Outcome.{Outcome}
 use Rattle.stm_schedules.specs.declared.outcome.RunnerEnd.{RunnerEnd}
 use Rattle.stm_schedules.specs.declared.outcome.RunnerEnd.TheVariants.{Committed, GaveUp, Aborted, Faulted, Ended}
-use Rattle.stm_exploring.specs.Lines.{end_data, broken_line, key_value_data, runner_end_data, outcome_line}
+use Rattle.stm_explore.specs.declared.exploring.Explored.TheVariants.{Always, Broken, Open}
+use Rattle.stm_exploring.specs.declared.judging.Answer.{Answer}
+use Rattle.stm_exploring.specs.declared.judging.Answer.TheVariants.{BySchedules, AlwaysByOrders, BrokenByOrder}
+use Rattle.stm_exploring.specs.declared.rules.RuleAnswer.{RuleAnswer}
+use Rattle.stm_exploring.specs.Levels.{level_line}
+use Rattle.stm_exploring.specs.Judging.{answer_line, answer_parts, name_parts}
+use Rattle.stm_exploring.specs.Lines.{end_data, key_value_data, runner_end_data, outcome_line}
 
 each-no_float : {A : Type 0} (write : A → Data) → ((x : A) → has_float (write x) ≡ false) → (xs : List A) → items_have_float (items_of (map write xs)) ≡ false
 each-no_float write one [] = refl
@@ -24,8 +32,36 @@ end_data-no_float Done = refl
 end_data-no_float (ByAbort text) = refl
 end_data-no_float (ByFault fault) = refl
 
-pub broken_line-no_float : (n : ℕ) (end : End) → has_float (broken_line n end) ≡ false
-broken_line-no_float n end = rw (end_data-no_float end) refl
+parts-no_float : (answer : Answer) (name : Option (List ℕ)) → has_float (list (answer_parts answer ++ name_parts name)) ≡ false
+parts-no_float (BySchedules (Always longest)) None = refl
+parts-no_float (BySchedules (Always longest)) (Some name) = refl
+parts-no_float (BySchedules (Broken moves end)) None = rw (end_data-no_float end) refl
+parts-no_float (BySchedules (Broken moves end)) (Some name) = rw (end_data-no_float end) refl
+parts-no_float (BySchedules (Open kept)) None = refl
+parts-no_float (BySchedules (Open kept)) (Some name) = refl
+parts-no_float AlwaysByOrders None = refl
+parts-no_float AlwaysByOrders (Some name) = refl
+parts-no_float (BrokenByOrder found) None = rw (end_data-no_float found.end) refl
+parts-no_float (BrokenByOrder found) (Some name) = rw (end_data-no_float found.end) refl
+
+pub answer_line-no_float : (a : RuleAnswer) → has_float (answer_line a) ≡ false
+answer_line-no_float a = parts-no_float a.answer a.rule.name
+
+parts_at-no_float : (answer : Answer) (name : Option (List ℕ)) (level : List ℕ)
+    → has_float (list ((answer_parts answer ++ name_parts name) ++ string level ∷ [])) ≡ false
+parts_at-no_float (BySchedules (Always longest)) None level = refl
+parts_at-no_float (BySchedules (Always longest)) (Some name) level = refl
+parts_at-no_float (BySchedules (Broken moves end)) None level = rw (end_data-no_float end) refl
+parts_at-no_float (BySchedules (Broken moves end)) (Some name) level = rw (end_data-no_float end) refl
+parts_at-no_float (BySchedules (Open kept)) None level = refl
+parts_at-no_float (BySchedules (Open kept)) (Some name) level = refl
+parts_at-no_float AlwaysByOrders None level = refl
+parts_at-no_float AlwaysByOrders (Some name) level = refl
+parts_at-no_float (BrokenByOrder found) None level = rw (end_data-no_float found.end) refl
+parts_at-no_float (BrokenByOrder found) (Some name) level = rw (end_data-no_float found.end) refl
+
+pub level_line-no_float : (level : Level) (a : RuleAnswer) → has_float (level_line level a) ≡ false
+level_line-no_float level a = parts_at-no_float a.answer a.rule.name (level_text level)
 
 of_integer-no_float : (z : ℤ) → is_float (of_integer z) ≡ false
 of_integer-no_float (pos n) = refl

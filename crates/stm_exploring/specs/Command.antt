@@ -2,6 +2,7 @@
 use Rattle.std.specs.Prelude.{◌≡◌, ℕ, List, Bool, true, false, Option, Result, Ok, Err, codes}
 use Rattle.std.specs.Io.KnownBytes.{Appends, Keeps}
 use Rattle.stm_devices.specs.Transfers.{WritesFront}
+use Rattle.stm_program.specs.Syntax.{ProgramTree}
 use Rattle.stm_program.specs.declared.level.Level.{Level}
 use Rattle.stm_exploring.specs.declared.printed.Printed.{Printed}
 use Rattle.stm_exploring.specs.declared.printed.SearchAnswer.{SearchAnswer}
@@ -9,7 +10,9 @@ use Rattle.stm_exploring.specs.declared.printed.SearchAnswer.TheVariants.{Kept, 
 use Rattle.stm_exploring.specs.declared.reading.ExploreFault.{ExploreFault}
 use Rattle.stm_exploring.specs.declared.reading.ExploreFault.TheVariants.{OutOfMemory, BadScenario, BadProgram, BadWait, Device}
 use Rattle.stm_explore.specs.declared.waits.Wait.{Wait}
-use Rattle.stm_exploring.specs.Exploring.{Sources, Searches, Gathers}
+use Rattle.stm_exploring.specs.declared.rules.Rule.{Rule}
+use Rattle.stm_exploring.specs.Exploring.{Sources, ReadsProgram, Searches, SearchesFor, Gathers}
+use Rattle.stm_exploring.specs.Levels.{SearchesLevels}
 use Rattle.stm_explain.specs.Saying.{bad_input, memory_fault, device_fault, Reports}
 
 -- ---- answers and faults
@@ -68,6 +71,22 @@ Finishes searched out err status =
 abbrev pub Explores : List Wait → Option Level → Sources → Sunk → Sunk → ℕ → Type 0
 Explores waits level sources out err status =
     (searched : Result Printed ExploreFault) × Searches waits level sources searched × Finishes searched out err status
+
+-- the program of a rule was read, or it is said why not
+abbrev pub ReadsRule : Option (List ℕ) → Bool → Sunk → Result ProgramTree ℕ → Type 0
+ReadsRule known failed err (Ok program) = ReadsProgram known failed (Ok program) × (err.failed ≡ false) × Keeps err.before err.after
+ReadsRule known failed err (Err status) =
+    (fault : ExploreFault) × ReadsProgram known failed (Err fault) × SaysOf err.before err.after err.failed fault status
+
+-- with rules that are known
+abbrev pub ExploresFor : List Wait → Option Level → List Rule → Option (List ℕ) → Bool → Sunk → Sunk → ℕ → Type 0
+ExploresFor waits level rules known failed out err status =
+    (searched : Result Printed ExploreFault) × SearchesFor waits level rules known failed searched × Finishes searched out err status
+
+-- with these at each level
+abbrev pub ExploresLevels : List Wait → List Rule → Option (List ℕ) → Bool → Sunk → Sunk → ℕ → Type 0
+ExploresLevels waits rules known failed out err status =
+    (searched : Result Printed ExploreFault) × SearchesLevels waits rules known failed searched × Finishes searched out err status
 
 -- without one
 abbrev pub GoesThrough : Option Level → Option (List ℕ) → Bool → Sunk → Sunk → ℕ → Type 0

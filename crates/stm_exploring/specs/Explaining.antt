@@ -8,6 +8,7 @@ use Rattle.stm_explain.specs.Saying.{Says, ReportsMore}
 use Rattle.stm_texts.specs.Reading.{scenario_in}
 use Rattle.stm_faulted_runs.specs.Lines.{OrNothing}
 use Rattle.stm_faulted_runs.specs.Rules.{ExplainsRule}
+use Rattle.stm_program.specs.Syntax.{ProgramTree}
 use Rattle.stm_program.specs.declared.level.Level.{Level}
 use Rattle.stm_exploring.specs.declared.printed.Printed.{Printed}
 use Rattle.stm_exploring.specs.declared.printed.SearchAnswer.{SearchAnswer}
@@ -15,7 +16,9 @@ use Rattle.stm_exploring.specs.declared.printed.SearchAnswer.TheVariants.{Broken
 use Rattle.stm_exploring.specs.declared.reading.ExploreFault.{ExploreFault}
 use Rattle.stm_exploring.specs.declared.reading.ExploreFault.TheVariants.{BadScenario, BadProgram}
 use Rattle.stm_explore.specs.declared.waits.Wait.{Wait}
-use Rattle.stm_exploring.specs.Exploring.{Sources, Searches, Gathers}
+use Rattle.stm_exploring.specs.declared.rules.Rule.{Rule}
+use Rattle.stm_exploring.specs.Exploring.{Sources, ReadsProgram, Searches, SearchesFor, Gathers}
+use Rattle.stm_exploring.specs.Levels.{SearchesLevels}
 use Rattle.stm_exploring.specs.Command.{Sunk, Writes, verdict_status, fault_status, fault_message}
 
 -- an input's name, and the text as which it was kept
@@ -33,6 +36,11 @@ ExplainsFault scenario keeps other more = more ≡ []
 abbrev pub ExplainsScenario : KeptInput → ExploreFault → List ℕ → Type 0
 ExplainsScenario scenario (BadScenario bad) more = ExplainsOrNothing scenario.name scenario.text more
 ExplainsScenario scenario other more = more ≡ []
+
+-- the same of a rule that is read alone
+abbrev pub ExplainsProgram : KeptInput → ExploreFault → List ℕ → Type 0
+ExplainsProgram rule (BadProgram bad) more = ExplainsOrNothing rule.name rule.text more
+ExplainsProgram rule other more = more ≡ []
 
 -- what is said and answered of a fault: its own message with what explains it, and its status
 abbrev pub SaysMoreOf : (ExploreFault → List ℕ → Type 0) → Option (List ℕ) → Option (List ℕ) → Bool → ExploreFault → ℕ → Type 0
@@ -84,6 +92,23 @@ EndsBy scenario err (Err fault) status = SaysMoreOf (ExplainsScenario scenario) 
 abbrev pub Finishes : KeptInput → Result Printed ExploreFault → Sunk → Sunk → ℕ → Type 0
 Finishes scenario gathered out err status =
     (ended : Result SearchAnswer ExploreFault) × Writes gathered out.before out.after out.failed ended × EndsBy scenario err ended status
+
+-- the program of a rule was read, or it is said why not
+abbrev pub ReadsRule : KeptInput → Option (List ℕ) → Bool → Sunk → Result ProgramTree ℕ → Type 0
+ReadsRule rule known failed err (Ok program) = ReadsProgram known failed (Ok program) × (err.failed ≡ false) × Keeps err.before err.after
+ReadsRule rule known failed err (Err status) =
+    (fault : ExploreFault) × ReadsProgram known failed (Err fault)
+    × SaysMoreOf (ExplainsProgram rule) err.before err.after err.failed fault status
+
+-- with rules that are known
+abbrev pub ExploresFor : List Wait → Option Level → List Rule → KeptInput → Option (List ℕ) → Bool → Sunk → Sunk → ℕ → Type 0
+ExploresFor waits level rules scenario known failed out err status =
+    (searched : Result Printed ExploreFault) × SearchesFor waits level rules known failed searched × Finishes scenario searched out err status
+
+-- with these at each level
+abbrev pub ExploresLevels : List Wait → List Rule → KeptInput → Option (List ℕ) → Bool → Sunk → Sunk → ℕ → Type 0
+ExploresLevels waits rules scenario known failed out err status =
+    (searched : Result Printed ExploreFault) × SearchesLevels waits rules known failed searched × Finishes scenario searched out err status
 
 -- without one
 abbrev pub GoesThrough : Option Level → KeptInput → Option (List ℕ) → Bool → Sunk → Sunk → ℕ → Type 0

@@ -1,5 +1,5 @@
 -- What a search does: from the bytes of a scenario and of a rule's program to what is printed.
-use Rattle.std.specs.Prelude.{◌≡◌, ◌⊎◌, ℕ, List, Bool, true, false, Option, None, Result, Ok, Err, IfSome, codes}
+use Rattle.std.specs.Prelude.{◌≡◌, ◌⊎◌, ℕ, List, [], ◌∷◌, Bool, true, false, Option, None, Result, Ok, Err, IfSome, codes}
 use Rattle.stm_devices.specs.declared.transfer.ReadFault.{ReadFault}
 use Rattle.stm_devices.specs.declared.transfer.ReadFault.TheVariants.{OutOfMemory as NoRoom, Device as NoDevice}
 use Rattle.stm_json.specs.Outcome.{Outcome, ◌>>=◌}
@@ -20,8 +20,9 @@ use Rattle.stm_exploring.specs.declared.printed.Printed.{Printed}
 use Rattle.stm_exploring.specs.Asking.{asked, place_of, ends_of}
 use Rattle.stm_exploring.specs.Lines.{count_line, outcomes_text}
 use Rattle.stm_exploring.specs.Waits.{first_stranger, IsWaitFault}
-use Rattle.stm_exploring.specs.declared.judging.Answer.{Answer}
-use Rattle.stm_exploring.specs.Judging.{IsFound, verdict_of, answer_text}
+use Rattle.stm_exploring.specs.declared.rules.Rule.{Rule}
+use Rattle.stm_exploring.specs.declared.rules.RuleAnswer.{RuleAnswer}
+use Rattle.stm_exploring.specs.Judging.{AreFound, alone, verdict_of_all, answers_text}
 use Rattle.stm_report_lines.specs.Text.{line_text}
 
 -- ---- what bytes spell
@@ -57,13 +58,13 @@ ReadsProgram known failed (Err Device) = failed ≡ true
 
 -- ---- whether a rule is kept
 
--- what is printed of an answer about a scenario
-abbrev pub printed : Scenario → Answer → Printed
-printed s answer = record { verdict = verdict_of answer; text = answer_text s answer }
+-- what is printed of answers about a scenario
+abbrev pub printed : Scenario → List RuleAnswer → Printed
+printed s answers = record { verdict = verdict_of_all answers; text = answers_text s answers }
 
--- it is what is printed of what is known about this scenario and this rule
-abbrev pub IsPrinted : List Wait → Scenario → ProgramTree → Printed → Type 0
-IsPrinted waits s rule p = (answer : Answer) × IsFound waits rule s answer × (p ≡ printed s answer)
+-- it is what is printed of what is known about this scenario and these rules
+abbrev pub IsPrinted : List Wait → Scenario → List Rule → Printed → Type 0
+IsPrinted waits s rules p = (answers : List RuleAnswer) × AreFound waits rules s answers × (p ≡ printed s answers)
 
 -- what was left of the sources before, and whether each has failed
 pub record Sources : Type 0 where
@@ -80,7 +81,7 @@ NoneFailed d = (d.scenario_failed ≡ false) × (d.keeps_failed ≡ false)
 abbrev pub Searches : List Wait → Option Level → Sources → Result Printed ExploreFault → Type 0
 Searches waits level d (Ok p) =
     NoneFailed d × (s : Scenario) × (rule : ProgramTree) × IfSome d.scenario (λ all. asked_in level all ≡ Ok s)
-    × IfSome d.keeps (λ all. program_in all ≡ Ok rule) × (first_stranger s waits ≡ None) × IsPrinted waits s rule p
+    × IfSome d.keeps (λ all. program_in all ≡ Ok rule) × (first_stranger s waits ≡ None) × IsPrinted waits s (alone rule ∷ []) p
 Searches waits level d (Err OutOfMemory) = NoneFailed d
 Searches waits level d (Err (BadScenario fault)) = NoneFailed d × IfSome d.scenario (λ all. asked_in level all ≡ Err fault)
 Searches waits level d (Err (BadProgram fault)) =
@@ -91,6 +92,17 @@ Searches waits level d (Err (BadWait fault)) =
 Searches waits level d (Err Device) =
     (d.scenario_failed ≡ true)
     ⊎ ((d.scenario_failed ≡ false) × (d.keeps_failed ≡ true) × (s : Scenario) × IfSome d.scenario (λ all. asked_in level all ≡ Ok s))
+
+-- The same of one source and rules that are known.
+abbrev pub SearchesFor : List Wait → Option Level → List Rule → Option (List ℕ) → Bool → Result Printed ExploreFault → Type 0
+SearchesFor waits level rules known failed (Ok p) =
+    (failed ≡ false) × (s : Scenario) × IfSome known (λ all. asked_in level all ≡ Ok s) × (first_stranger s waits ≡ None) × IsPrinted waits s rules p
+SearchesFor waits level rules known failed (Err OutOfMemory) = failed ≡ false
+SearchesFor waits level rules known failed (Err (BadScenario fault)) = (failed ≡ false) × IfSome known (λ all. asked_in level all ≡ Err fault)
+SearchesFor waits level rules known failed (Err (BadProgram fault)) = ⊥
+SearchesFor waits level rules known failed (Err (BadWait fault)) =
+    (failed ≡ false) × (s : Scenario) × IfSome known (λ all. asked_in level all ≡ Ok s) × IsWaitFault s waits (BadWait fault)
+SearchesFor waits level rules known failed (Err Device) = failed ≡ true
 
 -- ---- what whole schedules come to
 

@@ -3,6 +3,7 @@ pub mod Lines
 pub mod Judging
 pub mod Waits
 pub mod Exploring
+pub mod Levels
 pub mod Laws
 pub mod Command
 pub mod Explaining

@@ -17,11 +17,7 @@ use Rattle.stm_schedules.specs.declared.outcome.KeyValue.{KeyValue}
 use Rattle.stm_schedules.specs.declared.outcome.Outcome.{Outcome}
 use Rattle.stm_schedules.specs.declared.outcome.RunnerEnd.{RunnerEnd}
 use Rattle.stm_schedules.specs.declared.outcome.RunnerEnd.TheVariants.{Committed, GaveUp, Aborted, Faulted, Ended}
-use Rattle.stm_texts.specs.Writing.{written_list, written_scenario}
-use Rattle.stm_texts.specs.declared.scenario.Scenario.{Scenario}
-use Rattle.stm_explore.specs.declared.exploring.Explored.{Explored}
-use Rattle.stm_explore.specs.declared.exploring.Explored.TheVariants.{Always, Broken, Open}
-use Rattle.stm_exploring.specs.Asking.{scheduled}
+use Rattle.stm_texts.specs.Writing.{written_list}
 
 -- a word and a number
 abbrev pub count_line : List ℕ → ℕ → Data
@@ -34,15 +30,6 @@ abbrev pub end_data : End → Data
 end_data Done = list (string (codes "done") ∷ [])
 end_data (ByAbort text) = list (string (codes "aborted") ∷ string text ∷ [])
 end_data (ByFault fault) = list (string (codes "faulted") ∷ string (fault_name fault) ∷ [])
-
-abbrev pub broken_line : ℕ → End → Data
-broken_line n end = list (string (codes "broken") ∷ whole n ∷ end_data end ∷ [])
-
--- the line of what a search through schedules comes to, and after a rule that is broken the scenario with the schedule
-abbrev pub explored_lines : Scenario → Explored → List Data
-explored_lines s (Always longest) = count_line (codes "always") longest ∷ []
-explored_lines s (Broken moves end) = broken_line (length moves) end ∷ written_scenario (scheduled s moves) ∷ []
-explored_lines s (Open kept) = count_line (codes "open") kept ∷ []
 
 -- ---- what whole schedules come to
 

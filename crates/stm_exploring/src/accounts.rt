@@ -1,8 +1,11 @@
-//! How the runs of programs ended: that a rule is always kept says little where they never did their work, or where it asks for keys that nobody puts.
+//! How the runs of programs ended: that a rule is always kept says little where they never did their work, or where it or they ask for keys that nobody
+//! puts.
 ghost use Rattle.std.specs.Prelude.{◌<◌, length, IfSome};
 ghost use Rattle.stm_serial_search.specs.Search.{AreProgramsOf};
 
 use crate::audience::Audience;
+use crate::rules::{RuleAnswer, has_kept};
+use crate::sought::Sought;
 use crate::unput::{strike_writes, unput_keys};
 use serde_json::Value as Json;
 use std::alloc::{AllocError, Global};
@@ -20,17 +23,17 @@ const MOST_MOVES: u64 = 10000;
 
 /// Of which runners it is said how their runs ended.
 #[derive(Clone, Copy, Debug, PartialEq, Eq)]
-pub(crate) enum Told {
+enum Told {
     /// Of all.
     All,
     /// Of those that never committed.
     Never,
-    /// Of none. It is only said which keys the rule asks for in vain.
+    /// Of none. It is only said which keys the rules ask for in vain.
     None,
 }
 
-/// What is said at the end of a search: all where that is wanted, and where the rule is always kept which runners never committed.
-pub(crate) fn told_of(wants_all: bool, is_kept: bool) -> Told {
+/// What is said at the end of a search: all where that is wanted, and where a rule is always kept which runners never committed.
+fn told_of(wants_all: bool, is_kept: bool) -> Told {
     if wants_all {
         Told::All
     } else if is_kept {
@@ -63,14 +66,24 @@ struct Runs {
     ends: Vec<Came>,
 }
 
+/// What is said of a key that the one rule asks for.
+const OF_THE_RULE: &str = "the rule asks";
+
+/// The same, where there are several.
+const OF_A_RULE: &str = "a rule asks";
+
 /// How the programs of runners end, each run alone, in every serial order.
 #[derive(Drop)]
 struct Account {
     alloc: Global,
     /// By the runners' numbers.
     runners: Vec<Runs>,
-    /// The keys that the rule asks for, and that nothing put so far.
+    /// The keys that rules ask for, and that nothing put so far.
     unput: Vec<Text>,
+    /// Who asks for them.
+    asking: &'static str,
+    /// The keys that programs ask for.
+    sought: Sought,
     /// It goes on while something is to be learned of what is said.
     told: Told,
     /// How many runners have not committed so far.
@@ -165,6 +178,8 @@ impl Account {
         alloc: Global,
         count: usize,
         unput: Vec<Text>,
+        asking: &'static str,
+        sought: Sought,
         told: Told,
     ) -> Result<Account, AllocError> {
         let runners = no_account(alloc, count)?;
@@ -172,6 +187,8 @@ impl Account {
             alloc,
             runners,
             unput,
+            asking,
+            sought,
             told,
             waiting: count,
             left: MOST_MOVES,
@@ -181,6 +198,7 @@ impl Account {
 
     /// Notes how a run of a runner ended.
     fn note_run(&mut self, runner: u64, run: &Run) -> Result<(), AllocError> {
+        self.sought.note_run(runner, run)?;
         match &run.end {
             End::Done => {
                 strike_writes(&mut self.unput, run.writes.as_slice());
@@ -290,13 +308,49 @@ fn tell_runs<O: Audience>(
     Ok(())
 }
 
-/// Says which keys the rule asks for and nothing puts.
+/// Says which of these keys a runner asks for.
+fn tell_keys<O: Audience>(
+    alloc: Global,
+    runner: usize,
+    keys: &[Text],
+    audience: &mut O,
+) -> Result<(), AllocError> {
+    for key in keys {
+        let key = shown_text(alloc, key)?;
+        let line = format!(in alloc;
+            "runner {runner} asks for the key {key}, which is not there and which nothing puts in any serial order"
+        )?;
+        audience.hear(line.as_str());
+    }
+    Ok(())
+}
+
+/// Says which keys the runners ask for of which it is told, and that nothing puts.
+fn tell_sought<O: Audience>(
+    account: &Account,
+    others: &[WorldEvent],
+    audience: &mut O,
+) -> Result<(), AllocError> {
+    let alloc = account.alloc;
+    for index in 0..account.runners.len() {
+        if is_said(&account.runners[index], account.told) {
+            let keys = account.sought.in_vain(alloc, index as u64 + 1, others)?;
+            let told = tell_keys(alloc, index + 1, keys.as_slice(), audience);
+            drop(keys);
+            told?;
+        }
+    }
+    Ok(())
+}
+
+/// Says which keys rules ask for and nothing puts.
 fn tell_unput<O: Audience>(account: &Account, audience: &mut O) -> Result<(), AllocError> {
     let alloc = account.alloc;
+    let asking = account.asking;
     for key in account.unput.as_slice() {
         let key = shown_text(alloc, key)?;
         let line = format!(in alloc;
-            "the rule asks for the key {key}, which is not there and which nothing puts in any serial order"
+            "{asking} for the key {key}, which is not there and which nothing puts in any serial order"
         )?;
         audience.hear(line.as_str());
     }
@@ -304,24 +358,41 @@ fn tell_unput<O: Audience>(account: &Account, audience: &mut O) -> Result<(), Al
 }
 
 /// Says what an account of serial orders has: nothing of keys where not all orders were gone through.
-fn tell_orders<O: Audience>(account: &Account, audience: &mut O) -> Result<(), AllocError> {
+fn tell_orders<O: Audience>(
+    account: &Account,
+    others: &[WorldEvent],
+    audience: &mut O,
+) -> Result<(), AllocError> {
     if account.left == 0 {
         return tell_runs(account, account.told, OF_SOME_ORDERS, audience);
     }
     tell_runs(account, account.told, OF_ALL_ORDERS, audience)?;
+    tell_sought(account, others, audience)?;
     tell_unput(account, audience)
 }
 
-/// The account of no run, about a rule.
+/// The account of no run, about rules.
 fn account_before(
     alloc: Global,
     world: &World,
     others: &[WorldEvent],
-    rule: &Program,
+    answers: &[RuleAnswer],
     told: Told,
 ) -> Result<Account, AllocError> {
-    let unput = unput_keys(alloc, rule, world, others)?;
-    Account::new(alloc, world.runner_count(), unput, told)
+    let unput = unput_keys(alloc, answers, world, others)?;
+    let asking = if answers.len() == 1 {
+        OF_THE_RULE
+    } else {
+        OF_A_RULE
+    };
+    let sought = match Sought::new(alloc, world) {
+        Ok(sought) => sought,
+        Err(_) => {
+            drop(unput);
+            return Err(AllocError);
+        }
+    };
+    Account::new(alloc, world.runner_count(), unput, asking, sought, told)
 }
 
 /// Makes an account, and says it.
@@ -330,34 +401,34 @@ fn make_account<O: Audience>(
     world: &World,
     others: &[WorldEvent],
     programs: &[Program],
-    rule: &Program,
+    answers: &[RuleAnswer],
     told: Told,
     audience: &mut O,
 ) -> Result<(), AllocError>
     requires { AreProgramsOf programs.now world.now.runners }
 {
-    let mut account = account_before(alloc, world, others, rule, told)?;
+    let mut account = account_before(alloc, world, others, answers, told)?;
     go_through_orders(alloc, world, others, programs, &mut account)?;
     if account.is_cut {
         return Err(AllocError);
     }
-    tell_orders(&account, audience)
+    tell_orders(&account, others, audience)
 }
 
-/// Says how the runs ended of the runners of which it is told, each program run alone in every serial order, and which keys the rule asks for that are not
+/// Says how the runs ended of the runners of which it is told, each program run alone in every serial order, and which keys the rules ask for that are not
 /// there and that nothing puts. Or it says that an allocation failed for it.
 pub(crate) fn tell_account<O: Audience>(
     alloc: Global,
     world: &World,
     others: &[WorldEvent],
     programs: &[Program],
-    rule: &Program,
-    told: Told,
+    answers: &[RuleAnswer],
     audience: &mut O,
 )
     requires { AreProgramsOf programs.now world.now.runners }
 {
-    if let Err(_) = make_account(alloc, world, others, programs, rule, told, audience) {
+    let told = told_of(audience.wants_all(), has_kept(answers));
+    if let Err(_) = make_account(alloc, world, others, programs, answers, told, audience) {
         audience.hear(NO_MEMORY);
     }
 }

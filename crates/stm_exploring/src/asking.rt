@@ -35,7 +35,7 @@ fn put_level(event: &mut WorldEvent, named: Level)
 }
 
 /// Puts a level into each start.
-fn put_levels(events: &mut Vec<WorldEvent>, level: Level)
+pub(crate) fn put_levels(events: &mut Vec<WorldEvent>, level: Level)
     ensures { events.new.items ≡ map (at_level level) events.old.items }
 {
     for i in 0..events.len() {

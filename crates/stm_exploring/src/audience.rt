@@ -20,6 +20,42 @@ impl Audience for Nobody {
     fn hear(&mut self, _line: &str) {}
 }
 
+/// An audience that hears a name before each line.
+#[derive(Drop)]
+pub(crate) struct Beside<'a, O> {
+    pub(crate) alloc: Global,
+    pub(crate) name: &'a str,
+    pub(crate) audience: &'a mut O,
+}
+
+impl<O: Observer> Observer for Beside<'_, O> {
+    fn passed(&mut self, length: u64, left: u64) {
+        self.audience.passed(length, left);
+    }
+
+    fn spent(&mut self, left: u64) {
+        self.audience.spent(left);
+    }
+
+    fn ended(&mut self) {
+        self.audience.ended();
+    }
+}
+
+impl<O: Audience> Audience for Beside<'_, O> {
+    fn wants_all(&self) -> bool {
+        self.audience.wants_all()
+    }
+
+    fn hear(&mut self, line: &str) {
+        let alloc = self.alloc;
+        let name = self.name;
+        if let Ok(line) = format!(in alloc; "{name}: {line}") {
+            self.audience.hear(line.as_str());
+        }
+    }
+}
+
 /// Says how many steps of a scenario are left out, where there are any. Nothing is said where an allocation fails for it.
 pub(crate) fn tell_left_out<O: Audience>(alloc: Global, steps: usize, audience: &mut O) {
     if steps == 0 {

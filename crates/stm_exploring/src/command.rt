@@ -2,18 +2,20 @@
 ghost use Rattle.std.specs.Prelude.{◌≡◌, ◌≤◌, ◌+◌, ◌++◌, false};
 ghost use Rattle.stm_devices.specs.declared.transfer.TheConstants.{MOST_READ};
 ghost use Rattle.stm_explain.specs.Saying.{status_of as code_of, text_of, Reports};
-ghost use Rattle.stm_exploring.specs.Command.{verdict_status, fault_status, fault_message, SaysOf, Writes, Finishes, Explores, GoesThrough};
+ghost use Rattle.stm_exploring.specs.Command.{verdict_status, fault_status, fault_message, SaysOf, Writes, Finishes, Explores, ExploresFor, ExploresLevels, GoesThrough, ReadsRule};
 
 use crate::audience::Audience;
-use crate::exploring::explore_sources;
+use crate::exploring::{explore_sources, search_for};
+use crate::leveled::search_at_levels;
 use crate::outcomes::outcomes_of_source;
 use crate::printed::{Printed, SearchAnswer};
-use crate::reading::ExploreFault;
+use crate::reading::{ExploreFault, program_of};
+use crate::rules::Rule;
 use std::alloc::Global;
 use stm_devices::{Sink, Source};
 use stm_explain::{Message, write_text};
 use stm_explore::{Budget, Wait};
-use stm_program::Level;
+use stm_program::{Level, Program};
 
 /// The status of what a search came to.
 pub(crate) fn status_of(verdict: SearchAnswer) -> u8
@@ -133,6 +135,92 @@ pub fn explore_to<S: Source, R: Source, W: Sink, E: Sink, O: Audience>(
 {
     finish(
         explore_sources(alloc, scenario, keeps, waits, level, budget),
+        out,
+        err,
+    )
+}
+
+/// Reads the program of a rule from its source to the end, or gives a status.
+///
+/// Status 2 is for a bad program, 3 for a failed allocation and for a failed source. On `err` it says what went wrong, and takes no memory for it, as
+/// `explore_to` does. Neither device has failed before. The source is read at most 16777217 times.
+pub fn read_rule_to<R: Source, E: Sink>(
+    alloc: Global,
+    rule: &mut R,
+    err: &mut E,
+) -> Result<Program, u8>
+    requires rule_works { R.failed rule.old ≡ false }
+    requires err_works { E.failed err.old ≡ false }
+    ensures reads { ReadsRule (R.left rule.old) (R.failed rule.new)
+        (record { before = E.held err.old; after = E.held err.new; failed = E.failed err.new }) result }
+    ensures bounded { R.reads rule.new ≤ R.reads rule.old + MOST_READ }
+{
+    match program_of(alloc, rule) {
+        Ok(program) => Ok(program),
+        Err(fault) => Err(report_fault(err, &fault)),
+    }
+}
+
+/// Looks through the interleavings of the scenario of `scenario`, for each of these rules in their order, and writes to `out` what that came to.
+///
+/// There is a line for each rule, as `explore_to` writes it, with its name as a last element, if it has one. Where a rule is broken, a last line has the
+/// scenario with the schedule that breaks the first one that is. For each rule as many events may be taken as `budget` has left. Status 1 is for a rule
+/// that is broken, else 4 for one of which that was not decided, else 0.
+///
+/// All else is as with `explore_to`, which reads the rule from a device.
+pub fn explore_rules_to<S: Source, W: Sink, E: Sink, O: Audience>(
+    alloc: Global,
+    scenario: &mut S,
+    rules: &[Rule],
+    waits: &[Wait],
+    level: Option<Level>,
+    budget: &mut Budget<O>,
+    out: &mut W,
+    err: &mut E,
+) -> u8
+    requires scenario_works { S.failed scenario.old ≡ false }
+    requires out_works { W.failed out.old ≡ false }
+    requires err_works { E.failed err.old ≡ false }
+    ensures ends { ExploresFor waits.now level rules.now (S.left scenario.old) (S.failed scenario.new)
+        (record { before = W.held out.old; after = W.held out.new; failed = W.failed out.new })
+        (record { before = E.held err.old; after = E.held err.new; failed = E.failed err.new }) result }
+    ensures bounded { S.reads scenario.new ≤ S.reads scenario.old + MOST_READ }
+{
+    finish(
+        search_for(alloc, scenario, rules, waits, level, budget),
+        out,
+        err,
+    )
+}
+
+/// Looks through the interleavings of the scenario of `scenario` with its starts at each of the four levels, the weakest first, for each of these rules,
+/// and writes to `out` what that came to.
+///
+/// There are the lines of each level, as `explore_rules_to` writes them, with the level as a last element and without a schedule; and then
+/// `["enough",LEVEL]`, the first level from which on every schedule keeps every rule, or `["enough",null]`. Status 1 is for a rule that is broken at a level
+/// at which it is to be kept, else 4 for one of which that was not decided, else 0. At each level as many events may be taken for each rule as `budget` has
+/// left.
+///
+/// All else is as with `explore_rules_to`.
+pub fn explore_levels_to<S: Source, W: Sink, E: Sink, O: Audience>(
+    alloc: Global,
+    scenario: &mut S,
+    rules: &[Rule],
+    waits: &[Wait],
+    budget: &mut Budget<O>,
+    out: &mut W,
+    err: &mut E,
+) -> u8
+    requires scenario_works { S.failed scenario.old ≡ false }
+    requires out_works { W.failed out.old ≡ false }
+    requires err_works { E.failed err.old ≡ false }
+    ensures ends { ExploresLevels waits.now rules.now (S.left scenario.old) (S.failed scenario.new)
+        (record { before = W.held out.old; after = W.held out.new; failed = W.failed out.new })
+        (record { before = E.held err.old; after = E.held err.new; failed = E.failed err.new }) result }
+    ensures bounded { S.reads scenario.new ≤ S.reads scenario.old + MOST_READ }
+{
+    finish(
+        search_at_levels(alloc, scenario, rules, waits, budget),
         out,
         err,
     )

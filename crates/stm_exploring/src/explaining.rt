@@ -5,20 +5,22 @@ ghost use Rattle.stm_explain.specs.Saying.{Says};
 ghost use Rattle.stm_texts.specs.Reading.{scenario_in};
 ghost use Rattle.stm_faulted_runs.specs.Rules.{ExplainsRule};
 ghost use Rattle.stm_exploring.specs.Command.{verdict_status};
-ghost use Rattle.stm_exploring.specs.Explaining.{ExplainsFault, ExplainsScenario, SaysMoreOf, SaysOfVerdict, schedule_in, ExplainsOnSchedule, ExplainsSearched, Explores, GoesThrough};
+ghost use Rattle.stm_exploring.specs.Explaining.{ExplainsFault, ExplainsProgram, ExplainsScenario, SaysMoreOf, SaysOfVerdict, schedule_in, ExplainsOnSchedule, ExplainsSearched, Explores, ExploresFor, ExploresLevels, GoesThrough, ReadsRule};
 
 use crate::audience::Audience;
 use crate::command::{report_with, status_of, write};
-use crate::exploring::explore_sources;
+use crate::exploring::{explore_sources, search_for};
+use crate::leveled::search_at_levels;
 use crate::outcomes::outcomes_of_source;
 use crate::printed::{Printed, SearchAnswer};
-use crate::reading::ExploreFault;
+use crate::reading::{ExploreFault, program_of};
+use crate::rules::Rule;
 use std::alloc::{AllocError, Global};
 use stm_devices::{Sink, Source};
 use stm_explain::{Input, KeptSource, write_text};
 use stm_explore::{Budget, Wait};
 use stm_faulted_runs::{Named, rule_explained, said_of};
-use stm_program::Level;
+use stm_program::{Level, Program};
 
 /// The explanation of what is wrong with a scenario or with the program of a rule; none of another fault.
 fn rule_explanation<S, R>(
@@ -49,6 +51,16 @@ fn search_explanation<S>(
 {
     match fault {
         ExploreFault::BadScenario(bad) => scenario.explanation(alloc, Input::Scenario, bad),
+        _ => String::new(alloc),
+    }
+}
+
+/// The explanation of what is wrong with the program of a rule; none of another fault.
+fn program_explanation<R>(alloc: Global, rule: &KeptSource<'_, R>, fault: &ExploreFault) -> String
+    ensures { ExplainsProgram (record { name = rule.now.name.now; text = rule.now.bytes.items }) fault.now (string_bytes result) }
+{
+    match fault {
+        ExploreFault::BadProgram(bad) => rule.explanation(alloc, Input::Program, bad),
         _ => String::new(alloc),
     }
 }
@@ -157,6 +169,21 @@ fn report_search_fault<S, E: Sink>(
     report_with(err, fault, more.as_str())
 }
 
+/// Says what went wrong with reading a rule, explains it, and gives the status.
+fn report_program_fault<R, E: Sink>(
+    alloc: Global,
+    rule: &KeptSource<'_, R>,
+    fault: &ExploreFault,
+    err: &mut E,
+) -> u8
+    requires { E.failed err.old ≡ false }
+    ensures { SaysMoreOf (ExplainsProgram (record { name = rule.now.name.now; text = rule.now.bytes.items }))
+        (E.held err.old) (E.held err.new) (E.failed err.new) fault.now result }
+{
+    let more = program_explanation(alloc, rule, fault);
+    report_with(err, fault, more.as_str())
+}
+
 /// Does what `explore_to` does, with that status and that output. After what is said of a bad input stands its explanation, as a line
 /// `NAME:LINE:COLUMN: WORDS`, and after what is printed of a rule that was broken by a fault a line of that form; or nothing where an allocation
 /// failed for these.
@@ -190,6 +217,78 @@ pub fn explore_explained_to<S: Source, R: Source, W: Sink, E: Sink, O: Audience>
     match write(out, searched) {
         Ok(verdict) => report_verdict(err, verdict, said_of(&explained)),
         Err(fault) => report_rule_fault(alloc, scenario, keeps, &fault, err),
+    }
+}
+
+/// Does what `read_rule_to` does. After what is said of a bad program stands its explanation, as a line `NAME:LINE:COLUMN: WORDS`, or nothing where an
+/// allocation failed for it.
+pub fn read_rule_explained_to<R: Source, E: Sink>(
+    alloc: Global,
+    rule: &mut KeptSource<'_, R>,
+    err: &mut E,
+) -> Result<Program, u8>
+    requires rule_works { R.failed rule.old.source ≡ false }
+    requires err_works { E.failed err.old ≡ false }
+    ensures reads { ReadsRule (record { name = rule.new.name.now; text = rule.new.bytes.items }) (R.left rule.old.source) (R.failed rule.new.source)
+        (record { before = E.held err.old; after = E.held err.new; failed = E.failed err.new }) result }
+    ensures bounded { R.reads rule.new.source ≤ R.reads rule.old.source + MOST_READ }
+{
+    match program_of(alloc, rule) {
+        Ok(program) => Ok(program),
+        Err(fault) => Err(report_program_fault(alloc, rule, &fault, err)),
+    }
+}
+
+/// Does what `explore_rules_to` does, with that status and that output. After what is said of a bad scenario stands its explanation, as a line
+/// `NAME:LINE:COLUMN: WORDS`, or nothing where an allocation failed for it.
+pub fn explore_rules_explained_to<S: Source, W: Sink, E: Sink, O: Audience>(
+    alloc: Global,
+    scenario: &mut KeptSource<'_, S>,
+    rules: &[Rule],
+    waits: &[Wait],
+    level: Option<Level>,
+    budget: &mut Budget<O>,
+    out: &mut W,
+    err: &mut E,
+) -> u8
+    requires scenario_works { S.failed scenario.old.source ≡ false }
+    requires out_works { W.failed out.old ≡ false }
+    requires err_works { E.failed err.old ≡ false }
+    ensures ends { ExploresFor waits.now level rules.now (record { name = scenario.new.name.now; text = scenario.new.bytes.items }) (S.left scenario.old.source) (S.failed scenario.new.source)
+        (record { before = W.held out.old; after = W.held out.new; failed = W.failed out.new })
+        (record { before = E.held err.old; after = E.held err.new; failed = E.failed err.new }) result }
+    ensures bounded { S.reads scenario.new.source ≤ S.reads scenario.old.source + MOST_READ }
+{
+    let searched = search_for(alloc, scenario, rules, waits, level, budget);
+    match write(out, searched) {
+        Ok(verdict) => status_of(verdict),
+        Err(fault) => report_search_fault(alloc, scenario, &fault, err),
+    }
+}
+
+/// Does what `explore_levels_to` does, with that status and that output. After what is said of a bad scenario stands its explanation, as a line
+/// `NAME:LINE:COLUMN: WORDS`, or nothing where an allocation failed for it.
+pub fn explore_levels_explained_to<S: Source, W: Sink, E: Sink, O: Audience>(
+    alloc: Global,
+    scenario: &mut KeptSource<'_, S>,
+    rules: &[Rule],
+    waits: &[Wait],
+    budget: &mut Budget<O>,
+    out: &mut W,
+    err: &mut E,
+) -> u8
+    requires scenario_works { S.failed scenario.old.source ≡ false }
+    requires out_works { W.failed out.old ≡ false }
+    requires err_works { E.failed err.old ≡ false }
+    ensures ends { ExploresLevels waits.now rules.now (record { name = scenario.new.name.now; text = scenario.new.bytes.items }) (S.left scenario.old.source) (S.failed scenario.new.source)
+        (record { before = W.held out.old; after = W.held out.new; failed = W.failed out.new })
+        (record { before = E.held err.old; after = E.held err.new; failed = E.failed err.new }) result }
+    ensures bounded { S.reads scenario.new.source ≤ S.reads scenario.old.source + MOST_READ }
+{
+    let searched = search_at_levels(alloc, scenario, rules, waits, budget);
+    match write(out, searched) {
+        Ok(verdict) => status_of(verdict),
+        Err(fault) => report_search_fault(alloc, scenario, &fault, err),
     }
 }
 

@@ -1,17 +1,42 @@
-//! A search about a scenario and a rule, from their sources to what is printed.
-ghost use Rattle.std.specs.Prelude.{◌≡◌, ◌≤◌, ◌+◌, false};
+//! A search about a scenario and rules, from their sources to what is printed.
+ghost use Rattle.std.specs.Prelude.{◌≡◌, ◌≤◌, ◌+◌, [], ◌∷◌, false, IfErr, IfOk};
 ghost use Rattle.stm_devices.specs.declared.transfer.TheConstants.{MOST_READ};
-ghost use Rattle.stm_exploring.specs.Exploring.{Searches};
+ghost use Rattle.stm_serial_search.specs.Started.{HaveNoStep};
+ghost use Rattle.stm_exploring.specs.declared.reading.ExploreFault.TheVariants.{OutOfMemory};
+ghost use Rattle.stm_exploring.specs.Exploring.{IsPrinted, Searches, SearchesFor};
+ghost use Rattle.stm_exploring.specs.Judging.{alone};
 
 use crate::audience::Audience;
 use crate::printed::Printed;
 use crate::reading::{ExploreFault, program_of, scenario_of};
+use crate::rules::{Rule, alone};
 use crate::searching::search;
 use crate::waits::check_waits;
 use std::alloc::Global;
+use std::slice;
 use stm_devices::Source;
 use stm_explore::{Budget, Wait};
-use stm_program::Level;
+use stm_program::{Level, Program};
+use stm_texts::Scenario;
+
+/// What is printed of a search for the rule of a program.
+fn search_alone<O: Audience>(
+    alloc: Global,
+    scenario: &Scenario,
+    waits: &[Wait],
+    keeps: Program,
+    budget: &mut Budget<O>,
+) -> Result<Printed, ExploreFault>
+    requires stepless { HaveNoStep scenario.now.events }
+    ensures printed { IfOk result (IsPrinted waits.now scenario.now (alone keeps ∷ [])) }
+    ensures memory { IfErr result (λ fault. fault ≡ OutOfMemory) }
+{
+    let rule = alone(keeps);
+    match search(alloc, scenario, waits, slice::from_ref(&rule), budget) {
+        Ok(printed) => Ok(printed),
+        Err(_) => Err(ExploreFault::OutOfMemory),
+    }
+}
 
 /// Reads a scenario from its source to the end, then the program of a rule from its own, and looks after which schedules of the scenario the
 /// rule is kept: the first by length, and then by the order of their moves, after which it is not, or that there is none.
@@ -43,7 +68,26 @@ pub fn explore_sources<S: Source, R: Source, O: Audience>(
     let scenario = scenario_of(alloc, scenario, level, &mut budget.observer)?;
     let keeps = program_of(alloc, keeps)?;
     check_waits(alloc, &scenario, waits, &mut budget.observer)?;
-    match search(alloc, &scenario, waits, &keeps, budget) {
+    search_alone(alloc, &scenario, waits, keeps, budget)
+}
+
+/// Reads a scenario from its source to the end, and looks for each rule after which schedules of it the rule is kept, as `explore_sources` does: one
+/// after another, and for each at most as many events are taken as `budget` has left.
+pub fn search_for<S: Source, O: Audience>(
+    alloc: Global,
+    scenario: &mut S,
+    rules: &[Rule],
+    waits: &[Wait],
+    level: Option<Level>,
+    budget: &mut Budget<O>,
+) -> Result<Printed, ExploreFault>
+    requires { S.failed scenario.old ≡ false }
+    ensures searched { SearchesFor waits.now level rules.now (S.left scenario.old) (S.failed scenario.new) result }
+    ensures bounded { S.reads scenario.new ≤ S.reads scenario.old + MOST_READ }
+{
+    let asked = scenario_of(alloc, scenario, level, &mut budget.observer)?;
+    check_waits(alloc, &asked, waits, &mut budget.observer)?;
+    match search(alloc, &asked, waits, rules, budget) {
         Ok(printed) => Ok(printed),
         Err(_) => Err(ExploreFault::OutOfMemory),
     }

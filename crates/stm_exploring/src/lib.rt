@@ -13,29 +13,39 @@ mod explaining;
 mod exploring;
 mod judging;
 mod laws;
+mod level_lines;
+mod leveled;
 mod lines;
 mod lists;
 mod outcome_lines;
 mod outcomes;
 mod printed;
+mod printing;
 mod progress;
 mod reading;
+mod rules;
 mod schedule_lines;
 mod searching;
 mod setup;
+mod sought;
 mod unput;
 mod waits;
 mod watching;
 
 pub use audience::Audience;
-pub use command::{explore_to, outcomes_to};
-pub use explaining::{explore_explained_to, outcomes_explained_to};
-pub use exploring::explore_sources;
+pub use command::{explore_levels_to, explore_rules_to, explore_to, outcomes_to, read_rule_to};
+pub use explaining::{
+    explore_explained_to, explore_levels_explained_to, explore_rules_explained_to,
+    outcomes_explained_to, read_rule_explained_to,
+};
+pub use exploring::{explore_sources, search_for};
 pub use laws::schedules_spell;
+pub use leveled::search_at_levels;
 pub use outcomes::outcomes_of_source;
 pub use printed::{Printed, SearchAnswer};
 pub use progress::{ProgressLine, ProgressNotes};
 pub use reading::ExploreFault;
+pub use rules::Rule;
 pub use stm_devices::{DeviceFault, Sink, Source, Std};
 pub use stm_explain::{Input, KeptSource};
 pub use stm_explore::{Budget, Nobody, Observer, Wait};

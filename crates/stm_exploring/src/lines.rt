@@ -1,12 +1,18 @@
 //! The lines of an answer.
-ghost use Rattle.std.specs.Prelude.{◌≡◌, ◌++◌, IfOk, OnOk, string_bytes};
+ghost use Rattle.std.specs.Prelude.{◌≡◌, ◌++◌, [], ◌∷◌, map, option_map, IfOk, OnOk, codes, length, string_bytes};
+ghost use Rattle.serde_json.specs.Data.{null, string};
 ghost use Rattle.serde_json.specs.View.{view};
+ghost use Rattle.stm_report_lines.specs.LineData.{list, whole};
 ghost use Rattle.stm_report_lines.specs.Text.{line_text};
-ghost use Rattle.stm_exploring.specs.Judging.{always_line};
-ghost use Rattle.stm_exploring.specs.Lines.{count_line, end_data, broken_line};
+ghost use Rattle.stm_exploring.specs.Judging.{answer_line, answer_parts, answer_text, explored_parts, name_parts, named_parts};
+ghost use Rattle.stm_exploring.specs.Lines.{count_line, end_data};
 
+use crate::judging::Answer;
+use crate::rules::RuleAnswer;
 use serde_json::{Value as Json, json};
 use std::alloc::{AllocError, Global};
+use stm_explore::Explored;
+use stm_history::Text;
 use stm_meaning::End;
 use stm_report_lines::push_line;
 
@@ -39,21 +45,6 @@ pub(crate) fn count_text(alloc: Global, word: &str, count: u64) -> Result<String
     Ok(text)
 }
 
-/// The line of a rule that is always kept, without the length of the longest schedule.
-fn always_json(alloc: Global) -> Result<Json, AllocError>
-    ensures { IfOk result (λ v. view v ≡ always_line) }
-{
-    json!(in alloc; ["always", null])
-}
-
-/// Adds that line.
-pub(crate) fn push_always(alloc: Global, text: &mut String) -> Result<(), AllocError>
-    ensures { OnOk result (string_bytes text.new ≡ string_bytes text.old ++ line_text always_line) }
-{
-    let line = always_json(alloc)?;
-    push_line(alloc, text, &line)
-}
-
 /// An end of a program at which its rule is not kept.
 fn end_json(alloc: Global, end: &End) -> Result<Json, AllocError>
     ensures { IfOk result (λ v. view v ≡ end_data end.now) }
@@ -65,23 +56,104 @@ fn end_json(alloc: Global, end: &End) -> Result<Json, AllocError>
     }
 }
 
-/// The line of a rule that is not kept after this many moves.
-fn broken_json(alloc: Global, moves: u64, end: &End) -> Result<Json, AllocError>
-    ensures { IfOk result (λ v. view v ≡ broken_line moves end.now) }
+/// The elements of the line of a word and a number.
+fn count_parts(alloc: Global, word: &str, count: u64) -> Result<Vec<Json>, AllocError>
+    ensures { IfOk result (λ parts. map view parts.items ≡ string word.now ∷ whole count ∷ []) }
 {
-    let end = end_json(alloc, end)?;
-    json!(in alloc; ["broken", moves, end])
+    let word = json!(in alloc; word)?;
+    let count = json!(in alloc; count)?;
+    let parts = vec![in alloc; word, count]?;
+    Ok(parts)
 }
 
-/// Adds that line.
-pub(crate) fn push_broken(
+/// The elements of the line of a rule that is always kept, without the length of the longest schedule.
+fn always_parts(alloc: Global) -> Result<Vec<Json>, AllocError>
+    ensures { IfOk result (λ parts. map view parts.items ≡ string (codes "always") ∷ null ∷ []) }
+{
+    let word = json!(in alloc; "always")?;
+    let parts = vec![in alloc; word, Json::Null]?;
+    Ok(parts)
+}
+
+/// The elements of the line of a rule that is not kept after this many moves.
+fn broken_parts(alloc: Global, moves: u64, end: &End) -> Result<Vec<Json>, AllocError>
+    ensures { IfOk result (λ parts. map view parts.items ≡ string (codes "broken") ∷ whole moves ∷ end_data end.now ∷ []) }
+{
+    let word = json!(in alloc; "broken")?;
+    let moves = json!(in alloc; moves)?;
+    let end = end_json(alloc, end)?;
+    let parts = vec![in alloc; word, moves, end]?;
+    Ok(parts)
+}
+
+/// The elements of the line of what a search through schedules came to.
+fn explored_parts(alloc: Global, explored: &Explored) -> Result<Vec<Json>, AllocError>
+    ensures { IfOk result (λ parts. map view parts.items ≡ explored_parts explored.now) }
+{
+    match explored {
+        Explored::Always { longest } => count_parts(alloc, "always", *longest),
+        Explored::Broken { moves, end } => broken_parts(alloc, moves.len() as u64, end),
+        Explored::Open { kept } => count_parts(alloc, "open", *kept),
+    }
+}
+
+/// The elements of the line of an answer.
+fn answer_parts(alloc: Global, answer: &Answer) -> Result<Vec<Json>, AllocError>
+    ensures { IfOk result (λ parts. map view parts.items ≡ answer_parts answer.now) }
+{
+    match answer {
+        Answer::BySchedules(explored) => explored_parts(alloc, explored),
+        Answer::AlwaysByOrders => always_parts(alloc),
+        Answer::BrokenByOrder(found) => {
+            broken_parts(alloc, found.moves.len() as u64, &found.end)
+        }
+    }
+}
+
+/// Adds a text to the elements of a line.
+pub(crate) fn push_word(alloc: Global, parts: &mut Vec<Json>, word: &str) -> Result<(), AllocError>
+    ensures { OnOk result (map view parts.new.items ≡ map view parts.old.items ++ string word.now ∷ []) }
+{
+    let word = json!(in alloc; word)?;
+    parts.push(word)?;
+    Ok(())
+}
+
+/// Adds the name of a rule to the elements of a line, where it has one.
+fn push_name(alloc: Global, parts: &mut Vec<Json>, name: &Option<Text>) -> Result<(), AllocError>
+    ensures { OnOk result (map view parts.new.items ≡ map view parts.old.items ++ name_parts name.now) }
+{
+    match name {
+        Some(name) => push_word(alloc, parts, name.as_str()),
+        None => Ok(()),
+    }
+}
+
+/// The elements of the line of an answer, and the name of its rule.
+pub(crate) fn named_parts(alloc: Global, a: &RuleAnswer) -> Result<Vec<Json>, AllocError>
+    ensures { IfOk result (λ parts. map view parts.items ≡ named_parts a.now) }
+{
+    let mut parts = answer_parts(alloc, &a.answer)?;
+    push_name(alloc, &mut parts, &a.rule.name)?;
+    Ok(parts)
+}
+
+/// The line of an answer, as JSON.
+fn answer_json(alloc: Global, a: &RuleAnswer) -> Result<Json, AllocError>
+    ensures { IfOk result (λ v. view v ≡ answer_line a.now) }
+{
+    let parts = named_parts(alloc, a)?;
+    Ok(Json::Array(parts))
+}
+
+/// Adds the line of an answer.
+pub(crate) fn push_answer(
     alloc: Global,
     text: &mut String,
-    moves: u64,
-    end: &End,
+    a: &RuleAnswer,
 ) -> Result<(), AllocError>
-    ensures { OnOk result (string_bytes text.new ≡ string_bytes text.old ++ line_text (broken_line moves end.now)) }
+    ensures { OnOk result (string_bytes text.new ≡ string_bytes text.old ++ answer_text a.now) }
 {
-    let line = broken_json(alloc, moves, end)?;
+    let line = answer_json(alloc, a)?;
     push_line(alloc, text, &line)
 }

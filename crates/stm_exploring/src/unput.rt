@@ -1,6 +1,7 @@
-//! The keys that a rule asks for and that nothing puts. Most are misspelt.
+//! The keys that rules ask for and that nothing puts. Most are misspelt.
 ghost use Rattle.std.specs.Prelude.{◌<◌, length, IfSome};
 
+use crate::rules::RuleAnswer;
 use std::alloc::{AllocError, Global};
 use stm_history::Text;
 use stm_meaning::run_alone;
@@ -11,7 +12,7 @@ use stm_steps::State;
 use stm_texts::WorldEvent;
 
 /// Where a key is among these.
-fn place_of(keys: &[Text], key: &Text) -> Option<usize>
+pub(crate) fn place_of(keys: &[Text], key: &Text) -> Option<usize>
     ensures { IfSome result (λ place. place < length keys.now) }
 {
     for place in 0..keys.len() {
@@ -50,7 +51,7 @@ fn strike_operations(keys: &mut Vec<Text>, operations: &[Op]) {
 }
 
 /// Strikes out what events put.
-fn strike_events(keys: &mut Vec<Text>, events: &[WorldEvent]) {
+pub(crate) fn strike_events(keys: &mut Vec<Text>, events: &[WorldEvent]) {
     for event in events {
         if let WorldEvent::Txn { txn } = event {
             strike_operations(keys, txn.success.as_slice());
@@ -59,35 +60,52 @@ fn strike_events(keys: &mut Vec<Text>, events: &[WorldEvent]) {
     }
 }
 
-/// Those of these keys that are absent.
-fn absent_of(alloc: Global, keys: &[Text], state: &State) -> Result<Vec<Text>, AllocError> {
-    let mut absent = Vec::new(alloc);
+/// Adds those of these keys that are absent, each once.
+fn add_absent(absent: &mut Vec<Text>, keys: &[Text], state: &State) -> Result<(), AllocError> {
     for key in keys {
-        if state.get(key.as_str()).is_none() {
+        if state.get(key.as_str()).is_none() && place_of(absent.as_slice(), key).is_none() {
             let copy = key.clone()?;
             absent.push(copy)?;
         }
     }
+    Ok(())
+}
+
+/// Adds the keys that a rule's program asks for on a state, and that are absent there.
+fn add_asked(
+    alloc: Global,
+    absent: &mut Vec<Text>,
+    rule: &Program,
+    state: &State,
+) -> Result<(), AllocError> {
+    let run = run_alone(alloc, rule, state)?;
+    let added = add_absent(absent, run.reads.as_slice(), state);
+    drop(run);
+    added
+}
+
+/// The keys that rules ask for on a state, and that are absent there.
+fn asked_in_vain(
+    alloc: Global,
+    answers: &[RuleAnswer],
+    state: &State,
+) -> Result<Vec<Text>, AllocError> {
+    let mut absent = Vec::new(alloc);
+    for a in answers {
+        add_asked(alloc, &mut absent, &a.rule.program, state)?;
+    }
     Ok(absent)
 }
 
-/// The keys that a rule's program asks for on a state, and that are absent there.
-fn asked_in_vain(alloc: Global, rule: &Program, state: &State) -> Result<Vec<Text>, AllocError> {
-    let run = run_alone(alloc, rule, state)?;
-    let absent = absent_of(alloc, run.reads.as_slice(), state);
-    drop(run);
-    absent
-}
-
-/// The keys that a rule's program asks for where a world is, that are absent there, and that no event of the others puts.
+/// The keys that rules ask for where a world is, that are absent there, and that no event of the others puts.
 pub(crate) fn unput_keys(
     alloc: Global,
-    rule: &Program,
+    answers: &[RuleAnswer],
     world: &World,
     others: &[WorldEvent],
 ) -> Result<Vec<Text>, AllocError> {
     let state = world.state()?;
-    let absent = asked_in_vain(alloc, rule, &state);
+    let absent = asked_in_vain(alloc, answers, &state);
     drop(state);
     let mut keys = absent?;
     strike_events(&mut keys, others);

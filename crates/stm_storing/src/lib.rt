@@ -14,7 +14,7 @@ mod showing;
 pub use fault::StoreFault;
 pub use input::{read_input, read_program};
 pub use past::{show_at, show_since};
-pub use running::{Manner, run_kept};
+pub use running::{Manner, run_anew, run_kept};
 pub use scripting::script_kept;
 pub use showing::{Checked, check_kept, show_kept};
 pub use stm_lasting::{Disk, RecordFile};

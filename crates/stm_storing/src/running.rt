@@ -235,3 +235,26 @@ pub fn run_kept<D: Disk, W: Sink>(
     write_end(records.alloc, tried.events, &tried.end, out)?;
     Ok(is_committed)
 }
+
+/// Runs a program alone over an empty store, of which nothing is kept, and writes the line of its last event to a sink: `false`. Where it would commit
+/// nothing is written: `true`.
+///
+/// At a refusal other than `Output` nothing was written.
+pub fn run_anew<W: Sink>(
+    alloc: Global,
+    program: Program,
+    manner: Manner,
+    out: &mut W,
+) -> Result<bool, StoreFault>
+    requires out_works { W.failed out.old ≡ false }
+    ensures untouched { IfOk result (λ would. would ≡ true → (W.held out.new ≡ W.held out.old) × (W.failed out.new ≡ false)) }
+    ensures silent { IfErr result (λ e. (e ≡ StoreFault.Output → ⊥) → W.held out.new ≡ W.held out.old) }
+{
+    let world = World::new(alloc)?;
+    let tried = try_out(world, program, manner)?;
+    if is_committed(&tried.end) {
+        return Ok(true);
+    }
+    write_end(alloc, tried.events, &tried.end, out)?;
+    Ok(false)
+}

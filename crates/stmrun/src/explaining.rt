@@ -3,7 +3,7 @@ ghost use Rattle.std.specs.Prelude.{◌≡◌, false};
 
 use crate::files::{Opened, open};
 use crate::noting::Noting;
-use crate::sources::ScenarioFile;
+use crate::sources::JsonFile;
 use crate::terminals::{close, shown_budget};
 use std::io;
 use std::io::Input;
@@ -41,15 +41,15 @@ fn kept<'a, R: Files + Input + AllocGlobal>(
     KeptSource::new(rt.alloc(), name_of(path), source)
 }
 
-/// A scenario, to be read and kept.
-pub(crate) fn kept_scenario<'a, R: Files + Input + AllocGlobal>(
+/// What is read as JSON, to be read and kept.
+pub(crate) fn kept_json<'a, R: Files + Input + AllocGlobal>(
     rt: &R,
-    scenario: &'a ScenarioFile<'_>,
+    file: &'a JsonFile<'_>,
 ) -> KeptSource<'a, Std<Noting<Opened<R::File, R::Reader, &'a [u8]>>>>
     ensures { result.source.failed ≡ false }
 {
-    let source = Std::new(Noting::new(scenario.open(rt)));
-    KeptSource::new(rt.alloc(), scenario.name(), source)
+    let source = Std::new(Noting::new(file.open(rt)));
+    KeptSource::new(rt.alloc(), file.name(), source)
 }
 
 /// Says of an input that could not be read why the system refused it.
@@ -67,8 +67,8 @@ pub(crate) fn say_unwritten(rt: &HostRuntime, failure: Option<io::Error>) {
 }
 
 /// Runs a scenario.
-pub(crate) fn run_script(rt: &HostRuntime, scenario: &ScenarioFile<'_>, format: Format) -> u8 {
-    let mut input = kept_scenario(rt, scenario);
+pub(crate) fn run_script(rt: &HostRuntime, scenario: &JsonFile<'_>, format: Format) -> u8 {
+    let mut input = kept_json(rt, scenario);
     let mut out = Std::new(Noting::new(rt.stdout()));
     let mut err = Std::new(rt.stderr());
     let status = script_explained_to(rt.alloc(), format, &mut input, &mut out, &mut err);
@@ -80,11 +80,11 @@ pub(crate) fn run_script(rt: &HostRuntime, scenario: &ScenarioFile<'_>, format: 
 /// Checks the report of a path beside a scenario: each line, where it is to be whole.
 pub(crate) fn run_check(
     rt: &HostRuntime,
-    scenario: &ScenarioFile<'_>,
+    scenario: &JsonFile<'_>,
     report: &str,
     whole: bool,
 ) -> u8 {
-    let mut scenario = kept_scenario(rt, scenario);
+    let mut scenario = kept_json(rt, scenario);
     let mut report = kept(rt, report);
     let mut out = Std::new(Noting::new(rt.stdout()));
     let mut err = Std::new(rt.stderr());
@@ -99,24 +99,24 @@ pub(crate) fn run_check(
     status
 }
 
-/// Looks through the interleavings of a scenario for one that breaks the rule of a path.
+/// Looks through the interleavings of a scenario for one that breaks a rule.
 pub(crate) fn run_rule(
     rt: &HostRuntime,
-    scenario: &ScenarioFile<'_>,
-    keeps: &str,
+    scenario: &JsonFile<'_>,
+    rule: &JsonFile<'_>,
     waits: &[Wait],
     level: Option<Level>,
     budget: u64,
 ) -> u8 {
-    let mut scenario = kept_scenario(rt, scenario);
-    let mut keeps = kept(rt, keeps);
+    let mut scenario = kept_json(rt, scenario);
+    let mut rule = kept_json(rt, rule);
     let mut out = Std::new(Noting::new(rt.stdout()));
     let mut err = Std::new(rt.stderr());
     let mut budget = shown_budget(rt, budget, true);
     let status = explore_explained_to(
         rt.alloc(),
         &mut scenario,
-        &mut keeps,
+        &mut rule,
         waits,
         level,
         &mut budget,
@@ -125,7 +125,7 @@ pub(crate) fn run_rule(
     );
     close(&mut budget);
     say_unread(rt, scenario.name, scenario.source.device.failure);
-    say_unread(rt, keeps.name, keeps.source.device.failure);
+    say_unread(rt, rule.name, rule.source.device.failure);
     say_unwritten(rt, out.device.failure);
     status
 }
@@ -133,11 +133,11 @@ pub(crate) fn run_rule(
 /// Goes through the interleavings of a scenario.
 pub(crate) fn run_outcomes(
     rt: &HostRuntime,
-    scenario: &ScenarioFile<'_>,
+    scenario: &JsonFile<'_>,
     level: Option<Level>,
     budget: u64,
 ) -> u8 {
-    let mut scenario = kept_scenario(rt, scenario);
+    let mut scenario = kept_json(rt, scenario);
     let mut out = Std::new(Noting::new(rt.stdout()));
     let mut err = Std::new(rt.stderr());
     let mut budget = shown_budget(rt, budget, true);

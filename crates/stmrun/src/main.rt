@@ -2,13 +2,18 @@
 //! reports, looks through the interleavings of a scenario, compiles sources, and prints the programs of recipes.
 #![tactic(auto)]
 
-ghost use Rattle.std.specs.Prelude.{◌≡◌, List, ℕ, Some, None, option_map};
+ghost use Rattle.std.specs.Prelude.{◌≡◌, ◌≤◌, List, ℕ, Some, None, option_map};
+ghost use Rattle.stm_workers.specs.declared.run.TheConstants.{MOST_WORKERS};
 ghost use Rattle.stm_report.specs.declared.format.Format.TheVariants.{Lines};
 ghost use Rattle.stm_report.specs.Format.{format_named};
 
 mod explaining;
+mod exploring;
 mod files;
 mod noting;
+mod refusing;
+mod rules;
+mod ruling;
 mod sources;
 mod storing;
 mod terminals;
@@ -16,16 +21,18 @@ mod threading;
 mod waits;
 
 use explaining::{name_of, say_unread, say_unwritten};
+use exploring::{Search, run_search};
 use files::open;
 use noting::Noting;
-use sources::{ScenarioFile, run_compile, scenario_at};
+use refusing::not_yet;
+use sources::{JsonFile, run_compile, scenario_at};
 use std::alloc::{AllocError, Global};
 use std::process::ExitCode;
 use std::sync::Wait;
 use std::thread::Threads;
 use stm_arguments::{
-    Asked, CutWords, PlainWords, asked_of, cut_words, plain_words, print_topic, read_level,
-    read_words, topic_of,
+    Asked, CheckWords, CompileWords, CutWords, ExploreWords, PlainWords, ScriptWords, ShowWords,
+    ThreadsWords, asked_of, cut_words, plain_words, print_topic, read_words, topic_of,
 };
 use stm_commands::{Format, RecipeWords, Shown, Std, no_format_to};
 pub use stm_commands::{
@@ -33,14 +40,11 @@ pub use stm_commands::{
     script_as_to, script_explained_to, script_to, show_to,
 };
 use stm_compiling::Part;
-use stm_exploring::{Level, Wait as RunnerWait};
 pub use stm_exploring::{explore_explained_to, explore_to, outcomes_explained_to, outcomes_to};
-use stm_store_arguments::is_of_store;
 pub use stm_threading::{threads_as_to, threads_to};
-use storing::run_stored;
-use terminals::{close, is_shown, shown_budget};
+use storing::{run_shown, run_stored_program, run_stored_script};
+use terminals::is_shown;
 use threading::{printing_of, run_threads};
-use waits::read_waits;
 
 /// The path of an input that may be named: that of standard input where it is not.
 fn path_of(named: Option<&str>) -> &str {
@@ -48,7 +52,7 @@ fn path_of(named: Option<&str>) -> &str {
 }
 
 /// Runs a scenario.
-fn run_script(rt: &HostRuntime, scenario: &ScenarioFile<'_>, format: Format) -> u8 {
+fn run_script(rt: &HostRuntime, scenario: &JsonFile<'_>, format: Format) -> u8 {
     let mut input = Std::new(scenario.open(rt));
     let mut out = Std::new(rt.stdout());
     let mut err = Std::new(rt.stderr());
@@ -79,7 +83,7 @@ fn run_script_in(rt: &HostRuntime, path: Option<&str>, word: Option<&str>, expla
 }
 
 /// Checks the report of a path beside a scenario: each line, where it is to be whole.
-fn check_report(rt: &HostRuntime, scenario: &ScenarioFile<'_>, report: &str, whole: bool) -> u8 {
+fn check_report(rt: &HostRuntime, scenario: &JsonFile<'_>, report: &str, whole: bool) -> u8 {
     let mut scenario = Std::new(scenario.open(rt));
     let mut report = Std::new(open(rt, report));
     let mut out = Std::new(rt.stdout());
@@ -90,132 +94,32 @@ fn check_report(rt: &HostRuntime, scenario: &ScenarioFile<'_>, report: &str, who
     check_to(rt.alloc(), &mut scenario, &mut report, &mut out, &mut err)
 }
 
-/// Checks the report of a path beside the scenario of another: each line, where it is to be whole. A fault is explained, or is not. Only one of
-/// the two can be standard input.
-fn run_check(rt: &HostRuntime, path: &str, report: &str, whole: bool, explain: bool) -> u8 {
-    if path == "-" && report == "-" {
+/// Checks a report beside its scenario: each line, where it is to be whole. A fault is explained, or is not. Only one of the two can be standard input.
+fn run_check(rt: &HostRuntime, words: &CheckWords<'_>, explain: bool) -> u8 {
+    let report = words.report;
+    if words.scenario == "-" && report == "-" {
         let _ = rt.eprintln("stmrun: standard input can be only one of SCENARIO and REPORT");
         return 2;
     }
-    match scenario_at(rt, path, explain) {
-        Ok(scenario) if explain => explaining::run_check(rt, &scenario, report, whole),
-        Ok(scenario) => check_report(rt, &scenario, report, whole),
+    match scenario_at(rt, words.scenario, explain) {
+        Ok(scenario) if explain => explaining::run_check(rt, &scenario, report, words.whole),
+        Ok(scenario) => check_report(rt, &scenario, report, words.whole),
         Err(status) => status,
     }
 }
 
-/// Looks through the interleavings of a scenario for one that breaks the rule of a path. A fault is explained, or is not.
-fn run_rule(
-    rt: &HostRuntime,
-    scenario: &ScenarioFile<'_>,
-    keeps: &str,
-    waits: &[RunnerWait],
-    level: Option<Level>,
-    budget: u64,
-    explain: bool,
-) -> u8 {
-    if explain {
-        return explaining::run_rule(rt, scenario, keeps, waits, level, budget);
-    }
-    let mut scenario = Std::new(scenario.open(rt));
-    let mut keeps = Std::new(open(rt, keeps));
-    let mut out = Std::new(rt.stdout());
-    let mut err = Std::new(rt.stderr());
-    let mut budget = shown_budget(rt, budget, false);
-    let status = explore_to(
-        rt.alloc(),
-        &mut scenario,
-        &mut keeps,
-        waits,
-        level,
-        &mut budget,
-        &mut out,
-        &mut err,
-    );
-    close(&mut budget);
-    status
-}
-
-/// Goes through the interleavings of a scenario. A fault is explained, or is not.
-fn run_outcomes(
-    rt: &HostRuntime,
-    scenario: &ScenarioFile<'_>,
-    level: Option<Level>,
-    budget: u64,
-    explain: bool,
-) -> u8 {
-    if explain {
-        return explaining::run_outcomes(rt, scenario, level, budget);
-    }
-    let mut scenario = Std::new(scenario.open(rt));
-    let mut out = Std::new(rt.stdout());
-    let mut err = Std::new(rt.stderr());
-    let mut budget = shown_budget(rt, budget, false);
-    let status = outcomes_to(
-        rt.alloc(),
-        &mut scenario,
-        level,
-        &mut budget,
-        &mut out,
-        &mut err,
-    );
-    close(&mut budget);
-    status
-}
-
-/// Looks through the interleavings of a scenario, for one that breaks a rule, where there is one, or for what they come to.
-fn search(
-    rt: &HostRuntime,
-    scenario: &ScenarioFile<'_>,
-    keeps: Option<&str>,
-    waits: &[RunnerWait],
-    level: Option<Level>,
-    budget: u64,
-    explain: bool,
-) -> u8 {
-    match keeps {
-        Some(keeps) => run_rule(rt, scenario, keeps, waits, level, budget, explain),
-        None => run_outcomes(rt, scenario, level, budget, explain),
-    }
-}
-
-/// Looks through the interleavings of a path's scenario, for one that breaks a rule or for what they come to. Only one of the scenario and the rule
-/// can be standard input.
-fn search_file(
-    rt: &HostRuntime,
-    path: &str,
-    keeps: Option<&str>,
-    waits: &[RunnerWait],
-    level: Option<Level>,
-    budget: u64,
-    explain: bool,
-) -> u8 {
-    if path == "-" && keeps == Some("-") {
-        let _ = rt.eprintln("stmrun: standard input can be only one of SCENARIO and PROGRAM");
-        return 2;
-    }
-    match scenario_at(rt, path, explain) {
-        Ok(scenario) => search(rt, &scenario, keeps, waits, level, budget, explain),
-        Err(status) => status,
-    }
-}
-
-/// Looks through the interleavings of a path's scenario, for one that breaks a rule or for what they come to, where the words name a level and waits.
-fn run_explore(
-    rt: &HostRuntime,
-    path: &str,
-    keeps: Option<&str>,
-    word: Option<&str>,
-    after: Option<&str>,
-    budget: u64,
-    explain: bool,
-) -> u8 {
-    let level = match read_level(rt, word) {
-        Ok(level) => level,
-        Err(status) => return status,
+/// Looks through the interleavings of a scenario, and gives the status.
+fn run_explore(rt: &HostRuntime, words: &ExploreWords<'_>, explain: bool) -> u8 {
+    let wanted = Search {
+        path: words.scenario,
+        keeps: words.keeps.as_slice(),
+        after: words.after,
+        levels: words.levels,
+        budget: words.budget,
+        explain,
     };
-    match read_waits(rt, after, keeps.is_some()) {
-        Ok(waits) => search_file(rt, path, keeps, waits.as_slice(), level, budget, explain),
+    match run_search(rt, &wanted) {
+        Ok(status) => status,
         Err(status) => status,
     }
 }
@@ -227,19 +131,19 @@ fn run_recipe(rt: &HostRuntime, words: &RecipeWords<'_>) -> u8 {
     recipe_to(rt.alloc(), words, &mut out, &mut err)
 }
 
-/// Prints the source of a path's scenario or program, or of that on standard input. On a terminal it is said why a file failed, unless nothing is
-/// to be explained.
-fn run_show(rt: &HostRuntime, path: &str, program: bool, is_silent: bool) -> u8 {
-    let shown = if program {
+/// Prints the source of a scenario or of a program. On a terminal it is said why a file failed, unless nothing is to be explained.
+fn run_show(rt: &HostRuntime, words: &ShowWords<'_>, is_silent: bool) -> u8 {
+    let shown = if words.program {
         Shown::Program
     } else {
         Shown::Scenario
     };
+    let path = path_of(words.input);
     let mut input = Std::new(Noting::new(open(rt, path)));
     let mut out = Std::new(Noting::new(rt.stdout()));
     let mut err = Std::new(rt.stderr());
     let status = show_to(rt.alloc(), shown, &mut input, &mut out, &mut err);
-    if is_explained(rt, is_silent, false) {
+    if !is_silent && is_shown(rt) {
         say_unread(rt, name_of(path), input.device.failure);
         say_unwritten(rt, out.device.failure);
     }
@@ -255,8 +159,36 @@ fn part_of<'a>(program: Option<&'a str>, words: &'a [String]) -> Part<'a> {
 }
 
 /// Whether faults are explained: where they are to be, or where standard error is a terminal, unless they are not to be.
-fn is_explained(rt: &HostRuntime, is_silent: bool, explain: bool) -> bool {
-    !is_silent && (explain || is_shown(rt))
+fn explains(rt: &HostRuntime, plain: &PlainWords, explain: bool) -> bool {
+    !plain.is_silent && (explain || is_shown(rt))
+}
+
+/// Runs a scenario: over the store that it goes on from, where one is named, or by itself.
+fn run_scenario(rt: &HostRuntime, words: &ScriptWords<'_>, explain: bool) -> u8 {
+    match words.store {
+        Some(store) => run_stored_script(rt, store, words, explain),
+        None => run_script_in(rt, words.scenario, words.format, explain),
+    }
+}
+
+/// Prints the part of a source that is asked for.
+fn run_part(rt: &HostRuntime, words: &CompileWords<'_>, explain: bool) -> u8 {
+    let part = part_of(words.program, words.arguments);
+    run_compile(rt, path_of(words.source), part, explain)
+}
+
+/// Runs the jobs that the words of `threads` ask for.
+fn run_jobs<T: Threads + Wait + Sync>(
+    rt: &HostRuntime,
+    threads: &T,
+    words: &ThreadsWords<'_>,
+    explain: bool,
+) -> u8
+    requires { (1 ≤ words.now.workers) × (words.now.workers ≤ MOST_WORKERS) }
+{
+    let printing = printing_of(words.ends, words.repeat);
+    let path = path_of(words.scenario);
+    run_threads(rt, threads, path, words.workers, printing, explain)
 }
 
 /// Does what these words ask for, with the arguments behind them, and gives the status. A run of jobs starts threads and waits for them.
@@ -266,62 +198,24 @@ fn answer<T: Threads + Wait + Sync>(
     plain: &PlainWords,
     arguments: &[String],
 ) -> u8 {
-    let is_silent = plain.is_silent;
-    match asked_of(rt, rt.alloc(), plain.words.as_slice()) {
-        Asked::Script {
-            scenario,
-            format,
-            explain,
-        } => {
-            let explain = is_explained(rt, is_silent, explain);
-            run_script_in(rt, scenario, format, explain)
+    match asked_of(rt, rt.alloc(), plain.words.as_slice(), arguments) {
+        Ok(Asked::Script(words)) => run_scenario(rt, &words, explains(rt, plain, words.explain)),
+        Ok(Asked::Check(words)) => run_check(rt, &words, explains(rt, plain, words.explain)),
+        Ok(Asked::Threads(words)) => {
+            run_jobs(rt, threads, &words, explains(rt, plain, words.explain))
         }
-        Asked::Check {
-            scenario,
-            report,
-            whole,
-            explain,
-        } => {
-            let explain = is_explained(rt, is_silent, explain);
-            run_check(rt, scenario, report, whole, explain)
-        }
-        Asked::Threads {
-            scenario,
-            workers,
-            ends,
-            repeat,
-            explain,
-        } => {
-            let explain = is_explained(rt, is_silent, explain);
-            let printing = printing_of(ends, repeat);
-            run_threads(rt, threads, path_of(scenario), workers, printing, explain)
-        }
-        Asked::Recipe(words) => run_recipe(rt, &words),
-        Asked::Explore {
-            scenario,
-            keeps,
-            level,
-            budget,
-            after,
-            explain,
-        } => {
-            let explain = is_explained(rt, is_silent, explain);
-            run_explore(rt, scenario, keeps, level, after, budget, explain)
-        }
-        Asked::Show { input, program } => run_show(rt, path_of(input), program, is_silent),
-        Asked::Compile {
-            source,
-            program,
-            explain,
-        } => {
-            let explain = is_explained(rt, is_silent, explain);
-            run_compile(rt, path_of(source), part_of(program, arguments), explain)
-        }
-        Asked::Nothing(status) => status,
+        Ok(Asked::Recipe(words)) => run_recipe(rt, &words),
+        Ok(Asked::Explore(words)) => run_explore(rt, &words, explains(rt, plain, words.explain)),
+        Ok(Asked::Audit(_)) => not_yet(rt, "audit"),
+        Ok(Asked::Show(words)) => run_show(rt, &words, plain.is_silent),
+        Ok(Asked::Compile(words)) => run_part(rt, &words, explains(rt, plain, words.explain)),
+        Ok(Asked::Run(words)) => run_stored_program(rt, &words, explains(rt, plain, words.explain)),
+        Ok(Asked::Store(words)) => run_shown(rt, &words),
+        Err(status) => status,
     }
 }
 
-/// The words of a command line as they are read, and the arguments behind them of a program that is compiled. It fails where an allocation failed.
+/// The words of a command line as they are read, and the arguments behind them of a program of a source. It fails where an allocation failed.
 fn plain_of(alloc: Global, words: Vec<String>) -> Result<(PlainWords, Vec<String>), AllocError> {
     let CutWords { words, arguments } = cut_words(words)?;
     let plain = plain_words(alloc, words)?;
@@ -334,9 +228,6 @@ fn run<T: Threads + Wait + Sync>(rt: &HostRuntime, threads: &T) -> u8 {
         Ok(words) => words,
         Err(status) => return status,
     };
-    if is_of_store(words.as_slice()) {
-        return run_stored(rt, words.as_slice());
-    }
     if let Some(topic) = topic_of(words.as_slice()) {
         return print_topic(rt, topic);
     }

@@ -1,4 +1,4 @@
-//! Scenarios that are to be read: files of JSON, and sources, which are compiled first.
+//! Inputs that are read as JSON: files of it, and sources, which are compiled first.
 ghost use Rattle.std.specs.Prelude.{◌≡◌, false};
 
 use crate::explaining::{name_of, say_unread, say_unwritten};
@@ -7,19 +7,45 @@ use crate::noting::Noting;
 use std::io::Input;
 use std::rt::Files;
 use stm_commands::Std;
-use stm_compiling::{Part, compile_to, compiled};
-use stm_history::Text;
+use stm_compiling::{
+    Beside, Compiled, Part, Rule, Wait, compile_to, compiled, compiled_part, notes_of,
+};
+use stm_history::{Sequence, Text};
 
 /// What the names of sources end in.
-const ENDING: &str = ".stm";
+pub(crate) const ENDING: &str = ".stm";
 
-/// The scenario of a path.
+/// What is read as JSON.
 #[derive(Drop)]
-pub(crate) enum ScenarioFile<'a> {
-    /// Its file is JSON, or it is standard input.
+pub(crate) enum JsonFile<'a> {
+    /// The file of a path, or standard input.
     Json(&'a str),
-    /// Its file is a source, which was compiled to this line, under this name.
+    /// The line to which a source was compiled, under this name.
     Compiled(Text, String),
+}
+
+impl JsonFile<'_> {
+    /// What is read of it.
+    pub(crate) fn open<R: Files + Input>(&self, rt: &R) -> Opened<R::File, R::Reader, &[u8]> {
+        match self {
+            JsonFile::Json(path) => open_beside(rt, path),
+            JsonFile::Compiled(line, _) => Opened::Compiled(line.as_str().as_bytes()),
+        }
+    }
+
+    /// Its name, as people know it.
+    pub(crate) fn name(&self) -> &str {
+        match self {
+            JsonFile::Json(path) => name_of(path),
+            JsonFile::Compiled(_, name) => name.as_str(),
+        }
+    }
+}
+
+/// Says that an allocation failed, and gives the status.
+pub(crate) fn out_of_memory(rt: &HostRuntime) -> u8 {
+    let _ = rt.eprintln("stmrun: out of memory");
+    3
 }
 
 /// The name under which a source is explained, where it is.
@@ -27,59 +53,92 @@ fn explained_name(path: &str, explain: bool) -> Option<&str> {
     if explain { Some(name_of(path)) } else { None }
 }
 
-/// The line that the source of a path is compiled to, or the status, once what is wrong with it was said. It is explained, or is not.
-fn compiled_line(rt: &HostRuntime, path: &str, explain: bool) -> Result<Text, u8> {
+/// Whether a path is that of a source.
+pub(crate) fn is_source(path: &str) -> bool {
+    path.ends_with(ENDING)
+}
+
+/// The line of a source of a path, as it is read.
+fn line_of<'a>(rt: &HostRuntime, path: &str, line: Text) -> Result<JsonFile<'a>, u8> {
+    let name = name_of(path);
+    match format!(in rt.alloc(); "{name}, compiled") {
+        Ok(name) => Ok(JsonFile::Compiled(line, name)),
+        Err(_) => Err(out_of_memory(rt)),
+    }
+}
+
+/// The source of a path, compiled; or the status, once what is wrong with it was said. It is explained, or is not.
+fn compiled_at(rt: &HostRuntime, path: &str, explain: bool) -> Result<Compiled, u8> {
     let mut input = Std::new(Noting::new(open(rt, path)));
     let mut err = Std::new(rt.stderr());
-    let line = compiled(
-        rt.alloc(),
-        Part::Scenario,
-        explained_name(path, explain),
-        &mut input,
-        &mut err,
-    );
+    let name = explained_name(path, explain);
+    let compiled = compiled(rt.alloc(), name, &mut input, &mut err);
     if explain {
         say_unread(rt, name_of(path), input.device.failure);
     }
-    line
+    compiled
 }
 
-/// The scenario of a path, or the status, once what is wrong with its source was said. It is explained, or is not.
+/// The scenario of a path, and what its source has beside it; or the status, once what is wrong with that was said. It is explained, or is not.
+pub(crate) fn source_at<'a>(
+    rt: &HostRuntime,
+    path: &'a str,
+    explain: bool,
+) -> Result<(JsonFile<'a>, Beside), u8> {
+    if !is_source(path) {
+        return Ok((JsonFile::Json(path), Beside::nothing(rt.alloc())));
+    }
+    let Compiled { line, beside } = compiled_at(rt, path, explain)?;
+    let scenario = line_of(rt, path, line)?;
+    Ok((scenario, beside))
+}
+
+/// The rules of the source of a path; or the status, once what is wrong with it was said. It is explained, or is not.
+pub(crate) fn rules_at(rt: &HostRuntime, path: &str, explain: bool) -> Result<Sequence<Rule>, u8> {
+    let Compiled { beside, .. } = compiled_at(rt, path, explain)?;
+    let Beside { rules, .. } = beside;
+    Ok(rules)
+}
+
+/// Says which rules are not asked, and which runners do not wait.
+pub(crate) fn say_unasked(rt: &HostRuntime, rules: &[Rule], waits: &[Wait]) -> Result<(), u8> {
+    match notes_of(rt.alloc(), rules, waits) {
+        Ok(notes) => {
+            let _ = rt.eprint(notes.as_str());
+            Ok(())
+        }
+        Err(_) => Err(out_of_memory(rt)),
+    }
+}
+
+/// The scenario of a path alone: it is said which rules of its source are not asked, and which runners do not wait. Else all is as with `source_at`.
 pub(crate) fn scenario_at<'a>(
     rt: &HostRuntime,
     path: &'a str,
     explain: bool,
-) -> Result<ScenarioFile<'a>, u8> {
-    if !path.ends_with(ENDING) {
-        return Ok(ScenarioFile::Json(path));
-    }
-    let line = compiled_line(rt, path, explain)?;
-    let name = name_of(path);
-    match format!(in rt.alloc(); "{name}, compiled") {
-        Ok(name) => Ok(ScenarioFile::Compiled(line, name)),
-        Err(_) => {
-            let _ = rt.eprintln("stmrun: out of memory");
-            Err(3)
-        }
-    }
+) -> Result<JsonFile<'a>, u8> {
+    let (scenario, beside) = source_at(rt, path, explain)?;
+    say_unasked(rt, beside.rules.as_slice(), beside.waits.as_slice())?;
+    Ok(scenario)
 }
 
-impl ScenarioFile<'_> {
-    /// What is read of it.
-    pub(crate) fn open<R: Files + Input>(&self, rt: &R) -> Opened<R::File, R::Reader, &[u8]> {
-        match self {
-            ScenarioFile::Json(path) => open_beside(rt, path),
-            ScenarioFile::Compiled(line, _) => Opened::Compiled(line.as_str().as_bytes()),
-        }
+/// The rule or program of a name, of the source of a path, with these words as its arguments; or the status, once what is wrong with that was said.
+pub(crate) fn program_at<'a>(
+    rt: &HostRuntime,
+    path: &str,
+    name: &str,
+    words: &[String],
+    explain: bool,
+) -> Result<JsonFile<'a>, u8> {
+    let mut input = Std::new(Noting::new(open(rt, path)));
+    let mut err = Std::new(rt.stderr());
+    let part = Part::Program { name, words };
+    let explained = explained_name(path, explain);
+    let printed = compiled_part(rt.alloc(), part, explained, &mut input, &mut err);
+    if explain {
+        say_unread(rt, name_of(path), input.device.failure);
     }
-
-    /// Its name, as people know it.
-    pub(crate) fn name(&self) -> &str {
-        match self {
-            ScenarioFile::Json(path) => name_of(path),
-            ScenarioFile::Compiled(_, name) => name.as_str(),
-        }
-    }
+    line_of(rt, path, printed?.line)
 }
 
 /// Prints a part of a path's source. A fault is explained, or is not.

@@ -3,16 +3,16 @@ ghost use Rattle.std.specs.Prelude.{◌≡◌, List, ℕ, IfOk, IsTrue};
 ghost use Rattle.stm_file_disk.specs.Event.{events_of};
 ghost use Rattle.stm_file_disk.specs.Replay.{replay};
 
-use crate::explaining::{say_unread, say_unwritten};
-use crate::files::open as open_input;
+use crate::explaining::{name_of, say_unread, say_unwritten};
 use crate::noting::Noting;
+use crate::sources::{JsonFile, is_source, out_of_memory, program_at, scenario_at};
 use std::fs;
+use stm_arguments::{RunWords, ScriptWords, Shown, StoreWords, Which};
 use stm_commands::{Format, Std};
 use stm_file_disk::{FileDisk, open};
-use stm_store_arguments::{StoreAsked, store_asked_of};
 use stm_storing::{
-    HIGHEST_REVISION, Level, Manner, RecordFile, StoreFault, Text, Watched, check_kept, read_input,
-    read_program, run_kept, script_kept, show_at, show_kept, show_since,
+    HIGHEST_REVISION, Manner, Program, RecordFile, StoreFault, Text, Watched, check_kept,
+    read_input, read_program, run_anew, run_kept, script_kept, show_at, show_kept, show_since,
 };
 
 /// Says of the file of a store why a command failed, and gives the status.
@@ -78,18 +78,15 @@ fn format_of(rt: &HostRuntime, word: Option<&str>) -> Result<Format, u8> {
 fn run_script(
     rt: &HostRuntime,
     store: &str,
-    scenario: Option<&str>,
-    word: Option<&str>,
+    words: &ScriptWords<'_>,
+    explain: bool,
 ) -> Result<(), u8> {
-    let format = format_of(rt, word)?;
-    let mut input = Std::new(Noting::new(open_input(rt, scenario.unwrap_or("-"))));
+    let format = format_of(rt, words.format)?;
+    let file = scenario_at(rt, words.scenario.unwrap_or("-"), explain)?;
+    let mut input = Std::new(Noting::new(file.open(rt)));
     let mut err = Std::new(rt.stderr());
     let read = read_input(rt.alloc(), &mut input, &mut err);
-    say_unread(
-        rt,
-        scenario.unwrap_or("standard input"),
-        input.device.failure,
-    );
+    say_unread(rt, file.name(), input.device.failure);
     let (text, scenario) = read?;
     let (mut records, bytes) = opened(rt, store)?;
     let mut out = Std::new(Noting::new(rt.stdout()));
@@ -101,51 +98,45 @@ fn run_script(
     }
 }
 
-/// The level of a name: `SerializableSnapshot`, where there is none.
-fn level_of(rt: &HostRuntime, word: Option<&str>) -> Result<Level, u8> {
-    match word {
-        None | Some("SerializableSnapshot") => Ok(Level::SerializableSnapshot),
-        Some("Serializable") => Ok(Level::Serializable),
-        Some("RepeatableReads") => Ok(Level::RepeatableReads),
-        Some("ReadCommitted") => Ok(Level::ReadCommitted),
-        Some(_) => {
-            let _ = rt.eprintln(
-                "error: unknown level for '--level <LEVEL>'\n  [possible values: SerializableSnapshot, Serializable, RepeatableReads, ReadCommitted]",
-            );
-            Err(2)
-        }
-    }
+/// Whether no file has this path.
+fn is_missing(rt: &HostRuntime, path: &str) -> bool {
+    matches!(fs::exists(rt, path), Ok(false))
 }
 
-/// How many commits a run may send: 1, where no number is named.
-fn attempts_of(rt: &HostRuntime, word: Option<&str>) -> Result<u32, u8> {
-    let attempts = match word {
-        None => 1,
-        Some(word) => word.parse::<u32>().unwrap_or(0),
+/// Runs a program over the store of a file that is not there, which is not made: whether it would commit. Where it would not, its line was printed.
+fn would_commit(
+    rt: &HostRuntime,
+    store: &str,
+    program: &Program,
+    manner: Manner,
+) -> Result<bool, u8> {
+    let Ok(copy) = program.clone() else {
+        return Err(out_of_memory(rt));
     };
-    if attempts == 0 {
-        let _ = rt.eprintln("error: '--attempts <N>' is from 1 to 4294967295");
-        return Err(2);
+    let mut out = Std::new(Noting::new(rt.stdout()));
+    let would = run_anew(rt.alloc(), copy, manner, &mut out);
+    say_unwritten(rt, out.device.failure);
+    match would {
+        Ok(would) => Ok(would),
+        Err(fault) => Err(say_fault(rt, store, &fault)),
     }
-    Ok(attempts)
 }
 
-/// Runs the program of a path, or that on standard input, over the store of a file.
+/// Runs a program over the store of a file, which is made only where the program commits.
 fn run_program(
     rt: &HostRuntime,
     store: &str,
-    program: Option<&str>,
+    file: &JsonFile<'_>,
     manner: Manner,
 ) -> Result<(), u8> {
-    let mut input = Std::new(Noting::new(open_input(rt, program.unwrap_or("-"))));
+    let mut input = Std::new(Noting::new(file.open(rt)));
     let mut err = Std::new(rt.stderr());
     let read = read_program(rt.alloc(), &mut input, &mut err);
-    say_unread(
-        rt,
-        program.unwrap_or("standard input"),
-        input.device.failure,
-    );
+    say_unread(rt, file.name(), input.device.failure);
     let (text, program) = read?;
+    if is_missing(rt, store) && !would_commit(rt, store, &program, manner)? {
+        return Err(1);
+    }
     let (mut records, bytes) = opened(rt, store)?;
     let mut out = Std::new(Noting::new(rt.stdout()));
     let ran = run_kept(&mut records, bytes, &text, program, manner, &mut out);
@@ -157,17 +148,34 @@ fn run_program(
     }
 }
 
-/// Runs the program of a path, at the level of a name and with as many attempts as a word says.
-fn run_program_at(
+/// The program that is to be run: a file of JSON, that of a name of a source, or standard input.
+fn program_of<'a>(
     rt: &HostRuntime,
-    store: &str,
-    program: Option<&str>,
-    level: Option<&str>,
-    attempts: Option<&str>,
-) -> Result<(), u8> {
-    let level = level_of(rt, level)?;
-    let attempts = attempts_of(rt, attempts)?;
-    run_program(rt, store, program, Manner { level, attempts })
+    words: &RunWords<'a>,
+    explain: bool,
+) -> Result<JsonFile<'a>, u8> {
+    let path = words.input.unwrap_or("-");
+    match words.program {
+        Some(name) => program_at(rt, path, name, words.arguments, explain),
+        None if is_source(path) => {
+            let path = name_of(path);
+            let _ = eprintln!(rt;
+                "stmrun: {path} is a source: stmrun run --store STORE {path} NAME ARGUMENT .. runs a program of it"
+            );
+            Err(2)
+        }
+        None => Ok(JsonFile::Json(path)),
+    }
+}
+
+/// Runs the program that words ask for.
+fn run_words(rt: &HostRuntime, words: &RunWords<'_>, explain: bool) -> Result<(), u8> {
+    let manner = Manner {
+        level: words.level,
+        attempts: words.attempts,
+    };
+    let file = program_of(rt, words, explain)?;
+    run_program(rt, words.store, &file, manner)
 }
 
 /// Prints what the store of a file has.
@@ -209,25 +217,16 @@ fn show_past(rt: &HostRuntime, store: &str, word: &str) -> Result<(), u8> {
 fn copied(rt: &HostRuntime, word: &str) -> Result<Text, u8> {
     match Text::copy_of(rt.alloc(), word) {
         Ok(text) => Ok(text),
-        Err(_) => {
-            let _ = rt.eprintln("stmrun: out of memory");
-            Err(3)
-        }
+        Err(_) => Err(out_of_memory(rt)),
     }
 }
 
 /// The keys whose events are asked for: none where all are.
-fn watched_of(
-    rt: &HostRuntime,
-    key: Option<&str>,
-    range: Option<(&str, &str)>,
-) -> Result<Option<Watched>, u8> {
-    if let Some(key) = key {
-        return Ok(Some(Watched::Key(copied(rt, key)?)));
-    }
-    match range {
-        None => Ok(None),
-        Some((first, end)) => {
+fn watched_of(rt: &HostRuntime, which: Which<'_>) -> Result<Option<Watched>, u8> {
+    match which {
+        Which::All => Ok(None),
+        Which::Key(key) => Ok(Some(Watched::Key(copied(rt, key)?))),
+        Which::Range(first, end) => {
             let first = copied(rt, first)?;
             let end = copied(rt, end)?;
             Ok(Some(Watched::Range { first, end }))
@@ -236,16 +235,12 @@ fn watched_of(
 }
 
 /// Prints the events of the store of a file from the revision of a word on, those of these keys.
-fn show_events(
-    rt: &HostRuntime,
-    store: &str,
-    word: &str,
-    wanted: &Option<Watched>,
-) -> Result<(), u8> {
+fn show_events(rt: &HostRuntime, store: &str, word: &str, which: Which<'_>) -> Result<(), u8> {
+    let wanted = watched_of(rt, which)?;
     let from = revision_of(rt, word)?;
     let (mut records, bytes) = opened_there(rt, store)?;
     let mut out = Std::new(Noting::new(rt.stdout()));
-    let shown = show_since(&mut records, bytes, from, wanted, &mut out);
+    let shown = show_since(&mut records, bytes, from, &wanted, &mut out);
     say_unwritten(rt, out.device.failure);
     match shown {
         Ok(()) => Ok(()),
@@ -274,36 +269,36 @@ fn check(rt: &HostRuntime, store: &str) -> Result<(), u8> {
     if said { Ok(()) } else { Err(3) }
 }
 
-/// Does what these words ask for, and gives the status.
-pub(crate) fn run_stored(rt: &HostRuntime, words: &[String]) -> u8 {
-    let done = match store_asked_of(rt, rt.alloc(), words) {
-        StoreAsked::Script {
-            store,
-            scenario,
-            format,
-        } => run_script(rt, store, scenario, format),
-        StoreAsked::Run {
-            store,
-            program,
-            level,
-            attempts,
-        } => run_program_at(rt, store, program, level, attempts),
-        StoreAsked::Show { store } => show(rt, store),
-        StoreAsked::At { store, revision } => show_past(rt, store, revision),
-        StoreAsked::Since {
-            store,
-            revision,
-            key,
-            range,
-        } => match watched_of(rt, key, range) {
-            Ok(wanted) => show_events(rt, store, revision, &wanted),
-            Err(status) => Err(status),
-        },
-        StoreAsked::Check { store } => check(rt, store),
-        StoreAsked::Nothing(status) => return status,
-    };
+/// The status of what was done, or was not.
+fn status_of(done: Result<(), u8>) -> u8 {
     match done {
         Ok(()) => 0,
         Err(status) => status,
     }
+}
+
+/// Goes on with a scenario over the store of a file, and gives the status.
+pub(crate) fn run_stored_script(
+    rt: &HostRuntime,
+    store: &str,
+    words: &ScriptWords<'_>,
+    explain: bool,
+) -> u8 {
+    status_of(run_script(rt, store, words, explain))
+}
+
+/// Runs a program over the store of a file, and gives the status.
+pub(crate) fn run_stored_program(rt: &HostRuntime, words: &RunWords<'_>, explain: bool) -> u8 {
+    status_of(run_words(rt, words, explain))
+}
+
+/// Prints what of the store of a file is asked for, and gives the status.
+pub(crate) fn run_shown(rt: &HostRuntime, words: &StoreWords<'_>) -> u8 {
+    let store = words.store;
+    status_of(match words.shown {
+        Shown::Now => show(rt, store),
+        Shown::At(revision) => show_past(rt, store, revision),
+        Shown::Since(revision, which) => show_events(rt, store, revision, which),
+        Shown::Whole => check(rt, store),
+    })
 }

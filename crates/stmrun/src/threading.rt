@@ -3,7 +3,7 @@ ghost use Rattle.std.specs.Prelude.{◌≡◌, ◌≤◌, ℕ, Some, None, true,
 ghost use Rattle.stm_threading.specs.declared.shown.Printing.TheVariants.{Values, Ends, Outcomes};
 ghost use Rattle.stm_workers.specs.declared.run.TheConstants.{MOST_WORKERS};
 
-use crate::explaining::{kept_scenario, say_unread, say_unwritten};
+use crate::explaining::{kept_json, say_unread, say_unwritten};
 use crate::noting::Noting;
 use crate::sources::scenario_at;
 use std::sync::Wait;
@@ -44,7 +44,7 @@ pub(crate) fn run_threads<T: Threads + Wait + Sync>(
         printing,
         explain,
     };
-    let mut input = kept_scenario(rt, &scenario);
+    let mut input = kept_json(rt, &scenario);
     let mut out = Std::new(Noting::new(rt.stdout()));
     let mut err = Std::new(rt.stderr());
     let status = threads_as_to(threads, rt.alloc(), options, &mut input, &mut out, &mut err);

@@ -1,10 +1,12 @@
 //! Which runners wait for which others, as the command line has it.
 
 use crate::explaining::has_hidden;
-use stm_arguments::refuse_waits;
+use crate::sources::out_of_memory;
+use std::alloc::{AllocError, Global};
+use stm_compiling::{Beside, Wait as SourceWait};
 use stm_exploring::{BadWaits, Wait, waits_in};
 
-/// What stands after a fault of an option's value.
+/// What stands after a fault of an option.
 const USAGE: &str = "
 Usage: stmrun explore [OPTIONS] <SCENARIO>
 
@@ -32,22 +34,92 @@ fn waits_of(rt: &HostRuntime, text: &str) -> Result<Vec<Wait>, u8> {
     match waits_in(rt.alloc(), text) {
         Ok(Ok(waits)) => Ok(waits),
         Ok(Err(bad)) => Err(refuse(rt, text, &bad)),
-        Err(_) => {
-            let _ = rt.eprintln("stmrun: out of memory");
-            Err(3)
-        }
+        Err(_) => Err(out_of_memory(rt)),
     }
 }
 
-/// The waits that are spelled, none where nothing is; or the status where they are spelled wrongly, or there is no rule to look for.
+/// The number of the runner that a word names in a source, if it names one.
+fn number_of(beside: &Beside, word: &str) -> Option<u64> {
+    let place = beside.names.place(word)?;
+    match beside.numbers.as_slice().get(place) {
+        Some(number) => *number,
+        None => None,
+    }
+}
+
+/// Adds a wait as it is spelled, with the numbers of runners for their names.
+fn push_numbered(
+    alloc: Global,
+    text: &mut String,
+    beside: &Beside,
+    part: &str,
+) -> Result<(), AllocError> {
+    for (index, word) in part.split(':').enumerate() {
+        if index > 0 {
+            text.push(':')?;
+        }
+        match number_of(beside, word) {
+            Some(number) if index < 2 => {
+                let number = format!(in alloc; "{number}")?;
+                text.push_str(number.as_str())?;
+            }
+            _ => text.push_str(word)?,
+        }
+    }
+    Ok(())
+}
+
+/// A text of waits, with the numbers of runners for their names.
+fn numbered(alloc: Global, beside: &Beside, text: &str) -> Result<String, AllocError> {
+    let mut with_numbers = String::new(alloc);
+    for (index, part) in text.split(',').enumerate() {
+        if index > 0 {
+            with_numbers.push(',')?;
+        }
+        push_numbered(alloc, &mut with_numbers, beside, part)?;
+    }
+    Ok(with_numbers)
+}
+
+/// Adds the waits of a source.
+fn push_waits(waits: &mut Vec<Wait>, more: &[SourceWait]) -> Result<(), AllocError> {
+    for wait in more {
+        waits.push(Wait {
+            runner: wait.runner,
+            first: wait.ended,
+            committed: wait.committed,
+        })?;
+    }
+    Ok(())
+}
+
+/// The waits that are spelled, where some are, by numbers of runners or by their names in a source.
+fn spelled_waits(rt: &HostRuntime, after: Option<&str>, beside: &Beside) -> Result<Vec<Wait>, u8> {
+    let Some(text) = after else {
+        return Ok(Vec::new(rt.alloc()));
+    };
+    match numbered(rt.alloc(), beside, text) {
+        Ok(text) => waits_of(rt, text.as_str()),
+        Err(_) => Err(out_of_memory(rt)),
+    }
+}
+
+/// The waits that are spelled, and those of a source; or the status where they are spelled wrongly.
 pub(crate) fn read_waits(
     rt: &HostRuntime,
     after: Option<&str>,
-    has_rule: bool,
+    beside: &Beside,
 ) -> Result<Vec<Wait>, u8> {
-    match after {
-        None => Ok(Vec::new(rt.alloc())),
-        Some(_) if !has_rule => Err(refuse_waits(rt)),
-        Some(text) => waits_of(rt, text),
+    let mut waits = spelled_waits(rt, after, beside)?;
+    match push_waits(&mut waits, beside.waits.as_slice()) {
+        Ok(()) => Ok(waits),
+        Err(_) => Err(out_of_memory(rt)),
     }
+}
+
+/// Refuses an option where no rule is asked, and gives the status.
+pub(crate) fn refuse_without_rule(rt: &HostRuntime, option: &str) -> u8 {
+    let _ = eprintln!(rt; "error: '{option}' is for a search with '--keeps <PROGRAM>'");
+    let _ = rt.eprintln(USAGE);
+    2
 }

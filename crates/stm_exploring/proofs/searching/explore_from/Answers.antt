@@ -4,11 +4,11 @@ use Rattle.stm_world.specs.World.{World, replies_to}
 use Rattle.stm_schedules.specs.Outcomes.{Ends, after_replies}
 use Rattle.stm_serial.specs.Serial.{IsComparing}
 use Rattle.stm_serial_search.specs.Search.{AreProgramsOf}
-use Rattle.stm_exploring.specs.Judging.{IsFoundFrom}
+use Rattle.stm_exploring.specs.Judging.{AreFoundFrom}
 use Rattle.stm_exploring.proofs.searching.explore_from.Goals as goal
 
-pub judge_beside-requires : goal.judge_beside-requires
-judge_beside-requires g c = record {
+pub judge_and_tell-requires : goal.judge_and_tell-requires
+judge_and_tell-requires g c = record {
   programs = subst (λ (w : World). AreProgramsOf c.args.programs.now w.runners) (sym c.in_ok-ends.ensures.world) c.requires.programs;
   comparing = λ is.
       subst (λ (w : World). IsComparing (record { world = w; others = c.args.others.now })) (sym c.in_ok-ends.ensures.world) (c.requires.comparing is);
@@ -16,8 +16,8 @@ judge_beside-requires g c = record {
 
 pub returns : goal.returns
 returns g c =
-    let found = IsFoundFrom c.args.waits.now c.args.keeps.now in
-    subst (λ (w : World). IfOk c.judge_beside.result (found (record { world = w; others = c.args.others.now })
-    (after_replies (replies_to c.args.setup.now c.args.world.now) []))) c.in_ok-ends.ensures.world
-    (subst (λ (e : Ends). IfOk c.judge_beside.result (found (record { world = c.run_setup.new.world; others = c.args.others.now }) e))
-    (c.as_slice-known.ensures.value ∙ c.in_ok-ends.ensures.ends) c.judge_beside.ensures)
+    let found = AreFoundFrom c.args.waits.now c.args.rules.now in
+    subst (λ (w : World). IfOk c.judge_and_tell.result (λ answers. found (record { world = w; others = c.args.others.now })
+    (after_replies (replies_to c.args.setup.now c.args.world.now) []) answers.items)) c.in_ok-ends.ensures.world
+    (subst (λ (e : Ends). IfOk c.judge_and_tell.result (λ answers. found (record { world = c.run_setup.new.world; others = c.args.others.now }) e answers.items))
+    (c.as_slice-known.ensures.value ∙ c.in_ok-ends.ensures.ends) c.judge_and_tell.ensures)

@@ -5,12 +5,12 @@ use Rattle.stm_schedules.specs.Outcomes.{Ends}
 use Rattle.stm_schedules.specs.Places.{Place}
 use Rattle.stm_texts.specs.declared.scenario.Scenario.{Scenario}
 use Rattle.stm_exploring.specs.Asking.{opening_of, place_of, ends_of}
-use Rattle.stm_exploring.specs.Judging.{IsFoundFrom}
+use Rattle.stm_exploring.specs.Judging.{AreFoundFrom}
 use Rattle.stm_exploring.proofs.PlaceLemmas.{placed, placed_is, ends_are, programs_placed, comparing_placed}
 use Rattle.stm_exploring.proofs.searching.explore_programs.Goals as goal
 
-pub explore_from-answer-requires : goal.explore_from-answer-requires
-explore_from-answer-requires g c =
+pub explore_from-answers-requires : goal.explore_from-answers-requires
+explore_from-answers-requires g c =
     let s : Scenario = c.args.scenario.now in
     let setup : List WorldEvent = c.setup_and_others.result.0.now in
     let others : List WorldEvent = c.setup_and_others.result.1.now in
@@ -33,6 +33,7 @@ returns g c =
     c.as_slice.ensures c.in_ok-world.ensures refl in
     let ends = ends_are s setup c.as_slice.result.now (opening_of s) c.in_ok-world.world c.setup_and_others.ensures.setup c.as_slice.ensures
     c.in_ok-world.ensures refl in
-    let found = IsFoundFrom c.args.waits.now c.args.keeps.now in
-    subst (λ (p : Place). IfOk c.explore_from-answer.result (found p (ends_of s))) at
-    (subst (λ (e : Ends). IfOk c.explore_from-answer.result (found (placed setup others c.in_ok-world.world) e)) ends c.explore_from-answer.ensures)
+    let found = AreFoundFrom c.args.waits.now c.args.rules.now in
+    subst (λ (p : Place). IfOk c.explore_from-answers.result (λ answers. found p (ends_of s) answers.items)) at
+    (subst (λ (e : Ends). IfOk c.explore_from-answers.result (λ answers. found (placed setup others c.in_ok-world.world) e answers.items)) ends
+    c.explore_from-answers.ensures)

@@ -1,0 +1,102 @@
+//! The command line of `script`.
+ghost use Rattle.std.specs.Prelude.{◌≡◌};
+ghost use Rattle.clap.specs.Words.{found_of, rows_of};
+ghost use Rattle.stm_arguments.specs.Asking.{IsScript};
+
+use crate::words::{explain, flag_of, option, optional, word_of};
+use clap::builder::ValueParser;
+use clap::{ArgMatches, Command};
+use std::alloc::{AllocError, Global};
+
+const EXAMPLE: &str =
+    "The report is printed once it is whole, and nothing of it where the scenario is bad: then the place of its
+first fault and the cause stand on standard error. If s.json holds the example of stmrun --help,
+
+  stmrun script s.json
+
+prints its report, and so does stmrun script < s.json. With --format FORMAT the report has another form:
+
+  lines   the default: each line is a JSON array, which stmrun check reads
+  json    each line is a JSON object with named fields
+  text    a row for each event, in the column of its runner or of the store; then the keys that are present,
+          and which runners are unfinished
+  svg     the rows of the text as a picture
+
+From this scenario, which lacks the runner of its step,
+
+  [[\"step\"]]
+
+it prints no report, but says
+
+  stmrun: bad scenario at /0: Shape
+
+The place is a JSON Pointer: the indices of the arrays around it, counted from 0. stmrun help causes has the causes,
+and those of refused events and of programs that fault.
+
+With --explain, or where standard error is a terminal, more lines say where that is, what was found there and what is
+allowed, and so of up to nine other faults; --explain=never ends that. So do check, threads and explore:
+
+  s.json:1:2: elements after \"step\": 0 found, 1 wanted: [\"step\",RUNNER]
+
+After the report of a good scenario it says of each run that came to a fault, threads of each job and explore of
+a rule that did, at which place the program stopped and on which values:
+
+  s.json:3:38: event 4: NotANumber of runner 1 at /1/3/0/2/1/1: \"seven\" is no whole number of 64 bits
+
+With --store STORE the scenario goes on from the store of that file, which is made where it is missing, and its report is
+printed once it is on the disk: lines or json. Its events are numbered from 1, its runners and watchers go on counting, and it may
+begin with [\"begin\",..] only where the store is new. stmrun store --help has more of such stores.
+
+Statuses: 0 done, 2 bad input or usage, 3 out of memory, a failed disk or device, or a store that another process has open.";
+
+/// The words of `script`.
+#[derive(Clone, Copy)]
+pub struct ScriptWords<'a> {
+    /// The path of the store that the scenario goes on from, where it is one that lasts.
+    pub store: Option<&'a str>,
+    /// The path of the scenario; standard input, where there is none.
+    pub scenario: Option<&'a str>,
+    /// The name of the report's format; lines, where there is none.
+    pub format: Option<&'a str>,
+    /// Whether a fault is explained.
+    pub explain: bool,
+}
+
+/// The command `script`.
+pub(crate) fn script_command<'a>(alloc: Global) -> Result<Command<'a>, AllocError> {
+    Command::new(alloc, "script")
+        .about("Runs a scenario, and prints its report")
+        .after_long_help(EXAMPLE)
+        .arg(optional(
+            alloc,
+            "FILE",
+            "The file of the scenario, in the place of standard input",
+        ))?
+        .arg(option(
+            alloc,
+            "store",
+            "STORE",
+            ValueParser::String,
+            "The file of a store that the scenario goes on from, which is made where it is missing",
+        ))?
+        .arg(option(
+            alloc,
+            "format",
+            "FORMAT",
+            ValueParser::String,
+            "The form of the report: lines (the default), json, text or svg",
+        ))?
+        .arg(explain(alloc))
+}
+
+/// The words of `script` that were found.
+pub(crate) fn script_of<'a>(found: &ArgMatches<'a>) -> ScriptWords<'a>
+    ensures { IsScript (rows_of (found_of found.now)) result }
+{
+    ScriptWords {
+        store: word_of(found, "store"),
+        scenario: word_of(found, "FILE"),
+        format: word_of(found, "format"),
+        explain: flag_of(found, "explain"),
+    }
+}

@@ -1,0 +1,109 @@
+//! The command line of `threads`.
+ghost use Rattle.std.specs.Prelude.{◌≡◌, IfOk};
+ghost use Rattle.clap.specs.Words.{found_of, rows_of};
+ghost use Rattle.stm_arguments.specs.Asking.{IsThreads};
+
+use crate::numbers::{MOST_RUNS, MOST_WORKERS, runs_at, workers_in};
+use crate::words::{Unasked, explain, flag, flag_of, option, optional, required_word, word_of};
+use clap::builder::ValueParser;
+use clap::{ArgMatches, Command};
+use std::alloc::{AllocError, Global};
+
+const EXAMPLE: &str =
+    "Each start of the scenario is a job, numbered from 0. Its txn, grant, keep, revoke and advance events are
+applied to the store first, in their order; another event, and a limit of 0, is bad input. The threads
+draw jobs, run them on one store under one lock, and a job whose commit fails is tried again until it has
+sent LIMIT commits. Printed are how many jobs there are, how many of them committed, the value of each key
+that is present, and the revision. If s.json holds
+
+  [[\"txn\",[],[[\"put\",\"a\",\"1\",0]],[]],[\"start\",\"Serializable\",1,[[\"put\",\"b\",[\"get\",\"a\"],0]]]]
+
+then stmrun threads --workers 2 s.json prints
+
+  [\"jobs\",1]
+  [\"committed\",1]
+  [\"value\",\"a\",\"1\"]
+  [\"value\",\"b\",\"1\"]
+  [\"end\",3]
+
+With --ends a line for each job stands after the second, [\"job\",0,\"committed\",3,1] here: the job's number, how it
+ended, the revision after its commit, its abort's text, its fault, why it was refused (ended), or the key of
+its last conflict (gaveup), and how many attempts of it were made.
+
+With --repeat RUNS the jobs are run RUNS times, each time on a new store, and what these runs came to is printed as
+stmrun explore prints it, with how often each outcome came: the keys with their values, how each job ended, and the number
+of runs that came to that. The last line has the number of all. Of the same file, --repeat 1000 prints
+
+  [\"outcome\",[[\"a\",\"1\"],[\"b\",\"1\"]],[[\"committed\",[]]],1000]
+  [\"runs\",1000]
+
+Which job goes first is not said, nor that the run ends. Statuses: 0 done, 2 bad input or usage, 3 out of
+memory, a failed device, no thread, or a job whose end is not what the store says (audit JOB).";
+
+/// The words of `threads`.
+#[derive(Clone, Copy)]
+pub struct ThreadsWords<'a> {
+    /// The path of the scenario; standard input, where there is none.
+    pub scenario: Option<&'a str>,
+    /// How many threads run jobs, from 1 to `MOST_WORKERS`.
+    pub workers: usize,
+    /// Whether the end of each job is shown.
+    pub ends: bool,
+    /// Where a number from 1 to `MOST_RUNS` is named: that many runs are made, and what they come to is shown.
+    pub repeat: Option<u32>,
+    /// Whether a fault is explained.
+    pub explain: bool,
+}
+
+/// The command `threads`.
+pub(crate) fn threads_command<'a>(alloc: Global) -> Result<Command<'a>, AllocError> {
+    Command::new(alloc, "threads")
+        .about("Runs the starts of a scenario as jobs, by several threads on one store")
+        .after_long_help(EXAMPLE)
+        .arg(optional(
+            alloc,
+            "FILE",
+            "The file of the scenario, in the place of standard input",
+        ))?
+        .arg(option(
+            alloc,
+            "workers",
+            "N",
+            ValueParser::Unsigned(1, MOST_WORKERS as u64),
+            "How many threads run the jobs, from 1 to 16",
+        )
+        .required(true))?
+        .arg(flag(
+            alloc,
+            "ends",
+            "Whether a line is printed for the end of each job",
+        ))?
+        .arg(option(
+            alloc,
+            "repeat",
+            "RUNS",
+            ValueParser::Unsigned(1, MOST_RUNS),
+            "How many runs are made, from 1 to 1000000, of which is printed what they come to, and how often",
+        ))?
+        .arg(explain(alloc))
+}
+
+/// The words of `threads` that were found.
+pub(crate) fn threads_of<'a>(found: &ArgMatches<'a>) -> Result<ThreadsWords<'a>, Unasked>
+    ensures { IfOk result (IsThreads (rows_of (found_of found.now))) }
+{
+    let scenario = word_of(found, "FILE");
+    let text = required_word(found, "workers")?;
+    let workers = workers_in(text)?;
+    let ends = flag_of(found, "ends");
+    let named = word_of(found, "repeat");
+    let repeat = runs_at(named)?;
+    let explain = flag_of(found, "explain");
+    Ok(ThreadsWords {
+        scenario,
+        workers,
+        ends,
+        repeat,
+        explain,
+    })
+}

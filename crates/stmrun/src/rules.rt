@@ -1,0 +1,175 @@
+//! The rules that `explore` asks: those of a source, and those that words name.
+
+use crate::explaining::{kept_json, say_unread};
+use crate::sources::{JsonFile, is_source, out_of_memory, program_at, rules_at, say_unasked};
+use std::slice;
+use stm_commands::Std;
+use stm_compiling::Rule as SourceRule;
+use stm_exploring::{Level, Rule, read_rule_explained_to, read_rule_to};
+use stm_history::{Sequence, Text};
+use stm_storing::Program;
+
+/// A rule of a source, under its name. A final is refused.
+fn rule_of(rt: &HostRuntime, rule: SourceRule) -> Result<Rule, u8> {
+    if rule.is_final {
+        say_unasked(rt, slice::from_ref(&rule), &[])?;
+        let _ = rt.eprintln("stmrun: explore asks no final");
+        return Err(2);
+    }
+    let SourceRule {
+        name,
+        level,
+        program,
+        ..
+    } = rule;
+    Ok(Rule {
+        name: Some(name),
+        program,
+        from: level.unwrap_or(Level::ReadCommitted),
+    })
+}
+
+/// Adds a rule.
+fn push_rule(rt: &HostRuntime, asked: &mut Vec<Rule>, rule: Rule) -> Result<(), u8> {
+    match asked.push(rule) {
+        Ok(()) => Ok(()),
+        Err(_) => Err(out_of_memory(rt)),
+    }
+}
+
+/// Adds the rules of a source.
+fn push_rules(
+    rt: &HostRuntime,
+    asked: &mut Vec<Rule>,
+    rules: Sequence<SourceRule>,
+) -> Result<(), u8> {
+    for rule in rules.into_vec() {
+        let rule = rule_of(rt, rule)?;
+        push_rule(rt, asked, rule)?;
+    }
+    Ok(())
+}
+
+/// The rules of a source, to be asked.
+pub(crate) fn rules_of(rt: &HostRuntime, rules: Sequence<SourceRule>) -> Result<Vec<Rule>, u8> {
+    let mut asked = Vec::new(rt.alloc());
+    push_rules(rt, &mut asked, rules)?;
+    Ok(asked)
+}
+
+/// The program that is read as JSON; or the status, once what is wrong with it was said. It is explained, or is not.
+fn read_program(rt: &HostRuntime, file: &JsonFile<'_>, explain: bool) -> Result<Program, u8> {
+    let mut err = Std::new(rt.stderr());
+    if explain {
+        let mut source = kept_json(rt, file);
+        let program = read_rule_explained_to(rt.alloc(), &mut source, &mut err);
+        say_unread(rt, source.name, source.source.device.failure);
+        return program;
+    }
+    read_rule_to(rt.alloc(), &mut Std::new(file.open(rt)), &mut err)
+}
+
+/// The rule of a program that is read as JSON, without a name.
+pub(crate) fn unnamed_rule(
+    rt: &HostRuntime,
+    file: &JsonFile<'_>,
+    explain: bool,
+) -> Result<Rule, u8> {
+    let program = read_program(rt, file, explain)?;
+    Ok(Rule {
+        name: None,
+        program,
+        from: Level::ReadCommitted,
+    })
+}
+
+/// The rule of a program that is read as JSON, under a name.
+fn read_rule(rt: &HostRuntime, file: &JsonFile<'_>, name: &str, explain: bool) -> Result<Rule, u8> {
+    let program = read_program(rt, file, explain)?;
+    match Text::copy_of(rt.alloc(), name) {
+        Ok(name) => Ok(Rule {
+            name: Some(name),
+            program,
+            from: Level::ReadCommitted,
+        }),
+        Err(_) => Err(out_of_memory(rt)),
+    }
+}
+
+/// The rule of a name among these.
+fn named(rules: Sequence<SourceRule>, name: &str) -> Option<SourceRule> {
+    for rule in rules.into_vec() {
+        if rule.name.as_str() == name {
+            return Some(rule);
+        }
+    }
+    None
+}
+
+/// The rule of a name, of the source of a path, or its program of that name, which has no parameters.
+fn named_rule(rt: &HostRuntime, path: &str, name: &str, explain: bool) -> Result<Rule, u8> {
+    let rules = rules_at(rt, path, explain)?;
+    match named(rules, name) {
+        Some(rule) => rule_of(rt, rule),
+        None => {
+            let file = program_at(rt, path, name, &[], explain)?;
+            read_rule(rt, &file, name, explain)
+        }
+    }
+}
+
+/// The path and the name of a word that names a rule or a program of a source.
+pub(crate) fn named_in(word: &str) -> Option<(&str, &str)> {
+    match word.rsplit_once(':') {
+        Some((path, name)) if is_source(path) => Some((path, name)),
+        _ => None,
+    }
+}
+
+/// Whether a word is the path of a program that is JSON.
+pub(crate) fn is_json(word: &str) -> bool {
+    !is_source(word) && named_in(word).is_none()
+}
+
+/// The name of the rule that a file has: that of the file, without its end.
+fn stem(path: &str) -> &str {
+    let file = match path.rsplit_once('/') {
+        Some((_, file)) => file,
+        None => path,
+    };
+    match file.split_once('.') {
+        Some((stem, _)) => stem,
+        None => file,
+    }
+}
+
+/// Adds the rules that a word names: that of a file of JSON, all of a source, or one rule or program of a source, `FILE.stm:NAME`.
+fn push_named(
+    rt: &HostRuntime,
+    asked: &mut Vec<Rule>,
+    word: &str,
+    explain: bool,
+) -> Result<(), u8> {
+    if is_source(word) {
+        let rules = rules_at(rt, word, explain)?;
+        return push_rules(rt, asked, rules);
+    }
+    let rule = match named_in(word) {
+        Some((path, name)) => named_rule(rt, path, name, explain)?,
+        None => read_rule(rt, &JsonFile::Json(word), stem(word), explain)?,
+    };
+    push_rule(rt, asked, rule)
+}
+
+/// The rules that words name.
+pub(crate) fn rules_named(
+    rt: &HostRuntime,
+    words: &[&str],
+    explain: bool,
+) -> Result<Vec<Rule>, u8> {
+    let mut asked = Vec::new(rt.alloc());
+    for word in words {
+        push_named(rt, &mut asked, word, explain)?;
+    }
+    Ok(asked)
+}

@@ -117,7 +117,7 @@ pub(crate) fn read_waits(
     }
 }
 
-/// Refuses an option where no rule is asked, and gives the status.
+/// Refuses an option where no rule is asked, which it is for, and gives the status.
 pub(crate) fn refuse_without_rule(rt: &HostRuntime, option: &str) -> u8 {
     let _ = eprintln!(rt; "error: '{option}' is for a search with '--keeps <PROGRAM>'");
     let _ = rt.eprintln(USAGE);

@@ -1,7 +1,7 @@
 -- What is printed of a run of jobs, as JSON data and as text.
 --
 -- The words are those of docs/FORMATS.md, "The command line".
-use Rattle.std.specs.Prelude.{◌≡◌, ℕ, suc, Bool, true, false, List, [], ◌∷◌, ◌++◌, map, slice_index, codes}
+use Rattle.std.specs.Prelude.{◌≡◌, ℕ, ◌-◌, ◌^◌, suc, min, sum, Bool, true, false, List, [], ◌∷◌, ◌++◌, map, slice_index, codes}
 use Rattle.serde_json.specs.Data.{Data, string}
 use Rattle.stm_history.specs.History.{History, now}
 use Rattle.stm_steps.specs.declared.state.StateEntry.{StateEntry}
@@ -50,10 +50,14 @@ abbrev pub lines_of_ends : List ℕ → ℕ → List JobEnd → List Data
 lines_of_ends attempts n [] = []
 lines_of_ends attempts n (end ∷ ends) = end_of_job n end (slice_index attempts n) ∷ lines_of_ends attempts (suc n) ends
 
--- the lines of the ends, where they are shown
+-- how many attempts were made in all, as far as a number of 64 bits goes
+abbrev pub attempts_in_all : List ℕ → ℕ
+attempts_in_all attempts = min (sum attempts) (2 ^ 64 - 1)
+
+-- where the ends are shown, that number and the lines of the ends
 abbrev pub ends_shown : Bool → List JobEnd → List ℕ → List Data
 ends_shown false ends attempts = []
-ends_shown true ends attempts = lines_of_ends attempts 0 ends
+ends_shown true ends attempts = count_line (codes "attempts") (attempts_in_all attempts) ∷ lines_of_ends attempts 0 ends
 
 -- ---- the whole
 

@@ -5,7 +5,7 @@ ghost use Rattle.serde_json.specs.View.{view};
 ghost use Rattle.stm_report_lines.specs.LineData.{whole};
 ghost use Rattle.stm_meaning.specs.States.{IsAscending};
 ghost use Rattle.stm_report_lines.specs.Text.{line_text, lines_text};
-ghost use Rattle.stm_job_texts.specs.Lines.{count_line, value_line, value_lines, job_line, job_refusal_name, end_of_job, lines_of_ends, ends_shown, AreLinesOf};
+ghost use Rattle.stm_job_texts.specs.Lines.{count_line, value_line, value_lines, job_line, job_refusal_name, end_of_job, lines_of_ends, attempts_in_all, ends_shown, AreLinesOf};
 
 use serde_json::{Value as Json, json};
 use std::alloc::{AllocError, Global};
@@ -158,7 +158,18 @@ fn push_ends(
     Ok(())
 }
 
-/// Adds the lines of the ends, where they are to be shown.
+/// How many attempts were made in all.
+fn attempts_in_all(attempts: &[u32]) -> u64
+    ensures { result ≡ attempts_in_all attempts.now }
+{
+    let mut all = 0u64;
+    for made in attempts {
+        all = all.saturating_add(u64::from(*made));
+    }
+    all
+}
+
+/// Adds the number of all attempts and the lines of the ends, where they are to be shown.
 fn push_shown(
     alloc: Global,
     text: &mut String,
@@ -170,6 +181,7 @@ fn push_shown(
     ensures { OnOk result (string_bytes text.new ≡ string_bytes text.old ++ lines_text (ends_shown with_ends ends.now attempts.now)) }
 {
     if with_ends {
+        push_count(alloc, text, "attempts", attempts_in_all(attempts))?;
         push_ends(alloc, text, ends, attempts)
     } else {
         Ok(())
@@ -188,8 +200,8 @@ fn push_values(alloc: Global, text: &mut String, state: &State) -> Result<(), Al
     Ok(())
 }
 
-/// What is printed of a run of `jobs` jobs: how many there are and how many of them committed, a line for the end of each and its attempts, where
-/// these are to be shown, one for each key that is present with its value, ascending by bytes, and the store's revision.
+/// What is printed of a run of `jobs` jobs: how many there are and how many of them committed, where they are to be shown how
+/// many attempts were made in all and a line for the end of each, one for each key that is present with its value, ascending by bytes, and the store's revision.
 ///
 /// Each line is a compact JSON array and a line feed. It fails where an allocation failed.
 pub fn lines(

@@ -2,13 +2,8 @@ pub mod LineLoops
 pub mod KeptLines
 pub mod LeaseLemmas
 pub mod LiveLeases
-pub mod Joining
-pub mod FormatFronts
-pub mod FormatPlain
 pub mod FormatRowLemmas
 pub mod FormatScriptLemmas
-pub mod FormatKeptKeys
-pub mod FormatLoops
 pub mod FormatMembers
 pub mod WholeLineLemmas
 pub mod WholeJudgingLemmas

@@ -13,7 +13,7 @@ use Rattle.stm_report_lines.specs.Text.{line_text, text_of}
 use Rattle.stm_report.specs.declared.line_form.LineForm.{LineForm}
 use Rattle.stm_report.specs.declared.line_form.LineForm.TheVariants.{Array}
 use Rattle.stm_report.specs.Forms.{formed, formed_text}
-use Rattle.stm_report.proofs.Joining.{left_at}
+use Rattle.stm_formats.proofs.Joining.{left_at}
 
 pub text_of-append : (ks ls : List ReportLine) → text_of (ks ++ ls) ≡ text_of ks ++ text_of ls
 text_of-append [] ls = refl

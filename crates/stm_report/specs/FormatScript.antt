@@ -1,9 +1,10 @@
 -- What a script does in a format: from the bytes of a source to the report in a sink.
-use Rattle.std.specs.Prelude.{◌≡◌, ℕ, List, Bool, true, false, Option, Result, Ok, Err, IfSome, IsUtf8}
+use Rattle.std.specs.Prelude.{◌≡◌, ℕ, List, ◌++◌, Bool, true, false, Option, Result, Ok, Err, IfSome, IsUtf8}
 use Rattle.std.specs.Io.KnownBytes.{Appends, Keeps}
 use Rattle.stm_events.specs.declared.event.WorldEvent.{WorldEvent}
 use Rattle.stm_events.specs.declared.reply.Reply.{Reply}
 use Rattle.stm_events.specs.declared.refusal.Denied.{Denied}
+use Rattle.stm_history.specs.History.{now}
 use Rattle.stm_world.specs.World.{World, opened, world_after, replies_to}
 use Rattle.stm_texts.specs.declared.scenario.Scenario.{Scenario}
 use Rattle.stm_json.specs.Outcome.{Outcome}
@@ -17,23 +18,21 @@ use Rattle.stm_devices.specs.Ends.{Devices, IsUntouched}
 use Rattle.stm_report.specs.declared.format.Format.{Format}
 use Rattle.stm_report.specs.declared.format.Format.TheVariants.{Lines, Json, Text, Svg}
 use Rattle.stm_report.specs.Forms.{json_text}
-use Rattle.stm_report.specs.FormatRows.{rows_of}
-use Rattle.stm_report.specs.FormatNotes.{notes_of}
-use Rattle.stm_report.specs.FormatText.{text_of}
-use Rattle.stm_report.specs.FormatSvg.{svg_of}
+use Rattle.stm_formats.specs.FormatRuns.{text_from, svg_from}
 
 -- ---- the report of a run in a format
 
--- the text is the report of these events, of their replies and of the world that they left; one of lines is in UTF-8
-abbrev pub IsTextOf : Format → World → List WorldEvent → List (Result Reply Denied) → List ℕ → Type 0
-IsTextOf Lines w events replies text = IsReport w replies text × IsUtf8 text
-IsTextOf Json w events replies text = text ≡ json_text w replies
-IsTextOf Text w events replies text = text ≡ text_of (rows_of 1 events replies) (notes_of w replies)
-IsTextOf Svg w events replies text = text ≡ svg_of (rows_of 1 events replies) (notes_of w replies)
+-- the text is the report of these events, before which the store was at a revision, of their replies and of the world that they left; one of lines is in
+-- UTF-8
+abbrev pub IsTextSince : ℕ → Format → World → List WorldEvent → List (Result Reply Denied) → List ℕ → Type 0
+IsTextSince since Lines w events replies text = IsReport w replies text × IsUtf8 text
+IsTextSince since Json w events replies text = text ≡ json_text w replies
+IsTextSince since Text w events replies text = text ≡ text_from w since events replies
+IsTextSince since Svg w events replies text = text ≡ svg_from w since events replies
 
 -- the text is that of these events' run from a world
 abbrev pub IsTextFrom : Format → World → List WorldEvent → List ℕ → Type 0
-IsTextFrom format w events text = IsTextOf format (world_after events w) events (replies_to events w) text
+IsTextFrom format w events text = IsTextSince (now w.standing.history) format (world_after events w) events (replies_to events w) text
 
 -- the text is that of a scenario's run, over an empty store at its opening revision
 unfoldable pub IsRunText : Format → Scenario → List ℕ → Type 0

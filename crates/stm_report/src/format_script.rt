@@ -1,73 +1,45 @@
 //! From the bytes of a source to the report in a sink, in a format.
 ghost use Rattle.std.specs.Prelude.{◌≡◌, ◌≤◌, ◌+◌, false, length, IfOk};
 ghost use Rattle.stm_devices.specs.declared.transfer.TheConstants.{MOST_READ};
-ghost use Rattle.stm_report.specs.FormatScript.{IsTextOf, IsTextFrom, IsRunText, Answers, Writes, DoesAs};
-ghost use Rattle.stm_report.specs.FormatRows.{rows_of};
-ghost use Rattle.stm_report.specs.FormatNotes.{notes_of};
-ghost use Rattle.stm_report.specs.FormatText.{text_of};
-ghost use Rattle.stm_report.specs.FormatSvg.{svg_of};
+ghost use Rattle.stm_history.specs.History.{now};
+ghost use Rattle.stm_report.specs.FormatScript.{IsTextSince, IsTextFrom, IsRunText, Answers, Writes, DoesAs};
 
 use crate::format::Format;
-use crate::format_notes::notes_of;
-use crate::format_rows::rows_of;
-use crate::format_svg::svg_of;
-use crate::format_text::text_of;
 use crate::report_text::{report, report_objects};
 use crate::run_script::ScriptFault;
 use std::alloc::{AllocError, Global};
 use stm_devices::{ReadFault, Sink, Source, read_all, write_all};
+use stm_formats::{svg_from, text_from};
 use stm_retry::{Denied, Reply, World, WorldEvent};
 use stm_texts::{ReadError, Scenario, opens_with, read_scenario};
 
-/// The text of a world, of the events that led to it, and of their replies.
-fn text_from(
-    alloc: Global,
-    world: &World,
-    events: &[WorldEvent],
-    replies: &[Result<Reply, Denied>],
-) -> Result<Vec<u8>, AllocError>
-    requires { length events.now ≡ length replies.now }
-    ensures { IfOk result (λ text. text.items ≡ text_of (rows_of 1 events.now replies.now) (notes_of world.now replies.now)) }
-{
-    let rows = rows_of(alloc, events, replies)?;
-    let notes = notes_of(alloc, world, replies)?;
-    text_of(alloc, rows.as_slice(), notes.as_slice())
-}
-
-/// The picture of a world, of the events that led to it, and of their replies.
-fn svg_from(
-    alloc: Global,
-    world: &World,
-    events: &[WorldEvent],
-    replies: &[Result<Reply, Denied>],
-) -> Result<Vec<u8>, AllocError>
-    requires { length events.now ≡ length replies.now }
-    ensures { IfOk result (λ svg. svg.items ≡ svg_of (rows_of 1 events.now replies.now) (notes_of world.now replies.now)) }
-{
-    let rows = rows_of(alloc, events, replies)?;
-    let notes = notes_of(alloc, world, replies)?;
-    svg_of(alloc, rows.as_slice(), notes.as_slice())
-}
-
-/// The report of a world, of the events that led to it, and of their replies, in a format.
+/// The report of a world, of the events that led to it from a world whose store was at this revision, and of their replies, in a format.
 ///
 /// There is a reply to each event. It fails where a growth was refused.
 pub fn render(
     alloc: Global,
     format: Format,
+    since: u64,
     world: &World,
     events: &[WorldEvent],
     replies: &[Result<Reply, Denied>],
 ) -> Result<Vec<u8>, AllocError>
     requires { length events.now ≡ length replies.now }
-    ensures { IfOk result (λ text. IsTextOf format world.now events.now replies.now text.items) }
+    ensures { IfOk result (λ text. IsTextSince since format world.now events.now replies.now text.items) }
 {
     match format {
         Format::Lines => Ok(report(alloc, world, replies)?.into_bytes()),
         Format::Json => Ok(report_objects(alloc, world, replies)?.into_bytes()),
-        Format::Text => text_from(alloc, world, events, replies),
-        Format::Svg => svg_from(alloc, world, events, replies),
+        Format::Text => text_from(alloc, world, since, events, replies),
+        Format::Svg => svg_from(alloc, world, since, events, replies),
     }
+}
+
+/// The store's revision.
+pub fn revision_of(world: &World) -> u64
+    ensures { result ≡ now world.now.standing.history }
+{
+    world.store().keys().revision()
 }
 
 /// The report of what a world replies to these events.
@@ -79,8 +51,9 @@ fn report_from(
 ) -> Result<Vec<u8>, AllocError>
     ensures { IfOk result (λ text. IsTextFrom format world.old events.now text.items) }
 {
+    let since = revision_of(world);
     match world.run(events) {
-        Ok(replies) => render(alloc, format, world, events, replies.as_slice()),
+        Ok(replies) => render(alloc, format, since, world, events, replies.as_slice()),
         Err(_) => Err(AllocError),
     }
 }

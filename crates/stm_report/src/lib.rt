@@ -1,9 +1,8 @@
 //! Reports of worlds in each form, the script that goes from a scenario to its report, and the check of a whole report.
 //!
-//! A report has a line for each event, each key that is present, each live lease and the end (`specs/Report.antt`). The files `format_*` write
-//! it in other forms: the same lines as objects with named fields, a column of text for each runner, and a picture. Text and picture are two
-//! writers over the same rows, one for each event (`specs/FormatRows.antt`). The objects are the lines of the report, each element under the
-//! name of its field (`specs/FormatFields.antt`).
+//! A report has a line for each event, each key that is present, each live lease and the end (`specs/Report.antt`). The forms that are lines of JSON are
+//! written here: the lines themselves, and the same as objects, each element of a line under the name of its field (`specs/FormatFields.antt`). The forms for
+//! people to read are `stm_formats`'.
 //!
 //! The files `whole_*` compare a text with the report that a script writes of its scenario, line by line. `stm_check` judges a report by the
 //! replay of what it says; here it is compared with the report itself, so that also what was fetched, what failed, what ended a program and
@@ -11,16 +10,8 @@
 #![tactic(auto)]
 
 mod format;
-mod format_columns;
 mod format_fields;
-mod format_notes;
-mod format_pieces;
-mod format_row;
-mod format_rows;
 mod format_script;
-mod format_svg;
-mod format_text;
-mod format_words;
 mod leases;
 mod line_form;
 mod report_text;
@@ -30,9 +21,7 @@ mod whole_judging;
 mod whole_lines;
 
 pub use format::Format;
-pub use format_row::{Lane, Mark, Row};
-pub use format_rows::rows_of;
-pub use format_script::{render, script_as};
+pub use format_script::{render, revision_of, script_as};
 pub use leases::live_leases;
 pub use report_text::report;
 pub use run_script::{ScriptFault, script};
@@ -43,6 +32,7 @@ pub use stm_events::{
     CommittedRead, Event, EventRefusal, Expired, Fault, KeyRead, OpReply, TraceItem, Value,
 };
 pub use stm_history::{KeyState, Sequence, Text};
+pub use stm_keys::Keys;
 pub use stm_report_lines::{Report, ReportLine, read_report};
 pub use stm_retry::{Denied, Reply, World};
 pub use stm_texts::{BadInput, Cause, Opening, ReadError, Scenario, WorldEvent, read_scenario};

@@ -1,7 +1,7 @@
 -- What stands escaped has none of the bytes that open or close an element or end an attribute.
 use Rattle.std.proofs.Common.{◌≡◌, ℕ, Bool, true, false, cond, ◌||◌, List, [], ◌∷◌, ◌++◌, nat_eq, codes, refl, ◌∙◌}
-use Rattle.stm_report.specs.FormatEscaped.{entity, escaped}
-use Rattle.stm_report.specs.FormatLaws.{has, NothingUnescaped}
+use Rattle.stm_formats.specs.FormatEscaped.{entity, escaped}
+use Rattle.stm_report_laws.specs.FormatLaws.{has, NothingUnescaped}
 
 neither : (a b : Bool) → a ≡ false → b ≡ false → (a || b) ≡ false
 neither false b first second = second

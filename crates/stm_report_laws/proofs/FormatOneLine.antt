@@ -1,11 +1,17 @@
 -- The words of a row have no line feed, and so each row is one line.
-use Rattle.std.proofs.Common.{◌≡◌, ℕ, zero, suc, pred, ◌+◌, ◌-◌, ◌*◌, ◌/◌, ◌%◌, Bool, true, false, cond, ◌||◌, ◌==◌, List, [], ◌∷◌, ◌++◌, length, replicate}
-use Rattle.std.proofs.Common.{true≢false, sym, nat_eq, nat_lt, codes, decimal, Result, Ok, Err, refl, ap, ◌∙◌, arith}
+use Rattle.std.proofs.Common.{◌≡◌, ℕ, zero, suc, pred, ◌+◌, ◌-◌, ◌*◌, ◌/◌, ◌%◌, Bool, true, false, cond, ◌||◌, ◌==◌, List, [], ◌∷◌, ◌++◌, length}
+use Rattle.std.proofs.Common.{replicate, true≢false, sym}
+use Rattle.std.proofs.Common.{nat_eq, nat_lt, nat_le, Option, Some, None, codes, decimal, Result, Ok, Err, refl, ap, ◌∙◌, arith}
 use Rattle.std.proofs.lemmas.Bool.Decides.{nat_tests}
 use Rattle.std.specs.Fmt.{digits, digits_onto, digit_glyph}
 use Rattle.stm_program.specs.declared.level.Level.{Level}
 use Rattle.stm_program.specs.declared.level.Level.TheVariants.{SerializableSnapshot}
 use Rattle.stm_texts.specs.Grammar.{level_text}
+use Rattle.stm_history.specs.declared.key_state.KeyState.{KeyState}
+use Rattle.stm_history.specs.History.{History, now}
+use Rattle.stm_keys.specs.declared.event.Event.{Event}
+use Rattle.stm_keys.specs.declared.event.Event.TheVariants as change
+use Rattle.stm_keys.specs.Events.{events_of}
 use Rattle.stm_events.specs.declared.event.WorldEvent.{WorldEvent}
 use Rattle.stm_events.specs.declared.event.WorldEvent.TheVariants as event
 use Rattle.stm_events.specs.declared.reply.Reply.{Reply}
@@ -15,16 +21,21 @@ use Rattle.stm_events.specs.declared.refusal.Denied.{Denied}
 use Rattle.stm_events.specs.declared.refusal.EventRefusal.{EventRefusal}
 use Rattle.stm_events.specs.Names.{refusal_name}
 use Rattle.stm_meaning.specs.Faults.{fault_name}
-use Rattle.stm_report.specs.declared.format_row.Lane.{Lane}
-use Rattle.stm_report.specs.declared.format_row.Lane.TheVariants.{Store, Runner}
-use Rattle.stm_report.specs.FormatShown.{shown, plain, plain_after, hidden, front}
-use Rattle.stm_report.specs.FormatPieces.{joined, padded, tag_text}
-use Rattle.stm_report.specs.FormatWords.{named_words, reported_words, start_words, listed_words, fetched_words, commit_words, compared_words, txn_words, revoked_words}
-use Rattle.stm_report.specs.FormatWords.{changed_words, advanced_words, batch_words, lost_words, asked_word, refused_words, reply_words, words_of}
-use Rattle.stm_report.specs.FormatRows.{lane_of, row_of, rows_of}
-use Rattle.stm_report.specs.FormatColumns.{column}
-use Rattle.stm_report.specs.FormatText.{spaces, row_text, rows_text}
-use Rattle.stm_report.specs.FormatLaws.{has, count, OneLineARow}
+use Rattle.stm_formats.specs.declared.format_row.Lane.{Lane}
+use Rattle.stm_formats.specs.declared.format_row.Lane.TheVariants.{Store, Runner}
+use Rattle.stm_formats.specs.FormatShown.{shown, plain, plain_after, hidden, front, back}
+use Rattle.stm_formats.specs.FormatPieces.{joined, padded, tag_text}
+use Rattle.stm_events.specs.declared.reply.KeyRead.{KeyRead}
+use Rattle.stm_reasons.specs.Counters.{counter_after}
+use Rattle.stm_reasons.specs.Causes.{state_by}
+use Rattle.stm_formats.specs.FormatChanges.{state_words, known_words, change_words, between, counted_change, changes_after, revision_words, changed_since}
+use Rattle.stm_formats.specs.FormatWords.{named_words, reported_words, start_words, link, seen_words, as_of, fetched_words, counted_read, reads_after, listed_words}
+use Rattle.stm_formats.specs.FormatWords.{attempt_words, commit_words, compared_words, txn_words, revoked_words, changed_words, advanced_words, batch_words}
+use Rattle.stm_formats.specs.FormatWords.{lost_words, asked_word, refused_words, reply_words, told_words, words_of}
+use Rattle.stm_formats.specs.FormatRows.{lane_of, row_of, rows_of}
+use Rattle.stm_formats.specs.FormatColumns.{column, place}
+use Rattle.stm_formats.specs.FormatText.{spaces, row_text, rows_text}
+use Rattle.stm_report_laws.specs.FormatLaws.{has, count, OneLineARow}
 use Rattle.stm_report_laws.proofs.FormatEscapedLaws.{has-append}
 
 abbrev AllWithout : List (List ℕ) → Type 0
@@ -59,12 +70,14 @@ plain_without zero (x ∷ xs) =
     next_without (nat_eq (hidden (x ∷ xs)) 0) x (plain_after 0 xs) (plain_after (pred (hidden (x ∷ xs))) xs)
     (other_by (nat_lt x 32) (nat_eq x 127) x _ refl) (plain_without 0 xs) (plain_without (pred (hidden (x ∷ xs))) xs)
 
-shown_by : (kept : ℕ) (b : Bool) (text : List ℕ) → has 10 (cond b (plain text) (plain (front kept text) ++ codes "..")) ≡ false
-shown_by kept true text = plain_without 0 text
-shown_by kept false text = has-append 10 (plain (front kept text)) (codes "..") (plain_without 0 (front kept text)) refl
+shown_by : (first last : ℕ) (b : Bool) (text : List ℕ) → has 10 (cond b (plain text) (plain (front first text) ++ codes ".." ++ plain (back last text))) ≡ false
+shown_by first last true text = plain_without 0 text
+shown_by first last false text =
+    has-append 10 (plain (front first text)) (codes ".." ++ plain (back last text)) (plain_without 0 (front first text))
+    (has-append 10 (codes "..") (plain (back last text)) refl (plain_without 0 (back last text)))
 
 shown_without : (text : List ℕ) → has 10 (shown text) ≡ false
-shown_without text = shown_by _ _ text
+shown_without text = shown_by _ _ _ text
 
 glyph_by : (b : Bool) (d : ℕ) → nat_eq (cond b (48 + d) (87 + d)) 10 ≡ false
 glyph_by true d = grind (arith, nat_tests)
@@ -101,7 +114,7 @@ asked_without (event.Start program level limit) = refl
 asked_without _ = refl
 
 txn_without : (succeeded : Bool) (revision : ℕ) → has 10 (txn_words succeeded revision) ≡ false
-txn_without true revision = joined_without (codes "txn succeeded" ∷ codes " @" ∷ decimal revision ∷ []) (refl, (refl, (decimal_without revision, tt)))
+txn_without true revision = joined_without (codes "txn" ∷ codes " @" ∷ decimal revision ∷ []) (refl, (refl, (decimal_without revision, tt)))
 txn_without false revision = joined_without (codes "txn failed" ∷ codes " @" ∷ decimal revision ∷ []) (refl, (refl, (decimal_without revision, tt)))
 
 compacted_without : (revision : ℕ) → has 10 (changed_words (codes "compact") revision) ≡ false
@@ -113,25 +126,109 @@ named_without word n none = joined_without (word ∷ codes " " ∷ decimal n ∷
 reported_without : (word text : List ℕ) → has 10 word ≡ false → has 10 (reported_words word text) ≡ false
 reported_without word text none = joined_without (word ∷ codes " " ∷ shown text ∷ []) (none, (refl, (shown_without text, tt)))
 
-listed_without : (count revision : ℕ) → has 10 (listed_words count revision) ≡ false
-listed_without count revision =
-    joined_without (codes "read the list, " ∷ decimal count ∷ codes " keys, as of " ∷ decimal revision ∷ [])
-    (refl, (decimal_without count, (refl, (decimal_without revision, tt))))
+either_without : (b : Bool) (first second : List ℕ) → has 10 first ≡ false → has 10 second ≡ false → has 10 (cond b first second) ≡ false
+either_without true first second one two = one
+either_without false first second one two = two
 
-fetched_without : (key : List ℕ) (mod_rev of_rev : ℕ) → has 10 (fetched_words key mod_rev of_rev) ≡ false
-fetched_without key mod_rev of_rev =
-    joined_without (codes "read " ∷ shown key ∷ codes " @" ∷ decimal mod_rev ∷ codes ", as of " ∷ decimal of_rev ∷ [])
-    (refl, (shown_without key, (refl, (decimal_without mod_rev, (refl, (decimal_without of_rev, tt))))))
+-- ---- what keys are, and what changed
+
+state_without : (found : Option KeyState) → has 10 (state_words found) ≡ false
+state_without None = refl
+state_without (Some state) =
+    joined_without (codes "\"" ∷ shown state.value ∷ codes "\" @" ∷ decimal state.mod_rev ∷ [])
+    (refl, (shown_without state.value, (refl, (decimal_without state.mod_rev, tt))))
+
+known_without : (h : History) (key : List ℕ) (mod_rev revision : ℕ) → has 10 (known_words h key mod_rev revision) ≡ false
+known_without h key mod_rev revision =
+    let kept : List ℕ = state_words (state_by h key revision) in
+    let number : List ℕ = joined (codes "@" ∷ decimal mod_rev ∷ []) in
+    either_without (nat_eq mod_rev 0) (codes "absent") (cond (nat_lt revision h.opening.number) number kept) refl
+    (either_without (nat_lt revision h.opening.number) number kept (joined_without (codes "@" ∷ decimal mod_rev ∷ []) (refl, (decimal_without mod_rev, tt)))
+    (state_without (state_by h key revision)))
+
+change_without : (e : Event) → has 10 (change_words e) ≡ false
+change_without (change.Put key state) =
+    joined_without (shown key ∷ codes " = \"" ∷ shown state.value ∷ codes "\"" ∷ [])
+    (shown_without key, (refl, (shown_without state.value, (refl, tt))))
+change_without (change.Delete key revision) = joined_without (shown key ∷ codes " deleted" ∷ []) (shown_without key, (refl, tt))
+
+between_without : (count : ℕ) → has 10 (between count) ≡ false
+between_without count = either_without (nat_eq count 0) (codes "  ") (codes ", ") refl refl
+
+-- one of the first few, or that there are more
+few_without : (few last : Bool) (count : ℕ) (words : List ℕ) → has 10 words ≡ false
+    → has 10 (cond few (joined (between count ∷ words ∷ [])) (cond last (codes ", ..") [])) ≡ false
+few_without few last count words none =
+    either_without few (joined (between count ∷ words ∷ [])) (cond last (codes ", ..") [])
+    (joined_without (between count ∷ words ∷ []) (between_without count, (none, tt))) (either_without last (codes ", ..") [] refl refl)
+
+changes_without : (count : ℕ) (events : List Event) → has 10 (changes_after count events) ≡ false
+changes_without count [] = refl
+changes_without count (e ∷ es) =
+    has-append 10 (counted_change count e) (changes_after (suc count) es) (few_without _ _ count (change_words e) (change_without e)) (changes_without (suc count) es)
+
+revision_without : (h : History) (revision : ℕ) → has 10 (revision_words h revision) ≡ false
+revision_without h revision =
+    either_without (nat_lt (now h) revision) [] (changes_after 0 (events_of h revision)) refl (changes_without 0 (events_of h revision))
+
+changed_without : (h : History) (before after : ℕ) → has 10 (changed_since h before after) ≡ false
+changed_without h before after =
+    let first : List ℕ = revision_words h (before + 1) in
+    let rest : List ℕ = cond (nat_eq after (before + 2)) [] (codes "  ..") in
+    let more : List ℕ = joined (first ∷ revision_words h (before + 2) ∷ rest ∷ []) in
+    either_without (nat_le after before) [] (cond (nat_eq after (before + 1)) first more) refl
+    (either_without (nat_eq after (before + 1)) first more (revision_without h (before + 1))
+    (joined_without (first ∷ revision_words h (before + 2) ∷ rest ∷ [])
+    (revision_without h (before + 1), (revision_without h (before + 2), (either_without (nat_eq after (before + 2)) [] (codes "  ..") refl refl, tt)))))
+
+-- ---- reads and commits
+
+seen_without : (h : History) (key : List ℕ) (mod_rev revision : ℕ) → has 10 (seen_words h key mod_rev revision) ≡ false
+seen_without h key mod_rev revision =
+    joined_without (shown key ∷ link mod_rev ∷ known_words h key mod_rev revision ∷ [])
+    (shown_without key, (either_without (nat_eq mod_rev 0) (codes ": ") (codes " = ") refl refl, (known_without h key mod_rev revision, tt)))
+
+as_of_without : (of_rev revision : ℕ) → has 10 (as_of of_rev revision) ≡ false
+as_of_without of_rev revision =
+    either_without (nat_eq of_rev revision) [] (joined (codes ", as of " ∷ decimal of_rev ∷ [])) refl
+    (joined_without (codes ", as of " ∷ decimal of_rev ∷ []) (refl, (decimal_without of_rev, tt)))
+
+fetched_without : (h : History) (key : List ℕ) (mod_rev of_rev revision : ℕ) → has 10 (fetched_words h key mod_rev of_rev revision) ≡ false
+fetched_without h key mod_rev of_rev revision =
+    joined_without (codes "read " ∷ seen_words h key mod_rev of_rev ∷ as_of of_rev revision ∷ [])
+    (refl, (seen_without h key mod_rev of_rev, (as_of_without of_rev revision, tt)))
+
+reads_without : (h : History) (revision count : ℕ) (reads : List KeyRead) → has 10 (reads_after h revision count reads) ≡ false
+reads_without h revision count [] = refl
+reads_without h revision count (r ∷ rs) =
+    has-append 10 (counted_read h revision count r) (reads_after h revision (suc count) rs)
+    (few_without _ _ count (seen_words h r.key r.mod_rev revision) (seen_without h r.key r.mod_rev revision)) (reads_without h revision (suc count) rs)
+
+listed_without : (h : History) (revision : ℕ) (reads : List KeyRead) → has 10 (listed_words h revision reads) ≡ false
+listed_without h revision reads =
+    joined_without (codes "read the list" ∷ reads_after h revision 0 reads ∷ []) (refl, (reads_without h revision 0 reads, tt))
 
 commit_without : (revision attempts : ℕ) → has 10 (commit_words revision attempts) ≡ false
 commit_without revision attempts =
-    joined_without (codes "COMMIT @" ∷ decimal revision ∷ codes ", attempt " ∷ decimal attempts ∷ [])
-    (refl, (decimal_without revision, (refl, (decimal_without attempts, tt))))
+    let attempt : List ℕ = joined (codes ", attempt " ∷ decimal attempts ∷ []) in
+    joined_without (codes "COMMIT @" ∷ decimal revision ∷ attempt_words attempts ∷ []) (
+      refl,
+      (
+        decimal_without revision,
+        (
+          either_without (nat_eq attempts 1) [] attempt refl
+              (joined_without (codes ", attempt " ∷ decimal attempts ∷ []) (refl, (decimal_without attempts, tt))),
+          tt,
+        ),
+      ),
+    )
 
-compared_without : (word key : List ℕ) (seen now : ℕ) → has 10 word ≡ false → has 10 (compared_words word key seen now) ≡ false
-compared_without word key seen now none =
-    joined_without (word ∷ codes " " ∷ shown key ∷ codes ": read @" ∷ decimal seen ∷ codes ", now @" ∷ decimal now ∷ [])
-    (none, (refl, (shown_without key, (refl, (decimal_without seen, (refl, (decimal_without now, tt)))))))
+compared_without : (h : History) (word key : List ℕ) (seen now : ℕ) → has 10 word ≡ false → has 10 (compared_words h word key seen now) ≡ false
+compared_without h word key seen now none =
+    joined_without (word ∷ codes " " ∷ shown key ∷ codes ": was " ∷ known_words h key seen seen ∷ codes ", is " ∷ known_words h key now now ∷ [])
+    (none, (refl, (shown_without key, (refl, (known_without h key seen seen, (refl, (known_without h key now now, tt)))))))
+
+-- ---- other events
 
 revoked_without : (id revision : ℕ) → has 10 (revoked_words id revision) ≡ false
 revoked_without id revision =
@@ -157,30 +254,35 @@ refused_without e cause =
     joined_without (codes "REFUSED " ∷ asked_word e ∷ codes ": " ∷ shown (refusal_name cause) ∷ [])
     (refl, (asked_without e, (refl, (shown_without (refusal_name cause), tt))))
 
-reply_without : (e : WorldEvent) (reply : Reply) → has 10 (reply_words e reply) ≡ false
-reply_without e (Started runner) = start_without e
-reply_without e (Prefetched runner revision reads) = listed_without (length reads) revision
-reply_without e (Fetched runner key mod_rev of_rev revision) = fetched_without key mod_rev of_rev
-reply_without e (Committed runner revision attempts output trace answers) = commit_without revision attempts
-reply_without e (Conflict runner key seen now) = compared_without (codes "CONFLICT") key seen now refl
-reply_without e (GaveUp runner attempts key seen now) = compared_without (codes "GAVE UP") key seen now refl
-reply_without e (Aborted runner text) = reported_without (codes "ABORT") text refl
-reply_without e (Faulted runner fault) = reported_without (codes "FAULT") (fault_name fault) refl
-reply_without e (Ended runner cause) = reported_without (codes "ENDED") (refusal_name cause) refl
-reply_without e (Txn succeeded revision answers) = txn_without succeeded revision
-reply_without e (Granted id) = named_without (codes "grant") id refl
-reply_without e (Kept id) = named_without (codes "keep") id refl
-reply_without e (Revoked id revision) = revoked_without id revision
-reply_without e (Advanced now expired) = advanced_without now (length expired)
-reply_without e (Compacted revision) = compacted_without revision
-reply_without e (Watching watcher) = named_without (codes "watch") watcher refl
-reply_without e (Batch watcher upto events) = batch_without watcher (length events) upto
-reply_without e (Lost watcher floor) = lost_without watcher floor
-reply_without e (Cancelled watcher) = named_without (codes "cancel") watcher refl
+reply_without : (h : History) (e : WorldEvent) (reply : Reply) → has 10 (reply_words h e reply) ≡ false
+reply_without h e (Started runner) = start_without e
+reply_without h e (Prefetched runner revision reads) = listed_without h revision reads
+reply_without h e (Fetched runner key mod_rev of_rev revision) = fetched_without h key mod_rev of_rev revision
+reply_without h e (Committed runner revision attempts output trace answers) = commit_without revision attempts
+reply_without h e (Conflict runner key seen now) = compared_without h (codes "CONFLICT") key seen now refl
+reply_without h e (GaveUp runner attempts key seen now) = compared_without h (codes "GAVE UP") key seen now refl
+reply_without h e (Aborted runner text) = reported_without (codes "ABORT") text refl
+reply_without h e (Faulted runner fault) = reported_without (codes "FAULT") (fault_name fault) refl
+reply_without h e (Ended runner cause) = reported_without (codes "ENDED") (refusal_name cause) refl
+reply_without h e (Txn succeeded revision answers) = txn_without succeeded revision
+reply_without h e (Granted id) = named_without (codes "grant") id refl
+reply_without h e (Kept id) = named_without (codes "keep") id refl
+reply_without h e (Revoked id revision) = revoked_without id revision
+reply_without h e (Advanced now expired) = advanced_without now (length expired)
+reply_without h e (Compacted revision) = compacted_without revision
+reply_without h e (Watching watcher) = named_without (codes "watch") watcher refl
+reply_without h e (Batch watcher upto events) = batch_without watcher (length events) upto
+reply_without h e (Lost watcher floor) = lost_without watcher floor
+reply_without h e (Cancelled watcher) = named_without (codes "cancel") watcher refl
 
-words_without : (e : WorldEvent) (reply : Result Reply Denied) → has 10 (words_of e reply) ≡ false
-words_without e (Ok reply) = reply_without e reply
-words_without e (Err denied) = refused_without e denied.cause
+told_without : (h : History) (e : WorldEvent) (reply : Result Reply Denied) → has 10 (told_words h e reply) ≡ false
+told_without h e (Ok reply) = reply_without h e reply
+told_without h e (Err denied) = refused_without e denied.cause
+
+words_without : (h : History) (before : ℕ) (e : WorldEvent) (reply : Result Reply Denied) → has 10 (words_of h before e reply) ≡ false
+words_without h before e reply =
+    joined_without (told_words h e reply ∷ changed_since h before (counter_after before reply) ∷ [])
+    (told_without h e reply, (changed_without h before (counter_after before reply), tt))
 
 -- ---- a row
 
@@ -222,24 +324,26 @@ count-append : (xs ys : List ℕ) → count 10 (xs ++ ys) ≡ count 10 xs + coun
 count-append [] ys = omega arith
 count-append (x ∷ xs) ys = ap (λ (n : ℕ). cond (nat_eq x 10) (n + 1) n) (count-append xs ys) ∙ line_by (nat_eq x 10) (count 10 xs) (count 10 ys)
 
-one_line : (w n : ℕ) (e : WorldEvent) (reply : Result Reply Denied) → count 10 (row_text w (row_of n e reply)) ≡ 1
-one_line w n e reply =
-    let indent = spaces (2 + (w + 2) * column (lane_of e reply)) in
+one_line : (places : List ℕ) (n : ℕ) (h : History) (before : ℕ) (e : WorldEvent) (reply : Result Reply Denied) → count 10 (row_text places (row_of h before n e reply)) ≡ 1
+one_line places n h before e reply =
+    let at : ℕ = 2 + place places (column (lane_of e reply)) in
+    let indent = spaces at in
     let end : List ℕ = codes "\n" ++ [] in
-    count-before (padded n) (indent ++ (tag_text (lane_of e reply) ++ (words_of e reply ++ end)))
+    count-before (padded n) (indent ++ (tag_text (lane_of e reply) ++ (words_of h before e reply ++ end)))
     (has-append 10 (spaces (6 - length (decimal n))) (decimal n) (spaces_without (6 - length (decimal n))) (decimal_without n))
-    ∙ count-before indent (tag_text (lane_of e reply) ++ (words_of e reply ++ end)) (spaces_without (2 + (w + 2) * column (lane_of e reply)))
-    ∙ count-before (tag_text (lane_of e reply)) (words_of e reply ++ end) (tag_without (lane_of e reply))
-    ∙ count-before (words_of e reply) end (words_without e reply)
+    ∙ count-before indent (tag_text (lane_of e reply) ++ (words_of h before e reply ++ end)) (spaces_without at)
+    ∙ count-before (tag_text (lane_of e reply)) (words_of h before e reply ++ end) (tag_without (lane_of e reply))
+    ∙ count-before (words_of h before e reply) end (words_without h before e reply)
 
 one_more : (m : ℕ) → 1 + m ≡ suc m
 one_more m = omega arith
 
 pub one_line_a_row : OneLineARow
-one_line_a_row w n [] replies = refl
-one_line_a_row w n (e ∷ es) [] = refl
-one_line_a_row w n (e ∷ es) (r ∷ rs) =
-    count-append (row_text w (row_of n e r)) (rows_text w (rows_of (suc n) es rs))
-    ∙ ap (λ (m : ℕ). m + count 10 (rows_text w (rows_of (suc n) es rs))) (one_line w n e r)
-    ∙ ap (λ (m : ℕ). 1 + m) (one_line_a_row w (suc n) es rs)
-    ∙ one_more (length (rows_of (suc n) es rs))
+one_line_a_row places n h before [] replies = refl
+one_line_a_row places n h before (e ∷ es) [] = refl
+one_line_a_row places n h before (e ∷ es) (r ∷ rs) =
+    let rest = rows_of h (counter_after before r) (suc n) es rs in
+    count-append (row_text places (row_of h before n e r)) (rows_text places rest)
+    ∙ ap (λ (m : ℕ). m + count 10 (rows_text places rest)) (one_line places n h before e r)
+    ∙ ap (λ (m : ℕ). 1 + m) (one_line_a_row places (suc n) h (counter_after before r) es rs)
+    ∙ one_more (length rest)

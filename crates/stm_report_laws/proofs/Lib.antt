@@ -19,4 +19,5 @@ pub mod ScriptsRead
 pub mod FormatEscapedLaws
 pub mod FormatNoFloats
 pub mod FormatOneLine
+pub mod FormatOneRow
 pub mod WholeReportLaws

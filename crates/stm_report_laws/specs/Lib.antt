@@ -1,3 +1,4 @@
 pub mod Laws
+pub mod FormatLaws
 pub mod ReadBack
 pub mod WholeLaws

@@ -1,5 +1,5 @@
 //! Laws of the formats. Each function does nothing: its contract is the law.
-ghost use Rattle.stm_report.specs.FormatLaws.{OneRowAnEvent, OneObjectAnEvent, OneLineARow, NothingUnescaped};
+ghost use Rattle.stm_report_laws.specs.FormatLaws.{OneRowAnEvent, OneObjectAnEvent, OneLineARow, NothingUnescaped};
 
 /// A run has one row for each event, in text and in the picture, numbered in their order from 1.
 pub fn one_row_an_event()

@@ -4,13 +4,13 @@ use Rattle.stm_texts.specs.declared.scenario.Scenario.{Scenario}
 use Rattle.stm_texts.specs.Opens.{setup_of}
 use Rattle.stm_events.specs.declared.reply.Reply.{Reply}
 use Rattle.stm_events.specs.declared.refusal.Denied.{Denied}
-use Rattle.stm_world.specs.World.{World, opened, world_after}
+use Rattle.stm_world.specs.World.{World, opened, world_after, replies_to}
 use Rattle.stm_records.specs.Disk.{LeavesOnly}
 use Rattle.stm_lasting.specs.Kept.{IsKept, IsReady, OpensTo, OpensAlike}
 use Rattle.stm_lasting.proofs.Leading.{still}
 use Rattle.stm_lasting.proofs.Moments.{nothing}
 use Rattle.stm_report.specs.declared.format.Format.{Format}
-use Rattle.stm_report.specs.FormatScript.{IsTextOf}
+use Rattle.stm_report.specs.FormatScript.{IsTextSince}
 use Rattle.stm_report.proofs.FormatRowLemmas.{one_reply}
 use Rattle.stm_storing.specs.Storing.{IsOpened, HasRun, HasPrinted, HasGoneOn, LeadsPast, LeavesAround}
 
@@ -47,7 +47,8 @@ not_yet end file text kept scenario is is_kept c same =
 
 -- ---- a scenario that was run
 
-module _ (mended : List ℕ) (scenario : Scenario) (after_it : World) (replies : List (Result Reply Denied)) (run : HasRun mended scenario after_it replies) where
+module _ (mended : List ℕ) (scenario : Scenario) (since : ℕ) (after_it : World) (replies : List (Result Reply Denied))
+    (run : HasRun mended scenario since after_it replies) where
   -- each event has its reply
   pub run_replies : length scenario.events ≡ length replies
   run_replies = sym (ap (λ (rs : List (Result Reply Denied)). length rs) run.3 ∙ one_reply scenario.events run.0)
@@ -61,7 +62,7 @@ module _ (mended : List ℕ) (scenario : Scenario) (after_it : World) (replies :
 
   -- and its report was printed
   pub gone_on : (format : Format) (found file : List ℕ) (world : World) (before_it held : Option (List ℕ)) → IsOpened found mended world → IsKept file after_it
-      → HasPrinted format after_it scenario.events replies before_it held → HasGoneOn format found file scenario before_it held
+      → HasPrinted format since after_it scenario.events replies before_it held → HasGoneOn format found file scenario before_it held
   gone_on format found file world before_it held opened kept printed = record {
     mended = mended;
     world = world;
@@ -71,7 +72,8 @@ module _ (mended : List ℕ) (scenario : Scenario) (after_it : World) (replies :
     kept = kept_past file kept;
     report = printed.0;
     reported =
-        subst (λ (rs : List (Result Reply Denied)). IsTextOf format (world_after scenario.events run.0) scenario.events rs printed.0) run.3
-        (subst (λ (w : World). IsTextOf format w scenario.events replies printed.0) run.2 printed.1);
+        subst (λ (n : ℕ). IsTextSince n format (world_after scenario.events run.0) scenario.events (replies_to scenario.events run.0) printed.0) run.4
+        (subst (λ (rs : List (Result Reply Denied)). IsTextSince since format (world_after scenario.events run.0) scenario.events rs printed.0) run.3
+        (subst (λ (w : World). IsTextSince since format w scenario.events replies printed.0) run.2 printed.1));
     printed = printed.2;
   }

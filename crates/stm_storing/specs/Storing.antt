@@ -6,9 +6,10 @@ use Rattle.stm_texts.specs.Reading.{scenario_in}
 use Rattle.stm_events.specs.declared.reply.Reply.{Reply}
 use Rattle.stm_events.specs.declared.refusal.Denied.{Denied}
 use Rattle.stm_events.specs.declared.event.WorldEvent.{WorldEvent}
+use Rattle.stm_history.specs.History.{now}
 use Rattle.stm_world.specs.World.{World, world_after, replies_to}
 use Rattle.stm_report.specs.declared.format.Format.{Format}
-use Rattle.stm_report.specs.FormatScript.{IsTextOf, IsTextFrom}
+use Rattle.stm_report.specs.FormatScript.{IsTextSince, IsTextFrom}
 use Rattle.stm_watch.specs.declared.watched.Watched.{Watched}
 use Rattle.stm_txn.specs.Standing.{kept}
 use Rattle.stm_storing.specs.Past.{text_since}
@@ -19,10 +20,11 @@ pub record IsOpened (found mended : List ℕ) (world : World) : Type 0 where
   pub opens : OpensTo found world
   pub kept : IsKept mended world
 
--- a scenario has run over a world that was ready for it: the world after it, and the replies to its events
-abbrev pub HasRun : List ℕ → Scenario → World → List (Result Reply Denied) → Type 0
-HasRun mended scenario after_it replies =
+-- a scenario has run over a world that was ready for it: its revision then, the world after it, and the replies to its events
+abbrev pub HasRun : List ℕ → Scenario → ℕ → World → List (Result Reply Denied) → Type 0
+HasRun mended scenario since after_it replies =
     (before : World) × IsReady mended before scenario × (after_it ≡ world_after scenario.events before) × (replies ≡ replies_to scenario.events before)
+    × (since ≡ now before.standing.history)
 
 -- of a crash while a scenario runs over a file: the world from before it, or the one after it
 abbrev pub LeavesAround : List ℕ → List ℕ → Scenario → List ℕ → Type 0
@@ -48,9 +50,10 @@ abbrev pub LeadsPast : List ℕ → List ℕ → Type 0
 LeadsPast mended file =
     (scenario : Scenario) × (before : World) × IsReady mended before scenario × IsKept file (world_after scenario.events before)
 
--- the report of a world, and of these events with their replies, was printed
-abbrev pub HasPrinted : Format → World → List WorldEvent → List (Result Reply Denied) → Option (List ℕ) → Option (List ℕ) → Type 0
-HasPrinted format world events replies before_it after_it = (report : List ℕ) × IsTextOf format world events replies report × Appends before_it after_it report
+-- the report of a world, and of these events since a revision with their replies, was printed
+abbrev pub HasPrinted : Format → ℕ → World → List WorldEvent → List (Result Reply Denied) → Option (List ℕ) → Option (List ℕ) → Type 0
+HasPrinted format since world events replies before_it after_it =
+    (report : List ℕ) × IsTextSince since format world events replies report × Appends before_it after_it report
 
 -- A scenario has run over what was found: the file leads to the world after it, and its report was printed.
 pub record HasGoneOn (format : Format) (found file : List ℕ) (scenario : Scenario) (before_it after_it : Option (List ℕ)) : Type 0 where

@@ -6,6 +6,7 @@ ghost use Rattle.stm_records.specs.Head.{IsHurt};
 ghost use Rattle.stm_records.specs.RecordFiles.{IsSettled};
 ghost use Rattle.stm_texts.specs.Opens.{setup_of, IsOpening};
 ghost use Rattle.stm_texts.specs.Reading.{scenario_in};
+ghost use Rattle.stm_history.specs.History.{now};
 ghost use Rattle.stm_world.specs.World.{opened as opened_world, replies_to, world_after};
 ghost use Rattle.stm_lasting.specs.Kept.{IsKept, IsReady, OpensAlike, IsWorldBeforeOrAfter};
 ghost use Rattle.stm_storing.specs.Storing.{IsOpened, HasRun, HasPrinted, HasGoneOn, LeavesAround, LeavesFoundOrAfter};
@@ -14,7 +15,7 @@ use crate::fault::StoreFault;
 use std::alloc::Global;
 use stm_devices::{Sink, write_all};
 use stm_lasting::{Disk, Kept, RecordFile, World, empty_world, go_on, open};
-use stm_report::{Denied, Format, Reply, Scenario, WorldEvent, render};
+use stm_report::{Denied, Format, Reply, Scenario, WorldEvent, render, revision_of};
 
 /// What a scenario came to that was gone on with.
 #[derive(Drop)]
@@ -23,6 +24,8 @@ pub(crate) struct Gone {
     pub(crate) world: World,
     /// The replies to its events.
     pub(crate) replies: Vec<Result<Reply, Denied>>,
+    /// The store's revision before it.
+    pub(crate) since: u64,
 }
 
 /// Opens the world of a file, which was opened with these bytes: from then on its end is known.
@@ -80,11 +83,17 @@ fn go_on_over<D: Disk>(
     ensures kept { IfOk result (λ gone. IsKept (D.seen records.new.disk) gone.world) }
     ensures world { IfOk result (λ gone. gone.world ≡ world_after scenario.now.events world) }
     ensures replies { IfOk result (λ gone. gone.replies.items ≡ replies_to scenario.now.events world) }
+    ensures since { IfOk result (λ gone. gone.since ≡ now world.standing.history) }
     ensures any_moment { LeavesOnly D.moment D.left_since records.old.disk records.new.disk
         (IsWorldBeforeOrAfter (D.seen records.old.disk) text.now (world_after scenario.now.events world)) }
 {
+    let since = revision_of(&world);
     match go_on(records, &mut world, text, scenario) {
-        Ok(replies) => Ok(Gone { world, replies }),
+        Ok(replies) => Ok(Gone {
+            world,
+            replies,
+            since,
+        }),
         Err(fault) => {
             drop(world);
             Err(StoreFault::of_keeping(fault))
@@ -106,7 +115,7 @@ pub(crate) fn go_on_with<D: Disk>(
     requires opening { IsOpening scenario.now.opening }
     ensures settled { OnOk result (IsSettled D.is_usable D.seen D.may_leave records.new) }
     ensures kept { IfOk result (λ gone. IsKept (D.seen records.new.disk) gone.world) }
-    ensures run { IfOk result (λ gone. HasRun (D.seen records.old.disk) scenario.now gone.world gone.replies.items) }
+    ensures run { IfOk result (λ gone. HasRun (D.seen records.old.disk) scenario.now gone.since gone.world gone.replies.items) }
     ensures any_moment { LeavesOnly D.moment D.left_since records.old.disk records.new.disk
         (LeavesAround (D.seen records.old.disk) text.now scenario.now) }
 {
@@ -127,10 +136,11 @@ pub(crate) fn print_text<W: Sink>(text: &str, out: &mut W) -> Result<(), StoreFa
     Ok(())
 }
 
-/// Writes the report of a world, and of these events with their replies.
+/// Writes the report of a world, and of these events with their replies, before which its store was at this revision.
 pub(crate) fn print_report<W: Sink>(
     alloc: Global,
     format: Format,
+    since: u64,
     world: &World,
     events: &[WorldEvent],
     replies: &[Result<Reply, Denied>],
@@ -138,10 +148,10 @@ pub(crate) fn print_report<W: Sink>(
 ) -> Result<(), StoreFault>
     requires replies { length events.now ≡ length replies.now }
     requires out_works { W.failed out.old ≡ false }
-    ensures printed { OnOk result (HasPrinted format world.now events.now replies.now (W.held out.old) (W.held out.new)) }
+    ensures printed { OnOk result (HasPrinted format since world.now events.now replies.now (W.held out.old) (W.held out.new)) }
     ensures silent { IfErr result (λ e. (e ≡ StoreFault.Output → ⊥) → W.held out.new ≡ W.held out.old) }
 {
-    let report = render(alloc, format, world, events, replies)?;
+    let report = render(alloc, format, since, world, events, replies)?;
     write_all(out, &report)?;
     Ok(())
 }
@@ -156,13 +166,14 @@ fn write_report<W: Sink>(
 ) -> Result<(), StoreFault>
     requires replies { length scenario.now.events ≡ length gone.now.replies.items }
     requires out_works { W.failed out.old ≡ false }
-    ensures printed { OnOk result (HasPrinted format gone.now.world scenario.now.events gone.now.replies.items (W.held out.old) (W.held out.new)) }
+    ensures printed { OnOk result (HasPrinted format gone.now.since gone.now.world scenario.now.events gone.now.replies.items (W.held out.old) (W.held out.new)) }
     ensures silent { IfErr result (λ e. (e ≡ StoreFault.Output → ⊥) → W.held out.new ≡ W.held out.old) }
 {
     let events = scenario.events.as_slice();
     print_report(
         alloc,
         format,
+        gone.since,
         &gone.world,
         events,
         gone.replies.as_slice(),

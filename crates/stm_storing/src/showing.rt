@@ -9,7 +9,7 @@ use crate::fault::StoreFault;
 use crate::scripting::{opened, print_report};
 use stm_devices::Sink;
 use stm_lasting::{Disk, RecordFile};
-use stm_report::Format;
+use stm_report::{Format, revision_of};
 
 /// What a check of a file found.
 #[derive(Clone, Copy, Debug, PartialEq, Eq)]
@@ -39,7 +39,8 @@ pub fn show_kept<D: Disk, W: Sink>(
     ensures any_moment { LeavesOnly D.moment D.left_since records.old.disk records.new.disk (OpensAlike (D.seen records.old.disk)) }
 {
     let kept = opened(records, bytes)?;
-    print_report(records.alloc, format, &kept.world, &[], &[], out)?;
+    let since = revision_of(&kept.world);
+    print_report(records.alloc, format, since, &kept.world, &[], &[], out)?;
     Ok(())
 }
 

@@ -1,8 +1,8 @@
-use Rattle.std.proofs.Common.{◌≡◌, List, Result, IfOk, length, ap, sym, subst, ◌∙◌}
+use Rattle.std.proofs.Common.{◌≡◌, ℕ, List, Result, IfOk, length, ap, sym, subst, ◌∙◌}
 use Rattle.stm_events.specs.declared.reply.Reply.{Reply}
 use Rattle.stm_events.specs.declared.refusal.Denied.{Denied}
 use Rattle.stm_world.specs.World.{World, world_after, replies_to}
-use Rattle.stm_report.specs.FormatScript.{IsTextOf}
+use Rattle.stm_report.specs.FormatScript.{IsTextSince}
 use Rattle.stm_report.proofs.FormatRowLemmas.{one_reply}
 use Rattle.stm_report.proofs.format_script.report_from.Goals as goal
 
@@ -20,5 +20,7 @@ returns-in-Ok c =
     let format = c.args.format in
     let world : c.run.new.self ≡ world_after events begun = c.in-Ok.ensures.ok in
     let replies : c.as_slice.result.now ≡ replies_to events begun = c.as_slice.ensures.value ∙ c.in-Ok.ensures.replies in
-    subst (λ (w : World). IfOk c.render.result (λ text. IsTextOf format w events (replies_to events begun) text.items)) world
-    (subst (λ (rs : List (Result Reply Denied)). IfOk c.render.result (λ text. IsTextOf format c.run.new.self events rs text.items)) replies c.render.ensures)
+    subst (λ (n : ℕ). IfOk c.render.result (λ text. IsTextSince n format (world_after events begun) events (replies_to events begun) text.items)) c.revision_of-since.ensures
+    (subst (λ (w : World). IfOk c.render.result (λ text. IsTextSince c.revision_of-since.result format w events (replies_to events begun) text.items)) world
+    (subst (λ (rs : List (Result Reply Denied)). IfOk c.render.result (λ text. IsTextSince c.revision_of-since.result format c.run.new.self events rs text.items)) replies
+    c.render.ensures))

@@ -18,7 +18,7 @@ returns-in_err-go_on_with-clause-any_moment g c =
 
 pub returns-clause-past : goal.returns-clause-past
 returns-clause-past g c =
-    leads_past (g.D.Disk.seen c.args.records.now.disk) c.in_ok-scenario.scenario _ _ c.in_ok-go_on_with.ensures.run _ c.in_ok-go_on_with.ensures.kept
+    leads_past (g.D.Disk.seen c.args.records.now.disk) c.in_ok-scenario.scenario _ _ _ c.in_ok-go_on_with.ensures.run _ c.in_ok-go_on_with.ensures.kept
 
 pub returns-clause-any_moment : goal.returns-clause-any_moment
 returns-clause-any_moment g c =

@@ -23,7 +23,7 @@ pub returns-in-Ok-clause-run : goal.returns-in-Ok-clause-run
 returns-in-Ok-clause-run g c =
     let ready = is_ready c.args.kept.end (g.D.Disk.seen c.args.records.now.disk) c.args.kept.world c.in_ok-world.world c.args.scenario.now c.requires.end c.requires.kept
     c.in_ok-world.ensures.new c.in_ok-world.ensures.old in
-    (c.in_ok-world.world, ready, c.in-Ok.ensures.world, c.in-Ok.ensures.replies)
+    (c.in_ok-world.world, ready, c.in-Ok.ensures.world, c.in-Ok.ensures.replies, c.in-Ok.ensures.since)
 
 pub returns-in-Ok-clause-any_moment : goal.returns-in-Ok-clause-any_moment
 returns-in-Ok-clause-any_moment g c =

@@ -1,0 +1,56 @@
+-- What a key is, and what a revision changed, as words.
+use Rattle.std.specs.Prelude.{ℕ, ◌+◌, suc, nat_eq, nat_lt, nat_le, if◌then◌else◌, List, [], ◌∷◌, ◌++◌, Option, Some, None, codes, decimal}
+use Rattle.stm_history.specs.declared.key_state.KeyState.{KeyState}
+use Rattle.stm_history.specs.History.{History, now}
+use Rattle.stm_keys.specs.declared.event.Event.{Event}
+use Rattle.stm_keys.specs.declared.event.Event.TheVariants.{Put, Delete}
+use Rattle.stm_keys.specs.Events.{events_of}
+use Rattle.stm_reasons.specs.Causes.{state_by}
+use Rattle.stm_formats.specs.declared.format_changes.TheConstants.{MOST_CHANGES}
+use Rattle.stm_formats.specs.FormatShown.{shown}
+use Rattle.stm_formats.specs.FormatPieces.{joined}
+
+-- ---- a key
+
+-- its value, and the revision of its last change
+abbrev pub state_words : Option KeyState → List ℕ
+state_words None = codes "absent"
+state_words (Some state) = joined (codes "\"" ∷ shown state.value ∷ codes "\" @" ∷ decimal state.mod_rev ∷ [])
+
+-- A key that was seen as of a revision, at this modification revision: 0 where it was absent. Where that revision is no longer kept, its value is not known.
+abbrev pub known_words : History → List ℕ → ℕ → ℕ → List ℕ
+known_words h key mod_rev revision =
+    if nat_eq mod_rev 0 then codes "absent"
+    else (if nat_lt revision h.opening.number then joined (codes "@" ∷ decimal mod_rev ∷ []) else state_words (state_by h key revision))
+
+-- ---- what a revision changed
+
+abbrev pub change_words : Event → List ℕ
+change_words (Put key state) = joined (shown key ∷ codes " = \"" ∷ shown state.value ∷ codes "\"" ∷ [])
+change_words (Delete key revision) = joined (shown key ∷ codes " deleted" ∷ [])
+
+-- what stands before a change after that many
+abbrev pub between : ℕ → List ℕ
+between count = if nat_eq count 0 then codes "  " else codes ", "
+
+-- a change after that many: of more than are shown only that there are more
+abbrev pub counted_change : ℕ → Event → List ℕ
+counted_change count event =
+    if nat_lt count MOST_CHANGES then joined (between count ∷ change_words event ∷ [])
+    else (if nat_eq count MOST_CHANGES then codes ", .." else [])
+
+-- the changes after that many
+abbrev pub changes_after : ℕ → List Event → List ℕ
+changes_after count [] = []
+changes_after count (event ∷ events) = counted_change count event ++ changes_after (suc count) events
+
+-- those of a revision that has come
+abbrev pub revision_words : History → ℕ → List ℕ
+revision_words h revision = if nat_lt (now h) revision then [] else changes_after 0 (events_of h revision)
+
+-- Those of the revisions above one and up to another: of the first two. More than one an event makes only where it ends several leases.
+abbrev pub changed_since : History → ℕ → ℕ → List ℕ
+changed_since h before after =
+    if nat_le after before then []
+    else (if nat_eq after (before + 1) then revision_words h (before + 1)
+    else joined (revision_words h (before + 1) ∷ revision_words h (before + 2) ∷ (if nat_eq after (before + 2) then [] else codes "  ..") ∷ []))

@@ -1,0 +1,62 @@
+-- What comes after the rows: the keys that are present, the revision, and the runners that are unfinished.
+use Rattle.std.specs.Prelude.{ℕ, ◌-◌, suc, List, [], ◌∷◌, ◌++◌, length, Bool, true, false, Option, Some, None, Result, Ok, Err, codes, decimal, slice_set}
+use Rattle.stm_history.specs.declared.key_state.KeyState.{KeyState}
+use Rattle.stm_history.specs.History.{History, now, key_now}
+use Rattle.stm_txn.specs.PresentKeys.{keys_present}
+use Rattle.stm_events.specs.declared.reply.Reply.{Reply}
+use Rattle.stm_events.specs.declared.reply.Reply.TheVariants.{Started, Committed, GaveUp, Aborted, Faulted, Ended}
+use Rattle.stm_events.specs.declared.refusal.Denied.{Denied}
+use Rattle.stm_world.specs.World.{World}
+use Rattle.stm_formats.specs.FormatShown.{shown}
+use Rattle.stm_formats.specs.FormatPieces.{joined}
+
+-- ---- the keys that are present
+
+-- a key with its value, and the revision of its last change
+abbrev pub key_note : List ℕ → KeyState → List ℕ
+key_note key state = joined (codes "key " ∷ shown key ∷ codes " = \"" ∷ shown state.value ∷ codes "\" @" ∷ decimal state.mod_rev ∷ [])
+
+abbrev pub notes_of_key : List ℕ → Option KeyState → List (List ℕ)
+notes_of_key key None = []
+notes_of_key key (Some state) = key_note key state ∷ []
+
+abbrev pub key_notes : History → List (List ℕ) → List (List ℕ)
+key_notes h [] = []
+key_notes h (key ∷ keys) = notes_of_key key (key_now h key) ++ key_notes h keys
+
+-- ---- the runners that are unfinished
+
+-- for each runner whether its run has ended, runner 1 first
+abbrev pub ended_by : List Bool → Reply → List Bool
+ended_by ended (Started runner) = ended ++ false ∷ []
+ended_by ended (Committed runner revision attempts output trace answers) = slice_set ended (runner - 1) true
+ended_by ended (GaveUp runner attempts key seen now) = slice_set ended (runner - 1) true
+ended_by ended (Aborted runner text) = slice_set ended (runner - 1) true
+ended_by ended (Faulted runner fault) = slice_set ended (runner - 1) true
+ended_by ended (Ended runner cause) = slice_set ended (runner - 1) true
+ended_by ended other = ended
+
+abbrev pub ended_after : List Bool → List (Result Reply Denied) → List Bool
+ended_after ended [] = ended
+ended_after ended (Ok reply ∷ replies) = ended_after (ended_by ended reply) replies
+ended_after ended (Err denied ∷ replies) = ended_after ended replies
+
+abbrev pub unfinished_note : ℕ → List ℕ
+unfinished_note runner = joined (codes "unfinished: runner " ∷ decimal runner ∷ [])
+
+-- a note for each runner from this one on whose run has not ended
+abbrev pub unfinished_notes : ℕ → List Bool → List (List ℕ)
+unfinished_notes runner [] = []
+unfinished_notes runner (true ∷ ended) = unfinished_notes (suc runner) ended
+unfinished_notes runner (false ∷ ended) = unfinished_note runner ∷ unfinished_notes (suc runner) ended
+
+-- ---- the whole
+
+-- the store's revision, and the number of entries
+abbrev pub end_note : ℕ → ℕ → List ℕ
+end_note revision entries = joined (codes "revision " ∷ decimal revision ∷ codes ", entries " ∷ decimal entries ∷ [])
+
+abbrev pub notes_of : World → List (Result Reply Denied) → List (List ℕ)
+notes_of w replies =
+    key_notes w.standing.history (keys_present w.standing.history)
+    ++ end_note (now w.standing.history) (length w.entries) ∷ unfinished_notes 1 (ended_after [] replies)

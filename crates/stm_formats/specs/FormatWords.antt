@@ -1,0 +1,146 @@
+-- What a row says of an event and its reply. A revision comes after `@`, 0 where the key is absent.
+use Rattle.std.specs.Prelude.{ℕ, suc, List, [], ◌∷◌, ◌++◌, length, nat_eq, nat_lt, Bool, if◌then◌else◌, Result, Ok, Err, codes, decimal}
+use Rattle.stm_history.specs.History.{History}
+use Rattle.stm_meaning.specs.Faults.{fault_name}
+use Rattle.stm_events.specs.declared.event.WorldEvent.{WorldEvent}
+use Rattle.stm_events.specs.declared.event.WorldEvent.TheVariants as event
+use Rattle.stm_events.specs.declared.reply.Reply.{Reply}
+use Rattle.stm_events.specs.declared.reply.Reply.TheVariants.{Started, Prefetched, Fetched, Committed, Conflict, GaveUp, Aborted, Faulted, Ended}
+use Rattle.stm_events.specs.declared.reply.Reply.TheVariants.{Txn, Granted, Kept, Revoked, Advanced, Compacted, Watching, Batch, Lost, Cancelled}
+use Rattle.stm_events.specs.declared.reply.KeyRead.{KeyRead}
+use Rattle.stm_events.specs.declared.refusal.Denied.{Denied}
+use Rattle.stm_events.specs.declared.refusal.EventRefusal.{EventRefusal}
+use Rattle.stm_events.specs.Names.{refusal_name}
+use Rattle.stm_texts.specs.Grammar.{level_text}
+use Rattle.stm_reasons.specs.Counters.{counter_after}
+use Rattle.stm_formats.specs.declared.format_changes.TheConstants.{MOST_CHANGES}
+use Rattle.stm_formats.specs.FormatShown.{shown}
+use Rattle.stm_formats.specs.FormatPieces.{joined}
+use Rattle.stm_formats.specs.FormatChanges.{known_words, between, changed_since}
+
+-- a word and the number or the text that it is about
+abbrev pub named_words : List ℕ → ℕ → List ℕ
+named_words word n = joined (word ∷ codes " " ∷ decimal n ∷ [])
+
+abbrev pub reported_words : List ℕ → List ℕ → List ℕ
+reported_words word text = joined (word ∷ codes " " ∷ shown text ∷ [])
+
+-- what was done to the store, and a revision: the one after a change, and that of a compaction
+abbrev pub changed_words : List ℕ → ℕ → List ℕ
+changed_words word revision = joined (word ∷ codes " @" ∷ decimal revision ∷ [])
+
+-- the level of a runner that was started
+abbrev pub start_words : WorldEvent → List ℕ
+start_words (event.Start program level limit) = joined (codes "start " ∷ level_text level ∷ [])
+start_words other = codes "start"
+
+-- ---- what was read
+
+-- what stands between a key that was seen at a modification revision and its value
+abbrev pub link : ℕ → List ℕ
+link mod_rev = if nat_eq mod_rev 0 then codes ": " else codes " = "
+
+-- a key that was seen as of a revision, at this modification revision
+abbrev pub seen_words : History → List ℕ → ℕ → ℕ → List ℕ
+seen_words h key mod_rev revision = joined (shown key ∷ link mod_rev ∷ known_words h key mod_rev revision ∷ [])
+
+-- the revision that a read shows, where the store was at another one
+abbrev pub as_of : ℕ → ℕ → List ℕ
+as_of of_rev revision = if nat_eq of_rev revision then [] else joined (codes ", as of " ∷ decimal of_rev ∷ [])
+
+abbrev pub fetched_words : History → List ℕ → ℕ → ℕ → ℕ → List ℕ
+fetched_words h key mod_rev of_rev revision =
+    joined (codes "read " ∷ seen_words h key mod_rev of_rev ∷ as_of of_rev revision ∷ [])
+
+-- a key of a list that was read after that many others: of more than are shown only that there are more
+abbrev pub counted_read : History → ℕ → ℕ → KeyRead → List ℕ
+counted_read h revision count read =
+    if nat_lt count MOST_CHANGES then joined (between count ∷ seen_words h read.key read.mod_rev revision ∷ [])
+    else (if nat_eq count MOST_CHANGES then codes ", .." else [])
+
+abbrev pub reads_after : History → ℕ → ℕ → List KeyRead → List ℕ
+reads_after h revision count [] = []
+reads_after h revision count (read ∷ reads) = counted_read h revision count read ++ reads_after h revision (suc count) reads
+
+abbrev pub listed_words : History → ℕ → List KeyRead → List ℕ
+listed_words h revision reads = joined (codes "read the list" ∷ reads_after h revision 0 reads ∷ [])
+
+-- ---- what came of a commit
+
+-- which attempt it was, from the second on
+abbrev pub attempt_words : ℕ → List ℕ
+attempt_words attempts = if nat_eq attempts 1 then [] else joined (codes ", attempt " ∷ decimal attempts ∷ [])
+
+abbrev pub commit_words : ℕ → ℕ → List ℕ
+commit_words revision attempts = joined (codes "COMMIT @" ∷ decimal revision ∷ attempt_words attempts ∷ [])
+
+-- what a failed compare was about: the key, what was seen of it, and what it is now
+abbrev pub compared_words : History → List ℕ → List ℕ → ℕ → ℕ → List ℕ
+compared_words h word key seen now =
+    joined (word ∷ codes " " ∷ shown key ∷ codes ": was " ∷ known_words h key seen seen ∷ codes ", is " ∷ known_words h key now now ∷ [])
+
+-- ---- other events
+
+abbrev pub txn_words : Bool → ℕ → List ℕ
+txn_words succeeded revision = changed_words (if succeeded then codes "txn" else codes "txn failed") revision
+
+abbrev pub revoked_words : ℕ → ℕ → List ℕ
+revoked_words id revision = joined (codes "revoke " ∷ decimal id ∷ codes " @" ∷ decimal revision ∷ [])
+
+abbrev pub advanced_words : ℕ → ℕ → List ℕ
+advanced_words now expired = joined (codes "advance to " ∷ decimal now ∷ codes ", " ∷ decimal expired ∷ codes " expired" ∷ [])
+
+abbrev pub batch_words : ℕ → ℕ → ℕ → List ℕ
+batch_words watcher events upto =
+    joined (codes "poll " ∷ decimal watcher ∷ codes ": " ∷ decimal events ∷ codes " events to @" ∷ decimal upto ∷ [])
+
+-- a watcher that was lost, and the first revision whose events are kept
+abbrev pub lost_words : ℕ → ℕ → List ℕ
+lost_words watcher floor = joined (codes "LOST watcher " ∷ decimal watcher ∷ codes ": kept from @" ∷ decimal floor ∷ [])
+
+abbrev pub reply_words : History → WorldEvent → Reply → List ℕ
+reply_words h event (Started runner) = start_words event
+reply_words h event (Prefetched runner revision reads) = listed_words h revision reads
+reply_words h event (Fetched runner key mod_rev of_rev revision) = fetched_words h key mod_rev of_rev revision
+reply_words h event (Committed runner revision attempts output trace answers) = commit_words revision attempts
+reply_words h event (Conflict runner key seen now) = compared_words h (codes "CONFLICT") key seen now
+reply_words h event (GaveUp runner attempts key seen now) = compared_words h (codes "GAVE UP") key seen now
+reply_words h event (Aborted runner text) = reported_words (codes "ABORT") text
+reply_words h event (Faulted runner fault) = reported_words (codes "FAULT") (fault_name fault)
+reply_words h event (Ended runner cause) = reported_words (codes "ENDED") (refusal_name cause)
+reply_words h event (Txn succeeded revision answers) = txn_words succeeded revision
+reply_words h event (Granted id) = named_words (codes "grant") id
+reply_words h event (Kept id) = named_words (codes "keep") id
+reply_words h event (Revoked id revision) = revoked_words id revision
+reply_words h event (Advanced now expired) = advanced_words now (length expired)
+reply_words h event (Compacted revision) = changed_words (codes "compact") revision
+reply_words h event (Watching watcher) = named_words (codes "watch") watcher
+reply_words h event (Batch watcher upto events) = batch_words watcher (length events) upto
+reply_words h event (Lost watcher floor) = lost_words watcher floor
+reply_words h event (Cancelled watcher) = named_words (codes "cancel") watcher
+
+-- what was asked for
+abbrev pub asked_word : WorldEvent → List ℕ
+asked_word (event.Start program level limit) = codes "start"
+asked_word (event.Step runner) = codes "step"
+asked_word (event.Txn txn) = codes "txn"
+asked_word (event.Grant id ttl) = codes "grant"
+asked_word (event.Keep id) = codes "keep"
+asked_word (event.Revoke id) = codes "revoke"
+asked_word (event.Advance now) = codes "advance"
+asked_word (event.Compact revision) = codes "compact"
+asked_word (event.WatchKey key from) = codes "watch"
+asked_word (event.WatchRange first end from) = codes "watch"
+asked_word (event.Poll watcher most) = codes "poll"
+asked_word (event.Cancel watcher) = codes "cancel"
+
+abbrev pub refused_words : WorldEvent → EventRefusal → List ℕ
+refused_words event cause = joined (codes "REFUSED " ∷ asked_word event ∷ codes ": " ∷ shown (refusal_name cause) ∷ [])
+
+abbrev pub told_words : History → WorldEvent → Result Reply Denied → List ℕ
+told_words h event (Ok reply) = reply_words h event reply
+told_words h event (Err denied) = refused_words event denied.cause
+
+-- what a row says of an event before which the store was at a revision: of its reply, and what it changed
+abbrev pub words_of : History → ℕ → WorldEvent → Result Reply Denied → List ℕ
+words_of h before event reply = joined (told_words h event reply ∷ changed_since h before (counter_after before reply) ∷ [])

@@ -1,0 +1,12 @@
+pub mod FormatShown
+pub mod FormatEscaped
+pub mod FormatPieces
+pub mod FormatChanges
+pub mod FormatReasons
+pub mod FormatWords
+pub mod FormatRows
+pub mod FormatColumns
+pub mod FormatNotes
+pub mod FormatText
+pub mod FormatSvg
+pub mod FormatRuns

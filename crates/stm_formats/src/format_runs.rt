@@ -1,0 +1,79 @@
+//! The text and the picture of a run.
+ghost use Rattle.std.specs.Prelude.{◌≡◌, length, IfOk};
+ghost use Rattle.stm_formats.specs.FormatRuns.{rows_from, notes_from, text_from, svg_from};
+
+use crate::format_notes::notes_of;
+use crate::format_reasons::push_reasons;
+use crate::format_row::Row;
+use crate::format_rows::rows_of;
+use crate::format_svg::svg_of;
+use crate::format_text::text_of;
+use std::alloc::{AllocError, Global};
+use stm_history::Sequence;
+use stm_reasons::reasons_of;
+use stm_retry::{Denied, Reply, World, WorldEvent};
+
+/// The rows of events that led to a world from a revision of its store.
+fn rows_from(
+    alloc: Global,
+    world: &World,
+    since: u64,
+    events: &[WorldEvent],
+    replies: &[Result<Reply, Denied>],
+) -> Result<Vec<Row>, AllocError>
+    requires { length events.now ≡ length replies.now }
+    ensures { IfOk result (λ rows. rows.items ≡ rows_from world.now since events.now replies.now) }
+{
+    rows_of(alloc, world.store().keys(), since, events, replies)
+}
+
+/// What is left after events that led to a world from a revision of its store, and why commits failed.
+fn notes_from(
+    alloc: Global,
+    world: &World,
+    since: u64,
+    replies: &[Result<Reply, Denied>],
+) -> Result<Vec<Sequence<u8>>, AllocError>
+    ensures { IfOk result (λ notes. notes.items ≡ notes_from world.now since replies.now) }
+{
+    let mut notes = notes_of(alloc, world, replies)?;
+    let reasons = reasons_of(alloc, world.store().keys(), since, replies)?;
+    push_reasons(alloc, &mut notes, reasons.as_slice())?;
+    Ok(notes)
+}
+
+/// The text of the events that led to a world from one whose store was at this revision, and of their replies.
+///
+/// There is a reply to each event. It fails where a growth was refused.
+pub fn text_from(
+    alloc: Global,
+    world: &World,
+    since: u64,
+    events: &[WorldEvent],
+    replies: &[Result<Reply, Denied>],
+) -> Result<Vec<u8>, AllocError>
+    requires { length events.now ≡ length replies.now }
+    ensures { IfOk result (λ text. text.items ≡ text_from world.now since events.now replies.now) }
+{
+    let rows = rows_from(alloc, world, since, events, replies)?;
+    let notes = notes_from(alloc, world, since, replies)?;
+    text_of(alloc, rows.as_slice(), notes.as_slice())
+}
+
+/// The picture of the events that led to a world from one whose store was at this revision, and of their replies.
+///
+/// There is a reply to each event. It fails where a growth was refused.
+pub fn svg_from(
+    alloc: Global,
+    world: &World,
+    since: u64,
+    events: &[WorldEvent],
+    replies: &[Result<Reply, Denied>],
+) -> Result<Vec<u8>, AllocError>
+    requires { length events.now ≡ length replies.now }
+    ensures { IfOk result (λ svg. svg.items ≡ svg_from world.now since events.now replies.now) }
+{
+    let rows = rows_from(alloc, world, since, events, replies)?;
+    let notes = notes_from(alloc, world, since, replies)?;
+    svg_of(alloc, rows.as_slice(), notes.as_slice())
+}

@@ -1,0 +1,95 @@
+//! A report as text.
+ghost use Rattle.std.specs.Prelude.{◌≡◌, ◌++◌, ◌≤◌, IfOk, OnOk};
+ghost use Rattle.stm_formats.specs.FormatText.{heading, headings, row_text, rows_text, note_text, notes_text, text_of};
+
+use crate::format_columns::{all_places, column, last_column, place};
+use crate::format_pieces::{Piece, push_pieces};
+use crate::format_row::Row;
+use std::alloc::{AllocError, Global};
+use stm_history::Sequence;
+
+/// Adds the title of a runner's column.
+fn push_heading(out: &mut Vec<u8>, places: &[u64], number: u64) -> Result<(), AllocError>
+    ensures { OnOk result (out.new.items ≡ out.old.items ++ heading places.now number) }
+{
+    let taken = if number == 1 { 5 } else { 8 };
+    let before = place(places, number.saturating_sub(1));
+    let left = place(places, number).saturating_sub(before);
+    let pieces = [
+        Piece::Spaces(left.saturating_sub(taken)),
+        Piece::Title(number),
+    ];
+    push_pieces(out, &pieces)
+}
+
+/// Adds the titles of the runners' columns.
+fn push_headings(out: &mut Vec<u8>, places: &[u64], last: u64) -> Result<(), AllocError>
+    requires { last ≤ 9 }
+    ensures { OnOk result (out.new.items ≡ out.old.items ++ headings places.now last) }
+{
+    for before in 0..last {
+        push_heading(out, places, before + 1)?;
+    }
+    Ok(())
+}
+
+/// Adds a row.
+fn push_row(out: &mut Vec<u8>, places: &[u64], row: &Row) -> Result<(), AllocError>
+    ensures { OnOk result (out.new.items ≡ out.old.items ++ row_text places.now row.now) }
+{
+    let indent = 2 + place(places, column(row.lane));
+    let pieces = [
+        Piece::Padded(row.number),
+        Piece::Spaces(indent),
+        Piece::Tag(row.lane),
+        Piece::Raw(row.words.as_slice()),
+        Piece::Say("\n"),
+    ];
+    push_pieces(out, &pieces)
+}
+
+/// Adds the rows, one line for each.
+fn push_rows(out: &mut Vec<u8>, places: &[u64], rows: &[Row]) -> Result<(), AllocError>
+    ensures { OnOk result (out.new.items ≡ out.old.items ++ rows_text places.now rows.now) }
+{
+    for row in rows {
+        push_row(out, places, row)?;
+    }
+    Ok(())
+}
+
+/// Adds a note.
+fn push_note(out: &mut Vec<u8>, note: &Sequence<u8>) -> Result<(), AllocError>
+    ensures { OnOk result (out.new.items ≡ out.old.items ++ note_text note.now) }
+{
+    push_pieces(out, &[Piece::Raw(note.as_slice()), Piece::Say("\n")])
+}
+
+/// Adds the notes, one line for each.
+fn push_notes(out: &mut Vec<u8>, notes: &[Sequence<u8>]) -> Result<(), AllocError>
+    ensures { OnOk result (out.new.items ≡ out.old.items ++ notes_text notes.now) }
+{
+    for note in notes {
+        push_note(out, note)?;
+    }
+    Ok(())
+}
+
+/// The text of a report of these rows and notes. It fails where a growth was refused.
+pub(crate) fn text_of(
+    alloc: Global,
+    rows: &[Row],
+    notes: &[Sequence<u8>],
+) -> Result<Vec<u8>, AllocError>
+    ensures { IfOk result (λ text. text.items ≡ text_of rows.now notes.now) }
+{
+    let places = all_places(alloc, rows)?;
+    let mut out = Vec::new(alloc);
+    out.extend_from_slice(b" event  store")?;
+    push_headings(&mut out, places.as_slice(), last_column(rows))?;
+    out.push(b'\n')?;
+    push_rows(&mut out, places.as_slice(), rows)?;
+    out.push(b'\n')?;
+    push_notes(&mut out, notes)?;
+    Ok(out)
+}

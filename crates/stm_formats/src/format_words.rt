@@ -1,0 +1,421 @@
+//! What a row says of an event and its reply.
+ghost use Rattle.std.specs.Prelude.{◌≡◌, ◌++◌, codes, IfOk, OnOk};
+ghost use Rattle.stm_texts.specs.Grammar.{level_text};
+ghost use Rattle.stm_formats.specs.FormatWords.{named_words, reported_words, changed_words, start_words, link, seen_words, as_of, fetched_words, counted_read};
+ghost use Rattle.stm_formats.specs.FormatWords.{reads_after, listed_words, attempt_words, commit_words, compared_words, txn_words, revoked_words};
+ghost use Rattle.stm_formats.specs.FormatWords.{advanced_words, batch_words, lost_words, reply_words, asked_word, refused_words, told_words, words_of};
+
+use crate::format_changes::{MOST_CHANGES, between, changed_since, known_words};
+use crate::format_pieces::{Piece, push_pieces, said};
+use std::alloc::{AllocError, Global};
+use stm_events::{EventRefusal, KeyRead};
+use stm_history::Sequence;
+use stm_keys::Keys;
+use stm_program::Level;
+use stm_reasons::counter_after;
+use stm_retry::{Denied, Reply, WorldEvent};
+
+/// The name of a level.
+fn level_name(level: Level) -> &'static str
+    ensures { result.now ≡ level_text level }
+{
+    match level {
+        Level::SerializableSnapshot => "SerializableSnapshot",
+        Level::Serializable => "Serializable",
+        Level::RepeatableReads => "RepeatableReads",
+        Level::ReadCommitted => "ReadCommitted",
+    }
+}
+
+/// A word and the number that it is about.
+fn named(alloc: Global, word: &str, number: u64) -> Result<Sequence<u8>, AllocError>
+    ensures { IfOk result (λ words. words ≡ named_words word.now number) }
+{
+    let pieces = [Piece::Say(word), Piece::Say(" "), Piece::Number(number)];
+    said(alloc, &pieces)
+}
+
+/// A word and the text that it is about.
+fn reported<'a>(alloc: Global, word: &'a str, text: &'a str) -> Result<Sequence<u8>, AllocError>
+    ensures { IfOk result (λ words. words ≡ reported_words word.now text.now) }
+{
+    let pieces = [Piece::Say(word), Piece::Say(" "), Piece::Shown(text)];
+    said(alloc, &pieces)
+}
+
+/// What a change did, and the revision after it.
+fn changed(alloc: Global, word: &str, revision: u64) -> Result<Sequence<u8>, AllocError>
+    ensures { IfOk result (λ words. words ≡ changed_words word.now revision) }
+{
+    let pieces = [Piece::Say(word), Piece::Say(" @"), Piece::Number(revision)];
+    said(alloc, &pieces)
+}
+
+/// The words of a start.
+fn started(alloc: Global, event: &WorldEvent) -> Result<Sequence<u8>, AllocError>
+    ensures { IfOk result (λ words. words ≡ start_words event.now) }
+{
+    match event {
+        WorldEvent::Start { level, .. } => {
+            let pieces = [Piece::Say("start "), Piece::Say(level_name(*level))];
+            said(alloc, &pieces)
+        }
+        _ => said(alloc, &[Piece::Say("start")]),
+    }
+}
+
+/// What stands between a key that was seen at a modification revision and its value.
+fn link(mod_rev: u64) -> &'static str
+    ensures { result.now ≡ link mod_rev }
+{
+    if mod_rev == 0 { ": " } else { " = " }
+}
+
+/// The words of a key that was seen as of a revision, at a modification revision.
+fn seen_words(
+    alloc: Global,
+    keys: &Keys,
+    key: &str,
+    mod_rev: u64,
+    revision: u64,
+) -> Result<Sequence<u8>, AllocError>
+    ensures { IfOk result (λ words. words ≡ seen_words keys.now.history key.now mod_rev revision) }
+{
+    let known = known_words(alloc, keys, key, mod_rev, revision)?;
+    let pieces = [
+        Piece::Shown(key),
+        Piece::Say(link(mod_rev)),
+        Piece::Raw(known.as_slice()),
+    ];
+    said(alloc, &pieces)
+}
+
+/// The words for the revision that a read shows, where the store was at another one.
+fn as_of(alloc: Global, of_rev: u64, revision: u64) -> Result<Sequence<u8>, AllocError>
+    ensures { IfOk result (λ words. words ≡ as_of of_rev revision) }
+{
+    if of_rev == revision {
+        return Ok(Sequence::new(alloc));
+    }
+    said(alloc, &[Piece::Say(", as of "), Piece::Number(of_rev)])
+}
+
+/// The words of a fetch.
+fn fetched(
+    alloc: Global,
+    keys: &Keys,
+    key: &str,
+    mod_rev: u64,
+    of_rev: u64,
+    revision: u64,
+) -> Result<Sequence<u8>, AllocError>
+    ensures { IfOk result (λ words. words ≡ fetched_words keys.now.history key.now mod_rev of_rev revision) }
+{
+    let seen = seen_words(alloc, keys, key, mod_rev, of_rev)?;
+    let shows = as_of(alloc, of_rev, revision)?;
+    let pieces = [
+        Piece::Say("read "),
+        Piece::Raw(seen.as_slice()),
+        Piece::Raw(shows.as_slice()),
+    ];
+    said(alloc, &pieces)
+}
+
+/// Adds a key of a list that was read after so many others.
+fn push_read(
+    alloc: Global,
+    out: &mut Vec<u8>,
+    keys: &Keys,
+    revision: u64,
+    count: u64,
+    read: &KeyRead,
+) -> Result<(), AllocError>
+    ensures { OnOk result (out.new.items ≡ out.old.items ++ counted_read keys.now.history revision count read.now) }
+{
+    if count < MOST_CHANGES {
+        let seen = seen_words(alloc, keys, read.key.as_str(), read.mod_rev, revision)?;
+        return push_pieces(
+            out,
+            &[Piece::Say(between(count)), Piece::Raw(seen.as_slice())],
+        );
+    }
+    if count == MOST_CHANGES {
+        return out.extend_from_slice(b", ..");
+    }
+    Ok(())
+}
+
+/// The words of the keys of a list that were read as of a revision.
+fn reads_words(
+    alloc: Global,
+    keys: &Keys,
+    revision: u64,
+    reads: &[KeyRead],
+) -> Result<Vec<u8>, AllocError>
+    ensures { IfOk result (λ words. words.items ≡ reads_after keys.now.history revision 0 reads.now) }
+{
+    let mut out = Vec::new(alloc);
+    for (count, read) in reads.iter().enumerate() {
+        push_read(alloc, &mut out, keys, revision, count as u64, read)?;
+    }
+    Ok(out)
+}
+
+/// The words of a list that was fetched.
+fn listed(
+    alloc: Global,
+    keys: &Keys,
+    revision: u64,
+    reads: &[KeyRead],
+) -> Result<Sequence<u8>, AllocError>
+    ensures { IfOk result (λ words. words ≡ listed_words keys.now.history revision reads.now) }
+{
+    let read = reads_words(alloc, keys, revision, reads)?;
+    said(
+        alloc,
+        &[Piece::Say("read the list"), Piece::Raw(read.as_slice())],
+    )
+}
+
+/// The words for which attempt a commit was of, from the second on.
+fn attempt_words(alloc: Global, attempts: u64) -> Result<Sequence<u8>, AllocError>
+    ensures { IfOk result (λ words. words ≡ attempt_words attempts) }
+{
+    if attempts == 1 {
+        return Ok(Sequence::new(alloc));
+    }
+    said(alloc, &[Piece::Say(", attempt "), Piece::Number(attempts)])
+}
+
+/// The words of a commit.
+fn committed(alloc: Global, revision: u64, attempts: u64) -> Result<Sequence<u8>, AllocError>
+    ensures { IfOk result (λ words. words ≡ commit_words revision attempts) }
+{
+    let attempt = attempt_words(alloc, attempts)?;
+    let pieces = [
+        Piece::Say("COMMIT @"),
+        Piece::Number(revision),
+        Piece::Raw(attempt.as_slice()),
+    ];
+    said(alloc, &pieces)
+}
+
+/// The words of a commit of which a compare failed.
+fn compared<'a>(
+    alloc: Global,
+    keys: &Keys,
+    word: &'a str,
+    key: &'a str,
+    seen: u64,
+    now: u64,
+) -> Result<Sequence<u8>, AllocError>
+    ensures { IfOk result (λ words. words ≡ compared_words keys.now.history word.now key.now seen now) }
+{
+    let before = known_words(alloc, keys, key, seen, seen)?;
+    let after = known_words(alloc, keys, key, now, now)?;
+    let pieces = [
+        Piece::Say(word),
+        Piece::Say(" "),
+        Piece::Shown(key),
+        Piece::Say(": was "),
+        Piece::Raw(before.as_slice()),
+        Piece::Say(", is "),
+        Piece::Raw(after.as_slice()),
+    ];
+    said(alloc, &pieces)
+}
+
+/// The words of another client's transaction.
+fn transacted(alloc: Global, succeeded: bool, revision: u64) -> Result<Sequence<u8>, AllocError>
+    ensures { IfOk result (λ words. words ≡ txn_words succeeded revision) }
+{
+    if succeeded {
+        changed(alloc, "txn", revision)
+    } else {
+        changed(alloc, "txn failed", revision)
+    }
+}
+
+/// The words of a revocation.
+fn revoked(alloc: Global, id: u64, revision: u64) -> Result<Sequence<u8>, AllocError>
+    ensures { IfOk result (λ words. words ≡ revoked_words id revision) }
+{
+    let pieces = [
+        Piece::Say("revoke "),
+        Piece::Number(id),
+        Piece::Say(" @"),
+        Piece::Number(revision),
+    ];
+    said(alloc, &pieces)
+}
+
+/// The words of an advance.
+fn advanced(alloc: Global, now: u64, expired: u64) -> Result<Sequence<u8>, AllocError>
+    ensures { IfOk result (λ words. words ≡ advanced_words now expired) }
+{
+    let pieces = [
+        Piece::Say("advance to "),
+        Piece::Number(now),
+        Piece::Say(", "),
+        Piece::Number(expired),
+        Piece::Say(" expired"),
+    ];
+    said(alloc, &pieces)
+}
+
+/// The words of a poll.
+fn batch(alloc: Global, watcher: u64, events: u64, upto: u64) -> Result<Sequence<u8>, AllocError>
+    ensures { IfOk result (λ words. words ≡ batch_words watcher events upto) }
+{
+    let pieces = [
+        Piece::Say("poll "),
+        Piece::Number(watcher),
+        Piece::Say(": "),
+        Piece::Number(events),
+        Piece::Say(" events to @"),
+        Piece::Number(upto),
+    ];
+    said(alloc, &pieces)
+}
+
+/// The words of a watcher that was lost.
+fn lost(alloc: Global, watcher: u64, floor: u64) -> Result<Sequence<u8>, AllocError>
+    ensures { IfOk result (λ words. words ≡ lost_words watcher floor) }
+{
+    let pieces = [
+        Piece::Say("LOST watcher "),
+        Piece::Number(watcher),
+        Piece::Say(": kept from @"),
+        Piece::Number(floor),
+    ];
+    said(alloc, &pieces)
+}
+
+/// The words of an event that was taken.
+fn taken_words(
+    alloc: Global,
+    keys: &Keys,
+    event: &WorldEvent,
+    reply: &Reply,
+) -> Result<Sequence<u8>, AllocError>
+    ensures { IfOk result (λ words. words ≡ reply_words keys.now.history event.now reply.now) }
+{
+    match reply {
+        Reply::Started { .. } => started(alloc, event),
+        Reply::Prefetched {
+            revision,
+            reads,
+            ..
+        } => listed(alloc, keys, *revision, reads.as_slice()),
+        Reply::Fetched {
+            key,
+            mod_rev,
+            of_rev,
+            revision,
+            ..
+        } => fetched(alloc, keys, key.as_str(), *mod_rev, *of_rev, *revision),
+        Reply::Committed {
+            revision,
+            attempts,
+            ..
+        } => committed(alloc, *revision, *attempts),
+        Reply::Conflict { key, seen, now, .. } => {
+            compared(alloc, keys, "CONFLICT", key.as_str(), *seen, *now)
+        }
+        Reply::GaveUp { key, seen, now, .. } => {
+            compared(alloc, keys, "GAVE UP", key.as_str(), *seen, *now)
+        }
+        Reply::Aborted { text, .. } => reported(alloc, "ABORT", text.as_str()),
+        Reply::Faulted { fault, .. } => reported(alloc, "FAULT", fault.name()),
+        Reply::Ended { cause, .. } => reported(alloc, "ENDED", cause.name()),
+        Reply::Txn {
+            succeeded,
+            revision,
+            ..
+        } => transacted(alloc, *succeeded, *revision),
+        Reply::Granted { id } => named(alloc, "grant", *id),
+        Reply::Kept { id } => named(alloc, "keep", *id),
+        Reply::Revoked { id, revision } => revoked(alloc, *id, *revision),
+        Reply::Advanced { now, expired } => advanced(alloc, *now, expired.len() as u64),
+        Reply::Compacted { revision } => changed(alloc, "compact", *revision),
+        Reply::Watching { watcher } => named(alloc, "watch", *watcher),
+        Reply::Batch {
+            watcher,
+            upto,
+            events,
+        } => batch(alloc, *watcher, events.len() as u64, *upto),
+        Reply::Lost { watcher, floor } => lost(alloc, *watcher, *floor),
+        Reply::Cancelled { watcher } => named(alloc, "cancel", *watcher),
+    }
+}
+
+/// What an event asked for.
+fn asked_word(event: &WorldEvent) -> &'static str
+    ensures { result.now ≡ asked_word event.now }
+{
+    match event {
+        WorldEvent::Start { .. } => "start",
+        WorldEvent::Step { .. } => "step",
+        WorldEvent::Txn { .. } => "txn",
+        WorldEvent::Grant { .. } => "grant",
+        WorldEvent::Keep { .. } => "keep",
+        WorldEvent::Revoke { .. } => "revoke",
+        WorldEvent::Advance { .. } => "advance",
+        WorldEvent::Compact { .. } => "compact",
+        WorldEvent::WatchKey { .. } => "watch",
+        WorldEvent::WatchRange { .. } => "watch",
+        WorldEvent::Poll { .. } => "poll",
+        WorldEvent::Cancel { .. } => "cancel",
+    }
+}
+
+/// The words of an event that was refused.
+fn refused(
+    alloc: Global,
+    event: &WorldEvent,
+    cause: EventRefusal,
+) -> Result<Sequence<u8>, AllocError>
+    ensures { IfOk result (λ words. words ≡ refused_words event.now cause) }
+{
+    let pieces = [
+        Piece::Say("REFUSED "),
+        Piece::Say(asked_word(event)),
+        Piece::Say(": "),
+        Piece::Shown(cause.name()),
+    ];
+    said(alloc, &pieces)
+}
+
+/// The words of an event by its reply.
+fn told_words(
+    alloc: Global,
+    keys: &Keys,
+    event: &WorldEvent,
+    reply: &Result<Reply, Denied>,
+) -> Result<Sequence<u8>, AllocError>
+    ensures { IfOk result (λ words. words ≡ told_words keys.now.history event.now reply.now) }
+{
+    match reply {
+        Ok(reply) => taken_words(alloc, keys, event, reply),
+        Err(denied) => refused(alloc, event, denied.cause),
+    }
+}
+
+/// What a row says of an event before which the store was at a revision: of its reply, and what it changed. The keys are those of the store since. It fails
+/// where a growth was refused.
+pub(crate) fn words_of(
+    alloc: Global,
+    keys: &Keys,
+    before: u64,
+    event: &WorldEvent,
+    reply: &Result<Reply, Denied>,
+) -> Result<Sequence<u8>, AllocError>
+    ensures { IfOk result (λ words. words ≡ words_of keys.now.history before event.now reply.now) }
+{
+    let told = told_words(alloc, keys, event, reply)?;
+    let changed = changed_since(alloc, keys, before, counter_after(before, reply))?;
+    said(
+        alloc,
+        &[Piece::Raw(told.as_slice()), Piece::Raw(changed.as_slice())],
+    )
+}

@@ -1,8 +1,0 @@
-use Rattle.std.proofs.Common.{◌≡◌, ◌+◌, ◌++◌, drop}
-use Rattle.stm_report.specs.FormatRows.{rows_of}
-use Rattle.stm_report.proofs.format_rows.rows_of.Given as goal
-
--- the rows so far, and those of the events that are left
-abbrev pub invariant-loop-before : goal.invariant-loop-before
-invariant-loop-before l =
-    l.rows.items ++ rows_of (l.before + 1) (drop l.before l.events) (drop l.before l.replies) ≡ rows_of 1 l.events l.replies

@@ -5,7 +5,9 @@ ghost use Rattle.stm_arguments.specs.Asking.{IsExplore};
 
 use crate::levels::{Levels, SEARCH_LEVELS, levels_at};
 use crate::numbers::budget_at;
-use crate::words::{Unasked, explain, flag_of, option, required, required_word, word_of, words_of};
+use crate::words::{
+    Unasked, explain, flag, flag_of, option, required, required_word, word_of, words_of,
+};
 use clap::builder::ValueParser;
 use clap::{ArgAction, ArgMatches, Command};
 use std::alloc::{AllocError, Global};
@@ -52,7 +54,9 @@ then stmrun explore s.json prints
   [\"outcome\",[[\"b\",\"1\"]],[[\"committed\",[]],[\"committed\",[]]]]
   [\"outcomes\",3]
 
-and of stmrun explore --level Serializable s.json none of the lines has both keys.
+and of stmrun explore --level Serializable s.json none of the lines has both keys. With --witness a line behind each outcome is
+the scenario with the steps of a schedule that comes to it, as short as there is one: stmrun script takes it. A source's rules
+are then not asked.
 
 Statuses: 0 always, or all outcomes were found, 1 broken, 2 bad input or usage, 3 out of memory or a failed device,
 4 open.";
@@ -70,6 +74,8 @@ pub struct ExploreWords<'a> {
     pub budget: u64,
     /// Which runners wait for which others, as it is spelled.
     pub after: Option<&'a str>,
+    /// Whether a schedule is printed of each outcome.
+    pub witness: bool,
     /// Whether a fault is explained.
     pub explain: bool,
 }
@@ -111,6 +117,11 @@ pub(crate) fn explore_command<'a>(alloc: Global) -> Result<Command<'a>, AllocErr
             ValueParser::String,
             "Which runners make no step before another has ended; RUNNER:FIRST:committed: and none at all unless that one committed",
         ))?
+        .arg(flag(
+            alloc,
+            "witness",
+            "Prints the outcomes of whole schedules, and of each the scenario with a schedule that comes to it",
+        ))?
         .arg(explain(alloc))
 }
 
@@ -125,6 +136,7 @@ pub(crate) fn explore_of<'a>(
     let levels = levels_at(word_of(found, "level"))?;
     let budget = budget_at(word_of(found, "budget"))?;
     let after = word_of(found, "after");
+    let witness = flag_of(found, "witness");
     let explain = flag_of(found, "explain");
     let keeps = words_of(alloc, found, "keeps")?;
     Ok(ExploreWords {
@@ -133,6 +145,7 @@ pub(crate) fn explore_of<'a>(
         levels,
         budget,
         after,
+        witness,
         explain,
     })
 }

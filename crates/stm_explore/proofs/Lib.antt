@@ -5,6 +5,7 @@ pub mod Walking
 pub mod GatherLemmas
 pub mod OutcomeLemmas
 pub mod LayerOutcomes
+pub mod Witnessing
 pub mod ShownLemmas
 pub mod LeaseLog
 pub mod SameRevisions

@@ -5,12 +5,12 @@ use crate::rules::{is_json, named_in, rules_named, rules_of, unnamed_rule};
 use crate::ruling::run_rules;
 use crate::sources::{JsonFile, say_unasked, source_at};
 use crate::terminals::{close, shown_budget};
-use crate::waits::{read_waits, refuse_without_rule};
+use crate::waits::{read_waits, refuse_beside, refuse_without_rule};
 use std::slice;
 use stm_arguments::Levels;
 use stm_commands::Std;
 use stm_compiling::{Beside, Rule as SourceRule, Wait as SourceWait};
-use stm_exploring::{Level, Rule, Wait, explore_to, outcomes_to};
+use stm_exploring::{Level, Question, Rule, Wait, explore_to, outcomes_to};
 
 /// What is searched, and how.
 #[derive(Clone, Copy)]
@@ -25,6 +25,8 @@ pub(crate) struct Search<'a> {
     pub(crate) levels: Levels,
     /// At most so many events are taken.
     pub(crate) budget: u64,
+    /// Whether no rule is asked, and a schedule printed of each outcome.
+    pub(crate) witness: bool,
     /// Whether a fault is explained.
     pub(crate) explain: bool,
 }
@@ -77,6 +79,15 @@ fn ask(
     run_rules(rt, scenario, rules, waits, levels, budget, explain)
 }
 
+/// What is asked of a scenario without a rule.
+fn question_of(search: &Search<'_>) -> Question {
+    if search.witness {
+        Question::Witnesses
+    } else {
+        Question::Outcomes
+    }
+}
+
 /// Goes through the interleavings of a scenario, at a level, or at each start's own.
 fn run_outcomes(
     rt: &HostRuntime,
@@ -84,8 +95,9 @@ fn run_outcomes(
     scenario: &JsonFile<'_>,
     level: Option<Level>,
 ) -> u8 {
+    let question = question_of(search);
     if search.explain {
-        return explaining::run_outcomes(rt, scenario, level, search.budget);
+        return explaining::run_outcomes(rt, question, scenario, level, search.budget);
     }
     let mut scenario = Std::new(scenario.open(rt));
     let mut out = Std::new(rt.stdout());
@@ -93,6 +105,7 @@ fn run_outcomes(
     let mut budget = shown_budget(rt, search.budget, false);
     let status = outcomes_to(
         rt.alloc(),
+        question,
         &mut scenario,
         level,
         &mut budget,
@@ -188,6 +201,18 @@ fn search_named(
     }
 }
 
+/// Goes through the interleavings of a scenario for what they come to. It is said which rules of its source are not asked.
+fn search_without(
+    rt: &HostRuntime,
+    search: &Search<'_>,
+    scenario: &JsonFile<'_>,
+    beside: &Beside,
+) -> Result<u8, u8> {
+    say_unasked(rt, beside.rules.as_slice(), &[])?;
+    refuse_waiting(rt, search, beside.waits.as_slice())?;
+    search_outcomes(rt, search, scenario)
+}
+
 /// Looks through the interleavings of a scenario for one that breaks a rule of its source, or where that has none for what they come to.
 fn search_own(
     rt: &HostRuntime,
@@ -195,9 +220,8 @@ fn search_own(
     scenario: &JsonFile<'_>,
     beside: Beside,
 ) -> Result<u8, u8> {
-    if beside.rules.as_slice().is_empty() {
-        refuse_waiting(rt, search, beside.waits.as_slice())?;
-        return search_outcomes(rt, search, scenario);
+    if search.witness || beside.rules.as_slice().is_empty() {
+        return search_without(rt, search, scenario, &beside);
     }
     let waits = read_waits(rt, search.after, &beside)?;
     let Beside { rules, .. } = beside;
@@ -217,6 +241,9 @@ pub(crate) fn run_search(rt: &HostRuntime, search: &Search<'_>) -> Result<u8, u8
     if !has_one_input(search.path, search.keeps) {
         let _ = rt.eprintln("stmrun: standard input can be only one of SCENARIO and PROGRAM");
         return Err(2);
+    }
+    if search.witness && !search.keeps.is_empty() {
+        return Err(refuse_beside(rt, "--witness"));
     }
     let (scenario, beside) = source_at(rt, search.path, search.explain)?;
     if search.keeps.is_empty() {

@@ -117,6 +117,7 @@ fn run_explore(rt: &HostRuntime, words: &ExploreWords<'_>, explain: bool) -> u8 
         after: words.after,
         levels: words.levels,
         budget: words.budget,
+        witness: words.witness,
         explain,
     };
     match run_search(rt, &wanted) {

@@ -31,6 +31,7 @@ complete -c stmrun -n '__fish_seen_subcommand_from explore' -l level -d 'The lev
 complete -c stmrun -n '__fish_seen_subcommand_from explore' -l budget -d 'How many events are taken at most, 1500000 if not said' -x -a ''
 complete -c stmrun -n '__fish_seen_subcommand_from explore' -l after -d 'Which runners make no step before another has ended' -x -a ''
 complete -c stmrun -n '__fish_seen_subcommand_from explore' -l witness -d 'Prints the outcomes of whole schedules, and of each the scenario with a schedule that comes to it'
+complete -c stmrun -n '__fish_seen_subcommand_from explore' -l serial -d 'Looks for an outcome of a whole schedule that no serial order of the runners comes to'
 complete -c stmrun -n '__fish_seen_subcommand_from explore' -l explain -d 'Explains faults, of an input or of a run'
 complete -c stmrun -n '__fish_seen_subcommand_from explore' -a '--explain=never'
 complete -c stmrun -n '__fish_seen_subcommand_from explore' -l help -d 'Print help'

@@ -14,3 +14,6 @@ pub mod AskedLemmas
 pub mod FirstSteps
 pub mod PatientSchedules
 pub mod WaitingPlaces
+pub mod LeadLemmas
+pub mod TurnLemmas
+pub mod OrderLemmas

@@ -6,3 +6,5 @@ pub mod Witnesses
 pub mod Explored
 pub mod Asked
 pub mod Waiting
+pub mod Turns
+pub mod Orders

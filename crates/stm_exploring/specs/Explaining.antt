@@ -18,7 +18,8 @@ use Rattle.stm_exploring.specs.declared.reading.ExploreFault.{ExploreFault}
 use Rattle.stm_exploring.specs.declared.reading.ExploreFault.TheVariants.{BadScenario, BadProgram}
 use Rattle.stm_explore.specs.declared.waits.Wait.{Wait}
 use Rattle.stm_exploring.specs.declared.rules.Rule.{Rule}
-use Rattle.stm_exploring.specs.Exploring.{Sources, ReadsProgram, Searches, SearchesFor, Gathers}
+use Rattle.stm_exploring.specs.Exploring.{Sources, ReadsProgram, Searches, SearchesFor}
+use Rattle.stm_exploring.specs.Questions.{Gathers}
 use Rattle.stm_exploring.specs.Levels.{SearchesLevels}
 use Rattle.stm_exploring.specs.Command.{Sunk, Writes, verdict_status, fault_status, fault_message}
 

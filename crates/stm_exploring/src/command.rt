@@ -234,6 +234,10 @@ pub fn explore_levels_to<S: Source, W: Sink, E: Sink, O: Audience>(
 /// had left, before all were found, and every schedule of at most LENGTH moves was gone through. Where `question` asks for witnesses, a line with
 /// the scenario with the events of a schedule that comes to it stands behind each outcome: none that does is shorter.
 ///
+/// Where it asks for serial orders: status 0 and `["serial",COUNT]`, some serial order comes to each of so many outcomes; status 1 and
+/// `["anomaly",LENGTH,STATE,ENDS]`, none comes to this outcome, and the schedule of LENGTH moves does that stands, as a scenario, on a second line; or
+/// status 4 and `["open",LENGTH]`. At each of the four levels there is such a line, with the level as a last element, and then `["enough",LEVEL]`.
+///
 /// All else is as with `explore_to`, for which there is a rule.
 pub fn outcomes_to<S: Source, W: Sink, E: Sink, O: Audience>(
     alloc: Global,

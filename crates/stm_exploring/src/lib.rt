@@ -27,6 +27,8 @@ mod reading;
 mod rules;
 mod schedule_lines;
 mod searching;
+mod serial;
+mod serial_levels;
 mod setup;
 mod sought;
 mod unput;

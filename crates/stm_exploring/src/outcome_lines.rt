@@ -4,7 +4,7 @@ ghost use Rattle.std.specs.List.{concat, zip};
 ghost use Rattle.serde_json.specs.View.{view};
 ghost use Rattle.stm_schedules.specs.declared.outcome.RunnerEnd.TheVariants.{Committed};
 ghost use Rattle.stm_exploring.specs.Lines.{key_value_data, runner_end_data, outcome_line, outcome_text, each_once, counted_text, outcomes_text};
-ghost use Rattle.stm_exploring.specs.Exploring.{witness_text, witnesses_text};
+ghost use Rattle.stm_exploring.specs.Questions.{witness_text, witnesses_text};
 
 use crate::lines::push_count;
 use crate::lists::{Written, list_json};

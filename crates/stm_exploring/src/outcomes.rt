@@ -4,7 +4,7 @@ ghost use Rattle.stm_devices.specs.declared.transfer.TheConstants.{MOST_READ};
 ghost use Rattle.stm_schedules.specs.Outcomes.{after_replies};
 ghost use Rattle.stm_world.specs.World.{world_after, replies_to};
 ghost use Rattle.stm_exploring.specs.Asking.{place_of, ends_of};
-ghost use Rattle.stm_exploring.specs.Exploring.{AreGathered, ArePrinted, Gathers, found_text, gathered_text, printed_outcomes, verdict_of_outcomes};
+ghost use Rattle.stm_exploring.specs.Questions.{AreGathered, AreListed, ArePrinted, Gathers, found_text, gathered_text, printed_outcomes, verdict_of_outcomes};
 
 use crate::audience::{Audience, tell_parts};
 use crate::lines::count_text;
@@ -12,6 +12,8 @@ use crate::outcome_lines::{outcomes_text, witnesses_text};
 use crate::printed::{Printed, SearchAnswer};
 use crate::question::Question;
 use crate::reading::{ExploreFault, scenario_of};
+use crate::serial::compare;
+use crate::serial_levels::compare_at_levels;
 use crate::setup::{run_setup, setup_and_others};
 use std::alloc::{AllocError, Global};
 use stm_devices::Source;
@@ -24,27 +26,27 @@ use stm_texts::{Scenario, WorldEvent, opens_with};
 /// What is printed of these outcomes, and of schedules that come to them, where these are asked for.
 fn found_text(
     alloc: Global,
-    question: Question,
+    witnessed: bool,
     scenario: &Scenario,
     outcomes: &[Outcome],
     schedules: &[Sequence<Move>],
 ) -> Result<String, AllocError>
-    ensures { IfOk result (λ text. string_bytes text ≡ found_text question scenario.now outcomes.now schedules.now) }
+    ensures { IfOk result (λ text. string_bytes text ≡ found_text witnessed scenario.now outcomes.now schedules.now) }
 {
-    match question {
-        Question::Outcomes => outcomes_text(alloc, outcomes),
-        Question::Witnesses => witnesses_text(alloc, scenario, outcomes, schedules),
+    if witnessed {
+        return witnesses_text(alloc, scenario, outcomes, schedules);
     }
+    outcomes_text(alloc, outcomes)
 }
 
 /// What is printed of what whole schedules come to.
 fn gathered_text(
     alloc: Global,
-    question: Question,
+    witnessed: bool,
     scenario: &Scenario,
     gathered: &Outcomes,
 ) -> Result<String, AllocError>
-    ensures { IfOk result (λ text. string_bytes text ≡ gathered_text question scenario.now gathered.now) }
+    ensures { IfOk result (λ text. string_bytes text ≡ gathered_text witnessed scenario.now gathered.now) }
 {
     match gathered {
         Outcomes::Found {
@@ -52,7 +54,7 @@ fn gathered_text(
             schedules,
         } => found_text(
             alloc,
-            question,
+            witnessed,
             scenario,
             outcomes.as_slice(),
             schedules.as_slice(),
@@ -74,13 +76,13 @@ fn verdict_of(gathered: &Outcomes) -> SearchAnswer
 /// What is printed of what whole schedules come to, and whether all were gone through.
 fn print(
     alloc: Global,
-    question: Question,
+    witnessed: bool,
     scenario: &Scenario,
     gathered: &Outcomes,
 ) -> Result<Printed, AllocError>
-    ensures { IfOk result (λ p. p ≡ printed_outcomes question scenario.now gathered.now) }
+    ensures { IfOk result (λ p. p ≡ printed_outcomes witnessed scenario.now gathered.now) }
 {
-    let text = gathered_text(alloc, question, scenario, gathered)?;
+    let text = gathered_text(alloc, witnessed, scenario, gathered)?;
     Ok(Printed {
         verdict: verdict_of(gathered),
         text: Text::new(text),
@@ -120,21 +122,38 @@ fn gather_scenario<O: Audience>(
     gathered
 }
 
-/// What is printed of what the whole schedules of a scenario come to.
+/// What is printed of what the whole schedules of a scenario come to: with schedules, or without.
 fn gather<O: Audience>(
     alloc: Global,
-    question: Question,
+    witnessed: bool,
     scenario: &Scenario,
     budget: &mut Budget<O>,
 ) -> Result<Printed, AllocError>
-    ensures { IfOk result (ArePrinted question scenario.now) }
+    ensures { IfOk result (AreListed witnessed scenario.now) }
 {
     let gathered = gather_scenario(alloc, scenario, budget)?;
-    print(alloc, question, scenario, &gathered)
+    print(alloc, witnessed, scenario, &gathered)
+}
+
+/// What is printed of what is asked of a scenario.
+fn answer<O: Audience>(
+    alloc: Global,
+    question: Question,
+    scenario: &mut Scenario,
+    budget: &mut Budget<O>,
+) -> Result<Printed, AllocError>
+    ensures { IfOk result (ArePrinted question scenario.old) }
+{
+    match question {
+        Question::Outcomes => gather(alloc, false, scenario, budget),
+        Question::Witnesses => gather(alloc, true, scenario, budget),
+        Question::Serial => compare(alloc, scenario, budget),
+        Question::SerialLevels => compare_at_levels(alloc, scenario, budget),
+    }
 }
 
 /// Reads a scenario from its source to the end, and looks what its whole schedules come to: the state, and how each runner ended. Where it is asked,
-/// each has the scenario with a schedule that comes to it.
+/// each has the scenario with a schedule that comes to it, or it is told whether a serial order comes to each.
 ///
 /// The steps of the scenario are left out. Each start is taken at the level that is named, where one is. At most as many events are taken as `budget` has left, and its observer is notified
 /// of how far the search is. The source has not failed before. It fails as `BadScenario` with the scenario's first fault; as `OutOfMemory` where an allocation failed; and as `Device` exactly where the source has failed. At most 16777217 bytes are read, in at
@@ -150,8 +169,8 @@ pub fn outcomes_of_source<S: Source, O: Audience>(
     ensures gathered { Gathers question level (S.left scenario.old) (S.failed scenario.new) result }
     ensures bounded { S.reads scenario.new ≤ S.reads scenario.old + MOST_READ }
 {
-    let scenario = scenario_of(alloc, scenario, level, &mut budget.observer)?;
-    match gather(alloc, question, &scenario, budget) {
+    let mut scenario = scenario_of(alloc, scenario, level, &mut budget.observer)?;
+    match answer(alloc, question, &mut scenario, budget) {
         Ok(printed) => Ok(printed),
         Err(_) => Err(ExploreFault::OutOfMemory),
     }

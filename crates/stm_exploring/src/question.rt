@@ -7,4 +7,8 @@ pub enum Question {
     Outcomes,
     /// The same, and of each outcome a schedule that comes to it: none that does is shorter.
     Witnesses,
+    /// Whether each outcome is one that a serial order comes to.
+    Serial,
+    /// The same at each of the four levels.
+    SerialLevels,
 }

@@ -27,6 +27,8 @@ pub(crate) struct Search<'a> {
     pub(crate) budget: u64,
     /// Whether no rule is asked, and a schedule printed of each outcome.
     pub(crate) witness: bool,
+    /// Whether no rule is asked, but whether serial orders come to each outcome.
+    pub(crate) serial: bool,
     /// Whether a fault is explained.
     pub(crate) explain: bool,
 }
@@ -81,7 +83,12 @@ fn ask(
 
 /// What is asked of a scenario without a rule.
 fn question_of(search: &Search<'_>) -> Question {
-    if search.witness {
+    if search.serial {
+        match search.levels {
+            Levels::All => Question::SerialLevels,
+            Levels::Own | Levels::One(_) => Question::Serial,
+        }
+    } else if search.witness {
         Question::Witnesses
     } else {
         Question::Outcomes
@@ -116,7 +123,7 @@ fn run_outcomes(
     status
 }
 
-/// Goes through the interleavings of a scenario; all levels are refused.
+/// Goes through the interleavings of a scenario; all levels are refused, unless it is looked for serial orders.
 fn search_outcomes(
     rt: &HostRuntime,
     search: &Search<'_>,
@@ -125,6 +132,7 @@ fn search_outcomes(
     match search.levels {
         Levels::Own => Ok(run_outcomes(rt, search, scenario, None)),
         Levels::One(level) => Ok(run_outcomes(rt, search, scenario, Some(level))),
+        Levels::All if search.serial => Ok(run_outcomes(rt, search, scenario, None)),
         Levels::All => Err(refuse_without_rule(rt, "--level all")),
     }
 }
@@ -220,7 +228,7 @@ fn search_own(
     scenario: &JsonFile<'_>,
     beside: Beside,
 ) -> Result<u8, u8> {
-    if search.witness || beside.rules.as_slice().is_empty() {
+    if search.witness || search.serial || beside.rules.as_slice().is_empty() {
         return search_without(rt, search, scenario, &beside);
     }
     let waits = read_waits(rt, search.after, &beside)?;
@@ -235,6 +243,23 @@ fn has_one_input(path: &str, words: &[&str]) -> bool {
     count == 0 || (count == 1 && path != "-")
 }
 
+/// Refuses what is not asked beside a rule, where words name one, and the one question beside the other.
+fn refuse_rules(rt: &HostRuntime, search: &Search<'_>) -> Result<(), u8> {
+    if search.serial && search.witness {
+        return Err(refuse_beside(rt, "--serial", "--witness"));
+    }
+    if search.keeps.is_empty() {
+        return Ok(());
+    }
+    if search.serial {
+        return Err(refuse_beside(rt, "--serial", "--keeps <PROGRAM>"));
+    }
+    if search.witness {
+        return Err(refuse_beside(rt, "--witness", "--keeps <PROGRAM>"));
+    }
+    Ok(())
+}
+
 /// Looks through the interleavings of a path's scenario for one that breaks a rule, one that words name, or where there are none one of its source, or
 /// where that has none for what they come to. Only one of the scenario and the rules can be standard input.
 pub(crate) fn run_search(rt: &HostRuntime, search: &Search<'_>) -> Result<u8, u8> {
@@ -242,9 +267,7 @@ pub(crate) fn run_search(rt: &HostRuntime, search: &Search<'_>) -> Result<u8, u8
         let _ = rt.eprintln("stmrun: standard input can be only one of SCENARIO and PROGRAM");
         return Err(2);
     }
-    if search.witness && !search.keeps.is_empty() {
-        return Err(refuse_beside(rt, "--witness"));
-    }
+    refuse_rules(rt, search)?;
     let (scenario, beside) = source_at(rt, search.path, search.explain)?;
     if search.keeps.is_empty() {
         search_own(rt, search, &scenario, beside)

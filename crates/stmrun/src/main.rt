@@ -118,6 +118,7 @@ fn run_explore(rt: &HostRuntime, words: &ExploreWords<'_>, explain: bool) -> u8 
         levels: words.levels,
         budget: words.budget,
         witness: words.witness,
+        serial: words.serial,
         explain,
     };
     match run_search(rt, &wanted) {

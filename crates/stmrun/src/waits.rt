@@ -117,9 +117,9 @@ pub(crate) fn read_waits(
     }
 }
 
-/// Refuses an option where a rule is asked, which it is not for, and gives the status.
-pub(crate) fn refuse_beside(rt: &HostRuntime, option: &str) -> u8 {
-    let _ = eprintln!(rt; "error: '{option}' is for a search without '--keeps <PROGRAM>'");
+/// Refuses an option beside another, and gives the status.
+pub(crate) fn refuse_beside(rt: &HostRuntime, option: &str, other: &str) -> u8 {
+    let _ = eprintln!(rt; "error: '{option}' is for a search without '{other}'");
     let _ = rt.eprintln(USAGE);
     2
 }

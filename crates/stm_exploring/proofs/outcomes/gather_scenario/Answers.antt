@@ -5,7 +5,7 @@ use Rattle.stm_schedules.specs.Outcomes.{Ends}
 use Rattle.stm_schedules.specs.Places.{Place}
 use Rattle.stm_texts.specs.declared.scenario.Scenario.{Scenario}
 use Rattle.stm_texts.specs.Opens.{setup_at, setup_of}
-use Rattle.stm_exploring.specs.Exploring.{AreGathered}
+use Rattle.stm_exploring.specs.Questions.{AreGathered}
 use Rattle.stm_exploring.specs.Asking.{place_of, ends_of}
 use Rattle.stm_exploring.proofs.PlaceLemmas.{placed, placed_is, ends_are}
 use Rattle.stm_exploring.proofs.outcomes.gather_scenario.Goals as goal

@@ -12,7 +12,7 @@ use Rattle.stm_visited.specs.Answers.{IsVisited}
 use Rattle.stm_visited.specs.declared.visited.Visited.{Visited}
 use Rattle.stm_visited.specs.declared.visited.Visited.TheVariants.{Always, Broken, Open}
 use Rattle.stm_explore.specs.declared.turns.TurnPlace.{TurnPlace}
-use Rattle.stm_explore.specs.Orders.{IsSought}
+use Rattle.stm_explore.specs.Orders.{IsExplained, IsSought, explained_by}
 use Rattle.stm_explore.specs.Turns.{IsSerial, counted, turn_steps}
 use Rattle.stm_explore.specs.Witnesses.{AreWitnesses, IsWitness}
 use Rattle.stm_explore.proofs.TurnLemmas.{no_order, order_found, start_of}
@@ -30,6 +30,11 @@ pub sought : (it goal : Outcome) (others : List WorldEvent) (w : World) (ends : 
 sought it goal others w ends start v is at visited =
     sought_by it others w ends v (subst (λ (s : TurnPlace). IsVisited (turn_steps it.ends (counted it) others) s v) at
     (subst (λ (o : Outcome). IsVisited (turn_steps it.ends o others) start v) is visited))
+
+pub is_explained : (it : Outcome) (p : Place) (ends : Ends) (v : Visited Move) → IsSought it p ends v → IsExplained it p ends (explained_by v)
+is_explained it p ends (Always longest) none = none
+is_explained it p ends (Broken order) is = (order, is)
+is_explained it p ends (Open kept) unknown = tt
 
 -- ---- one more
 

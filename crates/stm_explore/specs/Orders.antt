@@ -9,6 +9,8 @@ use Rattle.stm_visited.specs.declared.visited.Visited.{Visited}
 use Rattle.stm_visited.specs.declared.visited.Visited.TheVariants.{Always, Broken, Open}
 use Rattle.stm_explore.specs.declared.orders.Compared.{Compared}
 use Rattle.stm_explore.specs.declared.orders.Compared.TheVariants.{Serial as AllSerial, Odd, Undecided as NotKnown}
+use Rattle.stm_explore.specs.declared.orders.Explained.{Explained}
+use Rattle.stm_explore.specs.declared.orders.Explained.TheVariants.{Yes, No, Unknown}
 use Rattle.stm_explore.specs.declared.orders.SerialAnswer.{SerialAnswer}
 use Rattle.stm_explore.specs.declared.orders.SerialAnswer.TheVariants.{Serial, Anomaly, Open as OpenAt, Undecided}
 use Rattle.stm_explore.specs.Explored.{AreAllOutcomes}
@@ -30,6 +32,16 @@ abbrev pub IsSought : Outcome → Place → Ends → Visited Move → Type 0
 IsSought it p ends (Always longest) = IsSerial p ends it → ⊥
 IsSought it p ends (Broken order) = IsOrderFor it p ends order
 IsSought it p ends (Open kept) = Unit {0}
+
+abbrev pub explained_by : Visited Move → Explained
+explained_by (Always longest) = No
+explained_by (Broken order) = Yes
+explained_by (Open kept) = Unknown
+
+abbrev pub IsExplained : Outcome → Place → Ends → Explained → Type 0
+IsExplained it p ends Yes = IsSerial p ends it
+IsExplained it p ends No = IsSerial p ends it → ⊥
+IsExplained it p ends Unknown = Unit {0}
 
 -- some serial order comes to each of these; or none does to the one at this index
 abbrev pub AreCompared : Place → Ends → List Outcome → Compared → Type 0

@@ -2,7 +2,7 @@
 ghost use Rattle.std.specs.Prelude.{◌≡◌, ◌<◌, None, filter, length, slice_index_or, IfOk};
 ghost use Rattle.stm_visited.specs.Answers.{IsVisited};
 ghost use Rattle.stm_explore.specs.Explored.{AreAllOutcomes, AreOutcomes, OutcomesAreWitnessed};
-ghost use Rattle.stm_explore.specs.Orders.{Answers, AreCompared, IsSerialAnswer, IsSought, IsWithin};
+ghost use Rattle.stm_explore.specs.Orders.{Answers, AreCompared, IsExplained, IsSerialAnswer, IsSought, IsWithin, explained_by};
 ghost use Rattle.stm_explore.specs.Turns.{counted, counts, turn_steps};
 ghost use Rattle.stm_explore.specs.Witnesses.{AreWitnesses};
 
@@ -111,33 +111,34 @@ fn start_in_turn(
     })
 }
 
-/// Looks for a serial order that comes to an outcome, without the ends that do not count, with so many moves. The answer has the moves that are left.
-fn seek(
+/// Looks for a place at which no move is left and that shows what is wanted.
+fn seek<O: Observer>(
     alloc: Global,
     turns: &Turns,
     start: TurnPlace,
-    most: u64,
-) -> Result<(Visited<Move>, u64), AllocError>
-    ensures { IfOk result (λ p. IsVisited (turn_steps turns.now.wanted.now turns.now.goal.now turns.now.gathered.others.now) start p.0) }
+    budget: &mut Budget<O>,
+) -> Result<Visited<Move>, AllocError>
+    ensures { IfOk result (IsVisited (turn_steps turns.now.wanted.now turns.now.goal.now turns.now.gathered.others.now) start) }
 {
-    let mut budget = Budget {
-        left: most,
+    let mut quiet = Budget {
+        left: budget.left,
         observer: Nobody,
     };
-    let visited = find_first_bad(alloc, turns, start, &mut budget)?;
-    Ok((visited, budget.left))
+    let visited = find_first_bad(alloc, turns, start, &mut quiet)?;
+    budget.left = quiet.left;
+    Ok(visited)
 }
 
 /// Looks for a serial order that comes to an outcome.
-fn find_order(
+fn find_order<O: Observer>(
     alloc: Global,
     others: &[WorldEvent],
     world: &SharedWorld,
     ends: &[Option<RunnerEnd>],
     outcome: &Outcome,
-    most: u64,
-) -> Result<(Visited<Move>, u64), AllocError>
-    ensures { IfOk result (λ p. IsSought outcome.now (record { world = world.now; others = others.now }) ends.now p.0) }
+    budget: &mut Budget<O>,
+) -> Result<Visited<Move>, AllocError>
+    ensures { IfOk result (IsSought outcome.now (record { world = world.now; others = others.now }) ends.now) }
 {
     let goal = counted(alloc, outcome)?;
     let start = start_in_turn(alloc, world, ends)?;
@@ -146,8 +147,42 @@ fn find_order(
         wanted: outcome.ends.as_slice(),
         goal: &goal,
     };
-    let sought = seek(alloc, &turns, start, most)?;
-    Ok(sought)
+    let visited = seek(alloc, &turns, start, budget)?;
+    Ok(visited)
+}
+
+/// Whether a serial order comes to an outcome.
+#[derive(Clone, Copy)]
+pub(crate) enum Explained {
+    Yes,
+    No,
+    Unknown,
+}
+
+/// Whether a serial order comes to an outcome, by what was found.
+fn explained_by(visited: &Visited<Move>) -> Explained
+    ensures { result ≡ explained_by visited.now }
+{
+    match visited {
+        Visited::Broken { .. } => Explained::Yes,
+        Visited::Always { .. } => Explained::No,
+        Visited::Open { .. } => Explained::Unknown,
+    }
+}
+
+/// Whether a serial order comes to an outcome.
+fn explain<O: Observer>(
+    alloc: Global,
+    others: &[WorldEvent],
+    world: &SharedWorld,
+    ends: &[Option<RunnerEnd>],
+    outcome: &Outcome,
+    budget: &mut Budget<O>,
+) -> Result<Explained, AllocError>
+    ensures { IfOk result (IsExplained outcome.now (record { world = world.now; others = others.now }) ends.now) }
+{
+    let visited = find_order(alloc, others, world, ends, outcome, budget)?;
+    Ok(explained_by(&visited))
 }
 
 /// What is known of outcomes, in their order.
@@ -173,12 +208,11 @@ fn compare<O: Observer>(
     ensures { IfOk result (AreCompared (record { world = world.now; others = others.now }) ends.now outcomes.now) }
 {
     for i in 0..outcomes.len() {
-        let (visited, left) = find_order(alloc, others, world, ends, &outcomes[i], budget.left)?;
-        budget.left = left;
-        match visited {
-            Visited::Broken { .. } => {}
-            Visited::Always { .. } => return Ok(Compared::Odd(i)),
-            Visited::Open { .. } => return Ok(Compared::Undecided(i)),
+        let explained = explain(alloc, others, world, ends, &outcomes[i], budget)?;
+        match explained {
+            Explained::Yes => {}
+            Explained::No => return Ok(Compared::Odd(i)),
+            Explained::Unknown => return Ok(Compared::Undecided(i)),
         }
     }
     Ok(Compared::Serial)

@@ -7,3 +7,4 @@ pub mod ReadingLemmas
 pub mod PlaceLemmas
 pub mod ScheduledSpells
 pub mod SerialLevelLemmas
+pub mod OutcomeLineLemmas

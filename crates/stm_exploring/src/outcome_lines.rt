@@ -1,5 +1,5 @@
 //! The lines of what whole schedules come to.
-ghost use Rattle.std.specs.Prelude.{◌≡◌, ◌++◌, map, IfOk, OnOk, string_bytes};
+ghost use Rattle.std.specs.Prelude.{◌≡◌, ◌++◌, length, map, IfOk, OnOk, string_bytes};
 ghost use Rattle.std.specs.List.{concat, zip};
 ghost use Rattle.serde_json.specs.View.{view};
 ghost use Rattle.stm_schedules.specs.declared.outcome.RunnerEnd.TheVariants.{Committed};
@@ -101,6 +101,13 @@ fn each_line(alloc: Global, outcomes: &[Outcome]) -> Result<BTreeSet<Text>, Allo
     Ok(lines)
 }
 
+/// How many outcomes have a schedule.
+fn pair_count(outcomes: &[Outcome], schedules: &[Sequence<Move>]) -> usize
+    ensures { result ≡ length (zip outcomes.now schedules.now) }
+{
+    outcomes.len().min(schedules.len())
+}
+
 /// The lines of each outcome and of its schedule once, ascending by bytes.
 fn each_witness(
     alloc: Global,
@@ -111,8 +118,7 @@ fn each_witness(
     ensures { IfOk result (λ lines. lines.keys ≡ each_once (map (witness_text scenario.now) (zip outcomes.now schedules.now))) }
 {
     let mut lines = BTreeSet::new(alloc);
-    let count = outcomes.len().min(schedules.len());
-    for i in 0..count {
+    for i in 0..pair_count(outcomes, schedules) {
         let text = witness_lines(alloc, scenario, &outcomes[i], schedules[i].as_slice())?;
         lines.insert(text)?;
     }

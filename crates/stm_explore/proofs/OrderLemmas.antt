@@ -12,7 +12,10 @@ use Rattle.stm_visited.specs.Answers.{IsVisited}
 use Rattle.stm_visited.specs.declared.visited.Visited.{Visited}
 use Rattle.stm_visited.specs.declared.visited.Visited.TheVariants.{Always, Broken, Open}
 use Rattle.stm_explore.specs.declared.turns.TurnPlace.{TurnPlace}
-use Rattle.stm_explore.specs.Orders.{IsExplained, IsSought, explained_by}
+use Rattle.stm_explore.specs.declared.orders.Compared.{Compared}
+use Rattle.stm_explore.specs.declared.orders.Compared.TheVariants.{Serial as AllSerial, Odd, Undecided as NotKnown}
+use Rattle.stm_explore.specs.declared.orders.SerialAnswer.TheVariants.{Serial, Anomaly, Undecided}
+use Rattle.stm_explore.specs.Orders.{Answers, AreCompared, IsExplained, IsSought, IsWithin, explained_by}
 use Rattle.stm_explore.specs.Turns.{IsSerial, counted, turn_steps}
 use Rattle.stm_explore.specs.Witnesses.{AreWitnesses, IsWitness}
 use Rattle.stm_explore.proofs.TurnLemmas.{no_order, order_found, start_of}
@@ -66,3 +69,26 @@ as_many p ends [] [] are = refl
 as_many p ends [] (s ∷ schedules) are = absurd are
 as_many p ends (o ∷ outcomes) [] are = absurd are
 as_many p ends (o ∷ outcomes) (s ∷ schedules) are = ap suc (as_many p ends outcomes schedules are.1)
+
+-- ---- the answer
+
+pub within_lists : (p : Place) (ends : Ends) (outcomes : List Outcome) (schedules : List (List Move)) (c : Compared) → AreWitnesses p ends outcomes schedules →
+    AreCompared p ends outcomes c → IsWithin outcomes schedules c
+within_lists p ends outcomes schedules AllSerial are compared = tt
+within_lists p ends outcomes schedules (Odd i) are compared = (compared.0, subst (λ (n : ℕ). i < n) (sym (as_many p ends outcomes schedules are)) compared.0)
+within_lists p ends outcomes schedules (NotKnown i) are compared = (compared, subst (λ (n : ℕ). i < n) (sym (as_many p ends outcomes schedules are)) compared)
+
+-- what stands at the index is that outcome and its witness
+pub anomaly_by : (outcomes : List Outcome) (schedules : List (List Move)) (i : ℕ) (it : Outcome) (schedule : List Move) → it ≡ get_or outcomes i it →
+    schedule ≡ get_or schedules i schedule → Answers outcomes schedules (Odd i) (Anomaly it schedule)
+anomaly_by outcomes schedules i it schedule at scheduled p ends all are compared = (
+  witness_of p ends outcomes schedules i it schedule are compared.0 at scheduled,
+  λ serial. compared.1 it (subst (IsSerial p ends) at serial),
+)
+
+pub unknown_by : (outcomes : List Outcome) (schedules : List (List Move)) (i : ℕ) (it : Outcome) (schedule : List Move) → it ≡ get_or outcomes i it →
+    schedule ≡ get_or schedules i schedule → Answers outcomes schedules (NotKnown i) (Undecided it schedule)
+unknown_by outcomes schedules i it schedule at scheduled p ends all are compared = witness_of p ends outcomes schedules i it schedule are compared at scheduled
+
+pub serial_by : (outcomes : List Outcome) (schedules : List (List Move)) (count : ℕ) → length outcomes ≡ count → Answers outcomes schedules AllSerial (Serial count)
+serial_by outcomes schedules count is p ends all are compared = (outcomes, all, compared, is)

@@ -70,7 +70,7 @@ path_of wanted goal others (m ∷ path) start is turns =
     let test : Move → Bool = is_in_turn wanted start.last start.reported.ends in
     let known : Ends = ends_moved m (here others start) start.reported.ends in
     let rest = path_of wanted goal others path next (subst (IsSchedule path) same is.1) (subst (λ (q : Place). AreInTurn wanted (turn_of m) path q known) same turns.1) in
-    (rest.0, contained m (filter test (moves (here others start))) (is_kept test m (moves (here others start)) (among m (moves (here others start)) is.0) turns.0), rest.1)
+    (rest.0, (contained m (filter test (moves (here others start))) (is_kept test m (moves (here others start)) (among m (moves (here others start)) is.0) turns.0), rest.1))
 
 -- ---- where it comes to
 

@@ -2,7 +2,6 @@
 use Rattle.std.proofs.Common.{◌≡◌, ◌≢◌, ℕ, zero, suc, ◌≤◌, Bool, true, false, cond, nat_eq, List, [], ◌∷◌, length, Option, Some, None, option_map, refl, ◌∙◌, ap, subst, arith}
 use Rattle.std.specs.Option.{option_or}
 use Rattle.stm_world.proofs.Slots.{equal_numbers, differ}
-use Rattle.stm_schedules.proofs.BadSchedules.{kept_here}
 use Rattle.stm_schedules.proofs.Members.{or_none, map_none, map_some}
 use Rattle.stm_visited.specs.Search.{Steps, Leads, bad_at, first_bad, goes_on}
 use Rattle.stm_visited.proofs.Founds.{none_found, none_passes}
@@ -39,8 +38,12 @@ pub found_leads : {P M O : Type 0} (s : Steps P M O) (n : ℕ) (p : P) (ms : Lis
 found_leads s zero p ms found = bad_leads s zero p ms found
 found_leads {P} {M} {O} s (suc n) p ms found = found_by s n p ms (first_bad s n p) refl (λ (path : List M) is. found_leads s n p path is) found
 
+here_kept : {M : Type 0} (b : Bool) → cond b None (let none : Option (List M) = Some [] in none) ≡ None → b ≡ true
+here_kept true none = refl
+here_kept false none = absurd (cc)
+
 none_bad : {P M O : Type 0} (s : Steps P M O) (n : ℕ) (p q : P) (ms : List M) → bad_at s n p ≡ None → Leads s ms p q → length ms ≡ n → s.keeps q ≡ true
-none_bad s zero p q [] none led long = ap s.keeps led ∙ kept_here (s.keeps p) none
+none_bad s zero p q [] none led long = ap s.keeps led ∙ here_kept (s.keeps p) none
 none_bad s zero p q (m ∷ ms) none led long = absurd (omega arith)
 none_bad s (suc n) p q [] none led long = absurd (omega arith)
 none_bad {P} {M} {O} s (suc n) p q (m ∷ ms) none led long =

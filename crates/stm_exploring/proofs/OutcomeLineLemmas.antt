@@ -1,5 +1,5 @@
 -- Outcomes with their schedules, as a loop comes to them.
-use Rattle.std.proofs.Common.{◌≡◌, ◌∙◌, ℕ, zero, suc, ◌+◌, ◌<◌, List, [], ◌∷◌, ◌++◌, length, map, take, get_or, sym, ap, ap₂, arith}
+use Rattle.std.proofs.Common.{◌≡◌, ◌∙◌, ℕ, zero, suc, ◌+◌, ◌<◌, ◌≤◌, List, [], ◌∷◌, ◌++◌, length, map, take, get_or, refl, sym, ap, ap₂, arith}
 use Rattle.std.proofs.Math.Seq.{take-suc}
 use Rattle.std.proofs.lemmas.List.{map-append}
 use Rattle.std.proofs.lemmas.List.Sums.{fold_push}
@@ -20,6 +20,17 @@ within_both (x ∷ xs) (y ∷ ys) (suc i) within =
     let first : i < length xs = rest.0 in
     let second : i < length ys = rest.1 in
     (omega (arith, first), omega (arith, second))
+
+-- there are as many as of the fewer
+pub pairs_of_first : {A B : Type 0} (xs : List A) (ys : List B) → length xs ≤ length ys → length xs ≡ length (zip xs ys)
+pairs_of_first [] ys fewer = refl
+pairs_of_first (x ∷ xs) [] fewer = absurd (omega arith)
+pairs_of_first (x ∷ xs) (y ∷ ys) fewer = ap suc (pairs_of_first xs ys (omega arith))
+
+pub pairs_of_second : {A B : Type 0} (xs : List A) (ys : List B) → length ys < length xs → length ys ≡ length (zip xs ys)
+pairs_of_second [] ys fewer = absurd (omega arith)
+pairs_of_second (x ∷ xs) [] fewer = refl
+pairs_of_second (x ∷ xs) (y ∷ ys) fewer = ap suc (pairs_of_second xs ys (omega arith))
 
 -- one more pair
 pub pair_more : {A B : Type 0} (f : A × B → List ℕ) (xs : List A) (ys : List B) (i : ℕ) (x : A) (y : B) (text : List ℕ) (old new : List (List ℕ)) →

@@ -1,5 +1,5 @@
 //! The lines of what whole schedules come to.
-ghost use Rattle.std.specs.Prelude.{◌≡◌, ◌++◌, length, map, IfOk, OnOk, string_bytes};
+ghost use Rattle.std.specs.Prelude.{◌≡◌, ◌≤◌, ◌++◌, length, map, IfOk, OnOk, string_bytes};
 ghost use Rattle.std.specs.List.{concat, zip};
 ghost use Rattle.serde_json.specs.View.{view};
 ghost use Rattle.stm_schedules.specs.declared.outcome.RunnerEnd.TheVariants.{Committed};
@@ -102,10 +102,16 @@ fn each_line(alloc: Global, outcomes: &[Outcome]) -> Result<BTreeSet<Text>, Allo
 }
 
 /// How many outcomes have a schedule.
+#[tactic(auto, using(crate::proofs::OutcomeLineLemmas::pairs_of_first, crate::proofs::OutcomeLineLemmas::pairs_of_second))]
 fn pair_count(outcomes: &[Outcome], schedules: &[Sequence<Move>]) -> usize
-    ensures { result ≡ length (zip outcomes.now schedules.now) }
+    ensures pairs { result ≡ length (zip outcomes.now schedules.now) }
+    ensures first { result ≤ length outcomes.now }
+    ensures second { result ≤ length schedules.now }
 {
-    outcomes.len().min(schedules.len())
+    if schedules.len() < outcomes.len() {
+        return schedules.len();
+    }
+    outcomes.len()
 }
 
 /// The lines of each outcome and of its schedule once, ascending by bytes.

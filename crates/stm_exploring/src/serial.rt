@@ -1,5 +1,5 @@
 //! Whether the whole schedules of a scenario come to what serial orders come to, and what is printed of that.
-ghost use Rattle.std.specs.Prelude.{◌≡◌, ◌++◌, map, length, IfOk, OnOk, string_bytes};
+ghost use Rattle.std.specs.Prelude.{◌≡◌, ◌++◌, [], map, IfOk, OnOk, string_bytes};
 ghost use Rattle.serde_json.specs.View.{view};
 ghost use Rattle.stm_report_lines.specs.Text.{line_text};
 ghost use Rattle.stm_explore.specs.Orders.{IsSerialAnswer};

@@ -1,4 +1,4 @@
-use Rattle.std.proofs.Common.{arith}
+use Rattle.std.proofs.Common.{[], arith}
 use Rattle.stm_exploring.specs.declared.serial_levels.SerialLevel.{SerialLevel}
 use Rattle.stm_exploring.proofs.LevelLemmas.{same_more}
 use Rattle.stm_exploring.proofs.RuleLemmas.{listed_more}

@@ -16,7 +16,7 @@ use Rattle.stm_history.proofs.HistoryLaws.{last_revision_is_now}
 use Rattle.stm_leases.specs.declared.bounds.TheConstants.{HIGHEST_TTL}
 use Rattle.serde_json.specs.View.{items_of}
 use Rattle.stm_history.specs.declared.key_state.KeyState.{KeyState}
-use Rattle.stm_history.specs.declared.revisions.TheConstants.{HIGHEST_REVISION, HIGHEST_NUMBER}
+use Rattle.stm_history.specs.declared.revisions.TheConstants.{HIGHEST_REVISION}
 use Rattle.stm_history.specs.History.{History, now, key_now}
 use Rattle.stm_json.specs.Elements.{is_64_bit}
 use Rattle.stm_steps.specs.declared.value.Value.{Value}
@@ -31,6 +31,7 @@ use Rattle.stm_outcome.specs.declared.advance.Expired.{Expired}
 use Rattle.stm_outcome.specs.Numbers.{StateFits, EventsFit, AllExpiredFit}
 use Rattle.stm_txn.specs.LeaseKeys.{keys_named}
 use Rattle.stm_txn.specs.Standing.{Standing}
+use Rattle.stm_txn.proofs.Bounding.{both}
 use Rattle.stm_txn.proofs.Fitting.{states_fit}
 use Rattle.stm_events.specs.declared.reply.Reply.{Reply}
 use Rattle.stm_events.specs.declared.reply.Reply.TheVariants.{Started, Prefetched, Fetched, Committed, Conflict, GaveUp, Aborted, Faulted, Ended}
@@ -48,7 +49,7 @@ use Rattle.stm_report.specs.Report.{event_lines}
 use Rattle.stm_report_lines.specs.ReadBack.{IsPlain, ArePlain}
 use Rattle.stm_report_laws.specs.ReadBack.{IsReadable, AreReadable}
 use Rattle.stm_report_laws.proofs.SmallRuns.{ValueFits, ValuesFit, ItemsFit, all_append}
-use Rattle.stm_report_laws.proofs.SmallStores.{IsSmall, HistoryFits}
+use Rattle.stm_report_laws.proofs.SmallStores.{IsSmall, HistoryFits, id_fits}
 use Rattle.stm_report_laws.proofs.SmallReplies.{Few, KeyReadsFit, CommittedReadsFit, OpRepliesFit, AnswerToFits, RepliesFit}
 
 -- ---- data
@@ -230,10 +231,6 @@ terms_fit (e ∷ es) sorted each =
           (other_id (eq_by_cmp nat_cmp id e.0) id e.0 refl (is_above e.0 es id term parts.0 found)) ∙ found)),
     )
 
-last_of : (a b : Bool) → (a && b) ≡ true → b ≡ true
-last_of true b is = is
-last_of false b is = absurd (cc)
-
 live_terms_fit : (s : Standing) → IsSmall s → TermsFit (finmap.entries s.live)
 live_terms_fit s small =
     terms_fit (finmap.entries s.live) (finmap.entries_sorted s.live)
@@ -245,8 +242,8 @@ live_terms_fit s small =
     term_fits : (id : ℕ) (term : Term) → finmap.get s.live id ≡ Some term → TermFits (id, term)
     term_fits id term found =
         let ranges = small.live id term found in
-        let ttl : term.ttl ≤ HIGHEST_TTL = leb-true term.ttl HIGHEST_TTL (last_of (nat_le 1 term.ttl) (nat_le term.ttl HIGHEST_TTL) ranges.1) in
-        (leb-true id HIGHEST_NUMBER (last_of (nat_le 1 id) (nat_le id HIGHEST_NUMBER) ranges.0), omega (arith, ttl), small.renewed id term found)
+        let ttl : term.ttl ≤ HIGHEST_TTL = leb-true term.ttl HIGHEST_TTL (both (nat_le 1 term.ttl) (nat_le term.ttl HIGHEST_TTL) ranges.1).1 in
+        (id_fits id ranges.0, omega (arith, ttl), small.renewed id term found)
 
 pub end_readable : (s : Standing) (entries : ℕ) → IsSmall s → Few entries → AreReadable (end_lines s entries)
 end_readable s entries small few =

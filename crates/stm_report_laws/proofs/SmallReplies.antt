@@ -20,6 +20,7 @@ use Rattle.stm_outcome.specs.declared.answer.OpAnswer.TheVariants as answer
 use Rattle.stm_outcome.specs.declared.answer.TxnAnswer.{TxnAnswer}
 use Rattle.stm_outcome.specs.Numbers.{StateFits, EventsFit, OpsFit, AnswerFits, AllExpiredFit}
 use Rattle.stm_txn.specs.Standing.{opening}
+use Rattle.stm_txn.proofs.Bounding.{both}
 use Rattle.stm_txn.proofs.Fitting.{states_fit}
 use Rattle.stm_compile.specs.Answers.{answer_in, said, look_up, AreTrue}
 use Rattle.stm_compile.specs.Conflicts.{Seen, seen_in, seen_of_read, seen_of_write, seen_by, changes_above, IsConflict}
@@ -217,10 +218,6 @@ seen_at_place [] i seen fits is = absurd (cc)
 seen_at_place (s ∷ ss) zero seen fits is = let same : s ≡ seen = cc in subst SeenFits same fits.0
 seen_at_place (s ∷ ss) (suc i) seen fits is = seen_at_place ss i seen fits.1 is
 
-first_of : (a b : Bool) → (a && b) ≡ true → a ≡ true
-first_of true b is = refl
-first_of false b is = absurd (cc)
-
 changed_above : (opening : Opening) (r : ℕ) (key : List ℕ) (revisions : List (List Change)) → changes_above opening r key revisions ≡ true →
     r ≤ number_of_last opening revisions
 changed_above opening r key [] is =
@@ -230,7 +227,7 @@ changed_above opening r key [] is =
 changed_above opening r key (changes ∷ older) is =
     let number : ℕ = number_of_last opening (changes ∷ older) in
     either (nat_lt r number && is_some (change_of key changes)) (changes_above opening r key older) is (r ≤ number)
-    (λ here. let below : r < number = ltb-true r number (first_of (nat_lt r number) (is_some (change_of key changes)) here) in omega (arith, below))
+    (λ here. let below : r < number = ltb-true r number (both (nat_lt r number) (is_some (change_of key changes)) here).0 in omega (arith, below))
     (λ before. let rest : r ≤ number_of_last opening older = changed_above opening r key older before in omega (arith, rest))
 
 seen_few : (h : History) (seen : Seen) → HistoryFits h → changes_above h.opening seen.at seen.key h.revisions ≡ true → SeenFits seen → Few seen.mod_rev

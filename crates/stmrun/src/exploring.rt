@@ -4,8 +4,8 @@ use crate::explaining;
 use crate::refusing::not_yet;
 use crate::rules::{is_json, named_in, rules_named, rules_of, unnamed_rule};
 use crate::ruling::run_rules;
-use crate::sources::{JsonFile, say_unasked, source_at};
-use crate::terminals::{close, shown_budget};
+use crate::sources::{JsonFile, runners_at, say_unasked, source_at};
+use crate::terminals::{Told, close, shown_budget};
 use crate::waits::{read_waits, refuse_waits};
 use std::slice;
 use stm_arguments::Levels;
@@ -24,8 +24,8 @@ pub(crate) struct Search<'a> {
     pub(crate) after: Option<&'a str>,
     /// The levels at which the starts are taken.
     pub(crate) levels: Levels,
-    /// At most so many events are taken.
-    pub(crate) budget: u64,
+    /// At most so many events are taken, and the runners are named so.
+    pub(crate) told: Told<'a>,
     /// Whether a fault is explained.
     pub(crate) explain: bool,
 }
@@ -40,13 +40,13 @@ fn run_rule(
     level: Option<Level>,
 ) -> u8 {
     if search.explain {
-        return explaining::run_rule(rt, scenario, rule, waits, level, search.budget);
+        return explaining::run_rule(rt, scenario, rule, waits, level, search.told);
     }
     let mut scenario = Std::new(scenario.open(rt));
     let mut rule = Std::new(rule.open(rt));
     let mut out = Std::new(rt.stdout());
     let mut err = Std::new(rt.stderr());
-    let mut budget = shown_budget(rt, search.budget, false);
+    let mut budget = shown_budget(rt, search.told, false);
     let status = explore_to(
         rt.alloc(),
         &mut scenario,
@@ -71,11 +71,11 @@ fn ask(
 ) -> u8 {
     let Search {
         levels,
-        budget,
+        told,
         explain,
         ..
     } = *search;
-    run_rules(rt, scenario, rules, waits, levels, budget, explain)
+    run_rules(rt, scenario, rules, waits, levels, told, explain)
 }
 
 /// Goes through the interleavings of a scenario, at a level, or at each start's own.
@@ -86,12 +86,12 @@ fn run_outcomes(
     level: Option<Level>,
 ) -> u8 {
     if search.explain {
-        return explaining::run_outcomes(rt, scenario, level, search.budget);
+        return explaining::run_outcomes(rt, scenario, level, search.told);
     }
     let mut scenario = Std::new(scenario.open(rt));
     let mut out = Std::new(rt.stdout());
     let mut err = Std::new(rt.stderr());
-    let mut budget = shown_budget(rt, search.budget, false);
+    let mut budget = shown_budget(rt, search.told, false);
     let status = outcomes_to(
         rt.alloc(),
         &mut scenario,
@@ -220,9 +220,12 @@ pub(crate) fn run_search(rt: &HostRuntime, search: &Search<'_>) -> Result<u8, u8
         return Err(2);
     }
     let (scenario, beside) = source_at(rt, search.path, search.explain)?;
+    let runners = runners_at(rt, search.path, &beside);
+    let mut named = *search;
+    named.told.runners = runners.as_slice();
     if search.keeps.is_empty() {
-        search_own(rt, search, &scenario, beside)
+        search_own(rt, &named, &scenario, beside)
     } else {
-        search_named(rt, search, &scenario, &beside)
+        search_named(rt, &named, &scenario, &beside)
     }
 }

@@ -3,7 +3,7 @@
 use crate::explaining::{kept_json, say_unread, say_unwritten};
 use crate::noting::Noting;
 use crate::sources::JsonFile;
-use crate::terminals::{close, shown_budget};
+use crate::terminals::{Told, close, shown_budget};
 use stm_arguments::Levels;
 use stm_commands::Std;
 use stm_exploring::{
@@ -18,7 +18,7 @@ fn search_explained(
     rules: &[Rule],
     waits: &[Wait],
     level: Option<Level>,
-    budget: u64,
+    budget: Told<'_>,
 ) -> u8 {
     let mut scenario = kept_json(rt, scenario);
     let mut out = Std::new(Noting::new(rt.stdout()));
@@ -47,7 +47,7 @@ fn search(
     rules: &[Rule],
     waits: &[Wait],
     level: Option<Level>,
-    budget: u64,
+    budget: Told<'_>,
     explain: bool,
 ) -> u8 {
     if explain {
@@ -77,7 +77,7 @@ fn search_levels_explained(
     scenario: &JsonFile<'_>,
     rules: &[Rule],
     waits: &[Wait],
-    budget: u64,
+    budget: Told<'_>,
 ) -> u8 {
     let mut scenario = kept_json(rt, scenario);
     let mut out = Std::new(Noting::new(rt.stdout()));
@@ -104,7 +104,7 @@ fn search_levels(
     scenario: &JsonFile<'_>,
     rules: &[Rule],
     waits: &[Wait],
-    budget: u64,
+    budget: Told<'_>,
     explain: bool,
 ) -> u8 {
     if explain {
@@ -134,7 +134,7 @@ pub(crate) fn run_rules(
     rules: &[Rule],
     waits: &[Wait],
     levels: Levels,
-    budget: u64,
+    budget: Told<'_>,
     explain: bool,
 ) -> u8 {
     match levels {

@@ -8,8 +8,10 @@ use std::io::Input;
 use std::rt::Files;
 use stm_commands::Std;
 use stm_compiling::{
-    Beside, Compiled, Part, Rule, Wait, compile_to, compiled, compiled_part, notes_of,
+    Beside, Compiled, NamedRunner, Part, Rule, Wait, compile_to, compiled, compiled_part,
+    named_runners, notes_of,
 };
+use stm_devices::read_all;
 use stm_history::{Sequence, Text};
 
 /// What the names of sources end in.
@@ -91,6 +93,21 @@ pub(crate) fn source_at<'a>(
     let Compiled { line, beside } = compiled_at(rt, path, explain)?;
     let scenario = line_of(rt, path, line)?;
     Ok((scenario, beside))
+}
+
+/// The runners that the source of a path names; none, where it cannot be read again.
+pub(crate) fn runners_at(rt: &HostRuntime, path: &str, beside: &Beside) -> Vec<NamedRunner> {
+    if beside.numbers.as_slice().is_empty() {
+        return Vec::new(rt.alloc());
+    }
+    let mut input = Std::new(open(rt, path));
+    let Ok(source) = read_all(rt.alloc(), &mut input) else {
+        return Vec::new(rt.alloc());
+    };
+    match named_runners(rt.alloc(), source.as_slice(), beside) {
+        Ok(runners) => runners,
+        Err(_) => Vec::new(rt.alloc()),
+    }
 }
 
 /// The rules of the source of a path; or the status, once what is wrong with it was said. It is explained, or is not.

@@ -1,5 +1,5 @@
 -- Where the arguments of a program begin, by the words of which a command line has the texts.
-use Rattle.std.proofs.Common.{◌≡◌, ◌+◌, ◌-◌, take_all, ◌<◌, ◌≤◌, ℕ, suc, List, [], ◌∷◌, ◌∙◌, length, map, take, drop, slice_index_or, true, false, bytes_eq, codes, refl, sym, ap, ap₂, subst, arith}
+use Rattle.std.proofs.Common.{◌≡◌, ◌+◌, ◌-◌, take_all, ◌<◌, ◌≤◌, ℕ, suc, List, [], ◌∷◌, ◌∙◌, length, map, take, drop, slice_index_or, true, false, refl, sym, ap, ap₂, subst, arith}
 use Rattle.std.proofs.lemmas.List.{take-map, drop-map, length-drop, length-map}
 use Rattle.stm_arguments.specs.Cutting.{before_arguments, cut, names_program, up_to_name, up_to_place}
 

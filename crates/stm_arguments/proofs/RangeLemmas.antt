@@ -1,5 +1,5 @@
 -- The two keys of a range, by how many words there are.
-use Rattle.std.proofs.Common.{◌≡◌, ℕ, List, [], ◌∷◌, Option, Some, None, length, slice_index_or, map, refl, arith}
+use Rattle.std.proofs.Common.{◌≡◌, ℕ, List, [], ◌∷◌, Some, None, length, slice_index_or, map, refl, arith}
 use Rattle.stm_arguments.specs.Asking.{range_in}
 
 -- of two words

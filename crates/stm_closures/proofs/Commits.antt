@@ -33,6 +33,17 @@ of_step : (s : Standing) (o : Result Done Refusal) (step : Step TxnAnswer) → s
 of_step s (Err cause) step is = absurd (cc)
 of_step s (Ok done) step is = record { done = done; is_done = refl; came = cc }
 
+-- a transaction has succeeded where none of its compares failed
+pub succeeds_where_none_failed : (s : Standing) (txn : Txn) (step : Step TxnAnswer) → transacted s txn ≡ Ok step
+    → is_none step.answer.failed ≡ step.answer.succeeded
+succeeds_where_none_failed s txn step is =
+    let one = of_step s (outcome (terms_of s) txn) step is in
+    let made = (is_done (terms_of s) txn one.done one.is_done).made in
+    sym (ap (λ (x : Step TxnAnswer). is_none x.answer.failed) one.came)
+    ∙ sym (ap (λ (x : Done). is_none x.answer.failed) made)
+    ∙ ap (λ (x : Done). x.answer.succeeded) made
+    ∙ ap (λ (x : Step TxnAnswer). x.answer.succeeded) one.came
+
 -- the compare that failed is the first that fails
 failed_is : (s : Standing) (txn : Txn) (step : Step TxnAnswer) → transacted s txn ≡ Ok step → first_failed (key_now s.history) 0 txn.compares ≡ step.answer.failed
 failed_is s txn step is =

@@ -18,8 +18,10 @@ mod transaction_error;
 
 pub use attempts::atomically;
 pub use not_committed::NotCommitted;
+pub use rereading::read_all_again;
 pub use stm_attempt::{ReadSet, Write, WriteBuffer};
 pub use stm_hall::{FetchRefusal, Hall, Level, ReadAnswer, Refusal, Store, Text};
 pub use store_access::{Commit, CommitOutcome, Fetch};
+pub use store_commit::are_shown;
 pub use transaction::Transaction;
 pub use transaction_error::TransactionError;

@@ -12,8 +12,9 @@ fn read_again<D: Fetch>(alloc: Global, store: &D, key: &str, again: &mut ReadSet
     }
 }
 
-/// What the keys that were read are now, at a level at which the next attempt can use that.
-pub(crate) fn read_all_again<D: Fetch>(
+/// What the keys that were read are now, at a level at which the next attempt can use that: what a `Commit` of your own hands back of a commit of which a
+/// compare failed.
+pub fn read_all_again<D: Fetch>(
     alloc: Global,
     store: &D,
     level: Level,

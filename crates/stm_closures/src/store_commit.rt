@@ -39,9 +39,10 @@ fn is_shown(keys: &Keys, answer: &ReadAnswer) -> bool
     )
 }
 
-/// Whether it shows all these.
-fn are_shown(keys: &Keys, answers: &[ReadAnswer]) -> bool
-    ensures { result ≡ true → All (IsShown keys.now.history) answers.now }
+/// Whether a store's history shows all these answers, each at a revision that is not 0. A `Commit` of your own asks this of what it is handed, since a closure
+/// may have left another transaction in the place of its own.
+pub fn are_shown(keys: &Keys, answers: &[ReadAnswer]) -> bool
+    ensures { IsTrue result ↔ All (IsShown keys.now.history) answers.now }
 {
     match answers {
         [] => true,

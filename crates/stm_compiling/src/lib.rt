@@ -9,6 +9,7 @@ mod calls;
 mod command;
 mod explaining;
 mod fault;
+mod kept;
 mod line;
 mod naming;
 mod notes;
@@ -20,6 +21,7 @@ mod wanted;
 mod whole;
 
 pub use command::{compile_to, compiled, compiled_part};
+pub use kept::{kept_text, spells};
 pub use notes::notes_of;
 pub use part::{Part, Printed};
 pub use runners::{NamedRunner, name_of_runner, named_runners};

@@ -2,9 +2,10 @@
 
 use crate::explaining;
 use crate::refusing::not_yet;
+use crate::resuming::run_source;
 use crate::rules::{is_json, named_in, rules_named, rules_of, unnamed_rule};
-use crate::ruling::run_rules;
-use crate::sources::{JsonFile, runners_at, say_unasked, source_at};
+use crate::ruling::{Question, run_rules};
+use crate::sources::{JsonFile, SourceText, say_unasked, source_at, text_at};
 use crate::terminals::{Told, close, shown_budget};
 use crate::waits::{read_waits, refuse_waits};
 use std::slice;
@@ -28,6 +29,8 @@ pub(crate) struct Search<'a> {
     pub(crate) told: Told<'a>,
     /// Whether a fault is explained.
     pub(crate) explain: bool,
+    /// The source of the scenario, where it has one.
+    pub(crate) source: Option<&'a SourceText>,
 }
 
 /// Looks through the interleavings of a scenario for one that breaks the rule of a file, at a level, or at each start's own.
@@ -69,13 +72,20 @@ fn ask(
     rules: &[Rule],
     waits: &[Wait],
 ) -> u8 {
-    let Search {
-        levels,
-        told,
-        explain,
-        ..
-    } = *search;
-    run_rules(rt, scenario, rules, waits, levels, told, explain)
+    let question = Question {
+        scenario,
+        rules,
+        waits,
+        told: search.told,
+    };
+    let explain = search.explain;
+    match (search.source, search.levels) {
+        (Some(source), Levels::Own) => run_source(rt, &question, source, None, explain),
+        (Some(source), Levels::One(level)) => {
+            run_source(rt, &question, source, Some(level), explain)
+        }
+        (_, levels) => run_rules(rt, &question, levels, explain),
+    }
 }
 
 /// Goes through the interleavings of a scenario, at a level, or at each start's own.
@@ -220,9 +230,15 @@ pub(crate) fn run_search(rt: &HostRuntime, search: &Search<'_>) -> Result<u8, u8
         return Err(2);
     }
     let (scenario, beside) = source_at(rt, search.path, search.explain)?;
-    let runners = runners_at(rt, search.path, &beside);
+    let text = match scenario {
+        JsonFile::Compiled(_, _) => text_at(rt, search.path, &beside),
+        JsonFile::Json(_) => None,
+    };
     let mut named = *search;
-    named.told.runners = runners.as_slice();
+    named.source = text.as_ref();
+    if let Some(text) = &text {
+        named.told.runners = text.runners.as_slice();
+    }
     if search.keeps.is_empty() {
         search_own(rt, &named, &scenario, beside)
     } else {

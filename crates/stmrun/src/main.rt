@@ -13,6 +13,7 @@ mod files;
 mod naming;
 mod noting;
 mod refusing;
+mod resuming;
 mod rules;
 mod ruling;
 mod sources;
@@ -121,6 +122,7 @@ fn run_explore(rt: &HostRuntime, words: &ExploreWords<'_>, explain: bool) -> u8 
             runners: &[],
         },
         explain,
+        source: None,
     };
     match run_search(rt, &wanted) {
         Ok(status) => status,

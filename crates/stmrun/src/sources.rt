@@ -95,19 +95,22 @@ pub(crate) fn source_at<'a>(
     Ok((scenario, beside))
 }
 
-/// The runners that the source of a path names; none, where it cannot be read again.
-pub(crate) fn runners_at(rt: &HostRuntime, path: &str, beside: &Beside) -> Vec<NamedRunner> {
-    if beside.numbers.as_slice().is_empty() {
-        return Vec::new(rt.alloc());
-    }
+/// A source as people read it.
+#[derive(Drop)]
+pub(crate) struct SourceText {
+    /// Its text.
+    pub(crate) text: String,
+    /// The runners that it names.
+    pub(crate) runners: Vec<NamedRunner>,
+}
+
+/// The text of the source of a path, which has this beside its scenario; none, where it cannot be read again.
+pub(crate) fn text_at(rt: &HostRuntime, path: &str, beside: &Beside) -> Option<SourceText> {
     let mut input = Std::new(open(rt, path));
-    let Ok(source) = read_all(rt.alloc(), &mut input) else {
-        return Vec::new(rt.alloc());
-    };
-    match named_runners(rt.alloc(), source.as_slice(), beside) {
-        Ok(runners) => runners,
-        Err(_) => Vec::new(rt.alloc()),
-    }
+    let bytes = read_all(rt.alloc(), &mut input).ok()?;
+    let runners = named_runners(rt.alloc(), bytes.as_slice(), beside).ok()?;
+    let text = String::from_utf8(bytes).ok()?;
+    Some(SourceText { text, runners })
 }
 
 /// The rules of the source of a path; or the status, once what is wrong with it was said. It is explained, or is not.

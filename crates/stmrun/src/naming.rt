@@ -6,9 +6,14 @@ use stm_compiling::{NamedRunner, name_of_runner};
 /// What stands before the number of a runner.
 const RUNNER: &str = "runner ";
 
+/// Whether a character is no digit.
+fn is_no_digit(character: char) -> bool {
+    !character.is_ascii_digit()
+}
+
 /// The digits with which a text begins, and the rest.
 fn digits_of(text: &str) -> (&str, &str) {
-    match text.split_once(|character: char| !character.is_ascii_digit()) {
+    match text.split_once(is_no_digit) {
         Some((digits, _)) => (digits, text.strip_prefix(digits).unwrap_or("")),
         None => (text, ""),
     }

@@ -28,10 +28,9 @@ fn place_name(places: &mut [Option<Text>], beside: &Beside, name: &Text) -> Resu
     let Some(place) = beside.names.place(name.as_str()) else {
         return Ok(());
     };
-    if let Some(slot) = places.get_mut(place) {
-        if slot.is_none() {
-            *slot = Some(name.clone()?);
-        }
+    if place < places.len() && places[place].is_none() {
+        let copy = name.clone()?;
+        places[place] = Some(copy);
     }
     Ok(())
 }

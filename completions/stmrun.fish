@@ -26,7 +26,7 @@ complete -c stmrun -n '__fish_seen_subcommand_from recipe' -a 'transfer deposit 
 complete -c stmrun -n '__fish_seen_subcommand_from recipe' -l help -d 'Print help'
 complete -c stmrun -n __fish_use_subcommand -a explore -d 'Looks through every interleaving of a scenario, for one that breaks a rule or for what they come to'
 complete -c stmrun -n '__fish_seen_subcommand_from explore' -F
-complete -c stmrun -n '__fish_seen_subcommand_from explore' -l keeps -d 'The file of a program that is to come to its last statement after every schedule' -r -F
+complete -c stmrun -n '__fish_seen_subcommand_from explore' -l keeps -d 'The file of a rule, which is asked after every schedule' -r -F
 complete -c stmrun -n '__fish_seen_subcommand_from explore' -l level -d 'The level of every start, in the place of its own' -x -a 'SerializableSnapshot Serializable RepeatableReads ReadCommitted all'
 complete -c stmrun -n '__fish_seen_subcommand_from explore' -l budget -d 'How many events are taken at most, 1500000 if not said' -x -a ''
 complete -c stmrun -n '__fish_seen_subcommand_from explore' -l after -d 'Which runners make no step before another has ended' -x -a ''

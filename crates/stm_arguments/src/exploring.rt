@@ -26,11 +26,19 @@ it comes to its last statement the schedule keeps the rule; where it aborts, or 
                            is the scenario with its steps in it, which stmrun script takes
   [\"open\",LENGTH]          N events were taken before that was decided; every schedule of up to LENGTH moves keeps it
 
+PROGRAM is a file of JSON, or a source: FILE.stm for each rule in it, FILE.stm:NAME for one of them, or for a program of it
+without parameters. A SCENARIO that is a source asks its own rules where no --keeps is said, and its runners wait as its after
+says. Several rules have a line each, which ends with the rule's name, as [\"always\",11,\"at_least_one\"]; the next line, if
+one is broken, is the scenario that breaks the first that is.
+
+With --level all the rules are searched for at each level, the weakest first. Each line ends with the level, and the last one is
+[\"enough\",LEVEL]: from that level on every schedule keeps them, at none where LEVEL is null.
+
 With --after 3:1 runner 3, as starts are numbered from 1, makes no step before runner 1 has ended: it is a later call of the
 same client. With --after 3:1:committed it makes none at all unless runner 1 committed. Several are separated by commas. They
-are for a search with --keeps, which then looks at every schedule in which the runners wait, and at no serial orders.
+are for a search with a rule, which then looks at every schedule in which the runners wait, and at no serial orders.
 
-Without --keeps, what whole schedules come to is printed, after which no move is left, each once: the keys with their
+Without a rule, what whole schedules come to is printed, after which no move is left, each once: the keys with their
 values, and how each runner ended ([\"committed\",OUTPUT], [\"gaveup\",KEY], [\"aborted\",TEXT], [\"faulted\",FAULT] or
 [\"ended\",CAUSE]). If s.json holds two programs that each put a key when the other is not put,
 
@@ -79,7 +87,7 @@ pub(crate) fn explore_command<'a>(alloc: Global) -> Result<Command<'a>, AllocErr
             "keeps",
             "PROGRAM",
             ValueParser::String,
-            "The file of a program that is to come to its last statement after every schedule",
+            "The file of a rule, which is asked after every schedule: of a program, of a source with rules, or FILE.stm:NAME; as often as need be",
         )
         .action(ArgAction::Append))?
         .arg(option(
@@ -87,7 +95,7 @@ pub(crate) fn explore_command<'a>(alloc: Global) -> Result<Command<'a>, AllocErr
             "level",
             "LEVEL",
             ValueParser::Names(SEARCH_LEVELS),
-            "The level of every start, in the place of its own; all: each of the four, one after another",
+            "The level of every start, in the place of its own; all: a search at each of the four",
         ))?
         .arg(option(
             alloc,

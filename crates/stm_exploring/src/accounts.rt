@@ -1,9 +1,11 @@
-//! How the runs of programs ended: that a rule is always kept says little where they never did their work, or where it asks for keys that nobody puts.
+//! How the runs of programs ended: that a rule is always kept says little where they never did their work, or where it or they ask for keys that nobody
+//! puts.
 ghost use Rattle.std.specs.Prelude.{◌<◌, length, IfSome};
 ghost use Rattle.stm_serial_search.specs.Search.{AreProgramsOf};
 
 use crate::audience::Audience;
 use crate::rules::{RuleAnswer, has_kept};
+use crate::sought::Sought;
 use crate::unput::{strike_writes, unput_keys};
 use serde_json::Value as Json;
 use std::alloc::{AllocError, Global};
@@ -80,6 +82,8 @@ struct Account {
     unput: Vec<Text>,
     /// Who asks for them.
     asking: &'static str,
+    /// The keys that programs ask for.
+    sought: Sought,
     /// It goes on while something is to be learned of what is said.
     told: Told,
     /// How many runners have not committed so far.
@@ -175,6 +179,7 @@ impl Account {
         count: usize,
         unput: Vec<Text>,
         asking: &'static str,
+        sought: Sought,
         told: Told,
     ) -> Result<Account, AllocError> {
         let runners = no_account(alloc, count)?;
@@ -183,6 +188,7 @@ impl Account {
             runners,
             unput,
             asking,
+            sought,
             told,
             waiting: count,
             left: MOST_MOVES,
@@ -192,6 +198,7 @@ impl Account {
 
     /// Notes how a run of a runner ended.
     fn note_run(&mut self, runner: u64, run: &Run) -> Result<(), AllocError> {
+        self.sought.note_run(runner, run)?;
         match &run.end {
             End::Done => {
                 strike_writes(&mut self.unput, run.writes.as_slice());
@@ -301,6 +308,41 @@ fn tell_runs<O: Audience>(
     Ok(())
 }
 
+/// Says which of these keys a runner asks for.
+fn tell_keys<O: Audience>(
+    alloc: Global,
+    runner: usize,
+    keys: &[Text],
+    audience: &mut O,
+) -> Result<(), AllocError> {
+    for key in keys {
+        let key = shown_text(alloc, key)?;
+        let line = format!(in alloc;
+            "runner {runner} asks for the key {key}, which is not there and which nothing puts in any serial order"
+        )?;
+        audience.hear(line.as_str());
+    }
+    Ok(())
+}
+
+/// Says which keys the runners ask for of which it is told, and that nothing puts.
+fn tell_sought<O: Audience>(
+    account: &Account,
+    others: &[WorldEvent],
+    audience: &mut O,
+) -> Result<(), AllocError> {
+    let alloc = account.alloc;
+    for index in 0..account.runners.len() {
+        if is_said(&account.runners[index], account.told) {
+            let keys = account.sought.in_vain(alloc, index as u64 + 1, others)?;
+            let told = tell_keys(alloc, index + 1, keys.as_slice(), audience);
+            drop(keys);
+            told?;
+        }
+    }
+    Ok(())
+}
+
 /// Says which keys rules ask for and nothing puts.
 fn tell_unput<O: Audience>(account: &Account, audience: &mut O) -> Result<(), AllocError> {
     let alloc = account.alloc;
@@ -316,11 +358,16 @@ fn tell_unput<O: Audience>(account: &Account, audience: &mut O) -> Result<(), Al
 }
 
 /// Says what an account of serial orders has: nothing of keys where not all orders were gone through.
-fn tell_orders<O: Audience>(account: &Account, audience: &mut O) -> Result<(), AllocError> {
+fn tell_orders<O: Audience>(
+    account: &Account,
+    others: &[WorldEvent],
+    audience: &mut O,
+) -> Result<(), AllocError> {
     if account.left == 0 {
         return tell_runs(account, account.told, OF_SOME_ORDERS, audience);
     }
     tell_runs(account, account.told, OF_ALL_ORDERS, audience)?;
+    tell_sought(account, others, audience)?;
     tell_unput(account, audience)
 }
 
@@ -338,7 +385,14 @@ fn account_before(
     } else {
         OF_A_RULE
     };
-    Account::new(alloc, world.runner_count(), unput, asking, told)
+    let sought = match Sought::new(alloc, world) {
+        Ok(sought) => sought,
+        Err(_) => {
+            drop(unput);
+            return Err(AllocError);
+        }
+    };
+    Account::new(alloc, world.runner_count(), unput, asking, sought, told)
 }
 
 /// Makes an account, and says it.
@@ -358,7 +412,7 @@ fn make_account<O: Audience>(
     if account.is_cut {
         return Err(AllocError);
     }
-    tell_orders(&account, audience)
+    tell_orders(&account, others, audience)
 }
 
 /// Says how the runs ended of the runners of which it is told, each program run alone in every serial order, and which keys the rules ask for that are not

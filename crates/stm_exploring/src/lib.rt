@@ -27,6 +27,7 @@ mod rules;
 mod schedule_lines;
 mod searching;
 mod setup;
+mod sought;
 mod unput;
 mod waits;
 mod watching;

@@ -12,7 +12,7 @@ use stm_steps::State;
 use stm_texts::WorldEvent;
 
 /// Where a key is among these.
-fn place_of(keys: &[Text], key: &Text) -> Option<usize>
+pub(crate) fn place_of(keys: &[Text], key: &Text) -> Option<usize>
     ensures { IfSome result (λ place. place < length keys.now) }
 {
     for place in 0..keys.len() {
@@ -51,7 +51,7 @@ fn strike_operations(keys: &mut Vec<Text>, operations: &[Op]) {
 }
 
 /// Strikes out what events put.
-fn strike_events(keys: &mut Vec<Text>, events: &[WorldEvent]) {
+pub(crate) fn strike_events(keys: &mut Vec<Text>, events: &[WorldEvent]) {
     for event in events {
         if let WorldEvent::Txn { txn } = event {
             strike_operations(keys, txn.success.as_slice());

@@ -4,6 +4,7 @@
 //! what each runner read is followed. Nothing here decides anything: a report stands already.
 #![tactic(auto)]
 
+mod absent;
 mod events;
 mod following;
 mod jobs;

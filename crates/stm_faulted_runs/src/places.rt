@@ -7,7 +7,8 @@ ghost use Rattle.stm_sites.specs.Found.{fault_of};
 ghost use Rattle.stm_faulted_runs.specs.Places.{pointer, counted_from, first_in, BeginsBelow, ReturnsPlace, IsMore, IsMoreOf};
 ghost use Rattle.stm_faulted_runs.specs.Origins.{origin_in};
 
-use crate::reasons::reason;
+use crate::absent::empty_key;
+use crate::reasons::{reason, reason_with_key};
 use crate::runs::{Explained, StartedRun, run_at};
 use serde_json::Value as Json;
 use std::alloc::{AllocError, Global};
@@ -60,12 +61,31 @@ fn words_of(alloc: Global, steps: &[usize], reason: &str) -> Result<String, Allo
     words_at(alloc, pointer.as_str(), reason)
 }
 
-/// What is said of a fault that was found, at its place in the text.
-fn more_of(alloc: Global, steps: &[usize], found: &FoundFault) -> Result<String, AllocError>
-    ensures { IfOk result (λ more. ReturnsPlace steps.now (string_bytes more)) }
-{
+/// Why a fault was found, with the key that is absent, or holds "", where it is for that. These indices lead to its place in the text of this JSON.
+fn reason_of(
+    alloc: Global,
+    whole: &Json,
+    steps: &[usize],
+    found: &FoundFault,
+) -> Result<String, AllocError> {
     let site = &found.site;
     let reason = reason(alloc, found.fault, site.node, site.values.as_slice())?;
+    match empty_key(whole, steps, site) {
+        Some(key) => reason_with_key(alloc, reason, key),
+        None => Ok(reason),
+    }
+}
+
+/// What is said of a fault that was found, at its place in the text of this JSON.
+fn more_of(
+    alloc: Global,
+    whole: &Json,
+    steps: &[usize],
+    found: &FoundFault,
+) -> Result<String, AllocError>
+    ensures { IfOk result (λ more. ReturnsPlace steps.now (string_bytes more)) }
+{
+    let reason = reason_of(alloc, whole, steps, found)?;
     let more = words_of(alloc, steps, reason.as_str());
     drop(reason);
     more
@@ -101,10 +121,11 @@ fn push_place(steps: &mut Vec<usize>, first: usize, place: &[usize]) -> Result<(
     }
 }
 
-/// The place of a fault that was found in the program to which these indices lead, and of whose elements the first statement is the one with this
-/// index.
+/// The place of a fault that was found in the program to which these indices lead in this JSON, and of whose elements the first statement is the one
+/// with this index.
 pub(crate) fn place_of_fault(
     alloc: Global,
+    whole: &Json,
     steps: Vec<usize>,
     first: usize,
     found: &FoundFault,
@@ -115,7 +136,7 @@ pub(crate) fn place_of_fault(
 {
     let mut steps = steps;
     push_place(&mut steps, first, found.site.place.as_slice())?;
-    let more = more_of(alloc, steps.as_slice(), found)?;
+    let more = more_of(alloc, whole, steps.as_slice(), found)?;
     Ok(Place { steps, more })
 }
 
@@ -164,7 +185,7 @@ fn place_in_element(
     let mut steps = Vec::new(alloc);
     steps.push(element)?;
     steps.push(3)?;
-    place_of_fault(alloc, steps, first, found)
+    place_of_fault(alloc, scenario, steps, first, found)
 }
 
 /// The place of a fault that was found so, where it is this one; else that of its start.

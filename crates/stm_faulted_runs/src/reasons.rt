@@ -160,3 +160,14 @@ pub(crate) fn reason(
         Fault::EmptyKey => String::from_str(alloc, "the key is \"\""),
     }
 }
+
+/// This reason, with the key whose value is the "" in it.
+pub(crate) fn reason_with_key(
+    alloc: Global,
+    reason: String,
+    key: &str,
+) -> Result<String, AllocError> {
+    let key = Json::String(String::from_str(alloc, key)?);
+    let key = shown(alloc, &key)?;
+    format!(in alloc; "{reason}; the key {key} is absent, or its value \"\"")
+}

@@ -31,10 +31,11 @@ fn head_of_rule(alloc: Global, fault: Fault) -> Result<String, AllocError>
     format!(in alloc; "{fault} of the rule")
 }
 
-/// The line of a rule that comes to a fault, and of whose elements the first statement is the one with this index.
+/// The line of a rule with this JSON that comes to a fault, and of whose elements the first statement is the one with this index.
 fn fault_line(
     alloc: Global,
     rule: &Named<'_>,
+    json: &Json,
     first: usize,
     found: &FoundFault,
 ) -> Result<String, AllocError>
@@ -42,17 +43,18 @@ fn fault_line(
     requires few { BeginsBelow MAX_NODES found.now.site.place }
     ensures { IfOk result (λ line. IsRuleLine rule.now.name.now rule.now.text.now first found.now (string_bytes line)) }
 {
-    let place = place_of_fault(alloc, Vec::new(alloc), first, found)?;
+    let place = place_of_fault(alloc, json, Vec::new(alloc), first, found)?;
     let head = head_of_rule(alloc, found.fault)?;
     let words = words_of(alloc, head.as_str(), place.more.as_str())?;
     let steps = place.steps.as_slice();
     explained_at(alloc, rule.name, rule.text, steps, words.as_str())
 }
 
-/// The line of a rule with this program, where that comes to a fault on a state.
+/// The line of a rule with this JSON and this program, where that comes to a fault on a state.
 fn explained_with(
     alloc: Global,
     rule: &Named<'_>,
+    json: &Json,
     first: usize,
     program: &Program,
     state: &State,
@@ -62,7 +64,7 @@ fn explained_with(
 {
     let found = fault_in_program(alloc, program, state)?;
     let line = match &found {
-        Some(found) => fault_line(alloc, rule, first, found),
+        Some(found) => fault_line(alloc, rule, json, first, found),
         None => Ok(String::new(alloc)),
     };
     drop(found);
@@ -82,7 +84,7 @@ fn explained_on(
     match read_program(alloc, json) {
         Ok(program) => {
             let first = first_statement(json);
-            explained_with(alloc, rule, first, &program, state)
+            explained_with(alloc, rule, json, first, &program, state)
         }
         Err(ReadError::Bad(_)) => Ok(String::new(alloc)),
         Err(ReadError::OutOfMemory) => Err(AllocError),

@@ -1,0 +1,4 @@
+pub mod OneStepMore
+pub mod TakenTxns
+pub mod ReadsNow
+pub mod NoneFails

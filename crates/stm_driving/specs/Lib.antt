@@ -1,0 +1,3 @@
+pub mod Driving
+pub mod AtOnce
+pub mod WorldCommits

@@ -1,13 +1,12 @@
 //! The command `explore` on the files of paths.
 
 use crate::explaining;
-use crate::refusing::not_yet;
 use crate::resuming::run_source;
 use crate::rules::{is_json, named_in, rules_named, rules_of, unnamed_rule};
 use crate::ruling::{Question, run_rules};
 use crate::sources::{JsonFile, SourceText, say_unasked, source_at, text_at};
 use crate::terminals::{Told, close, shown_budget};
-use crate::waits::{read_waits, refuse_waits};
+use crate::waits::{read_waits, refuse_without_rule};
 use std::slice;
 use stm_arguments::Levels;
 use stm_commands::Std;
@@ -123,7 +122,7 @@ fn search_outcomes(
     match search.levels {
         Levels::Own => Ok(run_outcomes(rt, search, scenario, None)),
         Levels::One(level) => Ok(run_outcomes(rt, search, scenario, Some(level))),
-        Levels::All => Err(not_yet(rt, "--level all without a rule")),
+        Levels::All => Err(refuse_without_rule(rt, "--level all")),
     }
 }
 
@@ -171,7 +170,7 @@ fn say_others(rt: &HostRuntime, search: &Search<'_>, rules: &[SourceRule]) -> Re
 /// Refuses runners that wait where no rule is asked, after it was said which do not.
 fn refuse_waiting(rt: &HostRuntime, search: &Search<'_>, waits: &[SourceWait]) -> Result<(), u8> {
     if search.after.is_some() {
-        return Err(refuse_waits(rt));
+        return Err(refuse_without_rule(rt, "--after <RUNNER:FIRST,..>"));
     }
     if waits.is_empty() {
         return Ok(());

@@ -117,11 +117,9 @@ pub(crate) fn read_waits(
     }
 }
 
-/// Refuses waits where no rule is asked, and gives the status.
-pub(crate) fn refuse_waits(rt: &HostRuntime) -> u8 {
-    let _ = rt.eprintln(
-        "error: '--after <RUNNER:FIRST,..>' is for a search with '--keeps <PROGRAM>'",
-    );
+/// Refuses an option where no rule is asked, which it is for, and gives the status.
+pub(crate) fn refuse_without_rule(rt: &HostRuntime, option: &str) -> u8 {
+    let _ = eprintln!(rt; "error: '{option}' is for a search with '--keeps <PROGRAM>'");
     let _ = rt.eprintln(USAGE);
     2
 }

@@ -1,4 +1,7 @@
 pub mod TraceLemmas
+pub mod GrammarSound
+pub mod GrammarComplete
+pub mod TraceFaults
 pub mod StoreLemmas
 pub mod AuditLemmas
 pub mod PrintLemmas

@@ -11,7 +11,7 @@ use Rattle.stm_json.specs.declared.limits.TheConstants.{MOST_BYTES}
 use Rattle.stm_json.specs.Bytes.{data_of}
 use Rattle.stm_audit.specs.Reading.{trace_of, trace_read, trace_in}
 
-trace_in-short : (bytes : List ℕ) → length bytes ≤ MOST_BYTES → trace_in bytes ≡ trace_read (data_of bytes)
+pub trace_in-short : (bytes : List ℕ) → length bytes ≤ MOST_BYTES → trace_in bytes ≡ trace_read (data_of bytes)
 unfolding trace_in
 trace_in-short bytes short = grind (arith, nat_tests)
 

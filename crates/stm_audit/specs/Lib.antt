@@ -3,6 +3,8 @@ pub mod Reads
 pub mod Anomalies
 pub mod Audit
 pub mod Reading
+pub mod Grammar
+pub mod FirstFault
 pub mod Lines
 pub mod Command
 pub mod Laws

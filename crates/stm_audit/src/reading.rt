@@ -1,10 +1,13 @@
 //! Reading traces.
-ghost use Rattle.std.specs.Prelude.{◌≡◌};
+ghost use Rattle.std.specs.Prelude.{◌≡◌, IfOk, None, Ok as OkOf, MatchResult};
 ghost use Rattle.serde_json.specs.View.{view};
 ghost use Rattle.stm_history.specs.declared.revisions.TheConstants.{HIGHEST_REVISION};
 ghost use Rattle.stm_json.specs.Elements.{number_in};
 ghost use Rattle.stm_json.specs.Outcome.{within as within_list};
+ghost use Rattle.stm_json.specs.Faults.{IsFirstFault};
 ghost use Rattle.stm_json.specs.Returns.{Returns};
+ghost use Rattle.stm_audit.specs.FirstFault.{first_fault};
+ghost use Rattle.stm_audit.specs.Grammar.{SpellsTrace};
 ghost use Rattle.stm_audit.specs.Reading.{trace_of, trace_in};
 
 use crate::commit::Commit;
@@ -52,16 +55,9 @@ fn trace(alloc: Global, value: &Json) -> Result<Sequence<Commit>, ReadError>
     Readable::read(alloc, value)
 }
 
-/// The trace that bytes spell, as JSON in UTF-8: an array of commits `[LEVEL,REVISION,[READ,..],[WRITE,..]]` in the order in which a store took them.
-///
-/// The level is one of the four by its name, the revision the store's after the commit, from 1 to 9223372036854775806. A read is
-/// `[KEY,VALUE,MOD_REVISION,OF_REVISION]`: what the key had at the revision that the answer is of; of an absent key the value is null and the modification
-/// revision 0. A write is `["put",KEY,VALUE]` or `["del",KEY]`, and a later one of the same key is the one that counts.
-///
-/// It fails by the first fault of the text, with its place and cause: more than 16777216 bytes are too long, whatever they are; then bytes that are not JSON;
-/// then the first fault in reading order, a value before its elements. Or it fails as `OutOfMemory`, where an allocation failed.
+/// The trace that bytes spell, or their first fault in reading order.
 #[tactic(auto, unfolding(crate::specs::Reading::trace_in))]
-pub fn read_trace(alloc: Global, bytes: &[u8]) -> Result<Sequence<Commit>, ReadError>
+fn trace_of_bytes(alloc: Global, bytes: &[u8]) -> Result<Sequence<Commit>, ReadError>
     ensures { Returns (λ t. t) result (trace_in bytes.now) }
 {
     if bytes.len() > MOST_BYTES {
@@ -77,4 +73,24 @@ pub fn read_trace(alloc: Global, bytes: &[u8]) -> Result<Sequence<Commit>, ReadE
             }
         }
     }
+}
+
+/// The trace that bytes spell, as JSON in UTF-8: an array of commits `[LEVEL,REVISION,[READ,..],[WRITE,..]]` in the order in which a store took them.
+///
+/// The level is one of the four by its name, the revision the store's after the commit, from 1 to 9223372036854775806. A read is
+/// `[KEY,VALUE,MOD_REVISION,OF_REVISION]`: what the key had at the revision that the answer is of; of an absent key the value is null and the modification
+/// revision 0. A write is `["put",KEY,VALUE]` or `["del",KEY]`, and a later one of the same key is the one that counts.
+///
+/// It fails by the first fault of the text, with its place and cause: more than 16777216 bytes are too long, whatever they are; then bytes that are not JSON;
+/// then the first fault in reading order, a value before its elements. Or it fails as `OutOfMemory`, where an allocation failed.
+pub fn read_trace(alloc: Global, bytes: &[u8]) -> Result<Sequence<Commit>, ReadError>
+    ensures exact { Returns (λ t. t) result (trace_in bytes.now) }
+    // What is read is spelled so.
+    ensures spelled { IfOk result (SpellsTrace bytes.now) }
+    // A trace that is spelled so is read.
+    ensures accepts { (trace : _) → SpellsTrace bytes.now trace → Returns (λ t. t) result (OkOf trace) }
+    // Which fault it is.
+    ensures faults { MatchResult result (λ t. first_fault bytes.now ≡ None) (IsFirstFault (first_fault bytes.now)) }
+{
+    trace_of_bytes(alloc, bytes)
 }

@@ -11,25 +11,62 @@ use std::alloc::{AllocError, Global};
 /// How deep arrays and objects may nest.
 const MOST_DEPTH: usize = 127;
 
-/// How many arrays and objects are still open after these bytes.
-fn depth_after(bytes: &[u8]) -> usize {
-    let mut depth = 0usize;
-    let mut is_text = false;
-    let mut is_escaped = false;
-    for byte in bytes {
-        if is_text {
-            is_text = is_escaped || *byte != b'"';
-            is_escaped = !is_escaped && *byte == b'\\';
-        } else {
-            match *byte {
-                b'"' => is_text = true,
-                b'[' | b'{' => depth = depth.saturating_add(1),
-                b']' | b'}' => depth = depth.saturating_sub(1),
-                _ => {}
-            }
+/// How deep a byte of a text stands.
+#[derive(Drop)]
+struct Nesting {
+    /// How many arrays and objects are open.
+    depth: usize,
+    is_text: bool,
+    is_escaped: bool,
+}
+
+impl Nesting {
+    /// At the beginning of a text.
+    fn new() -> Nesting {
+        Nesting {
+            depth: 0,
+            is_text: false,
+            is_escaped: false,
         }
     }
-    depth
+
+    /// Goes past a byte.
+    fn pass(&mut self, byte: u8) {
+        if self.is_text {
+            self.is_text = self.is_escaped || byte != b'"';
+            self.is_escaped = !self.is_escaped && byte == b'\\';
+            return;
+        }
+        match byte {
+            b'"' => self.is_text = true,
+            b'[' | b'{' => self.depth = self.depth.saturating_add(1),
+            b']' | b'}' => self.depth = self.depth.saturating_sub(1),
+            _ => {}
+        }
+    }
+}
+
+/// How many arrays and objects are still open after these bytes.
+fn depth_after(bytes: &[u8]) -> usize {
+    let mut nesting = Nesting::new();
+    for byte in bytes {
+        nesting.pass(*byte);
+    }
+    nesting.depth
+}
+
+/// Where the first bracket stands that is nested too deep.
+fn bracket_too_deep(bytes: &[u8]) -> Option<usize>
+    ensures { IfSome result (λ at. at ≤ length bytes.now) }
+{
+    let mut nesting = Nesting::new();
+    for at in 0..bytes.len() {
+        nesting.pass(bytes[at]);
+        if nesting.depth > MOST_DEPTH {
+            return Some(at);
+        }
+    }
+    None
 }
 
 /// Whether a byte is white space of JSON.
@@ -171,7 +208,7 @@ fn reason(alloc: Global, text: &[u8], offset: usize, error: &Error) -> Result<St
     reason_at(alloc, text, offset)
 }
 
-/// What is wrong where JSON's reader stopped: before this offset where it is nested too deep, in the token that begins there, or there.
+/// What is wrong where JSON's reader stopped: before this offset where that is nested too deep, in the token that begins there, or there.
 fn reported_at(
     alloc: Global,
     text: &[u8],
@@ -181,8 +218,8 @@ fn reported_at(
     requires { offset ≤ length text.now }
     ensures { IfOk result (λ reported. reported.offset ≤ length text.now) }
 {
-    if depth_after(&text[..offset]) > MOST_DEPTH {
-        let bracket = offset.saturating_sub(1);
+    let (before, _) = text.split_at(offset);
+    if let Some(bracket) = bracket_too_deep(before) {
         return Explained::new(alloc, bracket, "no JSON: nested deeper than 127");
     }
     if let Err(error) = std::str::from_utf8(text) {

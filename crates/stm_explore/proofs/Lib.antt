@@ -9,6 +9,7 @@ pub mod ShownLemmas
 pub mod LeaseLog
 pub mod SameRevisions
 pub mod AlikeStores
+pub mod AskedLemmas
 pub mod FirstSteps
 pub mod PatientSchedules
 pub mod WaitingPlaces

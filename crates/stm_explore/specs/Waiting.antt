@@ -11,14 +11,15 @@ use Rattle.stm_schedules.specs.declared.outcome.RunnerEnd.{RunnerEnd}
 use Rattle.stm_schedules.specs.declared.outcome.RunnerEnd.TheVariants.{Committed}
 use Rattle.stm_schedules.specs.Places.{Place, moves, moved}
 use Rattle.stm_schedules.specs.Schedules.{place_after, IsSchedule}
-use Rattle.stm_schedules.specs.Keeping.{end_alone, keeps}
-use Rattle.stm_schedules.specs.Outcomes.{Ends, ends_moved, shown}
+use Rattle.stm_schedules.specs.Outcomes.{Ends, ends_moved, ends_after, shown}
 use Rattle.stm_visited.specs.Search.{Steps}
 use Rattle.stm_visited.specs.Alike.{Respects}
 use Rattle.stm_explore.specs.declared.exploring.Explored.{Explored}
 use Rattle.stm_explore.specs.declared.exploring.Explored.TheVariants.{Always, Broken, Open}
 use Rattle.stm_explore.specs.declared.places.ReportedPlace.{ReportedPlace}
 use Rattle.stm_explore.specs.declared.waits.Wait.{Wait}
+use Rattle.stm_explore.specs.declared.asking.When.{When}
+use Rattle.stm_explore.specs.Asked.{asks, end_for}
 use Rattle.stm_explore.specs.Spots.{place_of, reported_after, ShowTheSame}
 use Rattle.stm_explore.specs.AlikeSpots.{outcomes_respected}
 
@@ -58,49 +59,65 @@ IsPatient waits schedule p ends = IsSchedule schedule p × AreAllowed waits sche
 
 -- ---- what a search goes through
 
-abbrev pub waiting_steps : List Wait → ProgramTree → List WorldEvent → Steps ReportedPlace Move Outcome
-waiting_steps waits rule others = record {
-  moves = λ p. filter (is_allowed waits p.ends) (moves (place_of others p.at));
+-- the moves that are allowed at a place
+abbrev pub allowed : List Wait → Ends → Place → List Move
+allowed waits ends p = filter (is_allowed waits ends) (moves p)
+
+abbrev pub waiting_steps : List Wait → When → ProgramTree → List WorldEvent → Steps ReportedPlace Move Outcome
+waiting_steps waits when rule others = record {
+  moves = λ p. allowed waits p.ends (place_of others p.at);
   after = reported_after others;
-  keeps = λ p. keeps rule p.at.world;
+  keeps = λ p. asks when rule (allowed waits p.ends (place_of others p.at)) p.at.world.standing.history p.ends;
   shows = λ p. shown p.at.world p.ends;
 }
 
 -- alike places, of whose ends the same is known, have the same moves
-pub waiting_respected : (waits : List Wait) (rule : ProgramTree) (others : List WorldEvent) →
-    Respects ReportedPlace Move Outcome (waiting_steps waits rule others) (ShowTheSame others)
-waiting_respected waits rule others = record {
-  moves = λ p q same.
-      ap (λ (known : Ends). filter (is_allowed waits known) (moves (place_of others p.at))) same.1
-      ∙ ap (filter (is_allowed waits q.ends)) ((outcomes_respected others).moves p q same);
+pub waiting_respected : (waits : List Wait) (when : When) (rule : ProgramTree) (others : List WorldEvent) →
+    Respects ReportedPlace Move Outcome (waiting_steps waits when rule others) (ShowTheSame others)
+waiting_respected waits when rule others = record {
+  moves = same_moves;
   after = (outcomes_respected others).after;
-  keeps = λ p q same. ap (λ (v : Place). keeps rule v.world) same.0;
+  keeps = λ p q same.
+      ap (λ (ms : List Move). asks when rule ms p.at.world.standing.history p.ends) (same_moves p q same)
+      ∙ ap (λ (v : Place). asks when rule (allowed waits q.ends (place_of others q.at)) v.world.standing.history p.ends) same.0
+      ∙ ap (asks when rule (allowed waits q.ends (place_of others q.at)) q.at.world.standing.history) same.1;
   shows = (outcomes_respected others).shows;
-}
+} where
+  same_moves : (p q : ReportedPlace) → ShowTheSame others p q → allowed waits p.ends (place_of others p.at) ≡ allowed waits q.ends (place_of others q.at)
+  same_moves p q same =
+      ap (λ (known : Ends). allowed waits known (place_of others p.at)) same.1
+      ∙ ap (filter (is_allowed waits q.ends)) ((outcomes_respected others).moves p q same)
 
 -- ---- what it answers
 
+-- whether the place after a schedule keeps the rule
+abbrev pub kept_after : List Wait → When → ProgramTree → List Move → Place → Ends → Bool
+kept_after waits when rule schedule p ends =
+    asks when rule (allowed waits (ends_after schedule p ends) (place_after schedule p)) (place_after schedule p).world.standing.history
+    (ends_after schedule p ends)
+
 -- every schedule of up to n moves in which the runners wait keeps the rule
-abbrev pub PatientKeepUpTo : List Wait → ProgramTree → ℕ → Place → Ends → Type 0
-PatientKeepUpTo waits rule n p ends =
-    (schedule : List Move) → IsPatient waits schedule p ends → length schedule ≤ n → keeps rule (place_after schedule p).world ≡ true
+abbrev pub PatientKeepUpTo : List Wait → When → ProgramTree → ℕ → Place → Ends → Type 0
+PatientKeepUpTo waits when rule n p ends =
+    (schedule : List Move) → IsPatient waits schedule p ends → length schedule ≤ n → kept_after waits when rule schedule p ends ≡ true
 
 -- some schedule of n moves is one in which the runners wait
 abbrev pub SomePatient : List Wait → ℕ → Place → Ends → Type 0
 SomePatient waits n p ends = (schedule : List Move) × IsPatient waits schedule p ends × (length schedule ≡ n)
 
 -- this schedule does not keep the rule, and each shorter one in which the runners wait does
-pub record IsShortestBad (waits : List Wait) (rule : ProgramTree) (p : Place) (ends : Ends) (schedule : List Move) : Type 0 where
+pub record IsShortestBad (waits : List Wait) (when : When) (rule : ProgramTree) (p : Place) (ends : Ends) (schedule : List Move) : Type 0 where
   pub is_patient : IsPatient waits schedule p ends
-  pub is_bad : keeps rule (place_after schedule p).world ≡ false
-  pub shorter_keep : (other : List Move) → IsPatient waits other p ends → length other < length schedule → keeps rule (place_after other p).world ≡ true
+  pub is_bad : kept_after waits when rule schedule p ends ≡ false
+  pub shorter_keep : (other : List Move) → IsPatient waits other p ends → length other < length schedule → kept_after waits when rule other p ends ≡ true
 
 -- Every schedule in which the runners wait keeps the rule, and this is the length of the longest; or this one does not, with the end that the program
 -- comes to after it; or every one of up to this length does, and some is longer.
-abbrev pub IsExploredPatiently : List Wait → ProgramTree → Place → Ends → Explored → Type 0
-IsExploredPatiently waits rule p ends (Always longest) =
-    PatientKeepUpTo waits rule longest p ends × SomePatient waits longest p ends
+abbrev pub IsExploredPatiently : List Wait → When → ProgramTree → Place → Ends → Explored → Type 0
+IsExploredPatiently waits when rule p ends (Always longest) =
+    PatientKeepUpTo waits when rule longest p ends × SomePatient waits longest p ends
     × ((schedule : List Move) → IsPatient waits schedule p ends → length schedule ≤ longest)
-IsExploredPatiently waits rule p ends (Broken schedule end) =
-    IsShortestBad waits rule p ends schedule × (end_alone rule (place_after schedule p).world ≡ Some end)
-IsExploredPatiently waits rule p ends (Open kept) = PatientKeepUpTo waits rule kept p ends × SomePatient waits (suc kept) p ends
+IsExploredPatiently waits when rule p ends (Broken schedule end) =
+    IsShortestBad waits when rule p ends schedule
+    × (end_for when rule (place_after schedule p).world.standing.history (ends_after schedule p ends) ≡ Some end)
+IsExploredPatiently waits when rule p ends (Open kept) = PatientKeepUpTo waits when rule kept p ends × SomePatient waits (suc kept) p ends

@@ -41,7 +41,7 @@ pub enum Explored {
 }
 
 /// The end that a rule's program has after a schedule.
-pub(crate) fn end_after(
+fn end_after(
     alloc: Global,
     judged: &Judged,
     start: &SharedWorld,

@@ -9,6 +9,7 @@
 #![tactic(auto)]
 
 mod alike;
+mod asking;
 mod collecting;
 mod ends;
 mod exploring;
@@ -26,6 +27,7 @@ mod shown;
 mod waiting;
 mod waits;
 
+pub use asking::When;
 pub use ends::ends_reported;
 pub use exploring::{Explored, explore};
 pub use finding::{Outcomes, find_outcomes};

@@ -1,15 +1,16 @@
 //! The places of a scenario in which runners wait for others, and whether a rule is kept there.
 ghost use Rattle.std.specs.Prelude.{◌≡◌, true, filter, Some, IfOk};
-ghost use Rattle.stm_schedules.specs.Keeping.{end_alone};
+ghost use Rattle.stm_schedules.specs.Outcomes.{ends_after};
 ghost use Rattle.stm_schedules.specs.Schedules.{place_after};
 ghost use Rattle.stm_visited.specs.Answers.{IsVisited};
+ghost use Rattle.stm_explore.specs.Asked.{end_for};
 ghost use Rattle.stm_explore.specs.Spots.{ShowTheSame};
 ghost use Rattle.stm_explore.specs.Waiting.{is_allowed, waiting_steps, waiting_respected, IsExploredPatiently};
 
+use crate::asking::{When, asks, end_for};
 use crate::ends::copy_of_ends;
-use crate::exploring::{Explored, end_after};
+use crate::exploring::Explored;
 use crate::gathering::Gathered;
-use crate::judging::{Judged, is_kept};
 use crate::places::{ReportedPlace, WorldPlace, shared_copy};
 use crate::waits::{Wait, is_allowed};
 use std::alloc::{AllocError, Global};
@@ -26,6 +27,7 @@ use stm_world::WorldEvent;
 pub(crate) struct Waiting<'a> {
     pub(crate) gathered: Gathered<'a>,
     pub(crate) waits: &'a [Wait],
+    pub(crate) when: When,
     pub(crate) rule: &'a Program,
 }
 
@@ -45,7 +47,7 @@ impl<'a> System for Waiting<'a> {
 
     type Shown = Outcome;
 
-    ghost steps = { λ s. waiting_steps s.waits.now s.rule.now s.gathered.others.now };
+    ghost steps = { λ s. waiting_steps s.waits.now s.when s.rule.now s.gathered.others.now };
 
     ghost Alike = { λ s. ShowTheSame s.gathered.others.now };
 
@@ -59,7 +61,17 @@ impl<'a> System for Waiting<'a> {
     }
 
     fn is_kept(&self, place: &ReportedPlace) -> Result<bool, AllocError> {
-        is_kept(self.gathered.alloc, self.rule, &place.at.world)
+        let moves = self.moves(place)?;
+        let alloc = self.gathered.alloc;
+        let ends = place.ends.as_slice();
+        asks(
+            alloc,
+            self.when,
+            self.rule,
+            moves.as_slice(),
+            &place.at.world,
+            ends,
+        )
     }
 
     fn is_alike(&self, one: &ReportedPlace, other: &ReportedPlace) -> bool {
@@ -70,7 +82,7 @@ impl<'a> System for Waiting<'a> {
         self.gathered.hint(place)
     }
 
-    ghost respects = { λ s. waiting_respected s.waits.now s.rule.now s.gathered.others.now };
+    ghost respects = { λ s. waiting_respected s.waits.now s.when s.rule.now s.gathered.others.now };
 }
 
 /// The end that the rule's program has after a schedule.
@@ -78,16 +90,26 @@ fn end_in(
     alloc: Global,
     waiting: &Waiting,
     start: &SharedWorld,
+    ends: &[Option<RunnerEnd>],
     moves: &[Move],
 ) -> Result<End, AllocError>
-    ensures { IfOk result (λ end. end_alone waiting.now.rule.now (place_after moves.now (record { world = start.now; others = waiting.now.gathered.others.now })).world ≡ Some end) }
+    ensures { IfOk result (λ end. end_for waiting.now.when waiting.now.rule.now
+        (place_after moves.now (record { world = start.now; others = waiting.now.gathered.others.now })).world.standing.history
+        (ends_after moves.now (record { world = start.now; others = waiting.now.gathered.others.now }) ends.now) ≡ Some end) }
 {
-    let judged = Judged {
+    let mut place = start_of(alloc, start, ends)?;
+    for chosen in moves {
+        let next = waiting.moved(&place, *chosen)?;
+        place = next;
+    }
+    let end = end_for(
         alloc,
-        others: waiting.gathered.others,
-        rule: waiting.rule,
-    };
-    end_after(alloc, &judged, start, moves)
+        waiting.when,
+        waiting.rule,
+        &place.at.world,
+        place.ends.as_slice(),
+    )?;
+    Ok(end)
 }
 
 /// What the search through places has found, with the end of the rule's program where the rule is broken.
@@ -98,14 +120,14 @@ fn with_end(
     ends: &[Option<RunnerEnd>],
     visited: Visited<Move>,
 ) -> Result<Explored, AllocError>
-    requires { IsVisited (waiting_steps waiting.now.waits.now waiting.now.rule.now waiting.now.gathered.others.now)
+    requires { IsVisited (waiting_steps waiting.now.waits.now waiting.now.when waiting.now.rule.now waiting.now.gathered.others.now)
         (record { at = record { world = start.now; taken = 0 }; ends = ends.now }) visited }
-    ensures { IfOk result (IsExploredPatiently waiting.now.waits.now waiting.now.rule.now (record { world = start.now; others = waiting.now.gathered.others.now }) ends.now) }
+    ensures { IfOk result (IsExploredPatiently waiting.now.waits.now waiting.now.when waiting.now.rule.now (record { world = start.now; others = waiting.now.gathered.others.now }) ends.now) }
 {
     match visited {
         Visited::Always { longest } => Ok(Explored::Always { longest }),
         Visited::Broken { moves } => {
-            let end = end_in(alloc, waiting, start, moves.as_slice())?;
+            let end = end_in(alloc, waiting, start, ends, moves.as_slice())?;
             Ok(Explored::Broken { moves, end })
         }
         Visited::Open { kept } => Ok(Explored::Open { kept }),
@@ -136,7 +158,7 @@ fn explore_places<O: Observer>(
     ends: &[Option<RunnerEnd>],
     budget: &mut Budget<O>,
 ) -> Result<Explored, AllocError>
-    ensures { IfOk result (IsExploredPatiently waiting.now.waits.now waiting.now.rule.now (record { world = world.now; others = waiting.now.gathered.others.now }) ends.now) }
+    ensures { IfOk result (IsExploredPatiently waiting.now.waits.now waiting.now.when waiting.now.rule.now (record { world = world.now; others = waiting.now.gathered.others.now }) ends.now) }
 {
     let world = shared_copy(alloc, world)?;
     let start = start_of(alloc, &world, ends)?;
@@ -146,7 +168,7 @@ fn explore_places<O: Observer>(
 }
 
 /// Whether a rule is kept after every schedule in which runners wait for others: a runner makes no step before each runner that it waits for has
-/// ended, and none at all unless that one has committed, where it is to.
+/// ended, and none at all unless that one has committed, where it is to. `when` says at which places the rule is asked.
 ///
 /// `ends` has what is known of the runners' ends before, by the runners' numbers, as `ends_reported` returns it. All else is as with `explore`,
 /// in which no runner waits: the first schedule that does not keep the rule is the first of those in which the runners wait.
@@ -156,14 +178,16 @@ pub fn explore_waiting<O: Observer>(
     others: &[WorldEvent],
     ends: &[Option<RunnerEnd>],
     waits: &[Wait],
+    when: When,
     rule: &Program,
     budget: &mut Budget<O>,
 ) -> Result<Explored, AllocError>
-    ensures { IfOk result (IsExploredPatiently waits.now rule.now (record { world = world.now; others = others.now }) ends.now) }
+    ensures { IfOk result (IsExploredPatiently waits.now when rule.now (record { world = world.now; others = others.now }) ends.now) }
 {
     let waiting = Waiting {
         gathered: Gathered { alloc, others },
         waits,
+        when,
         rule,
     };
     let explored = explore_places(alloc, &waiting, world, ends, budget);

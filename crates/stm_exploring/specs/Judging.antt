@@ -13,6 +13,8 @@ use Rattle.stm_texts.specs.Writing.{written_scenario}
 use Rattle.stm_texts.specs.declared.scenario.Scenario.{Scenario}
 use Rattle.stm_explore.specs.Explored.{IsExplored, MergesAreKept}
 use Rattle.stm_explore.specs.Waiting.{IsExploredPatiently}
+use Rattle.stm_explore.specs.declared.asking.When.{When}
+use Rattle.stm_explore.specs.declared.asking.When.TheVariants.{Each, Last}
 use Rattle.stm_explore.specs.declared.waits.Wait.{Wait}
 use Rattle.stm_explore.specs.declared.exploring.Explored.{Explored}
 use Rattle.stm_explore.specs.declared.exploring.Explored.TheVariants.{Always, Broken, Open}
@@ -37,14 +39,24 @@ IsAnswer rule p (BrokenByOrder found) = IsJudged rule p (BrokenJudged found)
 -- wait.
 abbrev pub IsFoundFrom : List Wait → ProgramTree → Place → Ends → Answer → Type 0
 IsFoundFrom [] rule p ends answer = IsAnswer rule p answer
-IsFoundFrom (w ∷ ws) rule p ends (BySchedules explored) = IsExploredPatiently (w ∷ ws) rule p ends explored
+IsFoundFrom (w ∷ ws) rule p ends (BySchedules explored) = IsExploredPatiently (w ∷ ws) Each rule p ends explored
 IsFoundFrom (w ∷ ws) rule p ends AlwaysByOrders = ⊥
 IsFoundFrom (w ∷ ws) rule p ends (BrokenByOrder found) = ⊥
+
+-- the same of a rule that is asked at the last places alone: there is no law that serial orders are enough
+abbrev pub IsFoundLast : List Wait → ProgramTree → Place → Ends → Answer → Type 0
+IsFoundLast waits rule p ends (BySchedules explored) = IsExploredPatiently waits Last rule p ends explored
+IsFoundLast waits rule p ends AlwaysByOrders = ⊥
+IsFoundLast waits rule p ends (BrokenByOrder found) = ⊥
+
+abbrev pub IsFoundWhen : When → List Wait → ProgramTree → Place → Ends → Answer → Type 0
+IsFoundWhen Each waits rule p ends answer = IsFoundFrom waits rule p ends answer
+IsFoundWhen Last waits rule p ends answer = IsFoundLast waits rule p ends answer
 
 -- the same of each rule, in their order
 abbrev pub AreFoundFrom : List Wait → List Rule → Place → Ends → List RuleAnswer → Type 0
 AreFoundFrom waits rules p ends answers =
-    (map (λ (a : RuleAnswer). a.rule) answers ≡ rules) × All (λ (a : RuleAnswer). IsFoundFrom waits a.rule.program p ends a.answer) answers
+    (map (λ (a : RuleAnswer). a.rule) answers ≡ rules) × All (λ (a : RuleAnswer). IsFoundWhen a.rule.when waits a.rule.program p ends a.answer) answers
 
 -- and of a scenario
 abbrev pub AreFound : List Wait → List Rule → Scenario → List RuleAnswer → Type 0
@@ -52,7 +64,7 @@ AreFound waits rules s answers = AreFoundFrom waits rules (place_of s) (ends_of 
 
 -- the rule of a program, without a name
 abbrev pub alone : ProgramTree → Rule
-alone program = record { name = None; program = program; from = ReadCommitted }
+alone program = record { name = None; when = Each; program = program; from = ReadCommitted }
 
 -- ---- what it comes to
 

@@ -48,7 +48,7 @@ pub use reading::ExploreFault;
 pub use rules::Rule;
 pub use stm_devices::{DeviceFault, Sink, Source, Std};
 pub use stm_explain::{Input, KeptSource};
-pub use stm_explore::{Budget, Nobody, Observer, Wait};
+pub use stm_explore::{Budget, Nobody, Observer, Wait, When};
 pub use stm_json::BadInput;
 pub use stm_program::Level;
 pub use waits::{BadWaits, waits_in};

@@ -7,7 +7,7 @@ ghost use Rattle.stm_exploring.specs.Judging.{alone, is_broken, is_kept, verdict
 use crate::judging::Answer;
 use crate::printed::SearchAnswer;
 use std::alloc::AllocError;
-use stm_explore::Explored;
+use stm_explore::{Explored, When};
 use stm_history::Text;
 use stm_program::{Level, Program};
 
@@ -16,7 +16,9 @@ use stm_program::{Level, Program};
 pub struct Rule {
     /// The name that its lines end in, if any.
     pub name: Option<Text>,
-    /// It is kept by a state where this program, run alone there, comes to its last statement.
+    /// When it is asked.
+    pub when: When,
+    /// It is kept where this program, run alone on what it sees, comes to its last statement.
     pub program: Program,
     /// The weakest level at which it is to be kept.
     pub from: Level,
@@ -35,6 +37,7 @@ pub(crate) fn alone(program: Program) -> Rule
 {
     Rule {
         name: None,
+        when: When::Each,
         program,
         from: Level::ReadCommitted,
     }
@@ -61,6 +64,7 @@ pub(crate) fn copy_of(rule: &Rule) -> Result<Rule, AllocError>
     let program = rule.program.clone()?;
     Ok(Rule {
         name,
+        when: rule.when,
         program,
         from: rule.from,
     })

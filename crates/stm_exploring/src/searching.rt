@@ -7,7 +7,7 @@ ghost use Rattle.stm_serial_search.specs.Search.{AreProgramsOf};
 ghost use Rattle.stm_serial_search.specs.Started.{HaveNoStep};
 ghost use Rattle.stm_exploring.specs.Asking.{opening_of, place_of};
 ghost use Rattle.stm_exploring.specs.Exploring.{IsPrinted};
-ghost use Rattle.stm_exploring.specs.Judging.{AreFound, AreFoundFrom, IsAnswer, IsFoundFrom};
+ghost use Rattle.stm_exploring.specs.Judging.{AreFound, AreFoundFrom, IsAnswer, IsFoundFrom, IsFoundWhen};
 
 use crate::accounts::tell_account;
 use crate::audience::{Audience, tell_parts};
@@ -18,7 +18,7 @@ use crate::rules::{Rule, RuleAnswer, copy_of};
 use crate::setup::{run_setup, setup_and_others};
 use crate::watching::judge_waiting;
 use std::alloc::{AllocError, Global};
-use stm_explore::{Budget, Observer, RunnerEnd, Wait};
+use stm_explore::{Budget, Observer, RunnerEnd, Wait, When};
 use stm_program::Program;
 use stm_retry::World;
 use stm_serial_search::{are_orderly, programs_started};
@@ -63,7 +63,32 @@ fn judge_beside<O: Observer>(
 {
     match waits {
         [] => judge(alloc, world, others, programs, comparing, keeps, budget),
-        [_, ..] => judge_waiting(alloc, world, others, ends, waits, keeps, budget),
+        [_, ..] => judge_waiting(alloc, world, others, ends, waits, When::Each, keeps, budget),
+    }
+}
+
+/// The same of a program that is asked then.
+fn judge_when<O: Observer>(
+    alloc: Global,
+    world: &World,
+    others: &[WorldEvent],
+    ends: &[Option<RunnerEnd>],
+    programs: &[Program],
+    comparing: bool,
+    waits: &[Wait],
+    when: When,
+    keeps: &Program,
+    budget: &mut Budget<O>,
+) -> Result<Answer, AllocError>
+    requires programs { AreProgramsOf programs.now world.now.runners }
+    requires comparing { comparing ≡ true → IsComparing (record { world = world.now; others = others.now }) }
+    ensures { IfOk result (IsFoundWhen when waits.now keeps.now (record { world = world.now; others = others.now }) ends.now) }
+{
+    match when {
+        When::Each => judge_beside(
+            alloc, world, others, ends, programs, comparing, waits, keeps, budget,
+        ),
+        When::Last => judge_waiting(alloc, world, others, ends, waits, when, keeps, budget),
     }
 }
 
@@ -83,13 +108,14 @@ fn judge_rule<O: Observer>(
     requires programs { AreProgramsOf programs.now world.now.runners }
     requires comparing { comparing ≡ true → IsComparing (record { world = world.now; others = others.now }) }
     ensures rule { IfOk result (λ a. a.rule ≡ rule.now) }
-    ensures found { IfOk result (λ a. IsFoundFrom waits.now rule.now.program (record { world = world.now; others = others.now }) ends.now a.answer) }
+    ensures found { IfOk result (λ a. IsFoundWhen rule.now.when waits.now rule.now.program (record { world = world.now; others = others.now }) ends.now a.answer) }
 {
     let copy = copy_of(rule)?;
     budget.left = most;
     let keeps = &rule.program;
-    let answer = judge_beside(
-        alloc, world, others, ends, programs, comparing, waits, keeps, budget,
+    let when = rule.when;
+    let answer = judge_when(
+        alloc, world, others, ends, programs, comparing, waits, when, keeps, budget,
     )?;
     Ok(RuleAnswer { rule: copy, answer })
 }

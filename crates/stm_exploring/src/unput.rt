@@ -3,6 +3,7 @@ ghost use Rattle.std.specs.Prelude.{◌<◌, length, IfSome};
 
 use crate::rules::RuleAnswer;
 use std::alloc::{AllocError, Global};
+use stm_explore::When;
 use stm_history::Text;
 use stm_meaning::run_alone;
 use stm_outcome::Op;
@@ -84,7 +85,7 @@ fn add_asked(
     added
 }
 
-/// The keys that rules ask for on a state, and that are absent there.
+/// The keys that rules ask for on a state, and that are absent there. What is asked at the last places alone sees other keys.
 fn asked_in_vain(
     alloc: Global,
     answers: &[RuleAnswer],
@@ -92,7 +93,9 @@ fn asked_in_vain(
 ) -> Result<Vec<Text>, AllocError> {
     let mut absent = Vec::new(alloc);
     for a in answers {
-        add_asked(alloc, &mut absent, &a.rule.program, state)?;
+        if a.rule.when == When::Each {
+            add_asked(alloc, &mut absent, &a.rule.program, state)?;
+        }
     }
     Ok(absent)
 }

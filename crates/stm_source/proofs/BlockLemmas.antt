@@ -13,42 +13,37 @@ use Rattle.stm_terms.specs.declared.faults.SourceError.TheVariants.{OutOfMemory,
 use Rattle.stm_terms.specs.Outcome.{Read, ReturnsFault, ◌>>=◌}
 use Rattle.stm_source.specs.declared.statements.TheConstants.{MOST_STATEMENTS}
 use Rattle.stm_source.specs.Kept.{pushed_up}
-use Rattle.stm_source.specs.Statements.{ReadStatement, Blocks, statements_from, then_up, statement_by, block_by, block_at, choice_by, choice_at}
+use Rattle.stm_source.specs.Statements.{ReadStatement, Blocks, statements_from, then_all, then_up, statement_by, block_by, block_at, choice_by, choice_at}
 
--- a block after statements
-abbrev pub block_after : List Statement → Block → Block
-block_after [] b = b
-block_after (s ∷ ss) b = Then s (block_after ss b)
+pub then_all-end : (ss : List Statement) → then_all ss End ≡ block_of ss
+then_all-end [] = refl
+then_all-end (s ∷ ss) = ap (Then s) (then_all-end ss)
 
-pub block_after-end : (ss : List Statement) → block_after ss End ≡ block_of ss
-block_after-end [] = refl
-block_after-end (s ∷ ss) = ap (Then s) (block_after-end ss)
-
-pub block_after-snoc : (ss : List Statement) (s : Statement) (b : Block) → block_after (ss ++ s ∷ []) b ≡ block_after ss (Then s b)
-block_after-snoc [] s b = refl
-block_after-snoc (t ∷ ss) s b = ap (Then t) (block_after-snoc ss s b)
+pub then_all-append : (ss more : List Statement) (b : Block) → then_all (ss ++ more) b ≡ then_all ss (then_all more b)
+then_all-append [] more b = refl
+then_all-append (s ∷ ss) more b = ap (Then s) (then_all-append ss more b)
 
 -- what was read before, and what is still read
 abbrev pub with_front : List Statement → Read Block → Read Block
-with_front front reading = reading >>= λ b. Ok (block_after front b.0, b.1)
+with_front front reading = reading >>= λ b. Ok (then_all front b.0, b.1)
 
 pub nothing_before : (reading : Read Block) → with_front [] reading ≡ reading
 nothing_before (Ok b) = refl
 nothing_before (Err f) = refl
 
-regroup_by : (keeps : Bool) (front : List Statement) (s : Statement) (b : Block)
-    → block_after front (if keeps then Then s b else b) ≡ block_after (if keeps then front ++ s ∷ [] else front) b
-regroup_by true front s b = sym (block_after-snoc front s b)
-regroup_by false front s b = refl
+regroup_by : (keeps : Bool) (front ss : List Statement) (b : Block)
+    → then_all front (if keeps then then_all ss b else b) ≡ then_all (if keeps then front ++ ss else front) b
+regroup_by true front ss b = sym (then_all-append front ss b)
+regroup_by false front ss b = refl
 
-regroup : (done : ℕ) (front : List Statement) (s : Statement) (reading : Read Block)
+regroup : (done : ℕ) (front s : List Statement) (reading : Read Block)
     → with_front front (reading >>= λ b. Ok (then_up done s b.0, b.1)) ≡ with_front (pushed_up done front s) reading
 regroup done front s (Ok b) = ap (λ (c : Block). Ok (c, b.1)) (regroup_by (nat_lt done MOST_STATEMENTS) front s b.0)
 regroup done front s (Err f) = refl
 
 -- a statement more
 pub goes_on : (statement : Scope → List Token → ReadStatement) (front : List Statement) (done fuel more : ℕ) (scope behind : Scope) (tokens rest : List Token)
-    (s : Statement) (total : Read Block) → fuel ≡ suc more → after_symbol RightBrace tokens ≡ None → statement scope tokens ≡ Ok (s, behind, rest)
+    (s : List Statement) (total : Read Block) → fuel ≡ suc more → after_symbol RightBrace tokens ≡ None → statement scope tokens ≡ Ok (s, behind, rest)
     → with_front front (statements_from statement done fuel scope tokens) ≡ total
     → with_front (pushed_up done front s) (statements_from statement (done + 1) more behind (skip_semicolon rest)) ≡ total
 unfolding statements_from
@@ -74,7 +69,7 @@ pub closes : (statement : Scope → List Token → ReadStatement) (front : List 
 unfolding statements_from
 closes statement front done fuel more scope tokens rest total some closed so_far =
     let one : with_front front (statements_from statement done fuel scope tokens) ≡ Ok (block_of front, rest) =
-    rw (some, closed) (ap (λ (b : Block). Ok (b, rest)) (block_after-end front)) in
+    rw (some, closed) (ap (λ (b : Block). Ok (b, rest)) (then_all-end front)) in
     sym so_far ∙ one
 
 -- no token is left

@@ -1,5 +1,5 @@
 -- Programs that have a name and parameters, and the arguments of a start.
-use Rattle.std.specs.Prelude.{ℕ, zero, suc, ◌-◌, ◌^◌, pos, neg_ℤ, List, [], ◌∷◌, ◌++◌, length, drop, not, ◌||◌, Option, Some, None, is_some, Ok, Err, bytes_eq, slice_get}
+use Rattle.std.specs.Prelude.{ℕ, zero, suc, ◌-◌, ◌^◌, pos, neg_ℤ, List, [], ◌∷◌, ◌++◌, length, drop, Bool, true, false, not, ◌||◌, Option, Some, None, is_some, Ok, Err, bytes_eq, slice_get}
 use Rattle.std.specs.Prelude.{nat_eq, nat_le, nat_lt, if◌then◌else◌}
 use Rattle.std.specs.List.{list_any, position}
 use Rattle.stm_tokens.specs.declared.token.Token.{Token}
@@ -7,6 +7,7 @@ use Rattle.stm_tokens.specs.declared.token.Symbol.TheVariants as symbol
 use Rattle.stm_program.specs.Syntax.{ProgramTree}
 use Rattle.stm_terms.specs.declared.arguments.Argument.{Argument}
 use Rattle.stm_terms.specs.declared.arguments.Argument.TheVariants.{Either, Text, Number}
+use Rattle.stm_terms.specs.declared.arguments.Arguments.{Arguments}
 use Rattle.stm_terms.specs.declared.arguments.Given.{Given}
 use Rattle.stm_terms.specs.declared.faults.SourceCause.TheVariants as cause
 use Rattle.stm_terms.specs.Outcome.{Outcome, Read, bad, ◌>>=◌}
@@ -16,7 +17,8 @@ use Rattle.stm_source.specs.declared.definitions.Definition.{Definition}
 use Rattle.stm_source.specs.declared.definitions.Meaning.{Meaning}
 use Rattle.stm_source.specs.declared.definitions.Meaning.TheVariants.{Program, Rule}
 use Rattle.stm_source.specs.declared.definitions.Definitions.{Definitions}
-use Rattle.stm_source.specs.Programs.{program_at}
+use Rattle.stm_source.specs.declared.programs.Look.{Look}
+use Rattle.stm_source.specs.Programs.{parts_at, program_at, program_of}
 
 -- ---- arguments
 
@@ -96,14 +98,18 @@ abbrev pub open_given : ℕ → List Given
 open_given zero = []
 open_given (suc n) = given_as Either 0 ∷ open_given n
 
--- the program of a body where its parameters stand for what is given; `at` is the place of what is wrong with it as a whole
-abbrev pub bound_program : ℕ → List (List ℕ) → List Given → List Token → Read ProgramTree
-bound_program at parameters given body = program_at at (record { names = parameters; given = given }) body
+-- `at` is the place of what is wrong with a program as a whole
+abbrev pub look_of : ℕ → Bool → Look
+look_of at kinds = record { program = at; at_kinds = kinds; kinds_at = None; runners = None }
+
+-- the program of a body where its parameters stand for what is given
+abbrev pub bound_program : Look → List (List ℕ) → List Given → List Token → Read ProgramTree
+bound_program look parameters given body = program_at look (record { names = parameters; given = given }) body
 
 -- a definition whose body these tokens begin with
 abbrev pub definition_at : ℕ → List (List ℕ) → List Token → Read Definition
 definition_at at parameters body =
-    bound_program at parameters (open_given (length parameters)) body >>= λ p.
+    bound_program (look_of at true) parameters (open_given (length parameters)) body >>= λ p.
     Ok (record { parameters = parameters; left = length body; length = length body - length p.1; program = p.0 }, p.1)
 
 abbrev pub with_meaning : Definitions → List ℕ → Meaning → Definitions
@@ -118,24 +124,34 @@ define_at definitions tokens =
 
 -- ---- starts by a name
 
-abbrev pub program_of : Option Meaning → Option Definition
-program_of None = None
-program_of (Some (Program d)) = Some d
-program_of (Some Rule) = None
+abbrev pub defined_by : Option Meaning → Option Definition
+defined_by None = None
+defined_by (Some (Program d)) = Some d
+defined_by (Some Rule) = None
 
 abbrev pub meaning_in : List Meaning → Option ℕ → Option Meaning
 meaning_in meanings None = None
 meaning_in meanings (Some i) = slice_get meanings i
 
 abbrev pub definition_named : Definitions → List ℕ → Option Definition
-definition_named definitions name = program_of (meaning_in definitions.meanings (position (bytes_eq name) definitions.names))
+definition_named definitions name = defined_by (meaning_in definitions.meanings (position (bytes_eq name) definitions.names))
+
+-- kinds are looked at where arguments are right but for their kinds, and blamed on the name of the start
+abbrev pub look_for_arguments : ℕ → Look
+look_for_arguments at = record { program = at; at_kinds = true; kinds_at = Some at; runners = None }
+
+-- a body with these arguments, whose name in the start begins at a byte
+abbrev pub program_with : ℕ → Arguments → List Token → Outcome ProgramTree
+program_with at arguments body =
+    parts_at (look_of at false) arguments body >>= λ p.
+    parts_at (look_for_arguments at) arguments body >>= λ q. program_of at p.0 p.1
 
 -- the program of a definition with these arguments, and how many tokens were read for it: its body among all tokens is read with them
 abbrev pub with_arguments : List Token → ℕ → Definition → List Given → Outcome (ProgramTree × ℕ)
 with_arguments all at d given =
     if not (nat_eq (length given) (length d.parameters)) then bad at cause.Arguments
     else (if nat_eq (length given) 0 then Ok (d.program, 0)
-    else (bound_program at d.parameters given (drop (length all - d.left) all) >>= λ p. Ok (p.0, d.length)))
+    else (program_with at (record { names = d.parameters; given = given }) (drop (length all - d.left) all) >>= λ p. Ok (p, d.length)))
 
 -- a program, how many tokens were read again for it, and the tokens behind it
 abbrev pub ReadProgram : Type 0

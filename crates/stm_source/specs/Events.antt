@@ -25,7 +25,7 @@ use Rattle.stm_terms.specs.Outcome.{Outcome, Read, bad, ◌>>=◌}
 use Rattle.stm_terms.specs.Cursor.{place, unexpected, after_symbol, after_name, expect_name, next_name, next_number, text_at}
 use Rattle.stm_source.specs.declared.definitions.Definitions.{Definitions}
 use Rattle.stm_source.specs.Bulk.{program_bulk}
-use Rattle.stm_source.specs.Definitions.{ReadProgram, bound_program, named_program, definition_named}
+use Rattle.stm_source.specs.Definitions.{ReadProgram, look_of, bound_program, named_program, definition_named}
 use Rattle.stm_source.specs.Txns.{number_at, txn_at}
 use Rattle.stm_source.specs.Words.{event_word, level_word}
 
@@ -298,7 +298,7 @@ started_with story at program o =
     if nat_eq o.named 0 then start_one at program o false story else start_named at program o o.named story
 
 abbrev pub program_by_name : List Token → Definitions → List Token → Option (List ℕ × List Token) → ReadProgram
-program_by_name all definitions tokens None = bound_program (place tokens) [] [] tokens >>= λ p. Ok (p.0, 0, p.1)
+program_by_name all definitions tokens None = bound_program (look_of (place tokens) false) [] [] tokens >>= λ p. Ok (p.0, 0, p.1)
 program_by_name all definitions tokens (Some p) = named_program all (place tokens) p.1 (definition_named definitions p.0)
 
 -- one that the start names, or its own in braces

@@ -4,6 +4,7 @@ pub mod Events
 pub mod Kept
 pub mod Programs
 pub mod Rules
+pub mod Runners
 pub mod Sources
 pub mod Statements
 pub mod Txns

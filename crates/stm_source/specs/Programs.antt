@@ -18,6 +18,7 @@ use Rattle.stm_terms.specs.declared.arguments.GivenText.{GivenText}
 use Rattle.stm_terms.specs.Arguments.{text_given}
 use Rattle.stm_terms.specs.Room.{block_room}
 use Rattle.stm_terms.specs.Scope.{numbered_from}
+use Rattle.stm_source.specs.declared.programs.Look.{Look}
 use Rattle.stm_source.specs.Statements.{statements_at}
 
 -- ---- the list
@@ -77,16 +78,25 @@ abbrev pub program_of : ℕ → List (List ℕ) → Block → Outcome ProgramTre
 program_of at keys statements = program_by at keys statements (block_room MAX_DEPTH MAX_NODES statements)
 
 -- no name of a variable is in sight at its beginning
-abbrev pub first_scope : Arguments → ℕ → List Token → Scope
-first_scope arguments at tokens = record { numbered = numbered_from 0 tokens; names = []; program = at; arguments = arguments }
+abbrev pub first_scope : Arguments → Look → List Token → Scope
+first_scope arguments look tokens = record {
+  numbered = numbered_from 0 tokens;
+  names = [];
+  kinds = [];
+  looks_at_kinds = look.at_kinds;
+  kinds_at = look.kinds_at;
+  program = look.program;
+  arguments = arguments;
+  runners = look.runners;
+}
 
--- behind the list
-abbrev pub statements_behind : Arguments → ℕ → List (List ℕ) → List Token → Read ProgramTree
-statements_behind arguments at keys tokens =
-    statements_at (MOST_BRACKETS - 1) (first_scope arguments at tokens) tokens >>= λ b. program_of at keys b.0 >>= λ p. Ok (p, b.1)
-
--- a program in braces; `at` is the place of what is wrong with it as a whole
-abbrev pub program_at : ℕ → Arguments → List Token → Read ProgramTree
-program_at at arguments tokens =
+-- the list and the statements of a program in braces, and the tokens behind it
+abbrev pub parts_at : Look → Arguments → List Token → Outcome (List (List ℕ) × Block × List Token)
+parts_at look arguments tokens =
     expect_symbol symbol.LeftBrace tokens >>= λ inner.
-    list_at arguments inner >>= λ keys. statements_behind arguments at keys.0 keys.1
+    list_at arguments inner >>= λ keys.
+    statements_at (MOST_BRACKETS - 1) (first_scope arguments look keys.1) keys.1 >>= λ b. Ok (keys.0, b.0, b.1)
+
+-- a program in braces
+abbrev pub program_at : Look → Arguments → List Token → Read ProgramTree
+program_at look arguments tokens = parts_at look arguments tokens >>= λ p. program_of look.program p.0 p.1 >>= λ q. Ok (q, p.2)

@@ -1,5 +1,5 @@
 -- Rules and finals: programs that are asked of states.
-use Rattle.std.specs.Prelude.{ℕ, ◌-◌, List, [], ◌∷◌, ◌++◌, Bool, Option, Some, None, Ok, Err, nat_eq, if◌then◌else◌, codes}
+use Rattle.std.specs.Prelude.{ℕ, ◌-◌, List, [], ◌∷◌, ◌++◌, Bool, true, Option, Some, None, Ok, Err, nat_eq, if◌then◌else◌, codes}
 use Rattle.stm_tokens.specs.declared.token.Token.{Token}
 use Rattle.stm_tokens.specs.declared.token.Symbol.TheVariants as symbol
 use Rattle.stm_program.specs.declared.level.Level.{Level}
@@ -12,6 +12,9 @@ use Rattle.stm_source.specs.declared.story.Story.{Story}
 use Rattle.stm_source.specs.declared.story.Rule.{Rule}
 use Rattle.stm_source.specs.Bulk.{program_bulk}
 use Rattle.stm_source.specs.Definitions.{ReadProgram, free_name_at, bound_program, definition_named, named_program, with_meaning}
+use Rattle.stm_terms.specs.declared.endings.Runners.{Runners}
+use Rattle.stm_source.specs.declared.programs.Look.{Look}
+use Rattle.stm_source.specs.Runners.{runners_in}
 use Rattle.stm_source.specs.Events.{level_at}
 
 abbrev pub level_behind : List Token → Option (List Token) → Read (Option Level)
@@ -26,13 +29,21 @@ abbrev pub asked_by_name : List Token → Definitions → List Token → Option 
 asked_by_name all definitions tokens None = Err (unexpected tokens)
 asked_by_name all definitions tokens (Some p) = named_program all (place tokens) p.1 (definition_named definitions p.0)
 
-abbrev pub asked_by : List Token → Definitions → ℕ → List Token → Option (List Token) → ReadProgram
-asked_by all definitions at tokens (Some rest) = asked_by_name all definitions rest (next_name rest)
-asked_by all definitions at tokens None = bound_program at [] [] tokens >>= λ p. Ok (p.0, 0, p.1)
+-- the runners that a final may ask of
+abbrev pub asked_runners : Story → Bool → List Token → Option Runners
+asked_runners story is_final tokens = if is_final then Some (runners_in story tokens) else None
+
+abbrev pub rule_look : Story → Bool → ℕ → List Token → Look
+rule_look story is_final at tokens = record { program = at; at_kinds = true; kinds_at = None; runners = asked_runners story is_final tokens }
+
+abbrev pub asked_by : List Token → Definitions → Story → Bool → ℕ → List Token → Option (List Token) → ReadProgram
+asked_by all definitions story is_final at tokens (Some rest) = asked_by_name all definitions rest (next_name rest)
+asked_by all definitions story is_final at tokens None =
+    bound_program (rule_look story is_final at tokens) [] [] tokens >>= λ p. Ok (p.0, 0, p.1)
 
 -- the program that is asked: one that is named, with its arguments, or its own in braces
-abbrev pub asked_at : List Token → Definitions → ℕ → List Token → ReadProgram
-asked_at all definitions at tokens = asked_by all definitions at tokens (after_symbol symbol.Assign tokens)
+abbrev pub asked_at : List Token → Definitions → Story → Bool → ℕ → List Token → ReadProgram
+asked_at all definitions story is_final at tokens = asked_by all definitions story is_final at tokens (after_symbol symbol.Assign tokens)
 
 -- for its program so many tokens were read again
 abbrev pub with_rule : Story → Rule → ℕ → Story
@@ -49,6 +60,6 @@ abbrev pub rule_at : List Token → Definitions → Story → Bool → List Toke
 rule_at all definitions story is_final tokens =
     free_name_at definitions.names tokens >>= λ name.
     weakest_level name.1 >>= λ level.
-    asked_at all definitions (place tokens) level.1 >>= λ p.
+    asked_at all definitions story is_final (place tokens) level.1 >>= λ p.
     ruled definitions story (place tokens) (record { name = name.0; is_final = is_final; level = level.0; program = p.0 }) p.1 >>= λ r.
     Ok (r.0, r.1, p.2)

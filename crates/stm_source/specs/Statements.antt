@@ -1,5 +1,5 @@
 -- Statements and blocks: what tokens spell, or the first fault.
-use Rattle.std.specs.Prelude.{ℕ, zero, suc, ◌+◌, ◌-◌, pos, negsuc, List, [], ◌∷◌, length, not, ◌||◌, Option, Some, None, is_some, Ok, Err}
+use Rattle.std.specs.Prelude.{ℕ, zero, suc, ◌+◌, ◌-◌, pos, negsuc, List, [], ◌∷◌, ◌++◌, length, Bool, false, not, ◌||◌, Option, Some, None, is_some, Ok, Err}
 use Rattle.std.specs.Prelude.{nat_eq, nat_le, nat_lt, if◌then◌else◌, codes}
 use Rattle.stm_tokens.specs.declared.token.Token.{Token}
 use Rattle.stm_tokens.specs.declared.token.TokenKind.{TokenKind}
@@ -15,6 +15,9 @@ use Rattle.stm_program.specs.Syntax.{Expression, Number, Variable}
 use Rattle.stm_program.specs.Syntax.{Statement, Set, Put, Del, If, For, Emit, Abort, Block, End, Then}
 use Rattle.stm_terms.specs.declared.faults.SourceCause.TheVariants as cause
 use Rattle.stm_terms.specs.declared.scope.Scope.{Scope}
+use Rattle.stm_program.specs.BlockView.{block_of}
+use Rattle.stm_terms.specs.declared.look_ups.Fronted.{Fronted}
+use Rattle.stm_terms.specs.LookUps.{with_front, pair_with_front}
 use Rattle.stm_terms.specs.declared.values.Join.{Join}
 use Rattle.stm_terms.specs.declared.values.Join.TheVariants as join
 use Rattle.stm_source.specs.declared.statements.TheConstants.{MOST_STATEMENTS}
@@ -28,7 +31,10 @@ use Rattle.stm_terms.specs.declared.arguments.Arguments.{Arguments}
 use Rattle.stm_terms.specs.declared.arguments.Given.{Given}
 use Rattle.stm_terms.specs.Arguments.{given_named, argument_number, number_given}
 use Rattle.stm_terms.specs.Scope.{index_of, numbered_variable, variable_of, with_name, next_of, may_give}
-use Rattle.stm_terms.specs.Values.{joined, bracketed_at, value_at}
+use Rattle.stm_terms.specs.declared.kinds.Kind.{Kind}
+use Rattle.stm_terms.specs.declared.kinds.Kind.TheVariants as value_kind
+use Rattle.stm_terms.specs.Kinds.{kind_of, want}
+use Rattle.stm_terms.specs.Values.{joined, join_kind, bracketed_at, value_at, value_of}
 use Rattle.stm_terms.specs.Conditions.{condition_at}
 
 -- ---- statements of values
@@ -38,9 +44,20 @@ simple_of simple.Del e = Del e
 simple_of simple.Emit e = Emit e
 simple_of simple.Abort e = Abort e
 
+-- a value of either kind is put out
+abbrev pub simple_kind : Simple → Kind
+simple_kind simple.Del = value_kind.Text
+simple_kind simple.Emit = value_kind.Either
+simple_kind simple.Abort = value_kind.Text
+
+-- a statement behind what is set in front of it
+abbrev pub behind_front : List Statement → Statement → List Statement
+behind_front front s = front ++ s ∷ []
+
 -- behind its word
-abbrev pub simple_at : ℕ → Scope → Simple → List Token → Read Statement
-simple_at levels scope s tokens = bracketed_at levels scope tokens >>= λ x. Ok (simple_of s x.0, x.1)
+abbrev pub simple_at : ℕ → Scope → Simple → List Token → Read (List Statement)
+simple_at levels scope s tokens =
+    bracketed_at levels scope (simple_kind s) tokens >>= λ x. with_front scope x.0 >>= λ f. Ok (behind_front f.front (simple_of s f.expression), x.1)
 
 abbrev pub lease_behind : Arguments → List Token → Option (List Token) → Read ℕ
 lease_behind arguments tokens None = Ok (0, tokens)
@@ -50,14 +67,15 @@ lease_behind arguments tokens (Some rest) = number_given MAX_LEASE arguments res
 abbrev pub lease_at : Scope → List Token → Read ℕ
 lease_at scope tokens = lease_behind scope.arguments tokens (after_symbol symbol.Comma tokens)
 
-abbrev pub put_at : ℕ → Scope → List Token → Read Statement
+abbrev pub put_at : ℕ → Scope → List Token → Read (List Statement)
 put_at levels scope tokens =
     open_bracket levels tokens >>= λ inner.
-    value_at (levels - 1) scope inner >>= λ key.
+    value_of (levels - 1) scope value_kind.Text inner >>= λ key.
     expect_symbol symbol.Comma key.1 >>= λ behind.
-    value_at (levels - 1) scope behind >>= λ value.
+    value_of (levels - 1) scope value_kind.Text behind >>= λ value.
+    pair_with_front scope key.0 value.0 >>= λ f.
     lease_at scope value.1 >>= λ lease.
-    expect_symbol symbol.RightParenthesis lease.1 >>= λ rest. Ok (Put key.0 value.0 lease.0, rest)
+    expect_symbol symbol.RightParenthesis lease.1 >>= λ rest. Ok (behind_front f.front (Put f.left f.right lease.0), rest)
 
 -- ---- assignments
 
@@ -86,33 +104,49 @@ abbrev pub assigned : Option Join → ℕ → Expression → Expression
 assigned None v e = e
 assigned (Some j) v e = joined j (Variable v) e
 
--- behind its sign
-abbrev pub set_at : ℕ → Scope → ℕ → Option Join → List Token → Read Statement
-set_at levels scope v j rest = value_at levels scope rest >>= λ x. Ok (Set v (assigned j v x.0), x.1)
+-- what is assigned to a variable of a kind, and which kind that has to be of
+abbrev pub assigned_kind : Option Join → Kind → Kind
+assigned_kind None k = k
+assigned_kind (Some j) k = join_kind j
 
-abbrev pub set_by : ℕ → Scope → ℕ → Option ℕ → Option Join → List Token → Read Statement
+-- behind its sign
+abbrev pub set_at : ℕ → Scope → ℕ → Option Join → List Token → Read (List Statement)
+set_at levels scope v j rest =
+    value_of levels scope (assigned_kind j (kind_of scope v)) rest >>= λ x.
+    with_front scope x.0 >>= λ f. Ok (behind_front f.front (Set v (assigned j v f.expression)), x.1)
+
+abbrev pub set_by : ℕ → Scope → ℕ → Option ℕ → Option Join → List Token → Read (List Statement)
 set_by levels scope at None j rest = bad at cause.Name
-set_by levels scope at (Some v) j rest = set_at levels scope v j rest
+set_by levels scope at (Some v) j rest =
+    want scope (assigned_kind j (kind_of scope v)) (kind_of scope v) at >>= λ u. set_at levels scope v j rest
 
 -- a name with which a statement begins is wrong itself where nothing is assigned to it
-abbrev pub assigned_by : ℕ → Scope → List ℕ → List Token → Option (Option Join × List Token) → Read Statement
+abbrev pub assigned_by : ℕ → Scope → List ℕ → List Token → Option (Option Join × List Token) → Read (List Statement)
 assigned_by levels scope name tokens None = Err (unexpected tokens)
 assigned_by levels scope name tokens (Some p) = set_by levels scope (place tokens) (variable_of scope name) p.0 p.1
 
-abbrev pub assignment_at : ℕ → Scope → List ℕ → List Token → List Token → Read Statement
+abbrev pub assignment_at : ℕ → Scope → List ℕ → List Token → List Token → Read (List Statement)
 assignment_at levels scope name tokens behind = assigned_by levels scope name tokens (next_sign behind)
 
 -- ---- new names
 
 -- a statement, the names behind it, and the tokens behind it
 abbrev pub ReadStatement : Type 0
-ReadStatement = Outcome (Statement × Scope × List Token)
+ReadStatement = Outcome (List Statement × Scope × List Token)
+
+abbrev pub is_variable : ℕ → Expression → Bool
+is_variable v (Variable w) = nat_eq w v
+is_variable v _ = false
+
+-- a new variable; one to which its value was set in front is not set again
+abbrev pub set_new : ℕ → Fronted → List Statement
+set_new v f = if is_variable v f.expression then f.front else behind_front f.front (Set v f.expression)
 
 -- behind its name
 abbrev pub new_variable : ℕ → Scope → ℕ → List ℕ → List Token → ReadStatement
 new_variable levels scope v name tokens =
-    expect_symbol symbol.Assign tokens >>= λ behind.
-    value_at levels scope behind >>= λ x. Ok (Set v x.0, with_name scope name, x.1)
+    expect_symbol symbol.Assign tokens >>= λ value.
+    value_at levels scope value >>= λ x. with_front scope x.0 >>= λ f. Ok (set_new v f, with_name scope name x.0.kind, x.1)
 
 abbrev pub named_by : ℕ → Scope → ℕ → List Token → Option (List ℕ × List Token) → ReadStatement
 named_by levels scope v tokens None = Err (unexpected tokens)
@@ -133,24 +167,24 @@ abbrev pub Blocks : Type 0
 Blocks = Scope → List Token → Read Block
 
 -- a block alone, or another choice
-abbrev pub otherwise_by : (List Token → Read Statement) → Blocks → Scope → List Token → Option (List Token) → Read Block
-otherwise_by choice block scope tokens (Some rest) = choice rest >>= λ s. Ok (Then s.0 End, s.1)
+abbrev pub otherwise_by : (List Token → Read (List Statement)) → Blocks → Scope → List Token → Option (List Token) → Read Block
+otherwise_by choice block scope tokens (Some rest) = choice rest >>= λ s. Ok (block_of s.0, s.1)
 otherwise_by choice block scope tokens None = block scope tokens
 
-abbrev pub else_by : (List Token → Read Statement) → Blocks → Scope → List Token → Option (List Token) → Read Block
+abbrev pub else_by : (List Token → Read (List Statement)) → Blocks → Scope → List Token → Option (List Token) → Read Block
 else_by choice block scope tokens None = Ok (End, tokens)
 else_by choice block scope tokens (Some rest) = otherwise_by choice block scope rest (after_word word.If rest)
 
 -- condition, block and else
-abbrev pub choice_by : (List Token → Read Statement) → Blocks → ℕ → Scope → List Token → Read Statement
+abbrev pub choice_by : (List Token → Read (List Statement)) → Blocks → ℕ → Scope → List Token → Read (List Statement)
 choice_by choice block levels scope tokens =
     condition_at levels scope tokens >>= λ c.
     block scope c.1 >>= λ t.
     else_by choice block scope t.1 (after_word word.Else t.1) >>= λ e.
-    Ok (If c.0 t.0 e.0, e.1)
+    Ok (behind_front c.0.front (If c.0.condition t.0 e.0), e.1)
 
 -- behind an `if`, with so many choices that may follow in its else: one more is too deep, whatever it is
-unfoldable pub choice_at : Blocks → ℕ → Scope → ℕ → List Token → Read Statement
+unfoldable pub choice_at : Blocks → ℕ → Scope → ℕ → List Token → Read (List Statement)
 choice_at block levels scope zero tokens = bad scope.program cause.TooDeep
 choice_at block levels scope (suc more) tokens = choice_by (choice_at block levels scope more) block levels scope tokens
 
@@ -162,7 +196,7 @@ counted_by_number scope at (Some v) = Ok (v, scope)
 
 abbrev pub counted_anew : Scope → List ℕ → ℕ → Option ℕ → Outcome (ℕ × Scope)
 counted_anew scope name at None = bad at cause.TooMany
-counted_anew scope name at (Some v) = Ok (v, with_name scope name)
+counted_anew scope name at (Some v) = Ok (v, with_name scope name (if scope.looks_at_kinds then value_kind.Number else value_kind.Either))
 
 abbrev pub counted_by_name : Scope → List ℕ → ℕ → Outcome (ℕ × Scope)
 counted_by_name scope name at = if may_give scope name then counted_anew scope name at (next_of scope) else bad at cause.Name
@@ -202,14 +236,15 @@ zero_behind tokens None = Err (unexpected tokens)
 zero_behind tokens (Some p) = if nat_eq p.0 0 then Ok p.1 else Err (unexpected tokens)
 
 -- behind the counted name
-abbrev pub counted_by : Blocks → ℕ → Scope → ℕ → Scope → List Token → Read Statement
+abbrev pub counted_by : Blocks → ℕ → Scope → ℕ → Scope → List Token → Read (List Statement)
 counted_by block levels scope v inner tokens =
-    value_at levels scope tokens >>= λ count.
-    limit_at scope count.0 tokens count.1 >>= λ limit.
-    block inner limit.1 >>= λ body. Ok (For v count.0 limit.0 body.0, body.1)
+    value_of levels scope value_kind.Number tokens >>= λ count.
+    with_front scope count.0 >>= λ f.
+    limit_at scope f.expression tokens count.1 >>= λ limit.
+    block inner limit.1 >>= λ body. Ok (behind_front f.front (For v f.expression limit.0 body.0), body.1)
 
 -- behind its name, which begins at a byte
-abbrev pub loop_behind : Blocks → ℕ → Scope → ℕ → List ℕ → List Token → Read Statement
+abbrev pub loop_behind : Blocks → ℕ → Scope → ℕ → List ℕ → List Token → Read (List Statement)
 loop_behind block levels scope at name tokens =
     expect_word word.In tokens >>= λ from.
     zero_behind from (next_number from) >>= λ dots.
@@ -217,13 +252,13 @@ loop_behind block levels scope at name tokens =
     counted_in scope name at >>= λ counted.
     counted_by block levels scope counted.0 counted.1 bound
 
-abbrev pub loop_by : Blocks → ℕ → Scope → List Token → Option (List ℕ × List Token) → Read Statement
+abbrev pub loop_by : Blocks → ℕ → Scope → List Token → Option (List ℕ × List Token) → Read (List Statement)
 loop_by block levels scope tokens None = Err (unexpected tokens)
 loop_by block levels scope tokens (Some p) =
     if is_some (index_of p.0 scope.names) then bad (place tokens) cause.Name else loop_behind block levels scope (place tokens) p.0 p.1
 
 -- behind a `for`
-abbrev pub loop_at : Blocks → ℕ → Scope → List Token → Read Statement
+abbrev pub loop_at : Blocks → ℕ → Scope → List Token → Read (List Statement)
 loop_at block levels scope tokens = loop_by block levels scope tokens (next_name tokens)
 
 -- ---- a statement, and blocks
@@ -235,18 +270,18 @@ simple_word w =
     else (if same_word w word.Abort then Some simple.Abort
     else None))
 
-abbrev pub simple_by : ℕ → Scope → List Token → List Token → Option Simple → Read Statement
+abbrev pub simple_by : ℕ → Scope → List Token → List Token → Option Simple → Read (List Statement)
 simple_by levels scope tokens rest None = Err (unexpected tokens)
 simple_by levels scope tokens rest (Some s) = simple_at levels scope s rest
 
-abbrev pub plain_at : Blocks → ℕ → Scope → Word → List Token → List Token → Read Statement
+abbrev pub plain_at : Blocks → ℕ → Scope → Word → List Token → List Token → Read (List Statement)
 plain_at block levels scope w tokens rest =
     if same_word w word.If then choice_at block levels scope MOST_BRACKETS rest
     else (if same_word w word.For then loop_at block levels scope rest
     else (if same_word w word.Put then put_at levels scope rest
     else simple_by levels scope tokens rest (simple_word w)))
 
-abbrev pub in_scope : Scope → Read Statement → ReadStatement
+abbrev pub in_scope : Scope → Read (List Statement) → ReadStatement
 in_scope scope read = read >>= λ x. Ok (x.0, scope, x.1)
 
 abbrev pub worded_at : Blocks → ℕ → Scope → Word → List Token → List Token → ReadStatement
@@ -263,10 +298,14 @@ statement_by block levels scope [] = Err (unexpected [])
 statement_by block levels scope (t ∷ ts) = statement_kind block levels scope t.kind (t ∷ ts) ts
 
 -- a block with more statements than are kept has too many nodes, whatever they are
-abbrev pub then_up : ℕ → Statement → Block → Block
-then_up done s b = if nat_lt done MOST_STATEMENTS then Then s b else b
+abbrev pub then_all : List Statement → Block → Block
+then_all [] b = b
+then_all (s ∷ ss) b = Then s (then_all ss b)
 
-abbrev pub closed_or : ℕ → (List Token → ReadStatement) → (Statement × Scope × List Token → Read Block) → List Token → Option (List Token) → Read Block
+abbrev pub then_up : ℕ → List Statement → Block → Block
+then_up done ss b = if nat_lt done MOST_STATEMENTS then then_all ss b else b
+
+abbrev pub closed_or : ℕ → (List Token → ReadStatement) → (List Statement × Scope × List Token → Read Block) → List Token → Option (List Token) → Read Block
 closed_or done statement more tokens (Some rest) = Ok (End, rest)
 closed_or done statement more tokens None = statement tokens >>= λ s. more s >>= λ b. Ok (then_up done s.0 b.0, b.1)
 

@@ -5,7 +5,7 @@ ghost use Rattle.stm_terms.specs.Outcome.{Returns};
 ghost use Rattle.stm_source.specs.Definitions as spec;
 
 use crate::arguments::arguments;
-use crate::programs::program;
+use crate::programs::{Look, parts, program, program_of};
 use std::alloc::{AllocError, Global};
 use stm_history::Sequence;
 use stm_program::Program;
@@ -133,31 +133,43 @@ fn open_arguments(alloc: Global, times: usize) -> Result<Sequence<Given>, AllocE
     Ok(given)
 }
 
-/// The program whose body these tokens begin with, where its parameters stand for what is given. `at` is the place of what is wrong with it as a whole.
+/// How a program is looked at that is read for the first time: `at` is the place of what is wrong with it as a whole.
+pub(crate) fn look_of(at: usize, kinds: bool) -> Look
+    ensures { result ≡ spec.look_of at kinds }
+{
+    Look {
+        program: at,
+        at_kinds: kinds,
+        kinds_at: None,
+        runners: None,
+    }
+}
+
+/// The program whose body these tokens begin with, where its parameters stand for what is given.
 fn bound_program<'a>(
     alloc: Global,
-    at: usize,
+    look: Look,
     parameters: &Shared<Names>,
     given: Sequence<Given>,
     body: &'a [Token],
 ) -> Result<(Program, &'a [Token]), SourceError>
-    ensures { Returns (λ x. (x.0, x.1.now)) result (spec.bound_program at parameters.now given body.now) }
+    ensures { Returns (λ x. (x.0, x.1.now)) result (spec.bound_program look parameters.now given body.now) }
 {
     let names = parameters.clone()?;
     let arguments = Shared::new(alloc, Arguments { names, given })?;
-    program(alloc, arguments, at, body)
+    program(alloc, arguments, look, body)
 }
 
 /// A program in braces that has no parameters.
 pub(crate) fn program_in_place<'a>(
     alloc: Global,
-    at: usize,
+    look: Look,
     tokens: &'a [Token],
 ) -> Result<(Program, &'a [Token]), SourceError>
-    ensures { Returns (λ x. (x.0, x.1.now)) result (spec.bound_program at [] [] tokens.now) }
+    ensures { Returns (λ x. (x.0, x.1.now)) result (spec.bound_program look [] [] tokens.now) }
 {
     let none = Shared::new(alloc, Names::new(alloc))?;
-    bound_program(alloc, at, &none, Sequence::new(alloc), tokens)
+    bound_program(alloc, look, &none, Sequence::new(alloc), tokens)
 }
 
 /// A definition whose body these tokens begin with. `at` is where its name stands.
@@ -171,7 +183,7 @@ fn defined<'a>(
 {
     let given = open_arguments(alloc, parameters.len())?;
     let parameters = Shared::new(alloc, parameters)?;
-    let (program, rest) = bound_program(alloc, at, &parameters, given, body)?;
+    let (program, rest) = bound_program(alloc, look_of(at, true), &parameters, given, body)?;
     let definition = Definition {
         parameters,
         left: body.len(),
@@ -197,6 +209,28 @@ pub(crate) fn define<'a>(
     Ok(rest)
 }
 
+/// A body with these arguments, whose name in the start begins at a byte. What is wrong with an argument where it stands comes first, then kinds.
+fn program_with(
+    alloc: Global,
+    at: usize,
+    arguments: Shared<Arguments>,
+    body: &[Token],
+) -> Result<Program, SourceError>
+    ensures { Returns (λ p. p) result (spec.program_with at arguments body.now) }
+{
+    let (keys, statements, _) = parts(alloc, arguments.clone()?, look_of(at, false), body)?;
+    let look = Look {
+        program: at,
+        at_kinds: true,
+        kinds_at: Some(at),
+        runners: None,
+    };
+    let (again, once_more, _) = parts(alloc, arguments, look, body)?;
+    drop(again);
+    drop(once_more);
+    program_of(alloc, at, keys, statements)
+}
+
 /// The program of a definition with these arguments, and how many tokens were read again for it. Its name in the start begins at a byte. `all` are the
 /// tokens of the source.
 fn with_arguments(
@@ -216,7 +250,9 @@ fn with_arguments(
         return Ok((program, 0));
     }
     let (_, body) = all.split_at(all.len().saturating_sub(definition.left));
-    let (program, _) = bound_program(alloc, at, &definition.parameters, given, body)?;
+    let names = definition.parameters.clone()?;
+    let arguments = Shared::new(alloc, Arguments { names, given })?;
+    let program = program_with(alloc, at, arguments, body)?;
     Ok((program, definition.length))
 }
 

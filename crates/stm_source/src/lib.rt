@@ -11,6 +11,7 @@ mod events;
 mod openings;
 mod programs;
 mod rules;
+mod runners;
 mod sources;
 mod starts;
 mod statements;

@@ -11,11 +11,24 @@ use stm_program::{
     MAX_DEPTH, MAX_NODES, MAX_PREFETCH, MAX_TEXT, Program, Stmt, is_listed, list_fits,
 };
 use stm_terms::{
-    Arguments, GivenText, MOST_BRACKETS, Scope, Shared, SourceCause, SourceError, after_symbol,
-    after_word, are_numbered, expect_symbol, fault, place, skip_semicolon, statements_room,
-    unexpected,
+    Arguments, GivenText, MOST_BRACKETS, Runners, Scope, Shared, SourceCause, SourceError,
+    after_symbol, after_word, are_numbered, expect_symbol, fault, place, skip_semicolon,
+    statements_room, unexpected,
 };
 use stm_tokens::{Symbol, Token, Word};
+
+/// How a program is looked at while it is read.
+#[derive(Debug, Drop)]
+pub(crate) struct Look {
+    /// The place of what is wrong with it as a whole.
+    pub program: usize,
+    /// Whether kinds are looked at.
+    pub at_kinds: bool,
+    /// Where a value of another kind than is wanted is blamed, if not where it stands.
+    pub kinds_at: Option<usize>,
+    /// In a final, the runners that it names.
+    pub runners: Option<Shared<Runners>>,
+}
 
 /// That a key may come after these. It begins at a byte.
 fn known_key(keys: &[String], at: usize, key: &str) -> Result<(), SourceError>
@@ -116,7 +129,7 @@ fn list<'a>(
 }
 
 /// The program of a list and of statements. `at` is the place of what is wrong with it. Its copies share it.
-fn program_of(
+pub(crate) fn program_of(
     alloc: Global,
     at: usize,
     keys: Vec<String>,
@@ -134,37 +147,55 @@ fn program_of(
     Ok(program)
 }
 
-/// The statements of a program, behind its list. `at` is the place of what is wrong with it as a whole.
-fn program_behind<'a>(
-    alloc: Global,
-    arguments: Shared<Arguments>,
-    at: usize,
-    keys: Vec<String>,
-    tokens: &'a [Token],
-) -> Result<(Program, &'a [Token]), SourceError>
-    ensures { Returns (λ x. (x.0, x.1.now)) result (spec.statements_behind arguments at (map string_bytes keys.items) tokens.now) }
+/// What is in sight where a program begins, behind its list.
+fn first_scope(alloc: Global, arguments: Shared<Arguments>, look: Look, tokens: &[Token]) -> Scope
+    ensures { result ≡ spec.first_scope arguments look tokens.now }
 {
-    let scope = Scope {
+    let Look {
+        program,
+        at_kinds,
+        kinds_at,
+        runners,
+    } = look;
+    Scope {
         numbered: are_numbered(tokens),
         names: Sequence::new(alloc),
-        program: at,
+        kinds: Sequence::new(alloc),
+        looks_at_kinds: at_kinds,
+        kinds_at,
+        program,
         arguments,
-    };
-    let (statements, rest) = statements(alloc, &scope, MOST_BRACKETS - 1, tokens)?;
-    let program = program_of(alloc, at, keys, statements)?;
-    Ok((program, rest))
+        runners,
+    }
 }
 
-/// A program in braces, whose parameters stand for these arguments. `at` is the place of what is wrong with it as a whole.
-pub(crate) fn program<'a>(
+/// The list and the statements of a program in braces, whose parameters stand for these arguments.
+pub(crate) fn parts<'a>(
     alloc: Global,
     arguments: Shared<Arguments>,
-    at: usize,
+    look: Look,
     tokens: &'a [Token],
-) -> Result<(Program, &'a [Token]), SourceError>
-    ensures { Returns (λ x. (x.0, x.1.now)) result (spec.program_at at arguments tokens.now) }
+) -> Result<(Vec<String>, Vec<Stmt>, &'a [Token]), SourceError>
+    ensures { Returns (λ x. (map string_bytes x.0.items, block_of x.1.items, x.2.now)) result (spec.parts_at look arguments tokens.now) }
 {
     let inner = expect_symbol(tokens, Symbol::LeftBrace)?;
     let (keys, rest) = list(alloc, arguments.get(), inner)?;
-    program_behind(alloc, arguments, at, keys, rest)
+    let scope = first_scope(alloc, arguments, look, rest);
+    let (statements, rest) = statements(alloc, &scope, MOST_BRACKETS - 1, rest)?;
+    Ok((keys, statements, rest))
+}
+
+/// A program in braces, whose parameters stand for these arguments.
+pub(crate) fn program<'a>(
+    alloc: Global,
+    arguments: Shared<Arguments>,
+    look: Look,
+    tokens: &'a [Token],
+) -> Result<(Program, &'a [Token]), SourceError>
+    ensures { Returns (λ x. (x.0, x.1.now)) result (spec.program_at look arguments tokens.now) }
+{
+    let at = look.program;
+    let (keys, statements, rest) = parts(alloc, arguments, look, tokens)?;
+    let program = program_of(alloc, at, keys, statements)?;
+    Ok((program, rest))
 }

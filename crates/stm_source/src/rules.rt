@@ -1,5 +1,5 @@
 //! Reading rules and finals.
-ghost use Rattle.std.specs.Prelude.{◌≡◌, bytes_eq, false};
+ghost use Rattle.std.specs.Prelude.{◌≡◌, bytes_eq, false, IfOk};
 ghost use Rattle.std.specs.List.{list_any};
 ghost use Rattle.stm_terms.specs.Cursor as cursor;
 ghost use Rattle.stm_terms.specs.Outcome.{Returns};
@@ -8,13 +8,16 @@ ghost use Rattle.stm_source.specs.Rules as spec;
 
 use crate::bulk::program_room;
 use crate::definitions::{Definitions, Meaning, free_name, named_program, program_in_place};
+use crate::programs::Look;
+use crate::runners::runners_in;
 use crate::starts::level;
 use crate::story::{Rule, Story};
-use std::alloc::Global;
+use std::alloc::{AllocError, Global};
 use stm_history::Text;
 use stm_program::{Level, Program};
 use stm_terms::{
-    SourceCause, SourceError, after_name, after_symbol, fault, next_name, place, unexpected,
+    Runners, Shared, SourceCause, SourceError, after_name, after_symbol, fault, next_name, place,
+    unexpected,
 };
 use stm_tokens::{Symbol, Token};
 
@@ -29,18 +32,58 @@ fn weakest_level(tokens: &[Token]) -> Result<(Option<Level>, &[Token]), SourceEr
     Ok((Some(level), rest))
 }
 
+/// The runners that a final may ask of.
+fn asked_runners(
+    alloc: Global,
+    story: &Story,
+    is_final: bool,
+    tokens: &[Token],
+) -> Result<Option<Shared<Runners>>, AllocError>
+    ensures { IfOk result (λ r. r ≡ spec.asked_runners story.now is_final tokens.now) }
+{
+    if !is_final {
+        return Ok(None);
+    }
+    let runners = runners_in(alloc, story, tokens)?;
+    let runners = Shared::new(alloc, runners)?;
+    Ok(Some(runners))
+}
+
+/// How the body of a rule or a final is looked at. `at` is the place of what is wrong with it as a whole.
+fn rule_look(
+    alloc: Global,
+    story: &Story,
+    is_final: bool,
+    at: usize,
+    tokens: &[Token],
+) -> Result<Look, AllocError>
+    ensures { IfOk result (λ look. look ≡ spec.rule_look story.now is_final at tokens.now) }
+{
+    let runners = asked_runners(alloc, story, is_final, tokens)?;
+    Ok(Look {
+        program: at,
+        at_kinds: true,
+        kinds_at: None,
+        runners,
+    })
+}
+
 /// The program that is asked: one that is named, or its own in braces. `at` is the place of what is wrong with that as a whole.
 fn asked<'a>(
     alloc: Global,
     all: &[Token],
     definitions: &Definitions,
+    story: &Story,
+    is_final: bool,
     at: usize,
     tokens: &'a [Token],
 ) -> Result<(Program, usize, &'a [Token]), SourceError>
-    ensures { Returns (λ x. (x.0, x.1, x.2.now)) result (spec.asked_at all.now definitions.now at tokens.now) }
+    ensures { Returns (λ x. (x.0, x.1, x.2.now)) result
+        (spec.asked_at all.now definitions.now story.now is_final at tokens.now) }
 {
     let Some(rest) = after_symbol(tokens, Symbol::Assign) else {
-        let (program, rest) = program_in_place(alloc, at, tokens)?;
+        let look = rule_look(alloc, story, is_final, at, tokens)?;
+        let (program, rest) = program_in_place(alloc, look, tokens)?;
         return Ok((program, 0, rest));
     };
     match next_name(rest) {
@@ -87,7 +130,15 @@ pub(crate) fn rule<'a>(
 {
     let (name, rest) = free_name(&definitions.names, tokens)?;
     let (level, rest) = weakest_level(rest)?;
-    let (program, again, rest) = asked(alloc, all, definitions, place(tokens), rest)?;
+    let (program, again, rest) = asked(
+        alloc,
+        all,
+        definitions,
+        story,
+        is_final,
+        place(tokens),
+        rest,
+    )?;
     let rule = Rule {
         name: Text::copy_of(alloc, name)?,
         is_final,

@@ -7,7 +7,7 @@ ghost use Rattle.stm_source.specs.Events as spec;
 ghost use Rattle.stm_texts.specs.declared.events.TheConstants.{MOST_EVENTS};
 
 use crate::bulk::program_room;
-use crate::definitions::{Definitions, named_program, program_in_place};
+use crate::definitions::{Definitions, look_of, named_program, program_in_place};
 use crate::events::plain_number;
 use crate::steps::{named_runner, next_runner_name};
 use crate::story::{Story, Wait};
@@ -318,7 +318,7 @@ fn started_program<'a>(
     if let Some((name, rest)) = next_name(tokens) {
         return named_program(alloc, all, definitions, name, place(tokens), rest);
     }
-    let (program, rest) = program_in_place(alloc, place(tokens), tokens)?;
+    let (program, rest) = program_in_place(alloc, look_of(place(tokens), false), tokens)?;
     Ok((program, 0, rest))
 }
 

@@ -1,7 +1,7 @@
 //! Reading statements and blocks.
 ghost use Rattle.std.specs.Prelude.{◌≡◌, ◌≤◌, option_copied, option_map, Some, IfOk, OnOk};
 ghost use Rattle.stm_program.specs.BlockView.{block_of};
-ghost use Rattle.stm_program.specs.Syntax.{Set, Then, End};
+ghost use Rattle.stm_program.specs.Syntax.{If, End};
 ghost use Rattle.stm_program.specs.declared.limits.TheConstants.{MAX_VARIABLE};
 ghost use Rattle.stm_tokens.specs.declared.token.Word.TheVariants.{Else};
 ghost use Rattle.stm_terms.specs.Cursor as cursor;
@@ -12,14 +12,16 @@ ghost use Rattle.stm_source.specs.Kept.{pushed_up};
 
 use std::alloc::{AllocError, Global};
 use std::sync::Arc;
+use stm_history::Sequence;
 use stm_program::{
     Block, Expr, ExprNode, MAX_LEASE, MAX_NODES, MAX_TURNS, Operator, Stmt, StmtNode, Variable,
 };
 use stm_terms::{
-    Given, Join, MOST_BRACKETS, Scope, SourceCause, SourceError, after_name, after_symbol,
-    after_word, argument_number, bracketed, condition, expect_symbol, expect_word, fault,
-    join_node, next_name, next_number, numbered_variable, open_bracket, place, skip_semicolon,
-    unexpected, value,
+    Fronted, FrontedPair, Given, Join, Kind, MOST_BRACKETS, Scope, SourceCause, SourceError,
+    Tested, after_name, after_symbol, after_word, argument_number, bracketed, condition,
+    expect_symbol, expect_word, fault, join_kind, join_node, next_name, next_number,
+    numbered_variable, open_bracket, pair_with_front, place, set, skip_semicolon, unexpected,
+    value, value_of, with_front,
 };
 use stm_tokens::{Symbol, Token, TokenKind, Word};
 
@@ -37,23 +39,44 @@ pub(crate) enum Simple {
     Abort,
 }
 
+/// What a statement of one value is of: `emit` puts out a value of either kind.
+fn simple_kind(simple: Simple) -> Kind
+    ensures { result ≡ spec.simple_kind simple }
+{
+    match simple {
+        Simple::Del | Simple::Abort => Kind::Text,
+        Simple::Emit => Kind::Either,
+    }
+}
+
+/// A statement behind what is set in front of it. It fails only when out of memory.
+fn behind(front: Sequence<Stmt>, statement: Stmt) -> Result<Sequence<Stmt>, AllocError>
+    ensures { IfOk result (λ all. all ≡ spec.behind_front front statement) }
+{
+    let mut all = front;
+    all.push(statement)?;
+    Ok(all)
+}
+
 fn simple_statement<'a>(
     alloc: Global,
     scope: &Scope,
     levels: usize,
     simple: Simple,
     tokens: &'a [Token],
-) -> Result<(Stmt, &'a [Token]), SourceError>
+) -> Result<(Sequence<Stmt>, &'a [Token]), SourceError>
     ensures { Returns (λ x. (x.0, x.1.now)) result (spec.simple_at levels scope.now simple tokens.now) }
 {
-    let (value, rest) = bracketed(alloc, scope, levels, tokens)?;
-    let value = Arc::new(alloc, value)?;
+    let (value, rest) = bracketed(alloc, scope, levels, simple_kind(simple), tokens)?;
+    let Fronted { front, expression } = with_front(alloc, scope, value)?;
+    let value = Arc::new(alloc, expression)?;
     let node = match simple {
         Simple::Del => StmtNode::Del(value),
         Simple::Emit => StmtNode::Emit(value),
         Simple::Abort => StmtNode::Abort(value),
     };
-    Ok((Stmt { node }, rest))
+    let all = behind(front, Stmt { node })?;
+    Ok((all, rest))
 }
 
 /// The lease of a put: 0 where it does not say one.
@@ -72,19 +95,26 @@ fn put<'a>(
     scope: &Scope,
     levels: usize,
     tokens: &'a [Token],
-) -> Result<(Stmt, &'a [Token]), SourceError>
+) -> Result<(Sequence<Stmt>, &'a [Token]), SourceError>
     ensures { Returns (λ x. (x.0, x.1.now)) result (spec.put_at levels scope.now tokens.now) }
 {
     let inner = open_bracket(levels, tokens)?;
-    let (key, rest) = value(alloc, scope, levels - 1, inner)?;
+    let (key, rest) = value_of(alloc, scope, levels - 1, Kind::Text, inner)?;
     let rest = expect_symbol(rest, Symbol::Comma)?;
-    let (value, rest) = value(alloc, scope, levels - 1, rest)?;
+    let (value, rest) = value_of(alloc, scope, levels - 1, Kind::Text, rest)?;
+    let FrontedPair {
+        front,
+        left,
+        right,
+        ..
+    } = pair_with_front(alloc, scope, key, value)?;
     let (lease, rest) = lease(scope, rest)?;
     let rest = expect_symbol(rest, Symbol::RightParenthesis)?;
-    let key = Arc::new(alloc, key)?;
-    let value = Arc::new(alloc, value)?;
+    let key = Arc::new(alloc, left)?;
+    let value = Arc::new(alloc, right)?;
     let node = StmtNode::Put(key, value, lease);
-    Ok((Stmt { node }, rest))
+    let all = behind(front, Stmt { node })?;
+    Ok((all, rest))
 }
 
 /// What an assignment joins to the variable, if anything; none, where the symbol assigns nothing.
@@ -141,14 +171,14 @@ fn assigned(
     Ok(join_node(join, left, right))
 }
 
-/// That a variable becomes a value.
-fn set(alloc: Global, variable: Variable, value: Expr) -> Result<Stmt, AllocError>
-    ensures { IfOk result (λ s. s ≡ Set variable value) }
+/// What has to be assigned to a variable of a kind.
+fn assigned_kind(join: Option<Join>, kind: Kind) -> Kind
+    ensures { result ≡ spec.assigned_kind join kind }
 {
-    let value = Arc::new(alloc, value)?;
-    Ok(Stmt {
-        node: StmtNode::Set(variable, value),
-    })
+    match join {
+        Some(join) => join_kind(join),
+        None => kind,
+    }
 }
 
 /// An assignment to a variable, behind its sign.
@@ -159,15 +189,18 @@ fn set_to<'a>(
     number: u64,
     join: Option<Join>,
     rest: &'a [Token],
-) -> Result<(Stmt, &'a [Token]), SourceError>
+) -> Result<(Sequence<Stmt>, &'a [Token]), SourceError>
     requires { number ≤ MAX_VARIABLE }
     ensures { Returns (λ x. (x.0, x.1.now)) result (spec.set_at levels scope.now number join rest.now) }
 {
     let variable = Variable::new(number as u8);
-    let (value, rest) = value(alloc, scope, levels, rest)?;
-    let value = assigned(alloc, join, variable, value)?;
+    let wanted = assigned_kind(join, scope.kind_of(number));
+    let (value, rest) = value_of(alloc, scope, levels, wanted, rest)?;
+    let Fronted { front, expression } = with_front(alloc, scope, value)?;
+    let value = assigned(alloc, join, variable, expression)?;
     let statement = set(alloc, variable, value)?;
-    Ok((statement, rest))
+    let all = behind(front, statement)?;
+    Ok((all, rest))
 }
 
 /// An assignment, whose name begins these tokens and stands before the others.
@@ -178,16 +211,40 @@ fn assignment<'a>(
     name: &str,
     tokens: &'a [Token],
     behind: &'a [Token],
-) -> Result<(Stmt, &'a [Token]), SourceError>
+) -> Result<(Sequence<Stmt>, &'a [Token]), SourceError>
     ensures { Returns (λ x. (x.0, x.1.now)) result (spec.assignment_at levels scope.now name.now tokens.now behind.now) }
 {
     let Some((join, rest)) = next_sign(behind) else {
         return Err(unexpected(tokens));
     };
-    match scope.variable(name) {
-        Some(number) => set_to(alloc, scope, levels, number, join, rest),
-        None => Err(fault(place(tokens), SourceCause::Name)),
+    let Some(number) = scope.variable(name) else {
+        return Err(fault(place(tokens), SourceCause::Name));
+    };
+    let kind = scope.kind_of(number);
+    scope.want(assigned_kind(join, kind), kind, place(tokens))?;
+    set_to(alloc, scope, levels, number, join, rest)
+}
+
+/// Whether a value is a variable alone.
+fn is_variable(variable: Variable, value: &Expr) -> bool
+    ensures { result ≡ spec.is_variable variable value.now }
+{
+    match &value.node {
+        ExprNode::Variable(other) => other.number() == variable.number(),
+        _ => false,
     }
+}
+
+/// That a new variable becomes a value: one to which it was set in front is not set again.
+fn set_new(alloc: Global, variable: Variable, value: Fronted) -> Result<Sequence<Stmt>, AllocError>
+    ensures { IfOk result (λ all. all ≡ spec.set_new variable value) }
+{
+    let Fronted { front, expression } = value;
+    if is_variable(variable, &expression) {
+        return Ok(front);
+    }
+    let statement = set(alloc, variable, expression)?;
+    behind(front, statement)
 }
 
 /// A new variable, behind its name.
@@ -198,14 +255,16 @@ fn new_variable<'a>(
     variable: Variable,
     name: &str,
     rest: &'a [Token],
-) -> Result<(Stmt, &'a [Token]), SourceError>
+) -> Result<(Sequence<Stmt>, &'a [Token]), SourceError>
     ensures { Returns (λ x. (x.0, scope.new, x.1.now)) result (spec.new_variable levels scope.old variable name.now rest.now) }
 {
     let rest = expect_symbol(rest, Symbol::Assign)?;
     let (value, rest) = value(alloc, scope, levels, rest)?;
-    let statement = set(alloc, variable, value)?;
-    scope.give(alloc, name)?;
-    Ok((statement, rest))
+    let kind = value.kind;
+    let value = with_front(alloc, scope, value)?;
+    let all = set_new(alloc, variable, value)?;
+    scope.give(alloc, name, kind)?;
+    Ok((all, rest))
 }
 
 /// A `let` that begins at a byte, behind its word.
@@ -215,7 +274,7 @@ fn let_statement<'a>(
     levels: usize,
     at: usize,
     tokens: &'a [Token],
-) -> Result<(Stmt, &'a [Token]), SourceError>
+) -> Result<(Sequence<Stmt>, &'a [Token]), SourceError>
     ensures { Returns (λ x. (x.0, scope.new, x.1.now)) result (spec.let_at levels scope.old at tokens.now) }
 {
     let Some(variable) = scope.next_variable() else {
@@ -253,7 +312,12 @@ fn counted(
     let Some(variable) = scope.next_variable() else {
         return Err(fault(at, SourceCause::TooMany));
     };
-    inner.give(alloc, name)?;
+    let kind = if scope.looks_at_kinds {
+        Kind::Number
+    } else {
+        Kind::Either
+    };
+    inner.give(alloc, name, kind)?;
     Ok((variable, inner))
 }
 
@@ -343,13 +407,11 @@ fn simple_word(word: Word) -> Option<Simple>
     }
 }
 
-/// The block of one statement.
-fn block_of_one(alloc: Global, statement: Stmt) -> Result<Block, AllocError>
-    ensures { IfOk result (λ b. b ≡ Then statement End) }
+/// The block of statements.
+fn block_of_all(alloc: Global, statements: Sequence<Stmt>) -> Result<Block, AllocError>
+    ensures { IfOk result (λ b. b ≡ block_of statements) }
 {
-    let mut statements = Vec::new(alloc);
-    statements.push(statement)?;
-    let statements = Arc::new(alloc, statements)?;
+    let statements = Arc::new(alloc, statements.into_vec())?;
     Ok(Block { statements })
 }
 
@@ -359,6 +421,25 @@ fn empty_block(alloc: Global) -> Result<Block, AllocError>
 {
     let statements = Arc::new(alloc, Vec::new(alloc))?;
     Ok(Block { statements })
+}
+
+/// A choice behind what is set in front of it.
+fn chosen(
+    alloc: Global,
+    tested: Tested,
+    yes: Block,
+    no: Block,
+) -> Result<Sequence<Stmt>, AllocError>
+    ensures { IfOk result (λ all. all ≡ spec.behind_front tested.front (If tested.condition yes no)) }
+{
+    let Tested {
+        front,
+        condition,
+        ..
+    } = tested;
+    let condition = Arc::new(alloc, condition)?;
+    let node = StmtNode::If(condition, yes, no);
+    behind(front, Stmt { node })
 }
 
 /// What runs where the condition of a choice does not hold.
@@ -379,8 +460,8 @@ fn otherwise<'a>(
     };
     match after_word(rest, Word::If) {
         Some(rest) => {
-            let (statement, rest) = choice(alloc, scope, levels, more, rest)?;
-            let block = block_of_one(alloc, statement)?;
+            let (statements, rest) = choice(alloc, scope, levels, more, rest)?;
+            let block = block_of_all(alloc, statements)?;
             Ok((block, rest))
         }
         None => block(alloc, scope, levels, rest),
@@ -395,7 +476,7 @@ fn choice<'a>(
     levels: usize,
     more: usize,
     tokens: &'a [Token],
-) -> Result<(Stmt, &'a [Token]), SourceError>
+) -> Result<(Sequence<Stmt>, &'a [Token]), SourceError>
     requires { more ≤ 127 }
     ensures { Returns (λ x. (x.0, x.1.now)) result (spec.choice_at (spec.block_at levels) levels scope.now more tokens.now) }
 {
@@ -413,16 +494,15 @@ fn choice_between<'a>(
     levels: usize,
     more: usize,
     tokens: &'a [Token],
-) -> Result<(Stmt, &'a [Token]), SourceError>
+) -> Result<(Sequence<Stmt>, &'a [Token]), SourceError>
     requires { more ≤ 127 }
     ensures { Returns (λ x. (x.0, x.1.now)) result (spec.choice_by (spec.choice_at (spec.block_at levels) levels scope.now more) (spec.block_at levels) levels scope.now tokens.now) }
 {
-    let (condition, rest) = condition(alloc, scope, levels, tokens)?;
+    let (tested, rest) = condition(alloc, scope, levels, tokens)?;
     let (yes, rest) = block(alloc, scope, levels, rest)?;
     let (no, rest) = otherwise(alloc, scope, levels, more, rest)?;
-    let condition = Arc::new(alloc, condition)?;
-    let node = StmtNode::If(condition, yes, no);
-    Ok((Stmt { node }, rest))
+    let all = chosen(alloc, tested, yes, no)?;
+    Ok((all, rest))
 }
 
 /// A counted loop, behind `0 ..`.
@@ -434,15 +514,17 @@ fn counted_loop<'a>(
     variable: Variable,
     inner: &Scope,
     tokens: &'a [Token],
-) -> Result<(Stmt, &'a [Token]), SourceError>
+) -> Result<(Sequence<Stmt>, &'a [Token]), SourceError>
     ensures { Returns (λ x. (x.0, x.1.now)) result (spec.counted_by (spec.block_at levels) levels scope.now variable inner.now tokens.now) }
 {
-    let (count, rest) = value(alloc, scope, levels, tokens)?;
-    let (limit, rest) = limit(scope, &count, tokens, rest)?;
+    let (count, rest) = value_of(alloc, scope, levels, Kind::Number, tokens)?;
+    let Fronted { front, expression } = with_front(alloc, scope, count)?;
+    let (limit, rest) = limit(scope, &expression, tokens, rest)?;
     let (body, rest) = block(alloc, inner, levels, rest)?;
-    let count = Arc::new(alloc, count)?;
+    let count = Arc::new(alloc, expression)?;
     let node = StmtNode::For(variable, count, limit, body);
-    Ok((Stmt { node }, rest))
+    let all = behind(front, Stmt { node })?;
+    Ok((all, rest))
 }
 
 /// A loop, behind its `for`.
@@ -452,7 +534,7 @@ fn repetition<'a>(
     scope: &Scope,
     levels: usize,
     tokens: &'a [Token],
-) -> Result<(Stmt, &'a [Token]), SourceError>
+) -> Result<(Sequence<Stmt>, &'a [Token]), SourceError>
     ensures { Returns (λ x. (x.0, x.1.now)) result (spec.loop_at (spec.block_at levels) levels scope.now tokens.now) }
 {
     let Some((name, rest)) = next_name(tokens) else {
@@ -474,7 +556,7 @@ fn repetition_behind<'a>(
     at: usize,
     name: &str,
     tokens: &'a [Token],
-) -> Result<(Stmt, &'a [Token]), SourceError>
+) -> Result<(Sequence<Stmt>, &'a [Token]), SourceError>
     ensures { Returns (λ x. (x.0, x.1.now)) result (spec.loop_behind (spec.block_at levels) levels scope.now at name.now tokens.now) }
 {
     let rest = expect_word(tokens, Word::In)?;
@@ -493,7 +575,7 @@ fn plain_statement<'a>(
     word: Word,
     tokens: &'a [Token],
     rest: &'a [Token],
-) -> Result<(Stmt, &'a [Token]), SourceError>
+) -> Result<(Sequence<Stmt>, &'a [Token]), SourceError>
     ensures { Returns (λ x. (x.0, x.1.now)) result (spec.plain_at (spec.block_at levels) levels scope.now word tokens.now rest.now) }
 {
     if word.is(Word::If) {
@@ -520,7 +602,7 @@ fn worded_statement<'a>(
     word: Word,
     tokens: &'a [Token],
     rest: &'a [Token],
-) -> Result<(Stmt, &'a [Token]), SourceError>
+) -> Result<(Sequence<Stmt>, &'a [Token]), SourceError>
     ensures { Returns (λ x. (x.0, scope.new, x.1.now)) result (spec.worded_at (spec.block_at levels) levels scope.old word tokens.now rest.now) }
 {
     if word.is(Word::Let) {
@@ -538,7 +620,7 @@ fn statement<'a>(
     scope: &mut Scope,
     levels: usize,
     tokens: &'a [Token],
-) -> Result<(Stmt, &'a [Token]), SourceError>
+) -> Result<(Sequence<Stmt>, &'a [Token]), SourceError>
     ensures { Returns (λ x. (x.0, scope.new, x.1.now)) result (spec.statement_by (spec.block_at levels) levels scope.old tokens.now) }
 {
     let Some((first, rest)) = tokens.split_first() else {
@@ -554,12 +636,13 @@ fn statement<'a>(
     }
 }
 
-/// Adds a statement behind so many, where that many are kept.
-fn push_up(done: usize, statements: &mut Vec<Stmt>, statement: Stmt) -> Result<(), AllocError>
-    ensures { OnOk result (statements.new.items ≡ pushed_up done statements.old.items statement) }
+/// Adds a statement, and what is set in front of it, behind so many, where that many are kept.
+fn push_up(done: usize, statements: &mut Vec<Stmt>, more: Sequence<Stmt>) -> Result<(), AllocError>
+    ensures { OnOk result (statements.new.items ≡ pushed_up done statements.old.items more) }
 {
     if done < MOST_STATEMENTS {
-        statements.push(statement)?;
+        let mut more = more.into_vec();
+        statements.append(&mut more)?;
     }
     Ok(())
 }

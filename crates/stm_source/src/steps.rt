@@ -28,7 +28,7 @@ impl Story {
 }
 
 /// The number of the runner of a name: none where there is no such name, or where its start may not send a commit.
-fn number_named(story: &Story, name: &str) -> Option<u64>
+pub(crate) fn number_named(story: &Story, name: &str) -> Option<u64>
     ensures { result ≡ spec.number_named story.now name.now }
 {
     let place = story.names.place(name)?;

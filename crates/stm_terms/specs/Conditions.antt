@@ -4,10 +4,13 @@ use Rattle.stm_tokens.specs.declared.token.Token.{Token}
 use Rattle.stm_tokens.specs.declared.token.Symbol.{Symbol}
 use Rattle.stm_tokens.specs.declared.token.Symbol.TheVariants as symbol
 use Rattle.stm_tokens.specs.Same.{is_symbol}
-use Rattle.stm_program.specs.Syntax.{Expression, Condition, Not, And, Or}
+use Rattle.stm_program.specs.Syntax.{Condition, Not, And, Or}
 use Rattle.stm_terms.specs.declared.faults.SourceCause.TheVariants as cause
 use Rattle.stm_terms.specs.declared.scope.Scope.{Scope}
+use Rattle.stm_terms.specs.declared.kinds.Valued.{Valued}
 use Rattle.stm_terms.specs.declared.comparisons.Comparison.{Comparison}
+use Rattle.stm_terms.specs.declared.conditions.Tested.{Tested}
+use Rattle.stm_terms.specs.declared.look_ups.FrontedPair.{FrontedPair}
 use Rattle.stm_terms.specs.declared.conditions.ValueOrCondition.{ValueOrCondition}
 use Rattle.stm_terms.specs.declared.conditions.ValueOrCondition.TheVariants as found
 use Rattle.stm_terms.specs.declared.conditions.Connective.{Connective}
@@ -15,33 +18,40 @@ use Rattle.stm_terms.specs.declared.conditions.Connective.TheVariants as connect
 use Rattle.stm_terms.specs.declared.limits.TheConstants.{MOST_JOINS}
 use Rattle.stm_terms.specs.Outcome.{Outcome, Read, bad, ◌>>=◌}
 use Rattle.stm_terms.specs.Comparisons.{compared, next_comparison}
+use Rattle.stm_terms.specs.LookUps.{pair_with_front}
 use Rattle.stm_terms.specs.Cursor.{place, unexpected, after_symbol, expect_symbol}
-use Rattle.stm_terms.specs.Values.{operand_at, value_at, value_behind}
+use Rattle.stm_terms.specs.Values.{operand_at, value_of, value_behind}
 
 -- ---- what begins in a condition is a value or a condition, as it turns out
 
 -- a condition is wanted, which begins at a byte
-abbrev pub wanted : ℕ → ValueOrCondition → Outcome Condition
+abbrev pub wanted : ℕ → ValueOrCondition → Outcome Tested
 wanted at (found.Condition c) = Ok c
 wanted at (found.Value e) = bad at cause.Sort
 
-abbrev pub condition_by : (List Token → Read ValueOrCondition) → List Token → Read Condition
+abbrev pub condition_by : (List Token → Read ValueOrCondition) → List Token → Read Tested
 condition_by read tokens = read tokens >>= λ x. wanted (place tokens) x.0 >>= λ c. Ok (c, x.1)
 
+-- a comparison; what is set in front of it stands in front of the statement that it is a condition of
+abbrev pub test_of : Comparison → FrontedPair → Tested
+test_of c x = record { front = x.front; condition = compared c x.left x.right; else_at = x.else_at }
+
 -- behind a value: the left side of a comparison, if one follows
-abbrev pub compared_with : (List Token → Read Expression) → Expression → List Token → Option (Comparison × List Token) → Read ValueOrCondition
-compared_with value left rest None = Ok (found.Value left, rest)
-compared_with value left rest (Some p) = value p.1 >>= λ x. Ok (found.Condition (compared p.0 left x.0), x.1)
+abbrev pub compared_with : ℕ → Scope → Valued → List Token → Option (Comparison × List Token) → Read ValueOrCondition
+compared_with levels scope left rest None = Ok (found.Value left, rest)
+compared_with levels scope left rest (Some p) =
+    value_of levels scope left.kind p.1 >>= λ right.
+    pair_with_front scope left right.0 >>= λ x. Ok (found.Condition (test_of p.0 x), right.1)
 
--- behind the first operand of a value
-abbrev pub behind_operand : ℕ → Scope → Expression → List Token → Read ValueOrCondition
-behind_operand levels scope first tokens =
-    value_behind levels scope first tokens >>= λ left. compared_with (value_at levels scope) left.0 left.1 (next_comparison left.1)
+-- behind the first operand of a value, which begins at a byte
+abbrev pub behind_operand : ℕ → Scope → ℕ → Valued → List Token → Read ValueOrCondition
+behind_operand levels scope at first tokens =
+    value_behind levels scope at first tokens >>= λ left. compared_with levels scope left.0 left.1 (next_comparison left.1)
 
--- behind a bracket: a condition ends there, a value may go on
-abbrev pub behind_bracket : ℕ → Scope → ValueOrCondition → List Token → Read ValueOrCondition
-behind_bracket levels scope (found.Condition c) tokens = Ok (found.Condition c, tokens)
-behind_bracket levels scope (found.Value e) tokens = behind_operand levels scope e tokens
+-- behind a bracket, which begins at a byte: a condition ends there, a value may go on
+abbrev pub behind_bracket : ℕ → Scope → ℕ → ValueOrCondition → List Token → Read ValueOrCondition
+behind_bracket levels scope at (found.Condition c) tokens = Ok (found.Condition c, tokens)
+behind_bracket levels scope at (found.Value x) tokens = behind_operand levels scope at x tokens
 
 -- ---- `!`
 
@@ -58,23 +68,34 @@ negated (suc n) c = negated n (Not c)
 abbrev pub kept : ℕ → ℕ
 kept n = if nat_lt MOST_JOINS n then MOST_JOINS else n
 
+abbrev pub with_condition : Tested → Condition → Tested
+with_condition t c = record t { condition = c }
+
 -- a condition in brackets behind so many `!`
-abbrev pub negation_by : (List Token → Read Condition) → ℕ → List Token → Read ValueOrCondition
-negation_by bracket n tokens = bracket (drop n tokens) >>= λ x. Ok (found.Condition (negated (kept n) x.0), x.1)
+abbrev pub negation_by : (List Token → Read Tested) → ℕ → List Token → Read ValueOrCondition
+negation_by bracket n tokens = bracket (drop n tokens) >>= λ x. Ok (found.Condition (with_condition x.0 (negated (kept n) x.0.condition)), x.1)
 
 -- ---- what has no connective: `!` and a bracket, a bracket, or a first operand
 
 abbrev pub bracket_or_operand : (List Token → Read ValueOrCondition) → ℕ → Scope → List Token → Option (List Token) → Read ValueOrCondition
-bracket_or_operand bracket levels scope tokens (Some inner) = bracket tokens >>= λ x. behind_bracket levels scope x.0 x.1
-bracket_or_operand bracket levels scope tokens None = operand_at levels scope tokens >>= λ x. behind_operand levels scope x.0 x.1
+bracket_or_operand bracket levels scope tokens (Some inner) = bracket tokens >>= λ x. behind_bracket levels scope (place tokens) x.0 x.1
+bracket_or_operand bracket levels scope tokens None = operand_at levels scope tokens >>= λ x. behind_operand levels scope (place tokens) x.0 x.1
 
 -- with so many `!` before it
-abbrev pub primary_by : (List Token → Read ValueOrCondition) → (List Token → Read Condition) → ℕ → Scope → ℕ → List Token → Read ValueOrCondition
+abbrev pub primary_by : (List Token → Read ValueOrCondition) → (List Token → Read Tested) → ℕ → Scope → ℕ → List Token → Read ValueOrCondition
 primary_by bracket condition_bracket levels scope n tokens =
     if nat_lt 0 n then negation_by condition_bracket n tokens
     else bracket_or_operand bracket levels scope tokens (after_symbol symbol.LeftParenthesis tokens)
 
 -- ---- connectives, `&&` of tier 1 and `||` of tier 2
+
+-- behind a connective there is no `else`, since the condition there is not always evaluated
+abbrev pub without_else : Condition → Option ℕ → Outcome Condition
+without_else c None = Ok c
+without_else c (Some at) = bad at cause.Syntax
+
+abbrev pub part_by : (List Token → Read ValueOrCondition) → List Token → Read Condition
+part_by read tokens = condition_by read tokens >>= λ x. without_else x.0.condition x.0.else_at >>= λ c. Ok (c, x.1)
 
 abbrev pub connected : Connective → Condition → Condition → Condition
 connected connective.And c d = And c d
@@ -101,11 +122,16 @@ connection part tier (suc more) done left tokens =
     connected_with part (λ x. connection part tier more (done + 1) (connected_up done (tier_connective tier) left x.0) x.1) left tokens
     (after_symbol (tier_symbol tier) tokens)
 
+-- those of a tier, behind a condition
+abbrev pub connections_behind : (List Token → Read ValueOrCondition) → ℕ → Tested → List Token → Read ValueOrCondition
+connections_behind part tier t tokens =
+    connection (part_by part) (tier + 1) (length tokens) 0 t.condition tokens >>= λ x. Ok (found.Condition (with_condition t x.0), x.1)
+
 -- behind a part, which begins at a byte
 abbrev pub joined_from : (List Token → Read ValueOrCondition) → ℕ → ℕ → ValueOrCondition → List Token → Option (List Token) → Read ValueOrCondition
 joined_from part tier at left rest None = Ok (left, rest)
 joined_from part tier at left rest (Some behind) =
-    wanted at left >>= λ c. connection (condition_by part) (tier + 1) (length rest) 0 c rest >>= λ x. Ok (found.Condition x.0, x.1)
+    wanted at left >>= λ t. connections_behind part tier t rest
 
 -- parts of the tier below, and the connectives of this one
 abbrev pub connections_above : (List Token → Read ValueOrCondition) → ℕ → List Token → Read ValueOrCondition
@@ -139,7 +165,7 @@ abbrev pub bracket_at : ℕ → Scope → List Token → Read ValueOrCondition
 bracket_at zero scope tokens = no_bracket tokens
 bracket_at (suc levels) scope tokens = between (found_at levels scope) tokens
 
-abbrev pub condition_bracket_at : ℕ → Scope → List Token → Read Condition
+abbrev pub condition_bracket_at : ℕ → Scope → List Token → Read Tested
 condition_bracket_at zero scope tokens = no_bracket tokens
 condition_bracket_at (suc levels) scope tokens = between (condition_by (found_at levels scope)) tokens
 
@@ -150,5 +176,5 @@ abbrev pub connections_at : ℕ → Scope → ℕ → List Token → Read ValueO
 connections_at levels scope tier = connections_by (primary_at levels scope) tier
 
 -- a condition
-abbrev pub condition_at : ℕ → Scope → List Token → Read Condition
+abbrev pub condition_at : ℕ → Scope → List Token → Read Tested
 condition_at levels scope tokens = condition_by (found_at levels scope) tokens

@@ -3,6 +3,9 @@ pub mod CauseNames
 pub mod Comparisons
 pub mod Conditions
 pub mod Cursor
+pub mod Endings
+pub mod Kinds
+pub mod LookUps
 pub mod Outcome
 pub mod Room
 pub mod Scope

@@ -11,6 +11,7 @@ use Rattle.stm_tokens.specs.declared.token.Symbol.TheVariants as symbol
 use Rattle.stm_tokens.specs.Numbers.{number_length, value_from}
 use Rattle.stm_tokens.specs.Same.{is_symbol, is_word}
 use Rattle.stm_program.specs.declared.limits.TheConstants.{MAX_VARIABLE}
+use Rattle.stm_terms.specs.declared.kinds.Kind.{Kind}
 use Rattle.stm_terms.specs.declared.scope.Scope.{Scope}
 
 -- the place of a name among names, of which so many stand before these
@@ -43,9 +44,8 @@ variable_of scope name = bounded (if scope.numbered then numbered_variable name 
 
 -- ---- new names
 
-abbrev pub with_name : Scope → List ℕ → Scope
-with_name scope name =
-    record { numbered = scope.numbered; names = scope.names ++ name ∷ []; program = scope.program; arguments = scope.arguments }
+abbrev pub with_name : Scope → List ℕ → Kind → Scope
+with_name scope name k = record scope { names = scope.names ++ name ∷ []; kinds = scope.kinds ++ k ∷ [] }
 
 -- the first variable that has no name
 abbrev pub next_of : Scope → Option ℕ
@@ -89,11 +89,17 @@ abbrev pub not_numbered : List Token → Bool
 not_numbered [] = false
 not_numbered (a ∷ rest) = not (is_numbered a.kind)
 
+-- behind a bracket: an `else` of a look-up, for which variables are taken
+abbrev pub begins_else : List Token → Bool
+begins_else [] = false
+begins_else (a ∷ rest) = is_word word.Else a.kind
+
 -- what a token says of the program: that its variables have names, that they are numbered, or nothing
 abbrev pub says : Token → List Token → Option Bool
 says t ts =
     if is_numbered t.kind then Some true
-    else (if is_word word.Let t.kind || (is_word word.For t.kind && counts ts && not_numbered ts) then Some false else None)
+    else (if is_word word.Let t.kind || (is_word word.For t.kind && counts ts && not_numbered ts) || (is_symbol symbol.RightParenthesis t.kind && begins_else ts)
+    then Some false else None)
 
 -- how many braces are open behind a token, besides the body's own; none, where that is closed
 abbrev pub one_less : ℕ → Option ℕ

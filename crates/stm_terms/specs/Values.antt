@@ -1,5 +1,5 @@
 -- Values: the expression that tokens spell, or the first fault. A reader is given how many brackets may still be opened.
-use Rattle.std.specs.Prelude.{ℕ, zero, suc, ◌+◌, ◌^◌, pos, neg_ℤ, List, [], ◌∷◌, length, Option, Some, None, Ok, Err, nat_eq, nat_le, nat_lt, if◌then◌else◌}
+use Rattle.std.specs.Prelude.{ℕ, zero, suc, ◌+◌, ◌^◌, pos, neg_ℤ, List, [], ◌∷◌, ◌++◌, length, Option, Some, None, Ok, Err, nat_eq, nat_le, nat_lt, if◌then◌else◌}
 use Rattle.stm_tokens.specs.declared.token.Token.{Token}
 use Rattle.stm_tokens.specs.declared.token.TokenKind.{TokenKind}
 use Rattle.stm_tokens.specs.declared.token.TokenKind.TheVariants as kind
@@ -13,12 +13,20 @@ use Rattle.stm_program.specs.declared.operator.Operator.TheVariants.{Add, Sub, M
 use Rattle.stm_program.specs.Syntax.{Expression, Text, Number, Variable, Get, Rev, Arithmetic, Cat, TextOf, NumOf}
 use Rattle.stm_terms.specs.declared.faults.SourceCause.TheVariants as cause
 use Rattle.stm_terms.specs.declared.scope.Scope.{Scope}
+use Rattle.stm_terms.specs.declared.kinds.Kind.{Kind}
+use Rattle.stm_terms.specs.declared.kinds.Kind.TheVariants as value_kind
+use Rattle.stm_terms.specs.declared.kinds.Valued.{Valued}
+use Rattle.stm_terms.specs.Kinds.{valued, kind_of, want}
+use Rattle.stm_terms.specs.Endings.{asked_of}
 use Rattle.stm_terms.specs.declared.values.Call.{Call}
 use Rattle.stm_terms.specs.declared.values.Call.TheVariants as call
 use Rattle.stm_terms.specs.declared.values.Join.{Join}
 use Rattle.stm_terms.specs.declared.values.Join.TheVariants as join
 use Rattle.stm_terms.specs.Outcome.{Read, bad, ◌>>=◌}
-use Rattle.stm_terms.specs.Cursor.{place, unexpected, expect_symbol, next_number}
+use Rattle.stm_terms.specs.Cursor.{place, unexpected, after_word, expect_symbol, next_number}
+use Rattle.stm_terms.specs.declared.look_ups.LookUp.{LookUp}
+use Rattle.stm_terms.specs.declared.look_ups.Other.{Other}
+use Rattle.stm_terms.specs.LookUps.{look_up_as, other_as}
 use Rattle.stm_terms.specs.declared.arguments.Argument.{Argument}
 use Rattle.stm_terms.specs.declared.arguments.Argument.TheVariants as argument
 use Rattle.stm_terms.specs.declared.arguments.Given.{Given}
@@ -28,31 +36,31 @@ use Rattle.stm_terms.specs.declared.limits.TheConstants.{MOST_JOINS}
 
 -- ---- operands
 
-abbrev pub literal : ℕ → List ℕ → List Token → Read Expression
-literal at text rest = if nat_le (length text) MAX_TEXT then Ok (Text text, rest) else bad at cause.TooLong
+abbrev pub literal : Scope → ℕ → List ℕ → List Token → Read Valued
+literal scope at text rest = if nat_le (length text) MAX_TEXT then Ok (valued scope (Text text) value_kind.Text [], rest) else bad at cause.TooLong
 
-abbrev pub positive : ℕ → ℕ → List Token → Read Expression
-positive at n rest = if nat_lt n (2 ^ 63) then Ok (Number (pos n), rest) else bad at cause.Range
+abbrev pub positive : Scope → ℕ → ℕ → List Token → Read Valued
+positive scope at n rest = if nat_lt n (2 ^ 63) then Ok (valued scope (Number (pos n)) value_kind.Number [], rest) else bad at cause.Range
 
-abbrev pub negative : ℕ → ℕ → List Token → Read Expression
-negative at n rest = if nat_le n (2 ^ 63) then Ok (Number (neg_ℤ (pos n)), rest) else bad at cause.Range
+abbrev pub negative : Scope → ℕ → ℕ → List Token → Read Valued
+negative scope at n rest = if nat_le n (2 ^ 63) then Ok (valued scope (Number (neg_ℤ (pos n))) value_kind.Number [], rest) else bad at cause.Range
 
 -- behind a minus sign
-abbrev pub negation : List Token → Option (ℕ × List Token) → Read Expression
-negation tokens None = Err (unexpected tokens)
-negation tokens (Some p) = negative (place tokens) p.0 p.1
+abbrev pub negation : Scope → List Token → Option (ℕ × List Token) → Read Valued
+negation scope tokens None = Err (unexpected tokens)
+negation scope tokens (Some p) = negative scope (place tokens) p.0 p.1
 
 -- where either may come, an argument is not known yet: the empty text stands for it
-abbrev pub argument_value : ℕ → Argument → List Token → Read Expression
-argument_value at argument.Either rest = literal at [] rest
-argument_value at (argument.Text s) rest = literal at s rest
-argument_value at (argument.Number z) rest = Ok (Number z, rest)
+abbrev pub argument_value : Scope → ℕ → Argument → List Token → Read Valued
+argument_value scope at argument.Either rest = Ok (valued scope (Text []) value_kind.Either [], rest)
+argument_value scope at (argument.Text s) rest = literal scope at s rest
+argument_value scope at (argument.Number z) rest = Ok (valued scope (Number z) value_kind.Number [], rest)
 
 -- a name is that of a variable, or a parameter
-abbrev pub named : ℕ → Option ℕ → Option Given → List Token → Read Expression
-named at (Some v) given rest = Ok (Variable v, rest)
-named at None (Some g) rest = argument_value g.at g.argument rest
-named at None None rest = bad at cause.Name
+abbrev pub named : Scope → ℕ → Option ℕ → Option Given → List Token → Read Valued
+named scope at (Some v) given rest = Ok (valued scope (Variable v) (kind_of scope v) [], rest)
+named scope at None (Some g) rest = argument_value scope g.at g.argument rest
+named scope at None None rest = bad at cause.Name
 
 -- what is computed of one value
 abbrev pub call_of : Word → Option Call
@@ -69,36 +77,93 @@ called call.Rev e = Rev e
 called call.NumOf e = NumOf e
 called call.TextOf e = TextOf e
 
-abbrev pub call_by : (List Token → Read Expression) → List Token → List Token → Option Call → Read Expression
-call_by bracketed tokens rest None = Err (unexpected tokens)
-call_by bracketed tokens rest (Some c) = bracketed rest >>= λ x. Ok (called c x.0, x.1)
+-- what it is computed of, and what comes of that
+abbrev pub argument_kind : Call → Kind
+argument_kind call.Get = value_kind.Text
+argument_kind call.Rev = value_kind.Text
+argument_kind call.NumOf = value_kind.Text
+argument_kind call.TextOf = value_kind.Number
+
+abbrev pub call_kind : Call → Kind
+call_kind call.Get = value_kind.Text
+call_kind call.Rev = value_kind.Number
+call_kind call.NumOf = value_kind.Number
+call_kind call.TextOf = value_kind.Text
+
+-- a value of a kind in brackets
+abbrev pub Bracketed : Type 0
+Bracketed = Kind → List Token → Read Valued
+
+-- the value behind an `else`: a text, or a name
+abbrev pub other_kind : Scope → TokenKind → List Token → List Token → Read Valued
+other_kind scope (kind.Text s) tokens rest = literal scope (place tokens) s rest
+other_kind scope (kind.Number n) tokens rest = positive scope (place tokens) n rest
+other_kind scope (kind.Name n) tokens rest = named scope (place tokens) (variable_of scope n) (given_named scope.arguments n) rest
+other_kind scope (kind.Word w) tokens rest = Err (unexpected tokens)
+other_kind scope (kind.Symbol s) tokens rest = Err (unexpected tokens)
+other_kind scope kind.Wrong tokens rest = Err (unexpected tokens)
+other_kind scope kind.End tokens rest = Err (unexpected tokens)
+
+unfoldable pub other_value : Scope → List Token → Read Valued
+other_value scope [] = Err (unexpected [])
+other_value scope (t ∷ ts) = other_kind scope t.kind (t ∷ ts) ts
+
+-- behind an `else`, which begins at a byte. Where variables are called by their numbers, none is free for it
+abbrev pub other_behind : Scope → List Token → List Token → Read (Option Other)
+other_behind scope tokens behind =
+    if scope.numbered then Err (unexpected tokens)
+    else (other_value scope behind >>= λ x.
+    want scope value_kind.Text x.0.kind (place behind) >>= λ u. Ok (Some (other_as (place tokens) x.0.expression), x.1))
+
+abbrev pub other_by : Scope → List Token → Option (List Token) → Read (Option Other)
+other_by scope tokens None = Ok (None, tokens)
+other_by scope tokens (Some behind) = other_behind scope tokens behind
+
+-- the look-ups of something computed, which begins at a byte, of a value with these
+abbrev pub call_look_ups : Scope → Call → ℕ → List LookUp → List Token → Read (List LookUp)
+call_look_ups scope call.Get at ls tokens = other_by scope tokens (after_word word.Else tokens) >>= λ o. Ok (ls ++ look_up_as at o.0 ∷ [], o.1)
+call_look_ups scope call.Rev at ls tokens = Ok (ls ++ look_up_as at None ∷ [], tokens)
+call_look_ups scope call.NumOf at ls tokens = Ok (ls, tokens)
+call_look_ups scope call.TextOf at ls tokens = Ok (ls, tokens)
+
+abbrev pub call_by : Bracketed → Scope → List Token → List Token → Option Call → Read Valued
+call_by bracketed scope tokens rest None = Err (unexpected tokens)
+call_by bracketed scope tokens rest (Some c) =
+    bracketed (argument_kind c) rest >>= λ x.
+    call_look_ups scope c (place tokens) x.0.look_ups x.1 >>= λ ls. Ok (valued scope (called c x.0.expression) (call_kind c) ls.0, ls.1)
 
 -- a value in brackets, a number below 0; a condition has no place here
-abbrev pub signed : (List Token → Read Expression) → Symbol → List Token → List Token → Read Expression
-signed bracketed s tokens rest =
-    if same_symbol s symbol.LeftParenthesis then bracketed tokens
-    else (if same_symbol s symbol.Subtract then negation rest (next_number rest)
+abbrev pub signed : Bracketed → Scope → Symbol → List Token → List Token → Read Valued
+signed bracketed scope s tokens rest =
+    if same_symbol s symbol.LeftParenthesis then bracketed value_kind.Either tokens
+    else (if same_symbol s symbol.Subtract then negation scope rest (next_number rest)
     else (if same_symbol s symbol.Not then bad (place tokens) cause.Sort
     else Err (unexpected tokens)))
 
-abbrev pub operand_kind : (List Token → Read Expression) → Scope → TokenKind → List Token → List Token → Read Expression
-operand_kind bracketed scope (kind.Text s) tokens rest = literal (place tokens) s rest
-operand_kind bracketed scope (kind.Number n) tokens rest = positive (place tokens) n rest
-operand_kind bracketed scope (kind.Name n) tokens rest = named (place tokens) (variable_of scope n) (given_named scope.arguments n) rest
-operand_kind bracketed scope (kind.Word w) tokens rest = call_by bracketed tokens rest (call_of w)
-operand_kind bracketed scope (kind.Symbol s) tokens rest = signed bracketed s tokens rest
-operand_kind bracketed scope kind.Wrong tokens rest = Err (unexpected tokens)
-operand_kind bracketed scope kind.End tokens rest = Err (unexpected tokens)
+abbrev pub operand_kind : ℕ → Bracketed → Scope → TokenKind → List Token → List Token → Read Valued
+operand_kind levels bracketed scope (kind.Text s) tokens rest = literal scope (place tokens) s rest
+operand_kind levels bracketed scope (kind.Number n) tokens rest = positive scope (place tokens) n rest
+operand_kind levels bracketed scope (kind.Name n) tokens rest =
+    asked_of levels scope (place tokens) n (named scope (place tokens) (variable_of scope n) (given_named scope.arguments n) rest) rest scope.runners
+operand_kind levels bracketed scope (kind.Word w) tokens rest = call_by bracketed scope tokens rest (call_of w)
+operand_kind levels bracketed scope (kind.Symbol s) tokens rest = signed bracketed scope s tokens rest
+operand_kind levels bracketed scope kind.Wrong tokens rest = Err (unexpected tokens)
+operand_kind levels bracketed scope kind.End tokens rest = Err (unexpected tokens)
 
-unfoldable pub operand_by : (List Token → Read Expression) → Scope → List Token → Read Expression
-operand_by bracketed scope [] = Err (unexpected [])
-operand_by bracketed scope (t ∷ ts) = operand_kind bracketed scope t.kind (t ∷ ts) ts
+unfoldable pub operand_by : ℕ → Bracketed → Scope → List Token → Read Valued
+operand_by levels bracketed scope [] = Err (unexpected [])
+operand_by levels bracketed scope (t ∷ ts) = operand_kind levels bracketed scope t.kind (t ∷ ts) ts
 
 -- ---- operators, the strongest of tier 1
 
 abbrev pub joined : Join → Expression → Expression → Expression
 joined (join.Arithmetic o) l r = Arithmetic o l r
 joined join.Concatenate l r = Cat l r
+
+-- what it joins, and what comes of that
+abbrev pub join_kind : Join → Kind
+join_kind (join.Arithmetic o) = value_kind.Number
+join_kind join.Concatenate = value_kind.Text
 
 abbrev pub strong_join : Symbol → Option Join
 strong_join s =
@@ -133,57 +198,72 @@ next_join tier [] = None
 next_join tier (t ∷ ts) = with_rest ts (join_in tier t.kind)
 
 -- a chain with more operators than this is too deep, whatever follows
-abbrev pub joined_up : ℕ → Join → Expression → Expression → Expression
-joined_up done j l r = if nat_lt done MOST_JOINS then joined j l r else l
+abbrev pub joined_up : Scope → ℕ → Join → Valued → Valued → Valued
+joined_up scope done j l r = if nat_lt done MOST_JOINS then valued scope (joined j l.expression r.expression) (join_kind j) (l.look_ups ++ r.look_ups) else l
 
-abbrev pub chained : (List Token → Read Expression) → (Join → Expression × List Token → Read Expression) → Expression → List Token
-    → Option (Join × List Token) → Read Expression
-chained operand more left tokens None = Ok (left, tokens)
-chained operand more left tokens (Some p) = operand p.1 >>= λ x. more p.0 x
+-- the right side of an operator behind so many, and what it and the left one, which begins at a byte, are joined to
+abbrev pub joined_right : Scope → ℕ → (List Token → Read Valued) → ℕ → Join → Valued → List Token → Read Valued
+joined_right scope at operand done j left tokens =
+    want scope (join_kind j) left.kind at >>= λ u.
+    operand tokens >>= λ right.
+    want scope (join_kind j) right.0.kind (place tokens) >>= λ v. Ok (joined_up scope done j left right.0, right.1)
+
+abbrev pub Right : Type 0
+Right = ℕ → Join → Valued → List Token → Read Valued
+
+abbrev pub chained : (Join → List Token → Read Valued) → (Valued × List Token → Read Valued) → Valued → List Token → Option (Join × List Token) → Read Valued
+chained right more left tokens None = Ok (left, tokens)
+chained right more left tokens (Some p) = right p.0 p.1 >>= λ x. more x
 
 -- the operators of a tier, from left to right, behind an operand, at most so many
-unfoldable pub chain : (List Token → Read Expression) → ℕ → ℕ → ℕ → Expression → List Token → Read Expression
-chain operand tier zero done left tokens = Ok (left, tokens)
-chain operand tier (suc more) done left tokens =
-    chained operand (λ j x. chain operand tier more (done + 1) (joined_up done j left x.0) x.1) left tokens (next_join tier tokens)
+unfoldable pub chain : Right → ℕ → ℕ → ℕ → Valued → List Token → Read Valued
+chain right tier zero done left tokens = Ok (left, tokens)
+chain right tier (suc more) done left tokens =
+    chained (λ j ts. right done j left ts) (λ x. chain right tier more (done + 1) x.0 x.1) left tokens (next_join tier tokens)
 
--- behind a first operand, the operators of a tier and of the stronger ones, each with its right operand
-unfoldable pub behind_by : (List Token → Read Expression) → ℕ → Expression → List Token → Read Expression
-behind_by operand zero first tokens = Ok (first, tokens)
-behind_by operand (suc tier) first tokens =
-    behind_by operand tier first tokens >>= λ left.
-    chain (λ ts. operand ts >>= λ x. behind_by operand tier x.0 x.1) (tier + 1) (length left.1) 0 left.0 left.1
+-- behind a first operand, which begins at a byte, the operators of a tier and of the stronger ones, each with its right operand
+unfoldable pub behind_by : (List Token → Read Valued) → Scope → ℕ → ℕ → Valued → List Token → Read Valued
+behind_by operand scope zero at first tokens = Ok (first, tokens)
+behind_by operand scope (suc tier) at first tokens =
+    behind_by operand scope tier at first tokens >>= λ left.
+    chain (joined_right scope at (λ ts. operand ts >>= λ x. behind_by operand scope tier (place ts) x.0 x.1)) (tier + 1) (length left.1) 0 left.0 left.1
 
-abbrev pub tier_by : (List Token → Read Expression) → ℕ → List Token → Read Expression
-tier_by operand tier tokens = operand tokens >>= λ x. behind_by operand tier x.0 x.1
+abbrev pub tier_by : (List Token → Read Valued) → Scope → ℕ → List Token → Read Valued
+tier_by operand scope tier tokens = operand tokens >>= λ x. behind_by operand scope tier (place tokens) x.0 x.1
 
 -- those of a tier and of the stronger ones, and then those of the one above it
-abbrev pub tier_behind : (List Token → Read Expression) → ℕ → Expression → List Token → Read Expression
-tier_behind operand tier first tokens =
-    behind_by operand tier first tokens >>= λ left. chain (tier_by operand tier) (tier + 1) (length left.1) 0 left.0 left.1
+abbrev pub tier_behind : (List Token → Read Valued) → Scope → ℕ → ℕ → Valued → List Token → Read Valued
+tier_behind operand scope tier at first tokens =
+    behind_by operand scope tier at first tokens >>= λ left.
+    chain (joined_right scope at (tier_by operand scope tier)) (tier + 1) (length left.1) 0 left.0 left.1
 
--- a value between brackets
-abbrev pub bracketed_by : (List Token → Read Expression) → List Token → Read Expression
-bracketed_by value tokens =
+-- a value of a kind between brackets
+abbrev pub bracketed_by : Scope → (List Token → Read Valued) → Kind → List Token → Read Valued
+bracketed_by scope value wanted tokens =
     expect_symbol symbol.LeftParenthesis tokens >>= λ inner.
     value inner >>= λ x.
+    want scope wanted x.0.kind (place inner) >>= λ u.
     expect_symbol symbol.RightParenthesis x.1 >>= λ rest. Ok (x.0, rest)
 
 -- where so many brackets may still be opened
-unfoldable pub bracketed_at : ℕ → Scope → List Token → Read Expression
-bracketed_at zero scope tokens = Err (unexpected tokens)
-bracketed_at (suc levels) scope tokens = bracketed_by (tier_by (operand_by (bracketed_at levels scope) scope) 3) tokens
+unfoldable pub bracketed_at : ℕ → Scope → Kind → List Token → Read Valued
+bracketed_at zero scope wanted tokens = Err (unexpected tokens)
+bracketed_at (suc levels) scope wanted tokens = bracketed_by scope (tier_by (operand_by levels (bracketed_at levels scope) scope) scope 3) wanted tokens
 
-abbrev pub operand_at : ℕ → Scope → List Token → Read Expression
-operand_at levels scope = operand_by (bracketed_at levels scope) scope
+abbrev pub operand_at : ℕ → Scope → List Token → Read Valued
+operand_at levels scope = operand_by levels (bracketed_at levels scope) scope
 
-abbrev pub tier_at : ℕ → Scope → ℕ → List Token → Read Expression
-tier_at levels scope tier = tier_by (operand_at levels scope) tier
+abbrev pub tier_at : ℕ → Scope → ℕ → List Token → Read Valued
+tier_at levels scope tier = tier_by (operand_at levels scope) scope tier
 
 -- a value: all three tiers
-abbrev pub value_at : ℕ → Scope → List Token → Read Expression
+abbrev pub value_at : ℕ → Scope → List Token → Read Valued
 value_at levels scope tokens = tier_at levels scope 3 tokens
 
--- the rest of a value behind its first operand
-abbrev pub value_behind : ℕ → Scope → Expression → List Token → Read Expression
-value_behind levels scope first tokens = behind_by (operand_at levels scope) 3 first tokens
+-- a value of a kind
+abbrev pub value_of : ℕ → Scope → Kind → List Token → Read Valued
+value_of levels scope wanted tokens = value_at levels scope tokens >>= λ x. want scope wanted x.0.kind (place tokens) >>= λ u. Ok x
+
+-- the rest of a value behind its first operand, which begins at a byte
+abbrev pub value_behind : ℕ → Scope → ℕ → Valued → List Token → Read Valued
+value_behind levels scope at first tokens = behind_by (operand_at levels scope) scope 3 at first tokens

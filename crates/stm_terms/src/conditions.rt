@@ -5,26 +5,39 @@ ghost use Rattle.stm_terms.specs.Cursor as cursor;
 ghost use Rattle.stm_terms.specs.Outcome.{Returns};
 ghost use Rattle.stm_terms.specs.Comparisons as comparisons;
 ghost use Rattle.stm_terms.specs.Conditions as spec;
-ghost use Rattle.stm_terms.specs.Values.{value_at};
 
-use crate::comparisons::{compared, next_comparison, not};
+use crate::comparisons::{Comparison, compared, next_comparison, not};
 use crate::cursor::{after_symbol, expect_symbol, place, unexpected};
 use crate::faults::{SourceCause, SourceError, fault};
+use crate::kinds::Valued;
 use crate::limits::MOST_JOINS;
+use crate::look_ups::{FrontedPair, pair_with_front};
 use crate::scope::Scope;
-use crate::values::{first_operand, value, value_behind};
+use crate::values::{first_operand, value_behind, value_of};
 use std::alloc::{AllocError, Global};
 use std::sync::Arc;
-use stm_program::{Cond, CondNode, Expr};
+use stm_history::Sequence;
+use stm_program::{Cond, CondNode, Stmt};
 use stm_tokens::{Symbol, Token};
+
+/// A condition that was read.
+#[derive(Debug, Drop)]
+pub struct Tested {
+    /// What is set in front of its statement.
+    pub front: Sequence<Stmt>,
+    /// The condition.
+    pub condition: Cond,
+    /// Where the first `else` of a look-up stands in it.
+    pub else_at: Option<usize>,
+}
 
 /// What begins where a condition is wanted, as it turns out.
 #[derive(Debug, Drop)]
 pub enum ValueOrCondition {
     /// A value.
-    Value(Expr),
+    Value(Valued),
     /// A condition.
-    Condition(Cond),
+    Condition(Tested),
 }
 
 /// What joins two conditions.
@@ -37,13 +50,31 @@ pub enum Connective {
 }
 
 /// The condition that is wanted where this was found, which begins at a byte.
-fn wanted(at: usize, found: ValueOrCondition) -> Result<Cond, SourceError>
+fn wanted(at: usize, found: ValueOrCondition) -> Result<Tested, SourceError>
     ensures { Returns (λ c. c) result (spec.wanted at found) }
 {
     match found {
-        ValueOrCondition::Condition(condition) => Ok(condition),
+        ValueOrCondition::Condition(tested) => Ok(tested),
         ValueOrCondition::Value(_) => Err(fault(at, SourceCause::Sort)),
     }
+}
+
+/// A comparison, behind what is set in front of its statement.
+fn test_of(alloc: Global, comparison: Comparison, pair: FrontedPair) -> Result<Tested, AllocError>
+    ensures { IfOk result (λ t. t ≡ spec.test_of comparison pair) }
+{
+    let FrontedPair {
+        front,
+        else_at,
+        left,
+        right,
+    } = pair;
+    let condition = compared(alloc, comparison, left, right)?;
+    Ok(Tested {
+        front,
+        condition,
+        else_at,
+    })
 }
 
 /// What a value and what stands behind it are: a comparison, if one follows, else the value.
@@ -51,48 +82,49 @@ fn compared_with<'a>(
     alloc: Global,
     scope: &Scope,
     levels: usize,
-    left: Expr,
+    left: Valued,
     tokens: &'a [Token],
 ) -> Result<(ValueOrCondition, &'a [Token]), SourceError>
-    ensures { Returns (λ x. (x.0, x.1.now)) result (spec.compared_with (value_at levels scope.now) left tokens.now (comparisons.next_comparison tokens.now)) }
+    ensures { Returns (λ x. (x.0, x.1.now)) result (spec.compared_with levels scope.now left tokens.now (comparisons.next_comparison tokens.now)) }
 {
     let Some((comparison, rest)) = next_comparison(tokens) else {
         return Ok((ValueOrCondition::Value(left), tokens));
     };
-    let (right, rest) = value(alloc, scope, levels, rest)?;
-    let condition = compared(alloc, comparison, left, right)?;
-    Ok((ValueOrCondition::Condition(condition), rest))
+    let (right, rest) = value_of(alloc, scope, levels, left.kind, rest)?;
+    let pair = pair_with_front(alloc, scope, left, right)?;
+    let tested = test_of(alloc, comparison, pair)?;
+    Ok((ValueOrCondition::Condition(tested), rest))
 }
 
-/// What begins with a first operand.
+/// What begins with a first operand, which begins at a byte.
 fn behind_operand<'a>(
     alloc: Global,
     scope: &Scope,
     levels: usize,
-    first: Expr,
+    at: usize,
+    first: Valued,
     tokens: &'a [Token],
 ) -> Result<(ValueOrCondition, &'a [Token]), SourceError>
-    ensures { Returns (λ x. (x.0, x.1.now)) result (spec.behind_operand levels scope.now first tokens.now) }
+    ensures { Returns (λ x. (x.0, x.1.now)) result (spec.behind_operand levels scope.now at first tokens.now) }
 {
-    let (left, rest) = value_behind(alloc, scope, levels, first, tokens)?;
+    let (left, rest) = value_behind(alloc, scope, levels, at, first, tokens)?;
     compared_with(alloc, scope, levels, left, rest)
 }
 
-/// What begins with a bracket in which this was found: a condition ends with it, a value may go on.
+/// What begins with a bracket at a byte, in which this was found: a condition ends with it, a value may go on.
 fn behind_bracket<'a>(
     alloc: Global,
     scope: &Scope,
     levels: usize,
+    at: usize,
     found: ValueOrCondition,
     tokens: &'a [Token],
 ) -> Result<(ValueOrCondition, &'a [Token]), SourceError>
-    ensures { Returns (λ x. (x.0, x.1.now)) result (spec.behind_bracket levels scope.now found tokens.now) }
+    ensures { Returns (λ x. (x.0, x.1.now)) result (spec.behind_bracket levels scope.now at found tokens.now) }
 {
     match found {
-        ValueOrCondition::Condition(condition) => {
-            Ok((ValueOrCondition::Condition(condition), tokens))
-        }
-        ValueOrCondition::Value(first) => behind_operand(alloc, scope, levels, first, tokens),
+        ValueOrCondition::Condition(tested) => Ok((ValueOrCondition::Condition(tested), tokens)),
+        ValueOrCondition::Value(first) => behind_operand(alloc, scope, levels, at, first, tokens),
     }
 }
 
@@ -119,6 +151,21 @@ fn negated(alloc: Global, count: usize, condition: Cond) -> Result<Cond, AllocEr
         condition = not(alloc, condition)?;
     }
     Ok(condition)
+}
+
+/// A condition behind a connective: an `else` in it is `Syntax`.
+fn without_else(tested: Tested) -> Result<Cond, SourceError>
+    ensures { Returns (λ c. c) result (spec.without_else tested.condition tested.else_at) }
+{
+    let Tested {
+        condition,
+        else_at,
+        ..
+    } = tested;
+    match else_at {
+        Some(at) => Err(fault(at, SourceCause::Syntax)),
+        None => Ok(condition),
+    }
 }
 
 /// Two conditions and what joins them, which is the last one of a chain with so many before it.
@@ -172,6 +219,23 @@ fn kept(count: usize) -> usize
     }
 }
 
+/// The same of a condition that was read.
+fn all_negated(alloc: Global, count: usize, tested: Tested) -> Result<Tested, AllocError>
+    ensures { IfOk result (λ t. t ≡ spec.with_condition tested (spec.negated count tested.condition)) }
+{
+    let Tested {
+        front,
+        condition,
+        else_at,
+    } = tested;
+    let condition = negated(alloc, count, condition)?;
+    Ok(Tested {
+        front,
+        condition,
+        else_at,
+    })
+}
+
 /// The condition behind so many `!`.
 #[cycle(read_conditions)]
 fn negation<'a>(
@@ -185,9 +249,9 @@ fn negation<'a>(
     ensures { Returns (λ x. (x.0, x.1.now)) result (spec.negation_by (spec.condition_bracket_at levels scope.now) count tokens.now) }
 {
     let (_, behind) = tokens.split_at(count);
-    let (condition, rest) = condition_bracket(alloc, scope, levels, behind)?;
-    let condition = negated(alloc, kept(count), condition)?;
-    Ok((ValueOrCondition::Condition(condition), rest))
+    let (tested, rest) = condition_bracket(alloc, scope, levels, behind)?;
+    let tested = all_negated(alloc, kept(count), tested)?;
+    Ok((ValueOrCondition::Condition(tested), rest))
 }
 
 /// What begins with a bracket or a first operand.
@@ -203,11 +267,11 @@ fn bracket_or_operand<'a>(
     match after_symbol(tokens, Symbol::LeftParenthesis) {
         Some(_) => {
             let (found, rest) = bracket(alloc, scope, levels, tokens)?;
-            behind_bracket(alloc, scope, levels, found, rest)
+            behind_bracket(alloc, scope, levels, place(tokens), found, rest)
         }
         None => {
             let (first, rest) = first_operand(alloc, scope, levels, tokens)?;
-            behind_operand(alloc, scope, levels, first, rest)
+            behind_operand(alloc, scope, levels, place(tokens), first, rest)
         }
     }
 }
@@ -229,7 +293,7 @@ fn primary<'a>(
     bracket_or_operand(alloc, scope, levels, tokens)
 }
 
-/// A condition of the connectives of a tier and of the stronger one.
+/// A condition of the connectives of a tier and of the stronger one, behind a connective.
 #[cycle(read_conditions)]
 fn part<'a>(
     alloc: Global,
@@ -239,10 +303,11 @@ fn part<'a>(
     tokens: &'a [Token],
 ) -> Result<(Cond, &'a [Token]), SourceError>
     requires { tier ≤ 2 }
-    ensures { Returns (λ x. (x.0, x.1.now)) result (spec.condition_by (spec.connections_at levels scope.now tier) tokens.now) }
+    ensures { Returns (λ x. (x.0, x.1.now)) result (spec.part_by (spec.connections_at levels scope.now tier) tokens.now) }
 {
     let (found, rest) = connections(alloc, scope, levels, tier, tokens)?;
-    let condition = wanted(place(tokens), found)?;
+    let tested = wanted(place(tokens), found)?;
+    let condition = without_else(tested)?;
     Ok((condition, rest))
 }
 
@@ -257,7 +322,7 @@ fn connection<'a>(
     tokens: &'a [Token],
 ) -> Result<(Cond, &'a [Token]), SourceError>
     requires { tier ≤ 2 }
-    ensures { Returns (λ x. (x.0, x.1.now)) result (spec.connection (spec.condition_by (spec.connections_at levels scope.now tier)) (tier + 1) (length tokens.now) 0 left tokens.now) }
+    ensures { Returns (λ x. (x.0, x.1.now)) result (spec.connection (spec.part_by (spec.connections_at levels scope.now tier)) (tier + 1) (length tokens.now) 0 left tokens.now) }
 {
     let mut left = left;
     let mut rest = tokens;
@@ -306,6 +371,33 @@ fn next_connections<'a>(
     joined_from(alloc, scope, levels, tier, place(tokens), left, rest)
 }
 
+/// The connectives of a tier behind a condition.
+#[cycle(read_conditions)]
+fn connected<'a>(
+    alloc: Global,
+    scope: &Scope,
+    levels: usize,
+    tier: usize,
+    left: Tested,
+    tokens: &'a [Token],
+) -> Result<(ValueOrCondition, &'a [Token]), SourceError>
+    requires { tier ≤ 2 }
+    ensures { Returns (λ x. (x.0, x.1.now)) result (spec.connections_behind (spec.connections_at levels scope.now tier) tier left tokens.now) }
+{
+    let Tested {
+        front,
+        condition,
+        else_at,
+    } = left;
+    let (condition, rest) = connection(alloc, scope, levels, tier, condition, tokens)?;
+    let tested = Tested {
+        front,
+        condition,
+        else_at,
+    };
+    Ok((ValueOrCondition::Condition(tested), rest))
+}
+
 /// What a part of a tier, which begins at a byte, and the connectives behind it are.
 #[cycle(read_conditions)]
 fn joined_from<'a>(
@@ -323,9 +415,8 @@ fn joined_from<'a>(
     match after_symbol(tokens, tier_symbol(tier + 1)) {
         None => Ok((left, tokens)),
         Some(_) => {
-            let left = wanted(at, left)?;
-            let (condition, rest) = connection(alloc, scope, levels, tier, left, tokens)?;
-            Ok((ValueOrCondition::Condition(condition), rest))
+            let tested = wanted(at, left)?;
+            connected(alloc, scope, levels, tier, tested, tokens)
         }
     }
 }
@@ -382,7 +473,7 @@ fn condition_bracket<'a>(
     scope: &Scope,
     levels: usize,
     tokens: &'a [Token],
-) -> Result<(Cond, &'a [Token]), SourceError>
+) -> Result<(Tested, &'a [Token]), SourceError>
     ensures { Returns (λ x. (x.0, x.1.now)) result (spec.condition_bracket_at levels scope.now tokens.now) }
 {
     if levels == 0 {
@@ -398,7 +489,7 @@ fn condition_between<'a>(
     scope: &Scope,
     levels: usize,
     tokens: &'a [Token],
-) -> Result<(Cond, &'a [Token]), SourceError>
+) -> Result<(Tested, &'a [Token]), SourceError>
     ensures { Returns (λ x. (x.0, x.1.now)) result (spec.between (spec.condition_by (spec.found_at levels scope.now)) tokens.now) }
 {
     let inner = expect_symbol(tokens, Symbol::LeftParenthesis)?;
@@ -414,12 +505,12 @@ fn found_condition<'a>(
     scope: &Scope,
     levels: usize,
     tokens: &'a [Token],
-) -> Result<(Cond, &'a [Token]), SourceError>
+) -> Result<(Tested, &'a [Token]), SourceError>
     ensures { Returns (λ x. (x.0, x.1.now)) result (spec.condition_by (spec.found_at levels scope.now) tokens.now) }
 {
     let (found, rest) = found(alloc, scope, levels, tokens)?;
-    let condition = wanted(place(tokens), found)?;
-    Ok((condition, rest))
+    let tested = wanted(place(tokens), found)?;
+    Ok((tested, rest))
 }
 
 /// A condition, within which so many brackets may still be opened.
@@ -431,7 +522,7 @@ pub fn condition<'a>(
     scope: &Scope,
     levels: usize,
     tokens: &'a [Token],
-) -> Result<(Cond, &'a [Token]), SourceError>
+) -> Result<(Tested, &'a [Token]), SourceError>
     ensures { Returns (λ x. (x.0, x.1.now)) result (spec.condition_at levels scope.now tokens.now) }
 {
     found_condition(alloc, scope, levels, tokens)

@@ -4,6 +4,8 @@ ghost use Rattle.stm_program.specs.declared.limits.TheConstants.{MAX_VARIABLE};
 ghost use Rattle.stm_terms.specs.Scope as spec;
 
 use crate::arguments::Arguments;
+use crate::endings::Runners;
+use crate::kinds::Kind;
 use crate::shared::Shared;
 use std::alloc::{AllocError, Global};
 use stm_history::{Sequence, Text};
@@ -18,23 +20,18 @@ pub struct Scope {
     pub numbered: bool,
     /// The names in sight. Each is at the place of its variable's number.
     pub names: Sequence<SharedText>,
+    /// What the variables of these names are.
+    pub kinds: Sequence<Kind>,
+    /// Whether kinds are looked at.
+    pub looks_at_kinds: bool,
+    /// Where a value of another kind than is wanted is blamed, if not where it stands.
+    pub kinds_at: Option<usize>,
     /// Where the program begins: the place of what is wrong with it as a whole.
     pub program: usize,
     /// Its parameters.
     pub arguments: Shared<Arguments>,
-}
-
-/// The place of a name among names.
-pub fn index_of(name: &str, names: &[Text]) -> Option<usize>
-    ensures is { result ≡ spec.index_of name.now names.now }
-    ensures within { IfSome result (λ n. n < length names.now) }
-{
-    for (index, other) in names.iter().enumerate() {
-        if other.as_str() == name {
-            return Some(index);
-        }
-    }
-    None
+    /// In a final, the runners that it names.
+    pub runners: Option<Shared<Runners>>,
 }
 
 /// The place of a name among names that are shared.
@@ -71,6 +68,30 @@ pub fn numbered_variable(name: &str) -> Option<u64>
     }
 }
 
+/// A copy of kinds. It fails only when out of memory.
+fn copy_of_kinds(alloc: Global, kinds: &[Kind]) -> Result<Sequence<Kind>, AllocError>
+    ensures { IfOk result (λ copy. copy ≡ kinds.now) }
+{
+    let mut copy = Sequence::new(alloc);
+    for kind in kinds {
+        copy.push(*kind)?;
+    }
+    Ok(copy)
+}
+
+/// One more owner of the runners of a final. It fails only when out of memory.
+fn copy_of_runners(runners: &Option<Shared<Runners>>) -> Result<Option<Shared<Runners>>, AllocError>
+    ensures { IfOk result (λ copy. copy ≡ runners.now) }
+{
+    match runners {
+        Some(runners) => {
+            let runners = runners.clone()?;
+            Ok(Some(runners))
+        }
+        None => Ok(None),
+    }
+}
+
 impl Scope {
     /// The number of the variable of a name that is in sight.
     #[tactic(auto, unfolding(crate::specs::Scope::variable_of))]
@@ -101,8 +122,12 @@ impl Scope {
         Ok(Scope {
             numbered: self.numbered,
             names,
+            kinds: copy_of_kinds(alloc, self.kinds.as_slice())?,
+            looks_at_kinds: self.looks_at_kinds,
+            kinds_at: self.kinds_at,
             program: self.program,
             arguments: self.arguments.clone()?,
+            runners: copy_of_runners(&self.runners)?,
         })
     }
 
@@ -134,13 +159,14 @@ impl Scope {
             && !self.arguments.get().contains(name)
     }
 
-    /// Gives a name to the next variable. It fails only when out of memory.
-    pub fn give(&mut self, alloc: Global, name: &str) -> Result<(), AllocError>
-        ensures { OnOk result (self.new ≡ spec.with_name self.old name.now) }
+    /// Gives a name to the next variable, which is of a kind. It fails only when out of memory.
+    pub fn give(&mut self, alloc: Global, name: &str, kind: Kind) -> Result<(), AllocError>
+        ensures { OnOk result (self.new ≡ spec.with_name self.old name.now kind) }
     {
         let name = Text::copy_of(alloc, name)?;
         let name = SharedText::new(alloc, name)?;
         self.names.push(name)?;
+        self.kinds.push(kind)?;
         Ok(())
     }
 }
@@ -189,6 +215,16 @@ fn is_not_numbered(tokens: &[Token]) -> bool
     }
 }
 
+/// Whether the next token is an `else`.
+fn begins_else(tokens: &[Token]) -> bool
+    ensures { result ≡ spec.begins_else tokens.now }
+{
+    match tokens.first() {
+        Some(token) => token.kind.is_word(Word::Else),
+        None => false,
+    }
+}
+
 /// What a token says of the program that it stands in, by the tokens behind it: that its variables are numbered, or that they are not, or nothing.
 fn says(token: &Token, rest: &[Token]) -> Option<bool>
     ensures { result ≡ spec.says token.now rest.now }
@@ -202,11 +238,14 @@ fn says(token: &Token, rest: &[Token]) -> Option<bool>
     if token.kind.is_word(Word::For) && counts(rest) && is_not_numbered(rest) {
         return Some(false);
     }
+    if token.kind.is_symbol(Symbol::RightParenthesis) && begins_else(rest) {
+        return Some(false);
+    }
     None
 }
 
 /// How many braces are open behind a token, besides the body's own; none, where that is closed.
-fn braces_behind(kind: &TokenKind, depth: usize) -> Option<usize>
+pub fn braces_behind(kind: &TokenKind, depth: usize) -> Option<usize>
     requires { depth < 2 ^ 63 }
     ensures is { result ≡ spec.braces_behind kind.now depth }
     ensures bounded { IfSome result (λ n. n ≤ depth + 1) }

@@ -1,5 +1,10 @@
 //! Reading values.
-ghost use Rattle.std.specs.Prelude.{◌≡◌, ◌≤◌, ◌+◌, length, option_map, IfOk};
+ghost use Rattle.std.specs.Prelude.{◌≡◌, ◌≤◌, ◌+◌, [], length, option_map, IfOk};
+ghost use Rattle.stm_program.specs.Syntax as tree;
+ghost use Rattle.stm_tokens.specs.declared.token.Word.TheVariants.{Else};
+ghost use Rattle.stm_terms.specs.Endings.{asked_of};
+ghost use Rattle.stm_terms.specs.Kinds.{valued};
+ghost use Rattle.stm_terms.specs.declared.kinds.Kind.TheVariants as kinds;
 ghost use Rattle.stm_terms.specs.Cursor as cursor;
 ghost use Rattle.stm_terms.specs.Outcome.{Returns};
 ghost use Rattle.stm_terms.specs.Arguments.{given_named};
@@ -7,13 +12,16 @@ ghost use Rattle.stm_terms.specs.Scope.{variable_of};
 ghost use Rattle.stm_terms.specs.Values as spec;
 
 use crate::arguments::{Argument, Given};
-use crate::cursor::{expect_symbol, next_number, place, unexpected};
+use crate::cursor::{after_symbol, after_word, expect_symbol, next_number, place, unexpected};
+use crate::endings::{ending_at, ending_of};
 use crate::faults::{SourceCause, SourceError, fault};
+use crate::kinds::{Kind, Valued};
 use crate::limits::MOST_JOINS;
+use crate::look_ups::{LookUp, Other, both, one_more};
 use crate::scope::Scope;
 use std::alloc::{AllocError, Global};
 use std::sync::Arc;
-use stm_history::Text;
+use stm_history::{Sequence, Text};
 use stm_program::{Expr, ExprNode, MAX_TEXT, Operator, Variable};
 use stm_tokens::{Symbol, Token, TokenKind, Word};
 
@@ -41,72 +49,104 @@ pub enum Join {
 
 fn literal<'a>(
     alloc: Global,
+    scope: &Scope,
     at: usize,
     text: &str,
     rest: &'a [Token],
-) -> Result<(Expr, &'a [Token]), SourceError>
-    ensures { Returns (λ x. (x.0, x.1.now)) result (spec.literal at text.now rest.now) }
+) -> Result<(Valued, &'a [Token]), SourceError>
+    ensures { Returns (λ x. (x.0, x.1.now)) result (spec.literal scope.now at text.now rest.now) }
 {
     if text.len() <= MAX_TEXT {
         let text = Text::copy_of(alloc, text)?;
         let node = ExprNode::Text(text);
-        Ok((Expr { node }, rest))
+        Ok((scope.valued(alloc, Expr { node }, Kind::Text), rest))
     } else {
         Err(fault(at, SourceCause::TooLong))
     }
 }
 
-fn positive(at: usize, number: u64, rest: &[Token]) -> Result<(Expr, &[Token]), SourceError>
-    ensures { Returns (λ x. (x.0, x.1.now)) result (spec.positive at number rest.now) }
+/// A number.
+fn number_of(alloc: Global, scope: &Scope, number: i64) -> Valued
+    ensures { result ≡ valued scope.now (tree.Number number) kinds.Number [] }
+{
+    let node = ExprNode::Number(number);
+    scope.valued(alloc, Expr { node }, Kind::Number)
+}
+
+fn positive<'a>(
+    alloc: Global,
+    scope: &Scope,
+    at: usize,
+    number: u64,
+    rest: &'a [Token],
+) -> Result<(Valued, &'a [Token]), SourceError>
+    ensures { Returns (λ x. (x.0, x.1.now)) result (spec.positive scope.now at number rest.now) }
 {
     if number < 1 << 63 {
-        let node = ExprNode::Number(number as i64);
-        Ok((Expr { node }, rest))
+        Ok((number_of(alloc, scope, number as i64), rest))
     } else {
         Err(fault(at, SourceCause::Range))
     }
 }
 
 /// The number behind a minus sign.
-fn negative(at: usize, number: u64, rest: &[Token]) -> Result<(Expr, &[Token]), SourceError>
-    ensures { Returns (λ x. (x.0, x.1.now)) result (spec.negative at number rest.now) }
+fn negative<'a>(
+    alloc: Global,
+    scope: &Scope,
+    at: usize,
+    number: u64,
+    rest: &'a [Token],
+) -> Result<(Valued, &'a [Token]), SourceError>
+    ensures { Returns (λ x. (x.0, x.1.now)) result (spec.negative scope.now at number rest.now) }
 {
     if number < 1 << 63 {
-        let node = ExprNode::Number(-(number as i64));
-        Ok((Expr { node }, rest))
+        Ok((number_of(alloc, scope, -(number as i64)), rest))
     } else if number == 1 << 63 {
-        let node = ExprNode::Number(i64::MIN);
-        Ok((Expr { node }, rest))
+        Ok((number_of(alloc, scope, i64::MIN), rest))
     } else {
         Err(fault(at, SourceCause::Range))
     }
 }
 
 /// What follows a minus sign: a number.
-fn negation(tokens: &[Token]) -> Result<(Expr, &[Token]), SourceError>
-    ensures { Returns (λ x. (x.0, x.1.now)) result (spec.negation tokens.now (cursor.next_number tokens.now)) }
+fn negation<'a>(
+    alloc: Global,
+    scope: &Scope,
+    tokens: &'a [Token],
+) -> Result<(Valued, &'a [Token]), SourceError>
+    ensures { Returns (λ x. (x.0, x.1.now)) result (spec.negation scope.now tokens.now (cursor.next_number tokens.now)) }
 {
     match next_number(tokens) {
-        Some((number, rest)) => negative(place(tokens), number, rest),
+        Some((number, rest)) => negative(alloc, scope, place(tokens), number, rest),
         None => Err(unexpected(tokens)),
     }
+}
+
+/// A text that stands for an argument which is not known.
+fn unknown(alloc: Global, scope: &Scope) -> Result<Valued, AllocError>
+    ensures { IfOk result (λ x. x ≡ valued scope.now (tree.Text []) kinds.Either []) }
+{
+    let text = Text::copy_of(alloc, "")?;
+    let node = ExprNode::Text(text);
+    Ok(scope.valued(alloc, Expr { node }, Kind::Either))
 }
 
 /// The value of an argument.
 fn argument_value<'a>(
     alloc: Global,
+    scope: &Scope,
     given: &Given,
     rest: &'a [Token],
-) -> Result<(Expr, &'a [Token]), SourceError>
-    ensures { Returns (λ x. (x.0, x.1.now)) result (spec.argument_value given.now.at given.now.argument rest.now) }
+) -> Result<(Valued, &'a [Token]), SourceError>
+    ensures { Returns (λ x. (x.0, x.1.now)) result (spec.argument_value scope.now given.now.at given.now.argument rest.now) }
 {
     match &given.argument {
-        Argument::Either => literal(alloc, given.at, "", rest),
-        Argument::Text(text) => literal(alloc, given.at, text.as_str(), rest),
-        Argument::Number(number) => {
-            let node = ExprNode::Number(*number);
-            Ok((Expr { node }, rest))
+        Argument::Either => {
+            let value = unknown(alloc, scope)?;
+            Ok((value, rest))
         }
+        Argument::Text(text) => literal(alloc, scope, given.at, text.as_str(), rest),
+        Argument::Number(number) => Ok((number_of(alloc, scope, *number), rest)),
     }
 }
 
@@ -117,17 +157,43 @@ fn named<'a>(
     at: usize,
     name: &str,
     rest: &'a [Token],
-) -> Result<(Expr, &'a [Token]), SourceError>
+) -> Result<(Valued, &'a [Token]), SourceError>
     ensures { Returns (λ x. (x.0, x.1.now)) result
-        (spec.named at (variable_of scope.now name.now) (given_named scope.now.arguments name.now) rest.now) }
+        (spec.named scope.now at (variable_of scope.now name.now) (given_named scope.now.arguments name.now) rest.now) }
 {
     if let Some(number) = scope.variable(name) {
         let node = ExprNode::Variable(Variable::new(number as u8));
-        return Ok((Expr { node }, rest));
+        let kind = scope.kind_of(number);
+        return Ok((scope.valued(alloc, Expr { node }, kind), rest));
     }
     match scope.arguments.get().named(name) {
-        Some(given) => argument_value(alloc, given, rest),
+        Some(given) => argument_value(alloc, scope, given, rest),
         None => Err(fault(at, SourceCause::Name)),
+    }
+}
+
+/// What a name stands for, or asks of the end of a runner.
+fn named_operand<'a>(
+    alloc: Global,
+    scope: &Scope,
+    levels: usize,
+    at: usize,
+    name: &str,
+    rest: &'a [Token],
+) -> Result<(Valued, &'a [Token]), SourceError>
+    ensures { Returns (λ x. (x.0, x.1.now)) result
+        (asked_of levels scope.now at name.now (spec.named scope.now at (variable_of scope.now name.now) (given_named scope.now.arguments name.now) rest.now)
+        rest.now scope.now.runners) }
+{
+    let Some(runners) = &scope.runners else {
+        return named(alloc, scope, at, name, rest);
+    };
+    let Some(asked) = ending_of(name) else {
+        return named(alloc, scope, at, name, rest);
+    };
+    match after_symbol(rest, Symbol::LeftParenthesis) {
+        Some(_) => ending_at(alloc, scope, levels, at, runners.get(), asked, rest),
+        None => named(alloc, scope, at, name, rest),
     }
 }
 
@@ -145,6 +211,112 @@ fn call_of(word: Word) -> Option<Call>
         Some(Call::TextOf)
     } else {
         None
+    }
+}
+
+/// What something is computed of.
+fn argument_kind(call: Call) -> Kind
+    ensures { result ≡ spec.argument_kind call }
+{
+    match call {
+        Call::Get | Call::Rev | Call::NumOf => Kind::Text,
+        Call::TextOf => Kind::Number,
+    }
+}
+
+/// What comes of it.
+fn call_kind(call: Call) -> Kind
+    ensures { result ≡ spec.call_kind call }
+{
+    match call {
+        Call::Get | Call::TextOf => Kind::Text,
+        Call::Rev | Call::NumOf => Kind::Number,
+    }
+}
+
+/// The value behind an `else`: a text, or a name.
+#[tactic(auto, unfolding(crate::specs::Values::other_value))]
+fn other_value<'a>(
+    alloc: Global,
+    scope: &Scope,
+    tokens: &'a [Token],
+) -> Result<(Valued, &'a [Token]), SourceError>
+    ensures { Returns (λ x. (x.0, x.1.now)) result (spec.other_value scope.now tokens.now) }
+{
+    let Some((first, rest)) = tokens.split_first() else {
+        return Err(unexpected(tokens));
+    };
+    match &first.kind {
+        TokenKind::Text(text) => literal(alloc, scope, first.at, text.as_str(), rest),
+        TokenKind::Number(number) => positive(alloc, scope, first.at, *number, rest),
+        TokenKind::Name(name) => named(alloc, scope, first.at, name.as_str(), rest),
+        TokenKind::Word(_) => Err(unexpected(tokens)),
+        TokenKind::Symbol(_) => Err(unexpected(tokens)),
+        TokenKind::Wrong => Err(unexpected(tokens)),
+        TokenKind::End => Err(unexpected(tokens)),
+    }
+}
+
+/// What stands for a look-up, behind the `else` that begins these tokens.
+fn other_behind<'a>(
+    alloc: Global,
+    scope: &Scope,
+    tokens: &[Token],
+    behind: &'a [Token],
+) -> Result<(Option<Other>, &'a [Token]), SourceError>
+    ensures { Returns (λ x. (x.0, x.1.now)) result (spec.other_behind scope.now tokens.now behind.now) }
+{
+    if scope.numbered {
+        return Err(unexpected(tokens));
+    }
+    let (value, rest) = other_value(alloc, scope, behind)?;
+    let Valued {
+        expression: value,
+        kind,
+        ..
+    } = value;
+    scope.want(Kind::Text, kind, place(behind))?;
+    let at = place(tokens);
+    Ok((Some(Other { at, value }), rest))
+}
+
+/// What stands for a look-up, if an `else` follows it.
+fn other_of<'a>(
+    alloc: Global,
+    scope: &Scope,
+    tokens: &'a [Token],
+) -> Result<(Option<Other>, &'a [Token]), SourceError>
+    ensures { Returns (λ x. (x.0, x.1.now)) result (spec.other_by scope.now tokens.now (cursor.after_word Else tokens.now)) }
+{
+    match after_word(tokens, Word::Else) {
+        Some(behind) => other_behind(alloc, scope, tokens, behind),
+        None => Ok((None, tokens)),
+    }
+}
+
+/// The look-ups of what is computed, which begins at a byte, of a value with these.
+fn call_look_ups<'a>(
+    alloc: Global,
+    scope: &Scope,
+    call: Call,
+    at: usize,
+    look_ups: Sequence<LookUp>,
+    tokens: &'a [Token],
+) -> Result<(Sequence<LookUp>, &'a [Token]), SourceError>
+    ensures { Returns (λ x. (x.0, x.1.now)) result (spec.call_look_ups scope.now call at look_ups tokens.now) }
+{
+    let mut look_ups = look_ups;
+    match call {
+        Call::Get => {
+            let (other, rest) = other_of(alloc, scope, tokens)?;
+            one_more(&mut look_ups, at, other)?;
+            Ok((look_ups, rest))
+        }
+        Call::Rev => {
+            one_more(&mut look_ups, at, None)?;
+            Ok((look_ups, tokens))
+        }
+        Call::NumOf | Call::TextOf => Ok((look_ups, tokens)),
     }
 }
 
@@ -171,20 +343,42 @@ pub fn join_node(join: Join, left: Arc<Expr>, right: Arc<Expr>) -> Expr
     Expr { node }
 }
 
+/// What an operator joins, and what comes of that.
+pub fn join_kind(join: Join) -> Kind
+    ensures { result ≡ spec.join_kind join }
+{
+    match join {
+        Join::Arithmetic(_) => Kind::Number,
+        Join::Concatenate => Kind::Text,
+    }
+}
+
 /// Two values with an operator between them, which is the last one of a chain with so many before it.
 fn joined_up(
     alloc: Global,
+    scope: &Scope,
     done: usize,
     join: Join,
-    left: Expr,
-    right: Expr,
-) -> Result<Expr, AllocError>
-    ensures { IfOk result (λ e. e ≡ spec.joined_up done join left right) }
+    left: Valued,
+    right: Valued,
+) -> Result<Valued, AllocError>
+    ensures { IfOk result (λ e. e ≡ spec.joined_up scope.now done join left right) }
 {
     if done < MOST_JOINS {
+        let Valued {
+            expression: left,
+            look_ups,
+            ..
+        } = left;
+        let Valued {
+            expression: right,
+            look_ups: more,
+            ..
+        } = right;
         let left = Arc::new(alloc, left)?;
         let right = Arc::new(alloc, right)?;
-        Ok(join_node(join, left, right))
+        let look_ups = both(look_ups, more)?;
+        Ok(scope.valued_with(join_node(join, left, right), join_kind(join), look_ups))
     } else {
         Ok(left)
     }
@@ -260,16 +454,18 @@ fn operand<'a>(
     scope: &Scope,
     levels: usize,
     tokens: &'a [Token],
-) -> Result<(Expr, &'a [Token]), SourceError>
+) -> Result<(Valued, &'a [Token]), SourceError>
     ensures { Returns (λ x. (x.0, x.1.now)) result (spec.operand_at levels scope.now tokens.now) }
 {
     let Some((first, rest)) = tokens.split_first() else {
         return Err(unexpected(tokens));
     };
     match &first.kind {
-        TokenKind::Text(text) => literal(alloc, first.at, text.as_str(), rest),
-        TokenKind::Number(number) => positive(first.at, *number, rest),
-        TokenKind::Name(name) => named(alloc, scope, first.at, name.as_str(), rest),
+        TokenKind::Text(text) => literal(alloc, scope, first.at, text.as_str(), rest),
+        TokenKind::Number(number) => positive(alloc, scope, first.at, *number, rest),
+        TokenKind::Name(name) => {
+            named_operand(alloc, scope, levels, first.at, name.as_str(), rest)
+        }
         TokenKind::Word(word) => computed(alloc, scope, levels, *word, tokens, rest),
         TokenKind::Symbol(symbol) => signed(alloc, scope, levels, *symbol, tokens, rest),
         TokenKind::Wrong => Err(unexpected(tokens)),
@@ -286,15 +482,24 @@ fn computed<'a>(
     word: Word,
     tokens: &'a [Token],
     rest: &'a [Token],
-) -> Result<(Expr, &'a [Token]), SourceError>
-    ensures { Returns (λ x. (x.0, x.1.now)) result (spec.call_by (spec.bracketed_at levels scope.now) tokens.now rest.now (spec.call_of word)) }
+) -> Result<(Valued, &'a [Token]), SourceError>
+    ensures { Returns (λ x. (x.0, x.1.now)) result (spec.call_by (spec.bracketed_at levels scope.now) scope.now tokens.now rest.now (spec.call_of word)) }
 {
     let Some(call) = call_of(word) else {
         return Err(unexpected(tokens));
     };
-    let (part, rest) = bracketed(alloc, scope, levels, rest)?;
+    let (part, rest) = bracketed(alloc, scope, levels, argument_kind(call), rest)?;
+    let Valued {
+        expression: part,
+        look_ups,
+        ..
+    } = part;
+    let (look_ups, rest) = call_look_ups(alloc, scope, call, place(tokens), look_ups, rest)?;
     let part = Arc::new(alloc, part)?;
-    Ok((call_node(call, part), rest))
+    Ok((
+        scope.valued_with(call_node(call, part), call_kind(call), look_ups),
+        rest,
+    ))
 }
 
 /// What begins with a symbol.
@@ -306,13 +511,13 @@ fn signed<'a>(
     symbol: Symbol,
     tokens: &'a [Token],
     rest: &'a [Token],
-) -> Result<(Expr, &'a [Token]), SourceError>
-    ensures { Returns (λ x. (x.0, x.1.now)) result (spec.signed (spec.bracketed_at levels scope.now) symbol tokens.now rest.now) }
+) -> Result<(Valued, &'a [Token]), SourceError>
+    ensures { Returns (λ x. (x.0, x.1.now)) result (spec.signed (spec.bracketed_at levels scope.now) scope.now symbol tokens.now rest.now) }
 {
     if symbol.is(Symbol::LeftParenthesis) {
-        bracketed(alloc, scope, levels, tokens)
+        bracketed(alloc, scope, levels, Kind::Either, tokens)
     } else if symbol.is(Symbol::Subtract) {
-        negation(rest)
+        negation(alloc, scope, rest)
     } else if symbol.is(Symbol::Not) {
         Err(fault(place(tokens), SourceCause::Sort))
     } else {
@@ -320,18 +525,42 @@ fn signed<'a>(
     }
 }
 
-/// The operators of a tier, from left to right, with their right operands, behind a left one.
+/// The right side of an operator of a chain with so many before it, and what it and the left one, which begins at a byte, are joined to.
+#[cycle(read_values)]
+fn joined_right<'a>(
+    alloc: Global,
+    scope: &Scope,
+    levels: usize,
+    tier: usize,
+    at: usize,
+    done: usize,
+    join: Join,
+    left: Valued,
+    tokens: &'a [Token],
+) -> Result<(Valued, &'a [Token]), SourceError>
+    requires { tier ≤ 3 }
+    ensures { Returns (λ x. (x.0, x.1.now)) result (spec.joined_right scope.now at (spec.tier_at levels scope.now tier) done join left tokens.now) }
+{
+    scope.want(join_kind(join), left.kind, at)?;
+    let (right, rest) = operands(alloc, scope, levels, tier, tokens)?;
+    scope.want(join_kind(join), right.kind, place(tokens))?;
+    let joined = joined_up(alloc, scope, done, join, left, right)?;
+    Ok((joined, rest))
+}
+
+/// The operators of a tier, from left to right, with their right operands, behind a left one, which begins at a byte.
 #[cycle(read_values)]
 fn chain<'a>(
     alloc: Global,
     scope: &Scope,
     levels: usize,
     tier: usize,
-    left: Expr,
+    at: usize,
+    left: Valued,
     tokens: &'a [Token],
-) -> Result<(Expr, &'a [Token]), SourceError>
+) -> Result<(Valued, &'a [Token]), SourceError>
     requires { tier ≤ 3 }
-    ensures { Returns (λ x. (x.0, x.1.now)) result (spec.chain (spec.tier_at levels scope.now tier) (tier + 1) (length tokens.now) 0 left tokens.now) }
+    ensures { Returns (λ x. (x.0, x.1.now)) result (spec.chain (spec.joined_right scope.now at (spec.tier_at levels scope.now tier)) (tier + 1) (length tokens.now) 0 left tokens.now) }
 {
     let mut left = left;
     let mut rest = tokens;
@@ -339,8 +568,10 @@ fn chain<'a>(
         let Some((join, behind)) = next_join(tier + 1, rest) else {
             return Ok((left, rest));
         };
-        let (right, behind) = operands(alloc, scope, levels, tier, behind)?;
-        left = joined_up(alloc, done, join, left, right)?;
+        let (joined, behind) = joined_right(
+            alloc, scope, levels, tier, at, done, join, left, behind,
+        )?;
+        left = joined;
         rest = behind;
     }
     Ok((left, rest))
@@ -354,31 +585,32 @@ fn operands<'a>(
     levels: usize,
     tier: usize,
     tokens: &'a [Token],
-) -> Result<(Expr, &'a [Token]), SourceError>
+) -> Result<(Valued, &'a [Token]), SourceError>
     requires { tier ≤ 3 }
     ensures { Returns (λ x. (x.0, x.1.now)) result (spec.tier_at levels scope.now tier tokens.now) }
 {
     let (first, rest) = operand(alloc, scope, levels, tokens)?;
-    joined_behind(alloc, scope, levels, tier, first, rest)
+    joined_behind(alloc, scope, levels, tier, place(tokens), first, rest)
 }
 
-/// The operators of a tier and of the stronger ones, behind a first operand.
+/// The operators of a tier and of the stronger ones, behind a first operand, which begins at a byte.
 #[cycle(read_values)]
 fn joined_behind<'a>(
     alloc: Global,
     scope: &Scope,
     levels: usize,
     tier: usize,
-    first: Expr,
+    at: usize,
+    first: Valued,
     tokens: &'a [Token],
-) -> Result<(Expr, &'a [Token]), SourceError>
+) -> Result<(Valued, &'a [Token]), SourceError>
     requires { tier ≤ 3 }
-    ensures { Returns (λ x. (x.0, x.1.now)) result (spec.behind_by (spec.operand_at levels scope.now) tier first tokens.now) }
+    ensures { Returns (λ x. (x.0, x.1.now)) result (spec.behind_by (spec.operand_at levels scope.now) scope.now tier at first tokens.now) }
 {
     if tier == 0 {
         return Ok((first, tokens));
     }
-    next_tier(alloc, scope, levels, tier - 1, first, tokens)
+    next_tier(alloc, scope, levels, tier - 1, at, first, tokens)
 }
 
 /// The operators of a tier and of the stronger ones, and then those of the one above it.
@@ -388,46 +620,51 @@ fn next_tier<'a>(
     scope: &Scope,
     levels: usize,
     tier: usize,
-    first: Expr,
+    at: usize,
+    first: Valued,
     tokens: &'a [Token],
-) -> Result<(Expr, &'a [Token]), SourceError>
+) -> Result<(Valued, &'a [Token]), SourceError>
     requires { tier ≤ 3 }
-    ensures { Returns (λ x. (x.0, x.1.now)) result (spec.tier_behind (spec.operand_at levels scope.now) tier first tokens.now) }
+    ensures { Returns (λ x. (x.0, x.1.now)) result (spec.tier_behind (spec.operand_at levels scope.now) scope.now tier at first tokens.now) }
 {
-    let (left, rest) = joined_behind(alloc, scope, levels, tier, first, tokens)?;
-    chain(alloc, scope, levels, tier, left, rest)
+    let (left, rest) = joined_behind(alloc, scope, levels, tier, at, first, tokens)?;
+    chain(alloc, scope, levels, tier, at, left, rest)
 }
 
-/// A value in brackets, of which so many may still be opened.
+/// A value of a kind in brackets, of which so many may still be opened.
 ///
-/// Where another token than an opened bracket begins it, or no bracket may be opened, the fault is `Syntax` there.
+/// Where another token than an opened bracket begins it, or no bracket may be opened, the fault is `Syntax` there; where the value is of another kind,
+/// `Kind`.
 #[cycle(read_values)]
 pub fn bracketed<'a>(
     alloc: Global,
     scope: &Scope,
     levels: usize,
+    wanted: Kind,
     tokens: &'a [Token],
-) -> Result<(Expr, &'a [Token]), SourceError>
-    ensures { Returns (λ x. (x.0, x.1.now)) result (spec.bracketed_at levels scope.now tokens.now) }
+) -> Result<(Valued, &'a [Token]), SourceError>
+    ensures { Returns (λ x. (x.0, x.1.now)) result (spec.bracketed_at levels scope.now wanted tokens.now) }
 {
     if levels == 0 {
         return Err(unexpected(tokens));
     }
-    value_between(alloc, scope, levels - 1, tokens)
+    value_between(alloc, scope, levels - 1, wanted, tokens)
 }
 
-/// A value between brackets, within which so many may still be opened.
+/// A value of a kind between brackets, within which so many may still be opened.
 #[cycle(read_values)]
 fn value_between<'a>(
     alloc: Global,
     scope: &Scope,
     levels: usize,
+    wanted: Kind,
     tokens: &'a [Token],
-) -> Result<(Expr, &'a [Token]), SourceError>
-    ensures { Returns (λ x. (x.0, x.1.now)) result (spec.bracketed_by (spec.tier_at levels scope.now 3) tokens.now) }
+) -> Result<(Valued, &'a [Token]), SourceError>
+    ensures { Returns (λ x. (x.0, x.1.now)) result (spec.bracketed_by scope.now (spec.tier_at levels scope.now 3) wanted tokens.now) }
 {
     let inner = expect_symbol(tokens, Symbol::LeftParenthesis)?;
     let (value, rest) = operands(alloc, scope, levels, 3, inner)?;
+    scope.want(wanted, value.kind, place(inner))?;
     let rest = expect_symbol(rest, Symbol::RightParenthesis)?;
     Ok((value, rest))
 }
@@ -435,17 +672,32 @@ fn value_between<'a>(
 /// A value, within which so many brackets may still be opened.
 ///
 /// Operators of one strength go from left to right, `++` before `+` and `-` before `*`, `/` and `%`. The first fault is answered: `TooLong` at a text
-/// of more than 65536 bytes, `Range` at a number beyond 64 bits, `Name` at a name that is no variable in sight, `Sort` at a `!`, and `Syntax` at a
-/// token that no value goes on with. A chain that is too deep for a program is kept too deep, and no longer.
+/// of more than 65536 bytes, `Range` at a number beyond 64 bits, `Name` at a name that is no variable in sight, `Sort` at a `!`, `Kind` at a value of
+/// another kind than is wanted, and `Syntax` at a token that no value goes on with. A chain that is too deep for a program is kept too deep, and no longer.
 pub fn value<'a>(
     alloc: Global,
     scope: &Scope,
     levels: usize,
     tokens: &'a [Token],
-) -> Result<(Expr, &'a [Token]), SourceError>
+) -> Result<(Valued, &'a [Token]), SourceError>
     ensures { Returns (λ x. (x.0, x.1.now)) result (spec.value_at levels scope.now tokens.now) }
 {
     operands(alloc, scope, levels, 3, tokens)
+}
+
+/// The same, where a value of a kind is wanted: one of another kind is `Kind`.
+pub fn value_of<'a>(
+    alloc: Global,
+    scope: &Scope,
+    levels: usize,
+    wanted: Kind,
+    tokens: &'a [Token],
+) -> Result<(Valued, &'a [Token]), SourceError>
+    ensures { Returns (λ x. (x.0, x.1.now)) result (spec.value_of levels scope.now wanted tokens.now) }
+{
+    let (value, rest) = value(alloc, scope, levels, tokens)?;
+    scope.want(wanted, value.kind, place(tokens))?;
+    Ok((value, rest))
 }
 
 /// The first operand of a value.
@@ -454,21 +706,22 @@ pub(crate) fn first_operand<'a>(
     scope: &Scope,
     levels: usize,
     tokens: &'a [Token],
-) -> Result<(Expr, &'a [Token]), SourceError>
+) -> Result<(Valued, &'a [Token]), SourceError>
     ensures { Returns (λ x. (x.0, x.1.now)) result (spec.operand_at levels scope.now tokens.now) }
 {
     operand(alloc, scope, levels, tokens)
 }
 
-/// The rest of a value behind its first operand.
+/// The rest of a value behind its first operand, which begins at a byte.
 pub(crate) fn value_behind<'a>(
     alloc: Global,
     scope: &Scope,
     levels: usize,
-    first: Expr,
+    at: usize,
+    first: Valued,
     tokens: &'a [Token],
-) -> Result<(Expr, &'a [Token]), SourceError>
-    ensures { Returns (λ x. (x.0, x.1.now)) result (spec.value_behind levels scope.now first tokens.now) }
+) -> Result<(Valued, &'a [Token]), SourceError>
+    ensures { Returns (λ x. (x.0, x.1.now)) result (spec.value_behind levels scope.now at first tokens.now) }
 {
-    joined_behind(alloc, scope, levels, 3, first, tokens)
+    joined_behind(alloc, scope, levels, 3, at, first, tokens)
 }

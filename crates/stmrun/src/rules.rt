@@ -1,32 +1,28 @@
 //! The rules that `explore` asks: those of a source, and those that words name.
 
 use crate::explaining::{kept_json, say_unread};
-use crate::sources::{JsonFile, is_source, out_of_memory, program_at, rules_at, say_unasked};
-use std::slice;
+use crate::sources::{JsonFile, is_source, out_of_memory, program_at, rules_at};
 use stm_commands::Std;
 use stm_compiling::Rule as SourceRule;
-use stm_exploring::{Level, Rule, read_rule_explained_to, read_rule_to};
+use stm_exploring::{Level, Rule, When, read_rule_explained_to, read_rule_to};
 use stm_history::{Sequence, Text};
 use stm_storing::Program;
 
-/// A rule of a source, under its name. A final is refused.
-fn rule_of(rt: &HostRuntime, rule: SourceRule) -> Result<Rule, u8> {
-    if rule.is_final {
-        say_unasked(rt, slice::from_ref(&rule), &[])?;
-        let _ = rt.eprintln("stmrun: explore asks no final");
-        return Err(2);
-    }
+/// A rule of a source, under its name.
+fn rule_of(rule: SourceRule) -> Rule {
     let SourceRule {
         name,
+        is_final,
         level,
         program,
-        ..
     } = rule;
-    Ok(Rule {
+    let when = if is_final { When::Last } else { When::Each };
+    Rule {
         name: Some(name),
+        when,
         program,
         from: level.unwrap_or(Level::ReadCommitted),
-    })
+    }
 }
 
 /// Adds a rule.
@@ -44,8 +40,7 @@ fn push_rules(
     rules: Sequence<SourceRule>,
 ) -> Result<(), u8> {
     for rule in rules.into_vec() {
-        let rule = rule_of(rt, rule)?;
-        push_rule(rt, asked, rule)?;
+        push_rule(rt, asked, rule_of(rule))?;
     }
     Ok(())
 }
@@ -78,6 +73,7 @@ pub(crate) fn unnamed_rule(
     let program = read_program(rt, file, explain)?;
     Ok(Rule {
         name: None,
+        when: When::Each,
         program,
         from: Level::ReadCommitted,
     })
@@ -89,6 +85,7 @@ fn read_rule(rt: &HostRuntime, file: &JsonFile<'_>, name: &str, explain: bool) -
     match Text::copy_of(rt.alloc(), name) {
         Ok(name) => Ok(Rule {
             name: Some(name),
+            when: When::Each,
             program,
             from: Level::ReadCommitted,
         }),
@@ -110,7 +107,7 @@ fn named(rules: Sequence<SourceRule>, name: &str) -> Option<SourceRule> {
 fn named_rule(rt: &HostRuntime, path: &str, name: &str, explain: bool) -> Result<Rule, u8> {
     let rules = rules_at(rt, path, explain)?;
     match named(rules, name) {
-        Some(rule) => rule_of(rt, rule),
+        Some(rule) => Ok(rule_of(rule)),
         None => {
             let file = program_at(rt, path, name, &[], explain)?;
             read_rule(rt, &file, name, explain)

@@ -1,16 +1,26 @@
-use Rattle.std.proofs.Common.{◌≤◌, length, arith, IsTrue}
-use Rattle.serde_json.specs.View.{view}
-use Rattle.stm_json.specs.declared.limits.TheConstants.{MOST_BYTES}
-use Rattle.stm_audit.proofs.TraceLemmas.{trace_in-json, trace_in-other}
+use Rattle.std.specs.Prelude.{List, Ok}
+use Rattle.stm_json.proofs.FaultLemmas.{reported_faults}
+use Rattle.stm_json.proofs.OutcomeLemmas.{reported_means, reported_reads}
+use Rattle.stm_audit.specs.declared.commit.Commit.{Commit}
+use Rattle.stm_audit.specs.FirstFault.{first_fault}
+use Rattle.stm_audit.specs.Grammar.{SpellsTrace}
+use Rattle.stm_audit.specs.Reading.{trace_in}
+use Rattle.stm_audit.proofs.GrammarComplete.{trace_reads}
+use Rattle.stm_audit.proofs.GrammarSound.{trace_sound}
+use Rattle.stm_audit.proofs.TraceFaults.{first_fault-is}
 use Rattle.stm_audit.proofs.reading.read_trace.Goals as goal
 
-pub returns-in-Ok : goal.returns-in-Ok
-returns-in-Ok c =
-    let short : length c.args.bytes.now ≤ MOST_BYTES = omega arith in
-    rw (trace_in-json c.args.bytes.now (view c.in-Ok.value) short c.in-Ok.ensures.ok.0 c.in-Ok.ensures.ok.1) c.trace.ensures
+pub returns-clause-spelled : goal.returns-clause-spelled
+returns-clause-spelled c =
+    let bytes = c.args.bytes.now in
+    reported_means (λ (t : List Commit). t) (SpellsTrace bytes) c.trace_of_bytes.result (trace_in bytes) (trace_sound bytes) c.trace_of_bytes.ensures
 
-pub returns-else-is_memory : goal.returns-else-is_memory
-returns-else-is_memory c =
-    let short : length c.args.bytes.now ≤ MOST_BYTES = omega arith in
-    let other = trace_in-other c.args.bytes.now short (c.in-Err.ensures.err (λ m. let t : IsTrue c.is_memory.result = c.is_memory.ensures.1 m in cc)) in
-    rw c.fault-else-is_memory.ensures other
+pub returns-clause-accepts : goal.returns-clause-accepts
+returns-clause-accepts c trace spelled =
+    let bytes = c.args.bytes.now in
+    reported_reads (λ (t : List Commit). t) c.trace_of_bytes.result (trace_in bytes) (Ok trace) (trace_reads bytes trace spelled) c.trace_of_bytes.ensures
+
+pub returns-clause-faults : goal.returns-clause-faults
+returns-clause-faults c =
+    let bytes = c.args.bytes.now in
+    reported_faults (λ (t : List Commit). t) (first_fault bytes) c.trace_of_bytes.result (trace_in bytes) (first_fault-is bytes) c.trace_of_bytes.ensures

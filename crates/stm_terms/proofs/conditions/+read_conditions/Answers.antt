@@ -3,7 +3,7 @@ use Rattle.std.proofs.lemmas.Result.{err_from_is_err_and}
 use Rattle.stm_terms.proofs.ConditionLemmas.{connections_none, connections_some, connection_goes, connection_ends, connection_out, connection_fails}
 use Rattle.stm_terms.proofs.ConditionLemmas.{found_is, bracket_some, condition_bracket_some}
 use Rattle.stm_terms.specs.Cursor.{after_symbol}
-use Rattle.stm_terms.specs.Conditions.{primary_at, condition_by, connection, connections_at, tier_symbol}
+use Rattle.stm_terms.specs.Conditions.{primary_at, part_by, connection, connections_at, tier_symbol}
 use Rattle.stm_terms.proofs.conditions.+read_conditions.Goals as goal
 
 pub connections-returns-then-tier-eq0 : goal.connections-returns-then-tier-eq0
@@ -32,13 +32,13 @@ pub connection-returns-in_default : goal.connection-returns-in_default
 connection-returns-in_default t c =
     let less : c.loop-done.done < length c.args.tokens.now = omega arith in
     let none : after_symbol (tier_symbol (c.args.tier + 1)) c.loop-done.rest.now ≡ None = search rules in
-    connection_ends (condition_by (connections_at c.args.levels c.args.scope.now c.args.tier)) (c.args.tier + 1) (length c.args.tokens.now)
+    connection_ends (part_by (connections_at c.args.levels c.args.scope.now c.args.tier)) (c.args.tier + 1) (length c.args.tokens.now)
     c.loop-done.done c.loop-done.left c.loop-done.rest.now _ less none c.loop-done.invariant
 
 pub connection-returns-in_err-right : goal.connection-returns-in_err-right
 connection-returns-in_err-right t c =
     let p = err_from_is_err_and c.from_residual.result c.from_residual.ensures.1 in
-    let part = condition_by (connections_at c.args.levels c.args.scope.now c.args.tier) in
+    let part = part_by (connections_at c.args.levels c.args.scope.now c.args.tier) in
     let n = length c.args.tokens.now in
     let less : c.loop-done.done < n = omega arith in
     let next : after_symbol (tier_symbol (c.args.tier + 1)) c.loop-done.rest.now ≡ Some c.in-Some.behind.now = search rules in
@@ -47,7 +47,7 @@ connection-returns-in_err-right t c =
 
 pub connection-loop-done-preserved : goal.connection-loop-done-preserved
 connection-loop-done-preserved t c =
-    let part = condition_by (connections_at c.args.levels c.args.scope.now c.args.tier) in
+    let part = part_by (connections_at c.args.levels c.args.scope.now c.args.tier) in
     let n = length c.args.tokens.now in
     let less : c.loop-done.done < n = omega arith in
     let next : after_symbol (tier_symbol (c.args.tier + 1)) c.loop-done.rest.now ≡ Some c.in-Some.behind.now = search rules in
@@ -58,5 +58,5 @@ connection-loop-done-preserved t c =
 
 pub connection-returns : goal.connection-returns
 connection-returns t c =
-    connection_out (condition_by (connections_at c.args.levels c.args.scope.now c.args.tier)) (c.args.tier + 1) (length c.args.tokens.now)
+    connection_out (part_by (connections_at c.args.levels c.args.scope.now c.args.tier)) (c.args.tier + 1) (length c.args.tokens.now)
     c.loop-done.done c.loop-done.left c.loop-done.rest.now _ (omega arith) c.loop-done.invariant

@@ -1,5 +1,5 @@
 use Rattle.std.proofs.Common.{◌≡◌, ◌+◌, ◌-◌, ◌*◌, length}
-use Rattle.stm_terms.specs.Conditions.{condition_by, connection, connections_at}
+use Rattle.stm_terms.specs.Conditions.{part_by, connection, connections_at}
 use Rattle.stm_terms.proofs.conditions.+read_conditions.Given as goal
 
 abbrev pub decreases-bracket : goal.decreases-bracket
@@ -18,19 +18,22 @@ abbrev pub decreases-primary : goal.decreases-primary
 decreases-primary l = 20 * l.levels + 2
 
 abbrev pub decreases-connections : goal.decreases-connections
-decreases-connections l = 20 * l.levels + 3 + 5 * l.tier
+decreases-connections l = 20 * l.levels + 3 + 6 * l.tier
 
 abbrev pub decreases-part : goal.decreases-part
-decreases-part l = 20 * l.levels + 4 + 5 * l.tier
+decreases-part l = 20 * l.levels + 4 + 6 * l.tier
 
 abbrev pub decreases-connection : goal.decreases-connection
-decreases-connection l = 20 * l.levels + 5 + 5 * l.tier
+decreases-connection l = 20 * l.levels + 5 + 6 * l.tier
+
+abbrev pub decreases-connected : goal.decreases-connected
+decreases-connected l = 20 * l.levels + 6 + 6 * l.tier
 
 abbrev pub decreases-joined_from : goal.decreases-joined_from
-decreases-joined_from l = 20 * l.levels + 6 + 5 * l.tier
+decreases-joined_from l = 20 * l.levels + 7 + 6 * l.tier
 
 abbrev pub decreases-next_connections : goal.decreases-next_connections
-decreases-next_connections l = 20 * l.levels + 7 + 5 * l.tier
+decreases-next_connections l = 20 * l.levels + 8 + 6 * l.tier
 
 abbrev pub decreases-found : goal.decreases-found
 decreases-found l = 20 * l.levels + 17
@@ -47,5 +50,5 @@ decreases-condition_between l = 20 * l.levels + 19
 -- what is left of the chain leads to what all of it does
 abbrev pub invariant-connection-loop-done : goal.invariant-connection-loop-done
 invariant-connection-loop-done l =
-    connection (condition_by (connections_at l.fn.levels l.fn.scope l.fn.tier)) (l.fn.tier + 1) (length l.fn.tokens - l.done) l.done l.left l.rest
-    ≡ connection (condition_by (connections_at l.fn.levels l.fn.scope l.fn.tier)) (l.fn.tier + 1) (length l.fn.tokens) 0 l.fn.left l.fn.tokens
+    connection (part_by (connections_at l.fn.levels l.fn.scope l.fn.tier)) (l.fn.tier + 1) (length l.fn.tokens - l.done) l.done l.left l.rest
+    ≡ connection (part_by (connections_at l.fn.levels l.fn.scope l.fn.tier)) (l.fn.tier + 1) (length l.fn.tokens) 0 l.fn.left l.fn.tokens

@@ -1,54 +1,55 @@
 use Rattle.std.proofs.Common.{◌≡◌, ◌+◌, ◌<◌, length, None, sym, arith, rules}
 use Rattle.std.proofs.lemmas.Result.{err_from_is_err_and}
 use Rattle.stm_terms.proofs.ValueLemmas.{behind_none, behind_some, chain_goes, chain_ends, chain_out, chain_fails, bracketed_none, bracketed_some}
-use Rattle.stm_terms.specs.Values.{operand_at, tier_at, chain, next_join}
+use Rattle.stm_terms.specs.Values.{operand_at, tier_at, joined_right, chain, next_join}
 use Rattle.stm_terms.proofs.values.+read_values.Goals as goal
 
 pub joined_behind-returns-then-tier-eq0 : goal.joined_behind-returns-then-tier-eq0
 joined_behind-returns-then-tier-eq0 t c =
-    behind_none (operand_at c.args.levels c.args.scope.now) c.args.tier c.args.first c.args.tokens.now c.if-tier-eq0.true
+    behind_none (operand_at c.args.levels c.args.scope.now) c.args.scope.now c.args.tier c.args.at c.args.first c.args.tokens.now c.if-tier-eq0.true
 
 pub joined_behind-returns : goal.joined_behind-returns
 joined_behind-returns t c =
     let some : 0 < c.args.tier = omega arith in
-    rw (behind_some (operand_at c.args.levels c.args.scope.now) c.args.tier c.args.first c.args.tokens.now some) c.next_tier.ensures
+    rw (behind_some (operand_at c.args.levels c.args.scope.now) c.args.scope.now c.args.tier c.args.at c.args.first c.args.tokens.now some)
+    c.next_tier.ensures
 
 pub bracketed-returns-then-levels-eq0 : goal.bracketed-returns-then-levels-eq0
-bracketed-returns-then-levels-eq0 t c = bracketed_none _ _ _ _ c.if-levels-eq0.true c.unexpected.ensures
+bracketed-returns-then-levels-eq0 t c = bracketed_none _ _ _ _ _ c.if-levels-eq0.true c.unexpected.ensures
 
 pub bracketed-returns : goal.bracketed-returns
 bracketed-returns t c =
     let some : 0 < c.args.levels = omega arith in
-    rw (bracketed_some c.args.levels c.args.scope.now c.args.tokens.now some) c.value_between.ensures
+    rw (bracketed_some c.args.levels c.args.scope.now c.args.wanted c.args.tokens.now some) c.value_between.ensures
 
 pub chain-returns-in_default : goal.chain-returns-in_default
 chain-returns-in_default t c =
+    let right = joined_right c.args.scope.now c.args.at (tier_at c.args.levels c.args.scope.now c.args.tier) in
     let less : c.loop-done.done < length c.args.tokens.now = omega arith in
     let none : next_join (c.args.tier + 1) c.loop-done.rest.now ≡ None = search rules in
-    chain_ends (tier_at c.args.levels c.args.scope.now c.args.tier) (c.args.tier + 1) (length c.args.tokens.now) c.loop-done.done c.loop-done.left
+    chain_ends right (c.args.tier + 1) (length c.args.tokens.now) c.loop-done.done c.loop-done.left
     c.loop-done.rest.now _ less none c.loop-done.invariant
 
-pub chain-returns-in_err-right : goal.chain-returns-in_err-right
-chain-returns-in_err-right t c =
+pub chain-returns-in_err-joined : goal.chain-returns-in_err-joined
+chain-returns-in_err-joined t c =
     let p = err_from_is_err_and c.from_residual.result c.from_residual.ensures.1 in
-    let part = tier_at c.args.levels c.args.scope.now c.args.tier in
+    let right = joined_right c.args.scope.now c.args.at (tier_at c.args.levels c.args.scope.now c.args.tier) in
     let n = length c.args.tokens.now in
     let less : c.loop-done.done < n = omega arith in
-    rw (p.1, p.2) (chain_fails c.in_err-right.field-0.0 part (c.args.tier + 1) n c.loop-done.done c.loop-done.left c.in-Some.join c.loop-done.rest.now
-    c.in-Some.behind.now (chain part (c.args.tier + 1) n 0 c.args.left c.args.tokens.now) less (sym c.in-Some.ensures) c.in_err-right.ensures
+    rw (p.1, p.2) (chain_fails c.in_err-joined.field-0.0 right (c.args.tier + 1) n c.loop-done.done c.loop-done.left c.in-Some.join c.loop-done.rest.now
+    c.in-Some.behind.now (chain right (c.args.tier + 1) n 0 c.args.left c.args.tokens.now) less (sym c.in-Some.ensures) c.in_err-joined.ensures
     c.loop-done.invariant)
 
 pub chain-loop-done-preserved : goal.chain-loop-done-preserved
 chain-loop-done-preserved t c =
-    let part = tier_at c.args.levels c.args.scope.now c.args.tier in
+    let right = joined_right c.args.scope.now c.args.at (tier_at c.args.levels c.args.scope.now c.args.tier) in
     let n = length c.args.tokens.now in
     let less : c.loop-done.done < n = omega arith in
-    let next = chain_goes part (c.args.tier + 1) n c.loop-done.done c.loop-done.left c.in_ok-right.right c.in-Some.join c.loop-done.rest.now
-    c.in-Some.behind.now c.in_ok-right.behind.now (chain part (c.args.tier + 1) n 0 c.args.left c.args.tokens.now) less (sym c.in-Some.ensures)
-    c.in_ok-right.ensures c.loop-done.invariant in
-    rw c.in_ok-left.ensures next
+    chain_goes right (c.args.tier + 1) n c.loop-done.done c.loop-done.left c.in_ok-joined.joined c.in-Some.join c.loop-done.rest.now
+    c.in-Some.behind.now c.in_ok-joined.behind.now (chain right (c.args.tier + 1) n 0 c.args.left c.args.tokens.now) less (sym c.in-Some.ensures)
+    c.in_ok-joined.ensures c.loop-done.invariant
 
 pub chain-returns : goal.chain-returns
 chain-returns t c =
-    chain_out (tier_at c.args.levels c.args.scope.now c.args.tier) (c.args.tier + 1) (length c.args.tokens.now) c.loop-done.done c.loop-done.left
-    c.loop-done.rest.now _ (omega arith) c.loop-done.invariant
+    chain_out (joined_right c.args.scope.now c.args.at (tier_at c.args.levels c.args.scope.now c.args.tier)) (c.args.tier + 1)
+    (length c.args.tokens.now) c.loop-done.done c.loop-done.left c.loop-done.rest.now _ (omega arith) c.loop-done.invariant

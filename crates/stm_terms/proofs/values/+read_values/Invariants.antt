@@ -1,36 +1,39 @@
 use Rattle.std.proofs.Common.{◌≡◌, ◌+◌, ◌-◌, ◌*◌, length}
-use Rattle.stm_terms.specs.Values.{chain, tier_at}
+use Rattle.stm_terms.specs.Values.{chain, joined_right, tier_at}
 use Rattle.stm_terms.proofs.values.+read_values.Given as goal
 
 abbrev pub decreases-bracketed : goal.decreases-bracketed
-decreases-bracketed l = 20 * l.levels
+decreases-bracketed l = 30 * l.levels
 
 abbrev pub decreases-value_between : goal.decreases-value_between
-decreases-value_between l = 20 * l.levels + 19
+decreases-value_between l = 30 * l.levels + 29
 
 abbrev pub decreases-computed : goal.decreases-computed
-decreases-computed l = 20 * l.levels + 1
+decreases-computed l = 30 * l.levels + 1
 
 abbrev pub decreases-signed : goal.decreases-signed
-decreases-signed l = 20 * l.levels + 1
+decreases-signed l = 30 * l.levels + 1
 
 abbrev pub decreases-operand : goal.decreases-operand
-decreases-operand l = 20 * l.levels + 2
+decreases-operand l = 30 * l.levels + 2
 
 abbrev pub decreases-joined_behind : goal.decreases-joined_behind
-decreases-joined_behind l = 20 * l.levels + 3 + 4 * l.tier
+decreases-joined_behind l = 30 * l.levels + 3 + 5 * l.tier
 
 abbrev pub decreases-operands : goal.decreases-operands
-decreases-operands l = 20 * l.levels + 4 + 4 * l.tier
+decreases-operands l = 30 * l.levels + 4 + 5 * l.tier
+
+abbrev pub decreases-joined_right : goal.decreases-joined_right
+decreases-joined_right l = 30 * l.levels + 5 + 5 * l.tier
 
 abbrev pub decreases-chain : goal.decreases-chain
-decreases-chain l = 20 * l.levels + 5 + 4 * l.tier
+decreases-chain l = 30 * l.levels + 6 + 5 * l.tier
 
 abbrev pub decreases-next_tier : goal.decreases-next_tier
-decreases-next_tier l = 20 * l.levels + 6 + 4 * l.tier
+decreases-next_tier l = 30 * l.levels + 7 + 5 * l.tier
 
 -- what is left of the chain leads to what all of it does
 abbrev pub invariant-chain-loop-done : goal.invariant-chain-loop-done
 invariant-chain-loop-done l =
-    chain (tier_at l.fn.levels l.fn.scope l.fn.tier) (l.fn.tier + 1) (length l.fn.tokens - l.done) l.done l.left l.rest
-    ≡ chain (tier_at l.fn.levels l.fn.scope l.fn.tier) (l.fn.tier + 1) (length l.fn.tokens) 0 l.fn.left l.fn.tokens
+    chain (joined_right l.fn.scope l.fn.at (tier_at l.fn.levels l.fn.scope l.fn.tier)) (l.fn.tier + 1) (length l.fn.tokens - l.done) l.done l.left l.rest
+    ≡ chain (joined_right l.fn.scope l.fn.at (tier_at l.fn.levels l.fn.scope l.fn.tier)) (l.fn.tier + 1) (length l.fn.tokens) 0 l.fn.left l.fn.tokens

@@ -1,0 +1,196 @@
+-- What is read of a trace is spelled by the bytes.
+use Rattle.std.proofs.Common.{◌≡◌, ℕ, ◌≤◌, List, [], ◌∷◌, length, Bool, true, false, cond, Option, Some, None, Ok, refl, ap, subst, ◌∙◌, arith, codes}
+use Rattle.std.specs.Prelude.{nat_lt, is_some, option_and_then}
+use Rattle.std.proofs.lemmas.Bool.Decides.{nat_tests}
+use Rattle.std.proofs.lemmas.Slice.Eq.{bytes_eq-Decides}
+use Rattle.serde_json.specs.Data.{Data, null, boolean, number, string, array, object, Items}
+use Rattle.serde_json.specs.Find.{as_array, as_null}
+use Rattle.serde_json.specs.View.{items_of}
+use Rattle.stm_history.specs.declared.revisions.TheConstants.{HIGHEST_NUMBER, HIGHEST_REVISION}
+use Rattle.stm_json.specs.declared.cause.Cause.TheVariants.{Shape, TooLong}
+use Rattle.stm_json.specs.declared.limits.TheConstants.{MOST_BYTES}
+use Rattle.stm_json.specs.Bytes.{data_of}
+use Rattle.stm_json.specs.Elements.{worded, one_of, two_of, four_of, number_up_to, number_in}
+use Rattle.stm_json.specs.Outcome.{Outcome, bad, ◌>>=◌, within}
+use Rattle.stm_json.specs.Parts.{same, spelled, SpellsEach, text_of}
+use Rattle.stm_json.proofs.OutcomeLemmas.{bind_ok, within_ok}
+use Rattle.stm_json.proofs.ElementLemmas.{one_of-is, two_of-is, four_of-is}
+use Rattle.stm_json.proofs.PartLemmas.{text_of-is, on_text-is, list_is, number_is, up_to_is, word_and}
+use Rattle.stm_json.proofs.ListLemmas.{list_sound}
+use Rattle.stm_txn_json.proofs.WordLemmas.{chosen, no_word}
+use Rattle.stm_program.specs.declared.level.Level.{Level}
+use Rattle.stm_program.specs.declared.level.Level.TheVariants.{SerializableSnapshot, Serializable, RepeatableReads, ReadCommitted}
+use Rattle.stm_program.specs.declared.write.Write.{Write}
+use Rattle.stm_program.specs.declared.write.Write.TheVariants.{Put, Del}
+use Rattle.stm_events.specs.declared.reply.CommittedRead.{CommittedRead}
+use Rattle.stm_texts.specs.Grammar.{level_text}
+use Rattle.stm_texts.specs.Reading.{level_named, level_of}
+use Rattle.stm_audit.specs.declared.commit.Commit.{Commit}
+use Rattle.stm_audit.specs.Grammar.{SpellsValue, SpellsRead, SpellsWrite, SpellsCommit, SpellsTrace}
+use Rattle.stm_audit.specs.Reading.{quad, listed, text_or_null, read_by, read_of, put_of, del_of, write_worded, write_of, commit_by, commit_of, trace_of, trace_read, trace_in}
+
+-- ---- arrays of four
+
+quad_at : (d : Data) (o : Option Items) (p : Data × Data × Data × Data) → as_array d ≡ o → option_and_then four_of o ≡ Some p
+    → d ≡ array (items_of (p.0 ∷ p.1 ∷ p.2 ∷ p.3 ∷ []))
+quad_at d None p e h = absurd (cc (h))
+quad_at d (Some ds) p e h = list_is d ds e ∙ ap array (four_of-is ds p h)
+
+quad_is : (d : Data) (p : Data × Data × Data × Data) → quad d ≡ Some p → d ≡ array (items_of (p.0 ∷ p.1 ∷ p.2 ∷ p.3 ∷ []))
+quad_is d p h = quad_at d (as_array d) p refl h
+
+-- ---- reads
+
+null_is : (d : Data) → is_some (as_null d) ≡ true → d ≡ null
+null_is null is = refl
+null_is (boolean b) is = absurd (cc (is))
+null_is (number n) is = absurd (cc (is))
+null_is (string s) is = absurd (cc (is))
+null_is (array ds) is = absurd (cc (is))
+null_is (object ms) is = absurd (cc (is))
+
+value_by : (d : Data) (b : Bool) (v : Option (List ℕ)) → is_some (as_null d) ≡ b → cond b (Ok None) (text_of d >>= λ s. Ok (Some s)) ≡ Ok v → SpellsValue d v
+value_by d true v is h =
+    let same : None ≡ v = cc (h) in
+    subst (SpellsValue d) same (null_is d is)
+value_by d false v is h =
+    let s = bind_ok (text_of d) _ v h in
+    let same : Some s.0 ≡ v = cc (s.2) in
+    subst (SpellsValue d) same (text_of-is d s.0 s.1)
+
+value_sound : (d : Data) (v : Option (List ℕ)) → text_or_null d ≡ Ok v → SpellsValue d v
+unfolding text_or_null
+value_sound d v h = value_by d (is_some (as_null d)) v refl h
+
+abbrev read_with : List ℕ → Option (List ℕ) → ℕ → ℕ → CommittedRead
+read_with key value mod_rev of_rev = record { key = key; value = value; mod_rev = mod_rev; of_rev = of_rev }
+
+read_parts : (d : Data) (o : Option (Data × Data × Data × Data)) (a : CommittedRead) → quad d ≡ o → read_by o ≡ Ok a → SpellsRead d a
+read_parts d None a is h = cc
+read_parts d (Some p) a is h =
+    let key = bind_ok (within 0 (text_of p.0)) _ a h in
+    let value = bind_ok (within 1 (text_or_null p.1)) _ a key.2 in
+    let modified = bind_ok (within 2 (number_up_to HIGHEST_NUMBER p.2)) _ a value.2 in
+    let shown = bind_ok (within 3 (number_up_to HIGHEST_NUMBER p.3)) _ a modified.2 in
+    let made : read_with key.0 value.0 modified.0 shown.0 ≡ a = cc shown.2 in
+    let first : p.0 ≡ string key.0 = text_of-is p.0 key.0 (within_ok 0 _ _ key.1) in
+    subst (SpellsRead d) made (
+      p.1,
+      p.2,
+      p.3,
+      quad_is d p is ∙ ap (λ (x : Data). array (items_of (x ∷ p.1 ∷ p.2 ∷ p.3 ∷ []))) first,
+      value_sound p.1 value.0 (within_ok 1 _ _ value.1),
+      up_to_is HIGHEST_NUMBER p.2 modified.0 (within_ok 2 _ _ modified.1),
+      up_to_is HIGHEST_NUMBER p.3 shown.0 (within_ok 3 _ _ shown.1),
+    )
+
+read_sound : (d : Data) (a : CommittedRead) → read_of d ≡ Ok a → SpellsRead d a
+unfolding read_of
+read_sound d a h = read_parts d (quad d) a refl h
+
+-- ---- writes
+
+put_sound : (d : Data) (p : List ℕ × Items) (o : Option (Data × Data)) (w : Write) → worded d ≡ Some p → p.0 ≡ codes "put" → two_of p.1 ≡ o
+    → put_of o ≡ Ok w → SpellsWrite d w
+put_sound d p None w is word two h = cc
+put_sound d p (Some q) w is word two h =
+    let key = bind_ok (within 1 (text_of q.0)) _ w h in
+    let value = bind_ok (within 2 (text_of q.1)) _ w key.2 in
+    let made : Put key.0 value.0 0 ≡ w = cc value.2 in
+    let first : q.0 ≡ string key.0 = text_of-is q.0 key.0 (within_ok 1 _ _ key.1) in
+    let second : q.1 ≡ string value.0 = text_of-is q.1 value.0 (within_ok 2 _ _ value.1) in
+    subst (SpellsWrite d) made (
+      word_and d p (codes "put") (q.0 ∷ q.1 ∷ []) is word (two_of-is p.1 q two)
+          ∙ ap (λ (a : Data). spelled (codes "put") (a ∷ q.1 ∷ [])) first
+          ∙ ap (λ (b : Data). spelled (codes "put") (string key.0 ∷ b ∷ [])) second,
+      refl,
+    )
+
+del_sound : (d : Data) (p : List ℕ × Items) (o : Option Data) (w : Write) → worded d ≡ Some p → p.0 ≡ codes "del" → one_of p.1 ≡ o → del_of o ≡ Ok w
+    → SpellsWrite d w
+del_sound d p None w is word one h = cc
+del_sound d p (Some a) w is word one h =
+    let key = bind_ok (within 1 (text_of a)) _ w h in
+    let made : Del key.0 ≡ w = cc key.2 in
+    let first : a ≡ string key.0 = text_of-is a key.0 (within_ok 1 _ _ key.1) in
+    subst (SpellsWrite d) made
+    (word_and d p (codes "del") (a ∷ []) is word (one_of-is p.1 a one) ∙ ap (λ (b : Data). spelled (codes "del") (b ∷ [])) first)
+
+write_word : (d : Data) (p : List ℕ × Items) (w : Write) (puts dels : Bool) → worded d ≡ Some p → same p.0 (codes "put") ≡ puts
+    → same p.0 (codes "del") ≡ dels → cond puts (put_of (two_of p.1)) (cond dels (del_of (one_of p.1)) (bad Shape)) ≡ Ok w → SpellsWrite d w
+write_word d p w true dels is u l h = put_sound d p (two_of p.1) w is ((bytes_eq-Decides p.0 (codes "put")).0 u) refl h
+write_word d p w false true is u l h = del_sound d p (one_of p.1) w is ((bytes_eq-Decides p.0 (codes "del")).0 l) refl h
+write_word d p w false false is u l h = cc
+
+write_array : (d : Data) (o : Option (List ℕ × Items)) (w : Write) → worded d ≡ o → write_worded o ≡ Ok w → SpellsWrite d w
+write_array d None w is h = cc
+write_array d (Some p) w is h = write_word d p w (same p.0 (codes "put")) (same p.0 (codes "del")) is refl refl h
+
+write_sound : (d : Data) (w : Write) → write_of d ≡ Ok w → SpellsWrite d w
+unfolding write_of
+write_sound d w h = write_array d (worded d) w refl h
+
+-- ---- commits
+
+level_named-is : (w : List ℕ) (l : Level) → level_named w ≡ Ok l → w ≡ level_text l
+unfolding level_named
+level_named-is w l h =
+    chosen level_text w (codes "SerializableSnapshot") SerializableSnapshot l _ refl
+    (chosen level_text w (codes "Serializable") Serializable l _ refl
+    (chosen level_text w (codes "RepeatableReads") RepeatableReads l _ refl
+    (chosen level_text w (codes "ReadCommitted") ReadCommitted l _ refl (no_word level_text w l))))
+    h
+
+level_is : (d : Data) (l : Level) → level_of d ≡ Ok l → d ≡ string (level_text l)
+unfolding level_of
+level_is d l h =
+    let t = on_text-is level_named d l h in
+    t.1 ∙ ap string (level_named-is t.0 l t.2)
+
+abbrev commit_with : Level → ℕ → List CommittedRead → List Write → Commit
+commit_with level revision reads writes = record { level = level; revision = revision; reads = reads; writes = writes }
+
+commit_parts : (d : Data) (o : Option (Data × Data × Data × Data)) (t : Commit) → quad d ≡ o → commit_by o ≡ Ok t → SpellsCommit d t
+commit_parts d None t is h = cc
+commit_parts d (Some p) t is h =
+    let level = bind_ok (within 0 (level_of p.0)) _ t h in
+    let revision = bind_ok (within 1 (number_in 1 HIGHEST_REVISION p.1)) _ t level.2 in
+    let reads = bind_ok (within 2 (listed read_of p.2)) _ t revision.2 in
+    let writes = bind_ok (within 3 (listed write_of p.3)) _ t reads.2 in
+    let made : commit_with level.0 revision.0 reads.0 writes.0 ≡ t = cc writes.2 in
+    let first : p.0 ≡ string (level_text level.0) = level_is p.0 level.0 (within_ok 0 _ _ level.1) in
+    let a = list_sound read_of SpellsRead read_sound p.2 reads.0 (within_ok 2 _ _ reads.1) in
+    let b = list_sound write_of SpellsWrite write_sound p.3 writes.0 (within_ok 3 _ _ writes.1) in
+    subst (SpellsCommit d) made (
+      p.1,
+      a.0,
+      b.0,
+      quad_is d p is
+          ∙ ap (λ (x : Data). array (items_of (x ∷ p.1 ∷ p.2 ∷ p.3 ∷ []))) first
+          ∙ ap (λ (x : Data). array (items_of (string (level_text level.0) ∷ p.1 ∷ x ∷ p.3 ∷ []))) a.1
+          ∙ ap (λ (x : Data). array (items_of (string (level_text level.0) ∷ p.1 ∷ array a.0 ∷ x ∷ []))) b.1,
+      number_is 1 HIGHEST_REVISION p.1 revision.0 (within_ok 1 _ _ revision.1),
+      a.2,
+      b.2,
+    )
+
+commit_sound : (d : Data) (t : Commit) → commit_of d ≡ Ok t → SpellsCommit d t
+unfolding commit_of
+commit_sound d t h = commit_parts d (quad d) t refl h
+
+-- ---- traces
+
+data_sound : (bytes : List ℕ) (ts : List Commit) (o : Option Data) → length bytes ≤ MOST_BYTES → data_of bytes ≡ o → trace_read o ≡ Ok ts → SpellsTrace bytes ts
+data_sound bytes ts None short e h = cc
+data_sound bytes ts (Some d) short e h =
+    let all = list_sound commit_of SpellsCommit commit_sound d ts h in
+    (short, d, e, all.0, all.1, all.2)
+
+tested : (bytes : List ℕ) (ts : List Commit) (b : Bool) → nat_lt MOST_BYTES (length bytes) ≡ b → cond b (bad TooLong) (trace_read (data_of bytes)) ≡ Ok ts
+    → SpellsTrace bytes ts
+tested bytes ts true t h = cc
+tested bytes ts false t h = data_sound bytes ts (data_of bytes) (grind (arith, nat_tests)) refl h
+
+pub trace_sound : (bytes : List ℕ) (ts : List Commit) → trace_in bytes ≡ Ok ts → SpellsTrace bytes ts
+unfolding trace_in
+trace_sound bytes ts h = tested bytes ts (nat_lt MOST_BYTES (length bytes)) refl h

@@ -1,0 +1,176 @@
+-- The first fault of a trace is the fault that reading it answers.
+use Rattle.std.proofs.Common.{◌≡◌, ℕ, suc, arith, List, [], ◌∷◌, ◌++◌, length, Bool, true, false, cond, Option, Some, None, Ok, refl, codes}
+use Rattle.std.specs.Prelude.{nat_lt}
+use Rattle.serde_json.specs.Data.{Data, null, boolean, number, string, array, object, Items, no_items, item}
+use Rattle.serde_json.specs.Find.{as_str, as_array}
+use Rattle.stm_history.specs.declared.revisions.TheConstants.{HIGHEST_NUMBER, HIGHEST_REVISION}
+use Rattle.stm_json.specs.declared.cause.Cause.TheVariants.{Shape, TooLong, NotJson}
+use Rattle.stm_json.specs.declared.limits.TheConstants.{MOST_BYTES}
+use Rattle.stm_json.specs.Bytes.{data_of}
+use Rattle.stm_json.specs.Elements.{one_of, two_of, four_of, number_up_to, number_in}
+use Rattle.stm_json.specs.Faults.{Faults, Sort, AnyText, WordOf, NumberIn, By, first_of, wrong, at, is_count, parts_faults, word_faults, faults_by, sorted_faults}
+use Rattle.stm_json.specs.Faults.{worded_faults, list_faults, any_number}
+use Rattle.stm_json.specs.Outcome.{Outcome, bad, ◌>>=◌}
+use Rattle.stm_json.specs.Parts.{on_text, same, text_of, each_from, list_of}
+use Rattle.stm_json.proofs.FaultLemmas.{fault_of, wrong_is, part_then, made, text_faulted, number_faulted, number_reported, list_faulted}
+use Rattle.stm_program.specs.declared.level.Level.{Level}
+use Rattle.stm_program.specs.declared.level.Level.TheVariants.{SerializableSnapshot, Serializable, RepeatableReads, ReadCommitted}
+use Rattle.stm_program.specs.declared.write.Write.{Write}
+use Rattle.stm_program.specs.declared.write.Write.TheVariants.{Put, Del}
+use Rattle.stm_events.specs.declared.reply.CommittedRead.{CommittedRead}
+use Rattle.stm_texts.specs.Reading.{level_named, level_of}
+use Rattle.stm_texts.specs.FirstFault.{level_words}
+use Rattle.stm_audit.specs.declared.commit.Commit.{Commit}
+use Rattle.stm_audit.specs.FirstFault.{array_faults, elements_faults, all_faults, value_faults, read_faults, write_table, commit_faults, data_faults, first_fault}
+use Rattle.stm_audit.specs.Reading.{listed, text_or_null, read_by, read_of, put_of, del_of, write_of, commit_by, commit_of, trace_of, trace_read, trace_in}
+
+-- ---- lists
+
+each_faulted : {A : Type 0} (faults : List ℕ → Data → Faults) (read : Data → Outcome A)
+    → ((p : List ℕ) (d : Data) → first_of (faults p d) ≡ fault_of p (read d))
+    → (p : List ℕ) (index : ℕ) (ds : Items) → first_of (elements_faults faults p index ds) ≡ fault_of p (each_from read index ds)
+unfolding each_from
+each_faulted faults read reported p index no_items = refl
+each_faulted {A} faults read reported p index (item d ds) =
+    part_then p index (read d) _ (faults (at p index) d) (elements_faults faults p (suc index) ds) (reported (at p index) d)
+    (λ (x : A). made p (each_from read (suc index) ds) (λ (xs : List A). x ∷ xs) (elements_faults faults p (suc index) ds)
+    (each_faulted faults read reported p (suc index) ds))
+
+all_faulted : {A : Type 0} (faults : List ℕ → Data → Faults) (read : Data → Outcome A)
+    → ((p : List ℕ) (d : Data) → first_of (faults p d) ≡ fault_of p (read d))
+    → (p : List ℕ) (d : Data) → first_of (all_faults faults p d) ≡ fault_of p (list_of read (as_array d))
+all_faulted faults read reported p (array ds) = each_faulted faults read reported p 0 ds
+all_faulted {A} faults read reported p _ = wrong_is {A = List A} p Shape (bad Shape) refl
+
+-- ---- reads
+
+value_faulted : (p : List ℕ) (d : Data) → first_of (value_faults p d) ≡ fault_of p (text_or_null d)
+unfolding text_or_null text_of
+value_faulted p null = refl
+value_faulted p (string s) = refl
+value_faulted p (boolean b) = wrong_is {A = Option (List ℕ)} p Shape (bad Shape) refl
+value_faulted p (number n) = wrong_is {A = Option (List ℕ)} p Shape (bad Shape) refl
+value_faulted p (array ds) = wrong_is {A = Option (List ℕ)} p Shape (bad Shape) refl
+value_faulted p (object ms) = wrong_is {A = Option (List ℕ)} p Shape (bad Shape) refl
+
+abbrev read_sorts : List Sort
+read_sorts = AnyText ∷ By value_faults ∷ any_number ∷ any_number ∷ []
+
+abbrev read_with : List ℕ → Option (List ℕ) → ℕ → ℕ → CommittedRead
+read_with key value mod_rev of_rev = record { key = key; value = value; mod_rev = mod_rev; of_rev = of_rev }
+
+read_parts : (p : List ℕ) (ds : Items) → first_of (cond (is_count read_sorts ds) (parts_faults p 0 read_sorts ds) (wrong p Shape)) ≡ fault_of p (read_by (four_of ds))
+read_parts p no_items = wrong_is p Shape (read_by None) refl
+read_parts p (item a no_items) = wrong_is p Shape (read_by None) refl
+read_parts p (item a (item b no_items)) = wrong_is p Shape (read_by None) refl
+read_parts p (item a (item b (item c no_items))) = wrong_is p Shape (read_by None) refl
+read_parts p (item a (item b (item c (item d no_items)))) =
+    part_then p 0 (text_of a) _ (faults_by AnyText (at p 0) a) _ (text_faulted (at p 0) a) (λ (key : List ℕ).
+    part_then p 1 (text_or_null b) _ (value_faults (at p 1) b) _ (value_faulted (at p 1) b) (λ (value : Option (List ℕ)).
+    part_then p 2 (number_up_to HIGHEST_NUMBER c) _ (faults_by any_number (at p 2) c) _ (number_reported (at p 2) c) (λ (modified : ℕ).
+    part_then p 3 (number_up_to HIGHEST_NUMBER d) (λ shown. Ok (read_with key value modified shown)) (faults_by any_number (at p 3) d) []
+    (number_reported (at p 3) d) (λ shown. refl))))
+read_parts p (item a (item b (item c (item d (item e ds))))) = wrong_is p Shape (read_by None) refl
+
+read_faulted : (p : List ℕ) (d : Data) → first_of (read_faults p d) ≡ fault_of p (read_of d)
+unfolding read_of
+read_faulted p (array ds) = read_parts p ds
+read_faulted p _ = wrong_is {A = CommittedRead} p Shape (bad Shape) refl
+
+-- ---- writes
+
+abbrev put_sorts : List Sort
+put_sorts = AnyText ∷ AnyText ∷ []
+
+abbrev del_sorts : List Sort
+del_sorts = AnyText ∷ []
+
+put_faulted : (p : List ℕ) (ds : Items) → first_of (sorted_faults p (Some put_sorts) ds) ≡ fault_of p (put_of (two_of ds))
+put_faulted p no_items = wrong_is p Shape (put_of None) refl
+put_faulted p (item a no_items) = wrong_is p Shape (put_of None) refl
+put_faulted p (item a (item b no_items)) =
+    part_then p 1 (text_of a) _ (faults_by AnyText (at p 1) a) _ (text_faulted (at p 1) a) (λ (key : List ℕ).
+    part_then p 2 (text_of b) (λ value. Ok (Put key value 0)) (faults_by AnyText (at p 2) b) [] (text_faulted (at p 2) b) (λ value. refl))
+put_faulted p (item a (item b (item c ds))) = wrong_is p Shape (put_of None) refl
+
+del_faulted : (p : List ℕ) (ds : Items) → first_of (sorted_faults p (Some del_sorts) ds) ≡ fault_of p (del_of (one_of ds))
+del_faulted p no_items = wrong_is p Shape (del_of None) refl
+del_faulted p (item a no_items) =
+    part_then p 1 (text_of a) (λ key. Ok (Del key)) (faults_by AnyText (at p 1) a) [] (text_faulted (at p 1) a) (λ key. refl)
+del_faulted p (item a (item b ds)) = wrong_is p Shape (del_of None) refl
+
+write_tested : (p : List ℕ) (ds : Items) (puts dels : Bool)
+    → first_of (sorted_faults p (cond puts (Some put_sorts) (cond dels (Some del_sorts) None)) ds)
+    ≡ fault_of p (cond puts (put_of (two_of ds)) (cond dels (del_of (one_of ds)) (bad Shape)))
+write_tested p ds true dels = put_faulted p ds
+write_tested p ds false true = del_faulted p ds
+write_tested p ds false false = wrong_is {A = Write} p Shape (bad Shape) refl
+
+write_reported : (p : List ℕ) (d : Data) → first_of (worded_faults write_table p d) ≡ fault_of p (write_of d)
+unfolding write_of
+write_reported p (array (item (string w) ds)) = write_tested p ds (same w (codes "put")) (same w (codes "del"))
+write_reported p _ = wrong_is {A = Write} p Shape (bad Shape) refl
+
+-- ---- commits
+
+level_tested : (p : List ℕ) (snapshot serializable repeatable committed : Bool)
+    → first_of (cond (cond snapshot true (cond serializable true (cond repeatable true (cond committed true false)))) [] (wrong p Shape))
+    ≡ fault_of p (cond snapshot (Ok SerializableSnapshot) (cond serializable (Ok Serializable) (cond repeatable (Ok RepeatableReads)
+    (cond committed (Ok ReadCommitted) (bad Shape)))))
+level_tested p true serializable repeatable committed = refl
+level_tested p false true repeatable committed = refl
+level_tested p false false true committed = refl
+level_tested p false false false true = refl
+level_tested p false false false false = wrong_is {A = Level} p Shape (bad Shape) refl
+
+level_reported : (p : List ℕ) (o : Option (List ℕ)) → first_of (word_faults level_words p o) ≡ fault_of p (on_text level_named o)
+unfolding level_named
+level_reported p (Some w) =
+    level_tested p (same w (codes "SerializableSnapshot")) (same w (codes "Serializable")) (same w (codes "RepeatableReads")) (same w (codes "ReadCommitted"))
+level_reported p None = wrong_is {A = Level} p Shape (bad Shape) refl
+
+level_faulted : (p : List ℕ) (d : Data) → first_of (faults_by (WordOf level_words) p d) ≡ fault_of p (level_of d)
+unfolding level_of
+level_faulted p d = level_reported p (as_str d)
+
+abbrev commit_sorts : List Sort
+commit_sorts = WordOf level_words ∷ NumberIn 1 HIGHEST_REVISION ∷ By (all_faults read_faults) ∷ By (list_faults write_table) ∷ []
+
+abbrev commit_with : Level → ℕ → List CommittedRead → List Write → Commit
+commit_with level revision reads writes = record { level = level; revision = revision; reads = reads; writes = writes }
+
+commit_parts : (p : List ℕ) (ds : Items)
+    → first_of (cond (is_count commit_sorts ds) (parts_faults p 0 commit_sorts ds) (wrong p Shape)) ≡ fault_of p (commit_by (four_of ds))
+commit_parts p no_items = wrong_is p Shape (commit_by None) refl
+commit_parts p (item a no_items) = wrong_is p Shape (commit_by None) refl
+commit_parts p (item a (item b no_items)) = wrong_is p Shape (commit_by None) refl
+commit_parts p (item a (item b (item c no_items))) = wrong_is p Shape (commit_by None) refl
+commit_parts p (item a (item b (item c (item d no_items)))) =
+    part_then p 0 (level_of a) _ (faults_by (WordOf level_words) (at p 0) a) _ (level_faulted (at p 0) a) (λ (level : Level).
+    part_then p 1 (number_in 1 HIGHEST_REVISION b) _ (faults_by (NumberIn 1 HIGHEST_REVISION) (at p 1) b) _
+    (number_faulted (at p 1) 1 HIGHEST_REVISION b (omega arith)) (λ (revision : ℕ).
+    part_then p 2 (listed read_of c) _ (all_faults read_faults (at p 2) c) _ (all_faulted read_faults read_of read_faulted (at p 2) c)
+    (λ (reads : List CommittedRead).
+    part_then p 3 (listed write_of d) (λ writes. Ok (commit_with level revision reads writes)) (list_faults write_table (at p 3) d) []
+    (list_faulted write_table write_of write_reported (at p 3) d) (λ writes. refl))))
+commit_parts p (item a (item b (item c (item d (item e ds))))) = wrong_is p Shape (commit_by None) refl
+
+commit_faulted : (p : List ℕ) (d : Data) → first_of (commit_faults p d) ≡ fault_of p (commit_of d)
+unfolding commit_of
+commit_faulted p (array ds) = commit_parts p ds
+commit_faulted p _ = wrong_is {A = Commit} p Shape (bad Shape) refl
+
+-- ---- traces
+
+data_faulted : (o : Option Data) → first_of (data_faults o) ≡ fault_of [] (trace_read o)
+data_faulted None = wrong_is {A = List Commit} [] NotJson (bad NotJson) refl
+data_faulted (Some d) = all_faulted commit_faults commit_of commit_faulted [] d
+
+length_tested : (o : Option Data) (b : Bool) → first_of (cond b (wrong [] TooLong) [] ++ data_faults o) ≡ fault_of [] (cond b (bad TooLong) (trace_read o))
+length_tested o true = refl
+length_tested o false = data_faulted o
+
+-- the first fault is that which reading answers, if it does
+pub first_fault-is : (bytes : List ℕ) → first_fault bytes ≡ fault_of [] (trace_in bytes)
+unfolding first_fault trace_in
+first_fault-is bytes = length_tested (data_of bytes) (nat_lt MOST_BYTES (length bytes))

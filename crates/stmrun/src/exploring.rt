@@ -233,7 +233,7 @@ pub(crate) fn run_search(
     let (scenario, beside) = source_at(rt, words.scenario, explain)?;
     let text = match scenario {
         JsonFile::Compiled(_, _) => text_at(rt, words.scenario, &beside),
-        JsonFile::Json(_) => None,
+        JsonFile::Json(_) | JsonFile::Held(_) => None,
     };
     let runners = match &text {
         Some(text) => text.runners.as_slice(),

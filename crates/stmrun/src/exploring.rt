@@ -59,8 +59,7 @@ fn run_rule(
         &mut out,
         &mut err,
     );
-    close(&mut budget);
-    status
+    close(&mut budget, status)
 }
 
 /// Looks through the interleavings of a scenario for one that breaks each of these rules.
@@ -109,8 +108,7 @@ fn run_outcomes(
         &mut out,
         &mut err,
     );
-    close(&mut budget);
-    status
+    close(&mut budget, status)
 }
 
 /// Goes through the interleavings of a scenario; all levels are refused.
@@ -239,7 +237,7 @@ pub(crate) fn run_search(
     let (scenario, beside) = source_at(rt, words.scenario, explain)?;
     let text = match scenario {
         JsonFile::Compiled(_, _) => text_at(rt, words.scenario, &beside),
-        JsonFile::Json(_) => None,
+        JsonFile::Json(_) | JsonFile::Held(_) => None,
     };
     let runners = match &text {
         Some(text) => text.runners.as_slice(),
@@ -253,6 +251,7 @@ pub(crate) fn run_search(
         told: Told {
             events: words.budget,
             runners,
+            strict: words.strict,
         },
         explain,
         source: text.as_ref(),

@@ -111,16 +111,17 @@ fn empty_cells(alloc: Global, count: u64) -> Result<Vec<u8>, AllocError>
 }
 
 /// What the event of a row changed.
-fn changes_html(
-    alloc: Global,
-    keys: &Keys,
-    before: u64,
-    after: u64,
-) -> Result<Vec<u8>, AllocError>
+fn changes_html(alloc: Global, keys: &Keys, before: u64, after: u64) -> Result<Vec<u8>, AllocError>
     ensures { IfOk result (λ changes. changes.items ≡ revisions_html keys.now.history before (after - before)) }
 {
     let mut changes = Vec::new(alloc);
-    push_revisions(alloc, &mut changes, keys, before, after.saturating_sub(before))?;
+    push_revisions(
+        alloc,
+        &mut changes,
+        keys,
+        before,
+        after.saturating_sub(before),
+    )?;
     Ok(changes)
 }
 

@@ -9,6 +9,7 @@ use Rattle.stm_keys.specs.declared.event.Event.TheVariants.{Put, Delete}
 use Rattle.stm_keys.specs.Events.{events_of}
 use Rattle.stm_reasons.specs.declared.reason.Cause.{Cause}
 use Rattle.stm_reasons.specs.declared.reason.Reason.{Reason}
+use Rattle.stm_formats.specs.declared.format_row.Lane.{Lane}
 use Rattle.stm_formats.specs.declared.format_row.Mark.{Mark}
 use Rattle.stm_formats.specs.declared.format_row.Mark.TheVariants.{Committed, Failed, Plain}
 use Rattle.stm_formats.specs.declared.format_row.Row.{Row}
@@ -21,9 +22,16 @@ use Rattle.stm_formats.specs.FormatPage.{page_head, page_foot}
 
 -- ---- what an event changed, for the script: a key without a value was deleted
 
-unfoldable pub change_html : Event → List ℕ
-change_html (Put key state) = joined (codes "<i hidden data-key='" ∷ escaped (shown key) ∷ codes "' data-value='" ∷ escaped (shown state.value) ∷ codes "'></i>" ∷ [])
-change_html (Delete key revision) = joined (codes "<i hidden data-key='" ∷ escaped (shown key) ∷ codes "'></i>" ∷ [])
+-- a key or a value after this text
+unfoldable pub attribute_html : List ℕ → List ℕ → List ℕ
+attribute_html before text = joined (before ∷ escaped (shown text) ∷ codes "'" ∷ [])
+
+abbrev pub attributes_html : Event → List ℕ
+attributes_html (Put key state) = attribute_html (codes "<i hidden data-key='") key ++ attribute_html (codes " data-value='") state.value
+attributes_html (Delete key revision) = attribute_html (codes "<i hidden data-key='") key
+
+abbrev pub change_html : Event → List ℕ
+change_html event = attributes_html event ++ codes "></i>"
 
 abbrev pub revision_html : History → ℕ → List ℕ
 revision_html h revision = if nat_lt (now h) revision then [] else joined (map change_html (events_of h revision))
@@ -31,7 +39,7 @@ revision_html h revision = if nat_lt (now h) revision then [] else joined (map c
 -- what that many revisions above one changed
 abbrev pub revisions_html : History → ℕ → ℕ → List ℕ
 revisions_html h before zero = []
-revisions_html h before (suc count) = revisions_html h before count ++ revision_html h (before + suc count)
+revisions_html h before (suc count) = revisions_html h before count ++ revision_html h (before + count + 1)
 
 -- ---- a row
 
@@ -44,26 +52,35 @@ abbrev pub empty_cells : ℕ → List ℕ
 empty_cells zero = []
 empty_cells (suc count) = empty_cells count ++ codes "<td></td>"
 
--- the last cell goes on to the end of the columns
-unfoldable pub cell_html : ℕ → ℕ → List ℕ → Mark → List ℕ → List ℕ → List ℕ → List ℕ
-cell_html n c cells mark tag words changes =
-    joined (codes "<tr><th scope='row'>" ∷ decimal n ∷ codes "</th>" ∷ cells ∷ codes "<td colspan='" ∷ decimal (10 - c) ∷ codes "' class='"
-    ∷ class_of mark ∷ codes "'>" ∷ tag ∷ escaped words ∷ changes ∷ codes "</td></tr>\n" ∷ [])
+unfoldable pub number_html : ℕ → List ℕ
+number_html n = joined (codes "<tr><th scope='row'>" ∷ decimal n ∷ codes "</th>" ∷ [])
+
+-- the words of a row, in a cell that goes on to the end of the columns
+unfoldable pub cell_html : ℕ → List ℕ → Lane → List ℕ → List ℕ
+cell_html c class lane words =
+    joined (codes "<td colspan='" ∷ decimal (10 - c) ∷ codes "' class='" ∷ class ∷ codes "'>" ∷ tag_text lane ∷ escaped words ∷ [])
+
+abbrev pub words_html : Row → List ℕ
+words_html row = cell_html (column row.lane) (class_of row.mark) row.lane row.words
 
 -- the row of an event, by the store's revision before the first event and after each
 abbrev pub row_html : History → List ℕ → Row → List ℕ
 row_html h counters row =
     let before : ℕ = get_or counters (row.number - 1) 0 in
-    cell_html row.number (column row.lane) (empty_cells (column row.lane)) row.mark (tag_text row.lane) row.words (revisions_html h before (get_or counters row.number 0 - before))
+    number_html row.number ++ empty_cells (column row.lane) ++ words_html row
+    ++ revisions_html h before (get_or counters row.number 0 - before) ++ codes "</td></tr>\n"
 
 abbrev pub rows_html : History → List ℕ → List Row → List ℕ
 rows_html h counters rows = joined (map (row_html h counters) rows)
 
 -- ---- titles and lists
 
+unfoldable pub title_html : ℕ → List ℕ
+title_html c = joined (codes "<th scope='col'>" ∷ title c ∷ codes "</th>" ∷ [])
+
 abbrev pub titles_html : ℕ → List ℕ
 titles_html zero = []
-titles_html (suc c) = titles_html c ++ joined (codes "<th scope='col'>" ∷ title c ∷ codes "</th>" ∷ [])
+titles_html (suc c) = titles_html c ++ title_html c
 
 unfoldable pub note_html : List ℕ → List ℕ
 note_html note = joined (codes "<li>" ∷ escaped note ∷ codes "</li>\n" ∷ [])
@@ -72,13 +89,18 @@ abbrev pub notes_html : List (List ℕ) → List ℕ
 notes_html notes = joined (map note_html notes)
 
 -- an arrow goes from the event that changed the key to the commit
-abbrev pub from_html : Option Cause → List ℕ
+unfoldable pub from_html : Option Cause → List ℕ
 from_html None = []
 from_html (Some cause) = joined (codes " data-from='" ∷ decimal cause.event ∷ codes "'" ∷ [])
 
-unfoldable pub reason_html : Reason → List ℕ
-reason_html reason =
-    joined (codes "<li data-to='" ∷ decimal reason.event ∷ codes "'" ∷ from_html reason.cause ∷ codes ">" ∷ escaped (reason_note reason) ∷ codes "</li>\n" ∷ [])
+unfoldable pub to_html : ℕ → List ℕ
+to_html event = joined (codes "<li data-to='" ∷ decimal event ∷ codes "'" ∷ [])
+
+unfoldable pub told_html : List ℕ → List ℕ
+told_html note = joined (codes ">" ∷ escaped note ∷ codes "</li>\n" ∷ [])
+
+abbrev pub reason_html : Reason → List ℕ
+reason_html reason = to_html reason.event ++ from_html reason.cause ++ told_html (reason_note reason)
 
 abbrev pub reasons_html : List Reason → List ℕ
 reasons_html reasons = joined (map reason_html reasons)

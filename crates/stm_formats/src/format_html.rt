@@ -1,8 +1,8 @@
 //! A report as a page.
-ghost use Rattle.std.specs.Prelude.{◌≡◌, ◌++◌, ◌≤◌, ◌-◌, ◌<◌, ◌+◌, ◌^◌, get_or, map, IfOk, OnOk};
-ghost use Rattle.stm_formats.specs.FormatPieces.{joined};
-ghost use Rattle.stm_formats.specs.FormatHtml.{change_html, revision_html, revisions_html, class_of, empty_cells, row_html, rows_html, titles_html};
-ghost use Rattle.stm_formats.specs.FormatHtml.{note_html, notes_html, from_html, reason_html, reasons_html, html_of};
+ghost use Rattle.std.specs.Prelude.{◌≡◌, ◌++◌, ◌<◌, ◌+◌, ◌^◌, IfOk, OnOk};
+ghost use Rattle.stm_formats.specs.FormatHtml.{attribute_html, attributes_html, change_html, revision_html, revisions_html, class_of, empty_cells, number_html, words_html};
+ghost use Rattle.stm_formats.specs.FormatHtml.{row_html, rows_html, title_html, titles_html, note_html, notes_html, from_html, to_html, told_html};
+ghost use Rattle.stm_formats.specs.FormatHtml.{reason_html, reasons_html, html_of};
 
 use crate::format_columns::{column, last_column};
 use crate::format_page::{page_foot, page_head};
@@ -15,34 +15,44 @@ use stm_history::Sequence;
 use stm_keys::Keys;
 use stm_reasons::{Cause, Reason, counter_at};
 
-/// Adds what an event changed of a key, for the script.
-#[tactic(auto, unfolding(crate::specs::FormatHtml::change_html))]
-fn push_change(alloc: Global, out: &mut Vec<u8>, event: &Event) -> Result<(), AllocError>
-    ensures { OnOk result (out.new.items ≡ out.old.items ++ change_html event.now) }
+/// Adds a key or a value after this text.
+#[tactic(auto, unfolding(crate::specs::FormatHtml::attribute_html))]
+fn push_attribute(
+    alloc: Global,
+    out: &mut Vec<u8>,
+    before: &str,
+    text: &str,
+) -> Result<(), AllocError>
+    ensures { OnOk result (out.new.items ≡ out.old.items ++ attribute_html before.now text.now) }
+{
+    let text = said(alloc, &[Piece::Shown(text)])?;
+    out.extend_from_slice(before.as_bytes())?;
+    push_pieces(out, &[Piece::Escaped(text.as_slice()), Piece::Say("'")])
+}
+
+/// Adds the key and the value of a change.
+fn push_attributes(alloc: Global, out: &mut Vec<u8>, event: &Event) -> Result<(), AllocError>
+    ensures { OnOk result (out.new.items ≡ out.old.items ++ attributes_html event.now) }
 {
     match event {
         Event::Put { key, state } => {
-            let key = said(alloc, &[Piece::Shown(key.as_str())])?;
-            let value = said(alloc, &[Piece::Shown(state.value.as_str())])?;
-            let pieces = [
-                Piece::Say("<i hidden data-key='"),
-                Piece::Escaped(key.as_slice()),
-                Piece::Say("' data-value='"),
-                Piece::Escaped(value.as_slice()),
-                Piece::Say("'></i>"),
-            ];
-            push_pieces(out, &pieces)
+            push_attribute(alloc, out, "<i hidden data-key='", key.as_str())?;
+            push_attribute(alloc, out, " data-value='", state.value.as_str())?;
+            Ok(())
         }
         Event::Delete { key, .. } => {
-            let key = said(alloc, &[Piece::Shown(key.as_str())])?;
-            let pieces = [
-                Piece::Say("<i hidden data-key='"),
-                Piece::Escaped(key.as_slice()),
-                Piece::Say("'></i>"),
-            ];
-            push_pieces(out, &pieces)
+            push_attribute(alloc, out, "<i hidden data-key='", key.as_str())
         }
     }
+}
+
+/// Adds what an event changed of a key, for the script.
+fn push_change(alloc: Global, out: &mut Vec<u8>, event: &Event) -> Result<(), AllocError>
+    ensures { OnOk result (out.new.items ≡ out.old.items ++ change_html event.now) }
+{
+    push_attributes(alloc, out, event)?;
+    out.extend_from_slice(b"></i>")?;
+    Ok(())
 }
 
 /// Adds what a revision changed.
@@ -75,7 +85,7 @@ fn push_revisions(
     ensures { OnOk result (out.new.items ≡ out.old.items ++ revisions_html keys.now.history before count) }
 {
     for more in 0..count {
-        push_revision(alloc, out, keys, before + (more + 1))?;
+        push_revision(alloc, out, keys, before + more + 1)?;
     }
     Ok(())
 }
@@ -101,32 +111,36 @@ fn push_empty_cells(out: &mut Vec<u8>, count: u64) -> Result<(), AllocError>
     Ok(())
 }
 
-/// The empty cells before that of a row.
-fn empty_cells(alloc: Global, count: u64) -> Result<Vec<u8>, AllocError>
-    ensures { IfOk result (λ cells. cells.items ≡ empty_cells count) }
+/// Adds the number of a row.
+#[tactic(auto, unfolding(crate::specs::FormatHtml::number_html))]
+fn push_number(out: &mut Vec<u8>, number: u64) -> Result<(), AllocError>
+    ensures { OnOk result (out.new.items ≡ out.old.items ++ number_html number) }
 {
-    let mut cells = Vec::new(alloc);
-    push_empty_cells(&mut cells, count)?;
-    Ok(cells)
+    let pieces = [
+        Piece::Say("<tr><th scope='row'>"),
+        Piece::Number(number),
+        Piece::Say("</th>"),
+    ];
+    push_pieces(out, &pieces)
 }
 
-/// What the event of a row changed.
-fn changes_html(alloc: Global, keys: &Keys, before: u64, after: u64) -> Result<Vec<u8>, AllocError>
-    ensures { IfOk result (λ changes. changes.items ≡ revisions_html keys.now.history before (after - before)) }
+/// Adds the words of a row.
+fn push_words(out: &mut Vec<u8>, row: &Row) -> Result<(), AllocError>
+    ensures { OnOk result (out.new.items ≡ out.old.items ++ words_html row.now) }
 {
-    let mut changes = Vec::new(alloc);
-    push_revisions(
-        alloc,
-        &mut changes,
-        keys,
-        before,
-        after.saturating_sub(before),
-    )?;
-    Ok(changes)
+    let pieces = [
+        Piece::Say("<td colspan='"),
+        Piece::Number(10 - column(row.lane)),
+        Piece::Say("' class='"),
+        Piece::Say(class_of(row.mark)),
+        Piece::Say("'>"),
+        Piece::Tag(row.lane),
+        Piece::Escaped(row.words.as_slice()),
+    ];
+    push_pieces(out, &pieces)
 }
 
 /// Adds a row, by the store's revision before the first event and after each.
-#[tactic(auto, unfolding(crate::specs::FormatHtml::cell_html))]
 fn push_row(
     alloc: Global,
     out: &mut Vec<u8>,
@@ -138,25 +152,12 @@ fn push_row(
 {
     let before = counter_at(counters, row.number.saturating_sub(1) as usize);
     let after = counter_at(counters, row.number as usize);
-    let changes = changes_html(alloc, keys, before, after)?;
-    let place = column(row.lane);
-    let cells = empty_cells(alloc, place)?;
-    let pieces = [
-        Piece::Say("<tr><th scope='row'>"),
-        Piece::Number(row.number),
-        Piece::Say("</th>"),
-        Piece::Raw(cells.as_slice()),
-        Piece::Say("<td colspan='"),
-        Piece::Number(10 - place),
-        Piece::Say("' class='"),
-        Piece::Say(class_of(row.mark)),
-        Piece::Say("'>"),
-        Piece::Tag(row.lane),
-        Piece::Escaped(row.words.as_slice()),
-        Piece::Raw(changes.as_slice()),
-        Piece::Say("</td></tr>\n"),
-    ];
-    push_pieces(out, &pieces)
+    push_number(out, row.number)?;
+    push_empty_cells(out, column(row.lane))?;
+    push_words(out, row)?;
+    push_revisions(alloc, out, keys, before, after.saturating_sub(before))?;
+    out.extend_from_slice(b"</td></tr>\n")?;
+    Ok(())
 }
 
 /// Adds the rows.
@@ -175,17 +176,25 @@ fn push_rows(
     Ok(())
 }
 
+/// Adds the title of a column.
+#[tactic(auto, unfolding(crate::specs::FormatHtml::title_html))]
+fn push_title(out: &mut Vec<u8>, column: u64) -> Result<(), AllocError>
+    ensures { OnOk result (out.new.items ≡ out.old.items ++ title_html column) }
+{
+    let pieces = [
+        Piece::Say("<th scope='col'>"),
+        Piece::Title(column),
+        Piece::Say("</th>"),
+    ];
+    push_pieces(out, &pieces)
+}
+
 /// Adds the titles of that many columns.
 fn push_titles(out: &mut Vec<u8>, count: u64) -> Result<(), AllocError>
     ensures { OnOk result (out.new.items ≡ out.old.items ++ titles_html count) }
 {
     for column in 0..count {
-        let pieces = [
-            Piece::Say("<th scope='col'>"),
-            Piece::Title(column),
-            Piece::Say("</th>"),
-        ];
-        push_pieces(out, &pieces)?;
+        push_title(out, column)?;
     }
     Ok(())
 }
@@ -213,40 +222,58 @@ fn push_notes(out: &mut Vec<u8>, notes: &[Sequence<u8>]) -> Result<(), AllocErro
     Ok(())
 }
 
-/// Where an arrow to a commit comes from.
-fn from_html(alloc: Global, cause: Option<Cause>) -> Result<Sequence<u8>, AllocError>
-    ensures { IfOk result (λ html. html ≡ from_html cause) }
+/// Adds where an arrow to a commit comes from.
+#[tactic(auto, unfolding(crate::specs::FormatHtml::from_html))]
+fn push_from(out: &mut Vec<u8>, cause: Option<Cause>) -> Result<(), AllocError>
+    ensures { OnOk result (out.new.items ≡ out.old.items ++ from_html cause) }
 {
     match cause {
-        None => Ok(Sequence::new(alloc)),
+        None => Ok(()),
         Some(cause) => {
             let pieces = [
                 Piece::Say(" data-from='"),
                 Piece::Number(cause.event),
                 Piece::Say("'"),
             ];
-            said(alloc, &pieces)
+            push_pieces(out, &pieces)
         }
     }
 }
 
-/// Adds a reason.
-#[tactic(auto, unfolding(crate::specs::FormatHtml::reason_html))]
-fn push_reason(alloc: Global, out: &mut Vec<u8>, reason: &Reason) -> Result<(), AllocError>
-    ensures { OnOk result (out.new.items ≡ out.old.items ++ reason_html reason.now) }
+/// Adds which commit a reason is of.
+#[tactic(auto, unfolding(crate::specs::FormatHtml::to_html))]
+fn push_to(out: &mut Vec<u8>, event: u64) -> Result<(), AllocError>
+    ensures { OnOk result (out.new.items ≡ out.old.items ++ to_html event) }
 {
-    let from = from_html(alloc, reason.cause)?;
-    let note = reason_note(alloc, reason)?;
     let pieces = [
         Piece::Say("<li data-to='"),
-        Piece::Number(reason.event),
+        Piece::Number(event),
         Piece::Say("'"),
-        Piece::Raw(from.as_slice()),
+    ];
+    push_pieces(out, &pieces)
+}
+
+/// Adds the note of a reason.
+#[tactic(auto, unfolding(crate::specs::FormatHtml::told_html))]
+fn push_told(out: &mut Vec<u8>, note: &Sequence<u8>) -> Result<(), AllocError>
+    ensures { OnOk result (out.new.items ≡ out.old.items ++ told_html note.now) }
+{
+    let pieces = [
         Piece::Say(">"),
         Piece::Escaped(note.as_slice()),
         Piece::Say("</li>\n"),
     ];
     push_pieces(out, &pieces)
+}
+
+/// Adds a reason.
+fn push_reason(alloc: Global, out: &mut Vec<u8>, reason: &Reason) -> Result<(), AllocError>
+    ensures { OnOk result (out.new.items ≡ out.old.items ++ reason_html reason.now) }
+{
+    let note = reason_note(alloc, reason)?;
+    push_to(out, reason.event)?;
+    push_from(out, reason.cause)?;
+    push_told(out, &note)
 }
 
 /// Adds the reasons.

@@ -1,10 +1,21 @@
 -- Members of a line, one after the other.
-use Rattle.std.proofs.Common.{◌≡◌, ℕ, suc, ◌+◌, ◌<◌, List, ◌++◌, length, drop, get_or, Bool, false, true, ◌||◌, refl, sym, ap, ◌∙◌, append_assoc, arith}
+use Rattle.std.proofs.Common.{◌≡◌, ℕ, zero, suc, ◌+◌, ◌<◌, List, [], ◌∷◌, map, ◌++◌, length, drop, get_or, Bool, false, true, ◌||◌, refl, sym, ap, ◌∙◌, append_assoc, arith}
+use Rattle.std.proofs.lemmas.List.{get_or-map}
 use Rattle.serde_json.specs.declared.value.Value.{Value}
 use Rattle.serde_json.specs.View.{view, items_view}
 use Rattle.serde_json.specs.Written.{has_float, items_have_float}
 use Rattle.stm_formats.proofs.Joining.{left_at}
 use Rattle.stm_report.specs.FormatFields.{member_text, members_text}
+
+-- the name at a place
+module _ {A : Type 0} (name : A → List ℕ) where
+  pub name_within : (xs : List A) (i : ℕ) (x : A) → i < length xs → x ≡ get_or xs i x → name x ≡ get_or (map name xs) i []
+  name_within xs i x within is = ap name is ∙ sym (get_or-map name xs i x [] within)
+
+  pub no_name : (xs : List A) (i : ℕ) → (i < length xs → ⊥) → [] ≡ get_or (map name xs) i []
+  no_name [] i past = refl
+  no_name (x ∷ xs) zero past = absurd (past (omega arith))
+  no_name (x ∷ xs) (suc i) past = no_name xs i (λ within. past (omega (arith, within)))
 
 first_of : (a b : Bool) → (a || b) ≡ false → a ≡ false
 first_of false b none = refl

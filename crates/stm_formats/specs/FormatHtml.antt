@@ -26,12 +26,15 @@ use Rattle.stm_formats.specs.FormatPage.{page_head, page_foot}
 unfoldable pub attribute_html : List ℕ → List ℕ → List ℕ
 attribute_html before text = joined (before ∷ escaped (shown text) ∷ codes "'" ∷ [])
 
+abbrev pub put_html : List ℕ → List ℕ → List ℕ
+put_html key value = joined (attribute_html (codes "<i hidden data-key='") key ∷ attribute_html (codes " data-value='") value ∷ [])
+
 abbrev pub attributes_html : Event → List ℕ
-attributes_html (Put key state) = attribute_html (codes "<i hidden data-key='") key ++ attribute_html (codes " data-value='") state.value
+attributes_html (Put key state) = put_html key state.value
 attributes_html (Delete key revision) = attribute_html (codes "<i hidden data-key='") key
 
 abbrev pub change_html : Event → List ℕ
-change_html event = attributes_html event ++ codes "></i>"
+change_html event = joined (attributes_html event ∷ codes "></i>" ∷ [])
 
 abbrev pub revision_html : History → ℕ → List ℕ
 revision_html h revision = if nat_lt (now h) revision then [] else joined (map change_html (events_of h revision))
@@ -67,8 +70,8 @@ words_html row = cell_html (column row.lane) (class_of row.mark) row.lane row.wo
 abbrev pub row_html : History → List ℕ → Row → List ℕ
 row_html h counters row =
     let before : ℕ = get_or counters (row.number - 1) 0 in
-    number_html row.number ++ empty_cells (column row.lane) ++ words_html row
-    ++ revisions_html h before (get_or counters row.number 0 - before) ++ codes "</td></tr>\n"
+    joined (number_html row.number ∷ empty_cells (column row.lane) ∷ words_html row ∷ revisions_html h before (get_or counters row.number 0 - before)
+    ∷ codes "</td></tr>\n" ∷ [])
 
 abbrev pub rows_html : History → List ℕ → List Row → List ℕ
 rows_html h counters rows = joined (map (row_html h counters) rows)

@@ -1,6 +1,6 @@
 //! A report as a page.
 ghost use Rattle.std.specs.Prelude.{◌≡◌, ◌++◌, ◌<◌, ◌+◌, ◌^◌, IfOk, OnOk};
-ghost use Rattle.stm_formats.specs.FormatHtml.{attribute_html, attributes_html, change_html, revision_html, revisions_html, class_of, empty_cells, number_html, words_html};
+ghost use Rattle.stm_formats.specs.FormatHtml.{attribute_html, put_html, attributes_html, change_html, revision_html, revisions_html, class_of, empty_cells, number_html, words_html};
 ghost use Rattle.stm_formats.specs.FormatHtml.{row_html, rows_html, title_html, titles_html, note_html, notes_html, from_html, to_html, told_html};
 ghost use Rattle.stm_formats.specs.FormatHtml.{reason_html, reasons_html, html_of};
 
@@ -30,16 +30,21 @@ fn push_attribute(
     push_pieces(out, &[Piece::Escaped(text.as_slice()), Piece::Say("'")])
 }
 
+/// Adds the key and the value of a put.
+fn push_put(alloc: Global, out: &mut Vec<u8>, key: &str, value: &str) -> Result<(), AllocError>
+    ensures { OnOk result (out.new.items ≡ out.old.items ++ put_html key.now value.now) }
+{
+    push_attribute(alloc, out, "<i hidden data-key='", key)?;
+    push_attribute(alloc, out, " data-value='", value)?;
+    Ok(())
+}
+
 /// Adds the key and the value of a change.
 fn push_attributes(alloc: Global, out: &mut Vec<u8>, event: &Event) -> Result<(), AllocError>
     ensures { OnOk result (out.new.items ≡ out.old.items ++ attributes_html event.now) }
 {
     match event {
-        Event::Put { key, state } => {
-            push_attribute(alloc, out, "<i hidden data-key='", key.as_str())?;
-            push_attribute(alloc, out, " data-value='", state.value.as_str())?;
-            Ok(())
-        }
+        Event::Put { key, state } => push_put(alloc, out, key.as_str(), state.value.as_str()),
         Event::Delete { key, .. } => {
             push_attribute(alloc, out, "<i hidden data-key='", key.as_str())
         }

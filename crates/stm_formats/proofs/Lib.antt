@@ -6,3 +6,4 @@ pub mod FormatKeptKeys
 pub mod FormatLoops
 pub mod FormatRowLemmas
 pub mod FormatWidths
+pub mod FormatPages

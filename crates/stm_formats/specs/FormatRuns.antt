@@ -1,4 +1,4 @@
--- The text and the picture of a run: of the events that led to a world from a revision of its store, and of their replies.
+-- The text, the picture and the page of a run: of the events that led to a world from a revision of its store, and of their replies.
 use Rattle.std.specs.Prelude.{ℕ, List, ◌++◌, Result}
 use Rattle.stm_history.specs.History.{History}
 use Rattle.stm_txn.specs.Standing.{kept}
@@ -6,6 +6,7 @@ use Rattle.stm_events.specs.declared.event.WorldEvent.{WorldEvent}
 use Rattle.stm_events.specs.declared.reply.Reply.{Reply}
 use Rattle.stm_events.specs.declared.refusal.Denied.{Denied}
 use Rattle.stm_world.specs.World.{World}
+use Rattle.stm_reasons.specs.Counters.{counters}
 use Rattle.stm_reasons.specs.Reasons.{reasons_of}
 use Rattle.stm_formats.specs.declared.format_row.Row.{Row}
 use Rattle.stm_formats.specs.FormatRows.{rows_of}
@@ -13,6 +14,7 @@ use Rattle.stm_formats.specs.FormatNotes.{notes_of}
 use Rattle.stm_formats.specs.FormatReasons.{reason_notes}
 use Rattle.stm_formats.specs.FormatText.{text_of}
 use Rattle.stm_formats.specs.FormatSvg.{svg_of}
+use Rattle.stm_formats.specs.FormatHtml.{html_of}
 
 -- the history as the store of a world has it, without the revisions that were compacted: values that only these had are not shown
 abbrev pub history_kept : World → History
@@ -30,3 +32,7 @@ text_from w since events replies = text_of (rows_from w since events replies) (n
 
 abbrev pub svg_from : World → ℕ → List WorldEvent → List (Result Reply Denied) → List ℕ
 svg_from w since events replies = svg_of (rows_from w since events replies) (notes_from w since replies)
+
+abbrev pub html_from : World → ℕ → List WorldEvent → List (Result Reply Denied) → List ℕ
+html_from w since events replies =
+    html_of (history_kept w) (counters since replies) (rows_from w since events replies) (notes_of w replies) (reasons_of (history_kept w) since replies)

@@ -9,4 +9,6 @@ pub mod FormatColumns
 pub mod FormatNotes
 pub mod FormatText
 pub mod FormatSvg
+pub mod FormatPage
+pub mod FormatHtml
 pub mod FormatRuns

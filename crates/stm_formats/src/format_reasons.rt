@@ -91,7 +91,7 @@ fn moral(ending: Ending) -> &'static str
 }
 
 /// The note of a reason.
-fn reason_note(alloc: Global, reason: &Reason) -> Result<Sequence<u8>, AllocError>
+pub(crate) fn reason_note(alloc: Global, reason: &Reason) -> Result<Sequence<u8>, AllocError>
     ensures { IfOk result (λ note. note ≡ reason_note reason.now) }
 {
     let was = was_words(alloc, reason.seen)?;

@@ -2,7 +2,7 @@
 --
 -- The WHATWG's "HTML", "Tables" and "The script element". Style and script are the same for every report: all that a page says stands in its rows and lists, and
 -- each text in it stands escaped.
-use Rattle.std.specs.Prelude.{ℕ, zero, suc, ◌+◌, ◌-◌, nat_lt, if◌then◌else◌, List, [], ◌∷◌, ◌++◌, map, get_or, Option, Some, None, codes, decimal}
+use Rattle.std.specs.Prelude.{ℕ, zero, suc, ◌+◌, ◌-◌, nat_eq, nat_lt, if◌then◌else◌, List, [], ◌∷◌, ◌++◌, map, get_or, Option, Some, None, codes, decimal}
 use Rattle.stm_history.specs.History.{History, now}
 use Rattle.stm_keys.specs.declared.event.Event.{Event}
 use Rattle.stm_keys.specs.declared.event.Event.TheVariants.{Put, Delete}
@@ -51,9 +51,9 @@ class_of Committed = codes "committed"
 class_of Failed = codes "failed"
 class_of Plain = codes "plain"
 
-abbrev pub empty_cells : ℕ → List ℕ
-empty_cells zero = []
-empty_cells (suc count) = empty_cells count ++ codes "<td></td>"
+-- an empty cell in place of that many
+unfoldable pub empty_html : ℕ → List ℕ
+empty_html count = if nat_eq count 0 then [] else joined (codes "<td colspan='" ∷ decimal count ∷ codes "'></td>" ∷ [])
 
 unfoldable pub number_html : ℕ → List ℕ
 number_html n = joined (codes "<tr><th scope='row'>" ∷ decimal n ∷ codes "</th>" ∷ [])
@@ -70,7 +70,7 @@ words_html row = cell_html (column row.lane) (class_of row.mark) row.lane row.wo
 abbrev pub row_html : History → List ℕ → Row → List ℕ
 row_html h counters row =
     let before : ℕ = get_or counters (row.number - 1) 0 in
-    joined (number_html row.number ∷ empty_cells (column row.lane) ∷ words_html row ∷ revisions_html h before (get_or counters row.number 0 - before)
+    joined (number_html row.number ∷ empty_html (column row.lane) ∷ words_html row ∷ revisions_html h before (get_or counters row.number 0 - before)
     ∷ codes "</td></tr>\n" ∷ [])
 
 abbrev pub rows_html : History → List ℕ → List Row → List ℕ

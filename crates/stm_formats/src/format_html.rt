@@ -1,6 +1,6 @@
 //! A report as a page.
 ghost use Rattle.std.specs.Prelude.{◌≡◌, ◌++◌, ◌<◌, ◌+◌, ◌^◌, IfOk, OnOk};
-ghost use Rattle.stm_formats.specs.FormatHtml.{attribute_html, put_html, attributes_html, change_html, revision_html, revisions_html, class_of, empty_cells, number_html, words_html};
+ghost use Rattle.stm_formats.specs.FormatHtml.{attribute_html, put_html, attributes_html, change_html, revision_html, revisions_html, class_of, empty_html, number_html, words_html};
 ghost use Rattle.stm_formats.specs.FormatHtml.{row_html, rows_html, title_html, titles_html, note_html, notes_html, from_html, to_html, told_html};
 ghost use Rattle.stm_formats.specs.FormatHtml.{reason_html, reasons_html, html_of};
 
@@ -106,14 +106,20 @@ fn class_of(mark: Mark) -> &'static str
     }
 }
 
-/// Adds so many empty cells.
-fn push_empty_cells(out: &mut Vec<u8>, count: u64) -> Result<(), AllocError>
-    ensures { OnOk result (out.new.items ≡ out.old.items ++ empty_cells count) }
+/// Adds an empty cell in place of so many.
+#[tactic(auto, unfolding(crate::specs::FormatHtml::empty_html))]
+fn push_empty(out: &mut Vec<u8>, count: u64) -> Result<(), AllocError>
+    ensures { OnOk result (out.new.items ≡ out.old.items ++ empty_html count) }
 {
-    for _ in 0..count {
-        out.extend_from_slice(b"<td></td>")?;
+    if count == 0 {
+        return Ok(());
     }
-    Ok(())
+    let pieces = [
+        Piece::Say("<td colspan='"),
+        Piece::Number(count),
+        Piece::Say("'></td>"),
+    ];
+    push_pieces(out, &pieces)
 }
 
 /// Adds the number of a row.
@@ -158,7 +164,7 @@ fn push_row(
     let before = counter_at(counters, row.number.saturating_sub(1) as usize);
     let after = counter_at(counters, row.number as usize);
     push_number(out, row.number)?;
-    push_empty_cells(out, column(row.lane))?;
+    push_empty(out, column(row.lane))?;
     push_words(out, row)?;
     push_revisions(alloc, out, keys, before, after.saturating_sub(before))?;
     out.extend_from_slice(b"</td></tr>\n")?;

@@ -13,7 +13,7 @@ use Rattle.stm_formats.specs.declared.format_row.Lane.{Lane}
 use Rattle.stm_formats.specs.declared.format_row.Mark.{Mark}
 use Rattle.stm_formats.specs.declared.format_row.Mark.TheVariants.{Committed, Failed, Plain}
 use Rattle.stm_formats.specs.declared.format_row.Row.{Row}
-use Rattle.stm_formats.specs.FormatShown.{shown}
+use Rattle.stm_formats.specs.FormatShown.{plain, shown}
 use Rattle.stm_formats.specs.FormatPieces.{joined, title, tag_text}
 use Rattle.stm_formats.specs.FormatEscaped.{escaped}
 use Rattle.stm_formats.specs.FormatColumns.{column, last_column}
@@ -22,16 +22,22 @@ use Rattle.stm_formats.specs.FormatPage.{page_head, page_foot}
 
 -- ---- what an event changed, for the script: a key without a value was deleted
 
--- a key or a value after this text
+-- a text after this one
 unfoldable pub attribute_html : List ℕ → List ℕ → List ℕ
-attribute_html before text = joined (before ∷ escaped (shown text) ∷ codes "'" ∷ [])
+attribute_html before text = joined (before ∷ escaped text ∷ codes "'" ∷ [])
+
+abbrev pub key_html : List ℕ → List ℕ
+key_html key = attribute_html (codes "<i hidden data-key='") (plain key)
+
+abbrev pub value_html : List ℕ → List ℕ
+value_html value = attribute_html (codes " data-value='") (shown value)
 
 abbrev pub put_html : List ℕ → List ℕ → List ℕ
-put_html key value = joined (attribute_html (codes "<i hidden data-key='") key ∷ attribute_html (codes " data-value='") value ∷ [])
+put_html key value = joined (key_html key ∷ value_html value ∷ [])
 
 abbrev pub attributes_html : Event → List ℕ
 attributes_html (Put key state) = put_html key state.value
-attributes_html (Delete key revision) = attribute_html (codes "<i hidden data-key='") key
+attributes_html (Delete key revision) = key_html key
 
 abbrev pub change_html : Event → List ℕ
 change_html event = joined (attributes_html event ∷ codes "></i>" ∷ [])

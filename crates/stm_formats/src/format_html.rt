@@ -1,6 +1,6 @@
 //! A report as a page.
 ghost use Rattle.std.specs.Prelude.{◌≡◌, ◌++◌, ◌<◌, ◌+◌, ◌^◌, IfOk, OnOk};
-ghost use Rattle.stm_formats.specs.FormatHtml.{attribute_html, put_html, attributes_html, change_html, revision_html, revisions_html, class_of, empty_html, number_html, words_html};
+ghost use Rattle.stm_formats.specs.FormatHtml.{attribute_html, key_html, value_html, put_html, attributes_html, change_html, revision_html, revisions_html, class_of, empty_html, number_html, words_html};
 ghost use Rattle.stm_formats.specs.FormatHtml.{row_html, rows_html, title_html, titles_html, note_html, notes_html, from_html, to_html, told_html};
 ghost use Rattle.stm_formats.specs.FormatHtml.{reason_html, reasons_html, html_of};
 
@@ -15,27 +15,37 @@ use stm_history::Sequence;
 use stm_keys::Keys;
 use stm_reasons::{Cause, Reason, counter_at};
 
-/// Adds a key or a value after this text.
+/// Adds a text after this one.
 #[tactic(auto, unfolding(crate::specs::FormatHtml::attribute_html))]
-fn push_attribute(
-    alloc: Global,
-    out: &mut Vec<u8>,
-    before: &str,
-    text: &str,
-) -> Result<(), AllocError>
+fn push_attribute(out: &mut Vec<u8>, before: &str, text: &[u8]) -> Result<(), AllocError>
     ensures { OnOk result (out.new.items ≡ out.old.items ++ attribute_html before.now text.now) }
 {
-    let text = said(alloc, &[Piece::Shown(text)])?;
     out.extend_from_slice(before.as_bytes())?;
-    push_pieces(out, &[Piece::Escaped(text.as_slice()), Piece::Say("'")])
+    push_pieces(out, &[Piece::Escaped(text), Piece::Say("'")])
+}
+
+/// Adds the key of a change.
+fn push_key(alloc: Global, out: &mut Vec<u8>, key: &str) -> Result<(), AllocError>
+    ensures { OnOk result (out.new.items ≡ out.old.items ++ key_html key.now) }
+{
+    let text = said(alloc, &[Piece::Key(key)])?;
+    push_attribute(out, "<i hidden data-key='", text.as_slice())
+}
+
+/// Adds the value of a put.
+fn push_value(alloc: Global, out: &mut Vec<u8>, value: &str) -> Result<(), AllocError>
+    ensures { OnOk result (out.new.items ≡ out.old.items ++ value_html value.now) }
+{
+    let text = said(alloc, &[Piece::Shown(value)])?;
+    push_attribute(out, " data-value='", text.as_slice())
 }
 
 /// Adds the key and the value of a put.
 fn push_put(alloc: Global, out: &mut Vec<u8>, key: &str, value: &str) -> Result<(), AllocError>
     ensures { OnOk result (out.new.items ≡ out.old.items ++ put_html key.now value.now) }
 {
-    push_attribute(alloc, out, "<i hidden data-key='", key)?;
-    push_attribute(alloc, out, " data-value='", value)?;
+    push_key(alloc, out, key)?;
+    push_value(alloc, out, value)?;
     Ok(())
 }
 
@@ -45,9 +55,7 @@ fn push_attributes(alloc: Global, out: &mut Vec<u8>, event: &Event) -> Result<()
 {
     match event {
         Event::Put { key, state } => push_put(alloc, out, key.as_str(), state.value.as_str()),
-        Event::Delete { key, .. } => {
-            push_attribute(alloc, out, "<i hidden data-key='", key.as_str())
-        }
+        Event::Delete { key, .. } => push_key(alloc, out, key.as_str()),
     }
 }
 

@@ -103,7 +103,7 @@ pub(crate) fn reason_note(alloc: Global, reason: &Reason) -> Result<Sequence<u8>
         Piece::Say(ending_words(reason.ending)),
         Piece::Number(reason.event),
         Piece::Say(": "),
-        Piece::Shown(reason.key.as_str()),
+        Piece::Key(reason.key.as_str()),
         Piece::Raw(was.as_slice()),
         Piece::Raw(read.as_slice()),
         Piece::Raw(cause.as_slice()),

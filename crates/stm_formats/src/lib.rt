@@ -14,6 +14,7 @@ mod format_reasons;
 mod format_row;
 mod format_rows;
 mod format_runs;
+mod format_source;
 mod format_svg;
 mod format_text;
 mod format_words;

@@ -87,11 +87,11 @@ abbrev pub compared_by : WorldEvent → List ℕ
 compared_by (event.Txn txn) = compare_words txn.compares
 compared_by other = []
 
-abbrev pub txn_word : Bool → List ℕ
-txn_word succeeded = if succeeded then codes "txn " else codes "txn failed "
+abbrev pub failed_word : Bool → List ℕ
+failed_word succeeded = if succeeded then [] else codes "failed "
 
 abbrev pub txn_words : WorldEvent → Bool → ℕ → List ℕ
-txn_words event succeeded revision = joined (txn_word succeeded ∷ compared_by event ∷ codes "@" ∷ decimal revision ∷ [])
+txn_words event succeeded revision = joined (codes "txn " ∷ failed_word succeeded ∷ compared_by event ∷ codes "@" ∷ decimal revision ∷ [])
 
 abbrev pub revoked_words : ℕ → ℕ → List ℕ
 revoked_words id revision = joined (codes "revoke " ∷ decimal id ∷ codes " @" ∷ decimal revision ∷ [])

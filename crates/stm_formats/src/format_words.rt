@@ -2,7 +2,7 @@
 ghost use Rattle.std.specs.Prelude.{◌≡◌, ◌++◌, [], ◌∷◌, codes, IfOk, OnOk};
 ghost use Rattle.stm_texts.specs.Grammar.{level_text};
 ghost use Rattle.stm_formats.specs.FormatWords.{named_words, reported_words, changed_words, start_words, link, seen_words, as_of, fetched_words, counted_read};
-ghost use Rattle.stm_formats.specs.FormatWords.{reads_after, listed_words, attempt_words, commit_words, compared_words, compared_by, txn_word, txn_words, revoked_words};
+ghost use Rattle.stm_formats.specs.FormatWords.{reads_after, listed_words, attempt_words, commit_words, compared_words, compared_by, failed_word, txn_words, revoked_words};
 ghost use Rattle.stm_formats.specs.FormatPieces.{joined};
 ghost use Rattle.stm_formats.specs.FormatSource.{program_words};
 ghost use Rattle.stm_formats.specs.FormatWords.{advanced_words, batch_words, lost_words, reply_words, asked_word, refused_words, told_words, words_of};
@@ -248,11 +248,11 @@ fn compared_by(alloc: Global, event: &WorldEvent) -> Result<Sequence<u8>, AllocE
     }
 }
 
-/// Whether a transaction's compares held.
-fn txn_word(succeeded: bool) -> &'static str
-    ensures { result.now ≡ txn_word succeeded }
+/// Whether a compare of a transaction failed.
+fn failed_word(succeeded: bool) -> &'static str
+    ensures { result.now ≡ failed_word succeeded }
 {
-    if succeeded { "txn " } else { "txn failed " }
+    if succeeded { "" } else { "failed " }
 }
 
 /// The words of another client's transaction.
@@ -266,7 +266,8 @@ fn transacted(
 {
     let compared = compared_by(alloc, event)?;
     let pieces = [
-        Piece::Say(txn_word(succeeded)),
+        Piece::Say("txn "),
+        Piece::Say(failed_word(succeeded)),
         Piece::Raw(compared.as_slice()),
         Piece::Say("@"),
         Piece::Number(revision),

@@ -33,7 +33,7 @@ use Rattle.stm_reasons.specs.Counters.{counter_after}
 use Rattle.stm_reasons.specs.Causes.{state_by}
 use Rattle.stm_formats.specs.FormatChanges.{state_words, known_words, change_words, between, counted_change, changes_after, revision_words, changed_since}
 use Rattle.stm_formats.specs.FormatWords.{named_words, reported_words, start_words, link, seen_words, as_of, fetched_words, counted_read, reads_after, listed_words}
-use Rattle.stm_formats.specs.FormatWords.{attempt_words, commit_words, compared_words, compared_by, txn_word, txn_words, revoked_words, changed_words, advanced_words, batch_words}
+use Rattle.stm_formats.specs.FormatWords.{attempt_words, commit_words, compared_words, compared_by, failed_word, txn_words, revoked_words, changed_words, advanced_words, batch_words}
 use Rattle.stm_formats.specs.FormatWords.{lost_words, asked_word, refused_words, reply_words, told_words, words_of}
 use Rattle.stm_formats.specs.FormatRows.{lane_of, row_of, rows_of}
 use Rattle.stm_formats.specs.FormatColumns.{column, place}
@@ -76,8 +76,8 @@ plain_without zero (x ∷ xs) =
 cut_by : (first last : ℕ) (b : Bool) (text : List ℕ) → has 10 (cond b (plain text) (plain (front first text) ++ codes ".." ++ plain (back last text))) ≡ false
 cut_by first last true text = plain_without 0 text
 cut_by first last false text =
-    has-append 10 (plain (front first text)) (codes ".." ++ plain (back last text)) (plain_without 0 (front first text))
-    (has-append 10 (codes "..") (plain (back last text)) refl (plain_without 0 (back last text)))
+    has-append 10 (plain (front first text) ++ codes "..") (plain (back last text))
+    (has-append 10 (plain (front first text)) (codes "..") (plain_without 0 (front first text)) refl) (plain_without 0 (back last text))
 
 shown_without : (text : List ℕ) → has 10 (shown text) ≡ false
 shown_without text = cut_by _ _ _ text
@@ -129,14 +129,14 @@ compared_by_without : (e : WorldEvent) → has 10 (compared_by e) ≡ false
 compared_by_without (event.Txn txn) = joined_without (source_shown (shown_compares txn.compares) ∷ []) (source_without (shown_compares txn.compares), tt)
 compared_by_without _ = refl
 
-txn_word_without : (succeeded : Bool) → has 10 (txn_word succeeded) ≡ false
-txn_word_without true = refl
-txn_word_without false = refl
+failed_without : (succeeded : Bool) → has 10 (failed_word succeeded) ≡ false
+failed_without true = refl
+failed_without false = refl
 
 txn_without : (e : WorldEvent) (succeeded : Bool) (revision : ℕ) → has 10 (txn_words e succeeded revision) ≡ false
 txn_without e succeeded revision =
-    joined_without (txn_word succeeded ∷ compared_by e ∷ codes "@" ∷ decimal revision ∷ [])
-    (txn_word_without succeeded, (compared_by_without e, (refl, (decimal_without revision, tt))))
+    joined_without (codes "txn " ∷ failed_word succeeded ∷ compared_by e ∷ codes "@" ∷ decimal revision ∷ [])
+    (refl, (failed_without succeeded, (compared_by_without e, (refl, (decimal_without revision, tt)))))
 
 compacted_without : (revision : ℕ) → has 10 (changed_words (codes "compact") revision) ≡ false
 compacted_without revision = joined_without (codes "compact" ∷ codes " @" ∷ decimal revision ∷ []) (refl, (refl, (decimal_without revision, tt)))

@@ -11,6 +11,7 @@ use Rattle.stm_reasons.specs.Reasons.{reasons_of}
 use Rattle.stm_formats.specs.declared.format_row.Row.{Row}
 use Rattle.stm_formats.specs.FormatRows.{rows_of}
 use Rattle.stm_formats.specs.FormatNotes.{notes_of}
+use Rattle.stm_formats.specs.FormatEnds.{end_notes}
 use Rattle.stm_formats.specs.FormatReasons.{reason_notes}
 use Rattle.stm_formats.specs.FormatText.{text_of}
 use Rattle.stm_formats.specs.FormatSvg.{svg_of}
@@ -23,9 +24,13 @@ history_kept w = (kept w.standing).history
 abbrev pub rows_from : World → ℕ → List WorldEvent → List (Result Reply Denied) → List Row
 rows_from w since events replies = rows_of (history_kept w) since 1 events replies
 
--- what is left, and why commits failed
+-- what is left, and on what values runs aborted or came to faults
+abbrev pub left_from : World → List (Result Reply Denied) → List (List ℕ)
+left_from w replies = notes_of w replies ++ end_notes (history_kept w) replies 0 replies
+
+-- that, and why commits failed
 abbrev pub notes_from : World → ℕ → List (Result Reply Denied) → List (List ℕ)
-notes_from w since replies = notes_of w replies ++ reason_notes (reasons_of (history_kept w) since replies)
+notes_from w since replies = left_from w replies ++ reason_notes (reasons_of (history_kept w) since replies)
 
 abbrev pub text_from : World → ℕ → List WorldEvent → List (Result Reply Denied) → List ℕ
 text_from w since events replies = text_of (rows_from w since events replies) (notes_from w since replies)
@@ -35,4 +40,4 @@ svg_from w since events replies = svg_of (rows_from w since events replies) (not
 
 abbrev pub html_from : World → ℕ → List WorldEvent → List (Result Reply Denied) → List ℕ
 html_from w since events replies =
-    html_of (history_kept w) (counters since replies) (rows_from w since events replies) (notes_of w replies) (reasons_of (history_kept w) since replies)
+    html_of (history_kept w) (counters since replies) (rows_from w since events replies) (left_from w replies) (reasons_of (history_kept w) since replies)

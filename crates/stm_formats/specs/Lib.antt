@@ -12,4 +12,5 @@ pub mod FormatText
 pub mod FormatSvg
 pub mod FormatPage
 pub mod FormatHtml
+pub mod FormatEnds
 pub mod FormatRuns

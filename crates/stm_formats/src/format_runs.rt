@@ -1,8 +1,9 @@
 //! The text, the picture and the page of a run.
 ghost use Rattle.std.specs.Prelude.{◌≡◌, length, IfOk};
-ghost use Rattle.stm_formats.specs.FormatRuns.{rows_from, notes_from, text_from, svg_from, html_from};
+ghost use Rattle.stm_formats.specs.FormatRuns.{rows_from, left_from, notes_from, text_from, svg_from, html_from};
 
 use crate::format_html::html_of;
+use crate::format_ends::push_ends;
 use crate::format_notes::notes_of;
 use crate::format_reasons::push_reasons;
 use crate::format_row::Row;
@@ -28,7 +29,20 @@ fn rows_from(
     rows_of(alloc, world.store().keys(), since, events, replies)
 }
 
-/// What is left after events that led to a world from a revision of its store, and why commits failed.
+/// What is left after events that led to a world, and on what values runs aborted or came to faults.
+fn left_from(
+    alloc: Global,
+    world: &World,
+    replies: &[Result<Reply, Denied>],
+) -> Result<Vec<Sequence<u8>>, AllocError>
+    ensures { IfOk result (λ notes. notes.items ≡ left_from world.now replies.now) }
+{
+    let mut notes = notes_of(alloc, world, replies)?;
+    push_ends(alloc, &mut notes, world.store().keys(), replies)?;
+    Ok(notes)
+}
+
+/// The same after events that led to a world from a revision of its store, and why commits failed.
 fn notes_from(
     alloc: Global,
     world: &World,
@@ -37,7 +51,7 @@ fn notes_from(
 ) -> Result<Vec<Sequence<u8>>, AllocError>
     ensures { IfOk result (λ notes. notes.items ≡ notes_from world.now since replies.now) }
 {
-    let mut notes = notes_of(alloc, world, replies)?;
+    let mut notes = left_from(alloc, world, replies)?;
     let reasons = reasons_of(alloc, world.store().keys(), since, replies)?;
     push_reasons(alloc, &mut notes, reasons.as_slice())?;
     Ok(notes)
@@ -94,7 +108,7 @@ pub fn html_from(
 {
     let keys = world.store().keys();
     let rows = rows_from(alloc, world, since, events, replies)?;
-    let notes = notes_of(alloc, world, replies)?;
+    let notes = left_from(alloc, world, replies)?;
     let counters = counters(alloc, since, replies)?;
     let reasons = reasons_of(alloc, keys, since, replies)?;
     html_of(

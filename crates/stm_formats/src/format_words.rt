@@ -85,7 +85,7 @@ fn link(mod_rev: u64) -> &'static str
 }
 
 /// The words of a key that was seen as of a revision, at a modification revision.
-fn seen_words(
+pub(crate) fn seen_words(
     alloc: Global,
     keys: &Keys,
     key: &str,
@@ -159,7 +159,7 @@ fn push_read(
 }
 
 /// The words of the keys of a list that were read as of a revision.
-fn reads_words(
+pub(crate) fn reads_words(
     alloc: Global,
     keys: &Keys,
     revision: u64,

@@ -6,6 +6,7 @@
 
 mod format_changes;
 mod format_columns;
+mod format_ends;
 mod format_html;
 mod format_notes;
 mod format_page;

@@ -27,5 +27,5 @@ module _ (h : History) (runner left before : ℕ) (replies : List (Result Reply 
   stopped begun so_far = so true begun so_far
 
   -- what was read at one more event
-  pub read_before : begins runner reply ≡ false → attempt_reads h runner replies left ++ words ≡ total → earlier ++ own ++ words ≡ total
-  read_before begun so_far = so false begun so_far
+  pub read_before : begins runner reply ≡ false → attempt_reads h runner replies left ++ words ≡ total → earlier ++ (own ++ words) ≡ total
+  read_before begun so_far = sym (append_assoc earlier own words) ∙ so false begun so_far

@@ -15,3 +15,12 @@ parts a b c d e f g h =
     ∙ two ((a ++ b) ++ c) d (e ∷ f ∷ g ∷ h ∷ [])
     ∙ two (a ++ b) c (d ∷ e ∷ f ∷ g ∷ h ∷ [])
     ∙ two a b (c ∷ d ∷ e ∷ f ∷ g ∷ h ∷ [])
+
+-- the parts of a row, after what was written
+pub row_parts : (o a b c d e : List ℕ) → ((((o ++ a) ++ b) ++ c) ++ d) ++ e ≡ o ++ joined (a ∷ b ∷ c ∷ d ∷ e ∷ [])
+row_parts o a b c d e =
+    ap (λ (t : List ℕ). ((((o ++ a) ++ b) ++ c) ++ d) ++ t) (sym (append-nil e))
+    ∙ two (((o ++ a) ++ b) ++ c) d (e ∷ [])
+    ∙ two ((o ++ a) ++ b) c (d ∷ e ∷ [])
+    ∙ two (o ++ a) b (c ∷ d ∷ e ∷ [])
+    ∙ append_assoc o a (joined (b ∷ c ∷ d ∷ e ∷ []))

@@ -90,8 +90,11 @@ compared_by other = []
 abbrev pub failed_word : Bool → List ℕ
 failed_word succeeded = if succeeded then [] else codes "failed "
 
+abbrev pub at_words : ℕ → List ℕ
+at_words revision = joined (codes "@" ∷ decimal revision ∷ [])
+
 abbrev pub txn_words : WorldEvent → Bool → ℕ → List ℕ
-txn_words event succeeded revision = joined (codes "txn " ∷ failed_word succeeded ∷ compared_by event ∷ codes "@" ∷ decimal revision ∷ [])
+txn_words event succeeded revision = joined (codes "txn " ∷ failed_word succeeded ∷ compared_by event ∷ at_words revision ∷ [])
 
 abbrev pub revoked_words : ℕ → ℕ → List ℕ
 revoked_words id revision = joined (codes "revoke " ∷ decimal id ∷ codes " @" ∷ decimal revision ∷ [])

@@ -67,10 +67,7 @@ pub(crate) fn program_words(alloc: Global, program: &Program) -> Result<Sequence
 }
 
 /// What a transaction compares, with a space behind it, where it compares something.
-pub(crate) fn compare_words(
-    alloc: Global,
-    compares: &[Compare],
-) -> Result<Sequence<u8>, AllocError>
+pub(crate) fn compare_words(alloc: Global, compares: &[Compare]) -> Result<Sequence<u8>, AllocError>
     ensures { IfOk result (λ words. words ≡ compare_words compares.now) }
 {
     let mut source = String::new(alloc);

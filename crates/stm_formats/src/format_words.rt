@@ -2,7 +2,7 @@
 ghost use Rattle.std.specs.Prelude.{◌≡◌, ◌++◌, [], ◌∷◌, codes, IfOk, OnOk};
 ghost use Rattle.stm_texts.specs.Grammar.{level_text};
 ghost use Rattle.stm_formats.specs.FormatWords.{named_words, reported_words, changed_words, start_words, link, seen_words, as_of, fetched_words, counted_read};
-ghost use Rattle.stm_formats.specs.FormatWords.{reads_after, listed_words, attempt_words, commit_words, compared_words, compared_by, failed_word, txn_words, revoked_words};
+ghost use Rattle.stm_formats.specs.FormatWords.{reads_after, listed_words, attempt_words, commit_words, compared_words, compared_by, failed_word, at_words, txn_words, revoked_words};
 ghost use Rattle.stm_formats.specs.FormatPieces.{joined};
 ghost use Rattle.stm_formats.specs.FormatSource.{program_words};
 ghost use Rattle.stm_formats.specs.FormatWords.{advanced_words, batch_words, lost_words, reply_words, asked_word, refused_words, told_words, words_of};
@@ -255,6 +255,13 @@ fn failed_word(succeeded: bool) -> &'static str
     if succeeded { "" } else { "failed " }
 }
 
+/// A revision.
+fn at_words(alloc: Global, revision: u64) -> Result<Sequence<u8>, AllocError>
+    ensures { IfOk result (λ words. words ≡ at_words revision) }
+{
+    said(alloc, &[Piece::Say("@"), Piece::Number(revision)])
+}
+
 /// The words of another client's transaction.
 fn transacted(
     alloc: Global,
@@ -265,12 +272,12 @@ fn transacted(
     ensures { IfOk result (λ words. words ≡ txn_words event.now succeeded revision) }
 {
     let compared = compared_by(alloc, event)?;
+    let at = at_words(alloc, revision)?;
     let pieces = [
         Piece::Say("txn "),
         Piece::Say(failed_word(succeeded)),
         Piece::Raw(compared.as_slice()),
-        Piece::Say("@"),
-        Piece::Number(revision),
+        Piece::Raw(at.as_slice()),
     ];
     said(alloc, &pieces)
 }

@@ -33,7 +33,7 @@ use Rattle.stm_reasons.specs.Counters.{counter_after}
 use Rattle.stm_reasons.specs.Causes.{state_by}
 use Rattle.stm_formats.specs.FormatChanges.{state_words, known_words, change_words, between, counted_change, changes_after, revision_words, changed_since}
 use Rattle.stm_formats.specs.FormatWords.{named_words, reported_words, start_words, link, seen_words, as_of, fetched_words, counted_read, reads_after, listed_words}
-use Rattle.stm_formats.specs.FormatWords.{attempt_words, commit_words, compared_words, compared_by, failed_word, txn_words, revoked_words, changed_words, advanced_words, batch_words}
+use Rattle.stm_formats.specs.FormatWords.{attempt_words, commit_words, compared_words, compared_by, failed_word, at_words, txn_words, revoked_words, changed_words, advanced_words, batch_words}
 use Rattle.stm_formats.specs.FormatWords.{lost_words, asked_word, refused_words, reply_words, told_words, words_of}
 use Rattle.stm_formats.specs.FormatRows.{lane_of, row_of, rows_of}
 use Rattle.stm_formats.specs.FormatColumns.{column, place}
@@ -135,8 +135,10 @@ failed_without false = refl
 
 txn_without : (e : WorldEvent) (succeeded : Bool) (revision : ℕ) → has 10 (txn_words e succeeded revision) ≡ false
 txn_without e succeeded revision =
-    joined_without (codes "txn " ∷ failed_word succeeded ∷ compared_by e ∷ codes "@" ∷ decimal revision ∷ [])
-    (refl, (failed_without succeeded, (compared_by_without e, (refl, (decimal_without revision, tt)))))
+    joined_without (codes "txn " ∷ failed_word succeeded ∷ compared_by e ∷ at_words revision ∷ []) (
+      refl,
+      (failed_without succeeded, (compared_by_without e, (joined_without (codes "@" ∷ decimal revision ∷ []) (refl, (decimal_without revision, tt)), tt))),
+    )
 
 compacted_without : (revision : ℕ) → has 10 (changed_words (codes "compact") revision) ≡ false
 compacted_without revision = joined_without (codes "compact" ∷ codes " @" ∷ decimal revision ∷ []) (refl, (refl, (decimal_without revision, tt)))

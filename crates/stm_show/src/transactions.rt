@@ -90,7 +90,11 @@ fn push_some_compares(
 }
 
 /// Adds compares as `if .. && .. `, where there are some. It fails where an allocation failed.
-pub fn push_compares(alloc: Global, out: &mut String, compares: &[Compare]) -> Result<(), AllocError>
+pub fn push_compares(
+    alloc: Global,
+    out: &mut String,
+    compares: &[Compare],
+) -> Result<(), AllocError>
     ensures { OnOk result (string_bytes out.new ≡ string_bytes out.old ++ shown_compares compares.now) }
 {
     match compares.split_first() {

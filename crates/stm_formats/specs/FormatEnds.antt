@@ -1,10 +1,11 @@
 -- On what values a run aborted or came to a fault, as notes: what its last attempt had read.
 --
 -- The Go package `concurrency`, "STM": each attempt begins anew. What a failed commit at a serializable level read again is not told here: no event shows it.
-use Rattle.std.specs.Prelude.{ℕ, zero, suc, nat_eq, if◌then◌else◌, Bool, true, false, List, [], ◌∷◌, ◌++◌, slice_get, Option, Some, None, Result, Ok, Err, codes, decimal}
+use Rattle.std.specs.Prelude.{ℕ, zero, suc, nat_eq, nat_lt, if◌then◌else◌, Bool, true, false, List, [], ◌∷◌, ◌++◌, length, drop, slice_get, Option, Some, None, Result, Ok, Err, codes, decimal}
 use Rattle.stm_history.specs.History.{History}
 use Rattle.stm_events.specs.declared.reply.Reply.{Reply}
 use Rattle.stm_events.specs.declared.reply.Reply.TheVariants.{Started, Prefetched, Fetched, Conflict, Aborted, Faulted}
+use Rattle.stm_events.specs.declared.reply.KeyRead.{KeyRead}
 use Rattle.stm_events.specs.declared.refusal.Denied.{Denied}
 use Rattle.stm_formats.specs.FormatPieces.{joined}
 use Rattle.stm_formats.specs.FormatWords.{seen_words, reads_after}
@@ -17,18 +18,22 @@ begins runner other = false
 
 -- what was read at an event
 abbrev pub read_at : ℕ → List ℕ → List ℕ
-read_at number words = joined (codes ", on" ∷ words ∷ codes " (event " ∷ decimal number ∷ codes ")" ∷ [])
+read_at number words = joined (codes ", " ∷ words ∷ codes " (event " ∷ decimal number ∷ codes ")" ∷ [])
 
 -- a key that was read at an event
 abbrev pub fetched_at : History → ℕ → List ℕ → ℕ → ℕ → List ℕ
-fetched_at h number key mod_rev of_rev = read_at number (joined (codes " " ∷ seen_words h key mod_rev of_rev ∷ []))
+fetched_at h number key mod_rev of_rev = read_at number (seen_words h key mod_rev of_rev)
+
+-- a list that was read at an event
+abbrev pub listed_at : History → ℕ → ℕ → List KeyRead → List ℕ
+listed_at h number revision reads = read_at number (joined (codes "the list" ∷ reads_after h revision 0 reads ∷ []))
 
 -- what the runner read by this reply to an event
 abbrev pub own_read : History → ℕ → ℕ → Result Reply Denied → List ℕ
 own_read h runner number (Ok (Fetched reader key mod_rev of_rev revision)) =
     if nat_eq reader runner then fetched_at h number key mod_rev of_rev else []
 own_read h runner number (Ok (Prefetched reader revision reads)) =
-    if nat_eq reader runner then read_at number (reads_after h revision 0 reads) else []
+    if nat_eq reader runner then listed_at h number revision reads else []
 own_read h runner number other = []
 
 -- of an event that has a reply, unless an attempt begins with it what was read before it and at it
@@ -41,10 +46,9 @@ abbrev pub attempt_reads : History → ℕ → List (Result Reply Denied) → �
 attempt_reads h runner replies zero = []
 attempt_reads h runner replies (suc before) = reads_to h runner (suc before) (slice_get replies before) (attempt_reads h runner replies before)
 
--- a note, where something was read
+-- a note, where something was read: of the first read without the comma before it
 abbrev pub noted : List ℕ → List ℕ → List (List ℕ)
-noted words [] = []
-noted words (b ∷ bs) = joined (words ∷ (b ∷ bs) ∷ []) ∷ []
+noted words reads = if nat_lt (length reads) 2 then [] else joined (words ∷ codes ": it had read " ∷ drop 2 reads ∷ []) ∷ []
 
 abbrev pub end_words : List ℕ → ℕ → ℕ → List ℕ
 end_words word runner number = joined (codes "runner " ∷ decimal runner ∷ word ∷ decimal number ∷ [])

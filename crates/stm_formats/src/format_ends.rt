@@ -1,10 +1,11 @@
 //! On what values a run aborted or came to a fault, as notes.
 ghost use Rattle.std.specs.Prelude.{◌≡◌, ◌++◌, ◌+◌, ◌<◌, ◌≤◌, length, IfOk, OnOk};
-ghost use Rattle.stm_formats.specs.FormatEnds.{begins, read_at, fetched_at, own_read, attempt_reads, noted, end_words, end_note, end_notes};
+ghost use Rattle.stm_formats.specs.FormatEnds.{begins, read_at, fetched_at, listed_at, own_read, attempt_reads, noted, end_words, end_note, end_notes};
 
 use crate::format_pieces::{Piece, said};
 use crate::format_words::{reads_words, seen_words};
 use std::alloc::{AllocError, Global};
+use stm_events::KeyRead;
 use stm_history::Sequence;
 use stm_keys::Keys;
 use stm_retry::{Denied, Reply};
@@ -25,7 +26,7 @@ fn read_at(alloc: Global, number: u64, words: &[u8]) -> Result<Sequence<u8>, All
     ensures { IfOk result (λ read. read ≡ read_at number words.now) }
 {
     let pieces = [
-        Piece::Say(", on"),
+        Piece::Say(", "),
         Piece::Raw(words),
         Piece::Say(" (event "),
         Piece::Number(number),
@@ -45,8 +46,25 @@ fn fetched_at(
 ) -> Result<Sequence<u8>, AllocError>
     ensures { IfOk result (λ read. read ≡ fetched_at keys.now.history number key.now mod_rev of_rev) }
 {
-    let seen = seen_words(alloc, keys, key, mod_rev, of_rev)?;
-    let words = said(alloc, &[Piece::Say(" "), Piece::Raw(seen.as_slice())])?;
+    let words = seen_words(alloc, keys, key, mod_rev, of_rev)?;
+    read_at(alloc, number, words.as_slice())
+}
+
+/// The words of a list that was read at an event.
+fn listed_at(
+    alloc: Global,
+    keys: &Keys,
+    number: u64,
+    revision: u64,
+    reads: &[KeyRead],
+) -> Result<Sequence<u8>, AllocError>
+    ensures { IfOk result (λ read. read ≡ listed_at keys.now.history number revision reads.now) }
+{
+    let read = reads_words(alloc, keys, revision, reads)?;
+    let words = said(
+        alloc,
+        &[Piece::Say("the list"), Piece::Raw(read.as_slice())],
+    )?;
     read_at(alloc, number, words.as_slice())
 }
 
@@ -85,8 +103,7 @@ fn own_read(
             if *reader != runner {
                 return Ok(Sequence::new(alloc));
             }
-            let words = reads_words(alloc, keys, *revision, reads.as_slice())?;
-            read_at(alloc, number, words.as_slice())
+            listed_at(alloc, keys, number, *revision, reads.as_slice())
         }
         _ => Ok(Sequence::new(alloc)),
     }
@@ -160,11 +177,16 @@ fn push_noted(
 ) -> Result<(), AllocError>
     ensures { OnOk result (notes.new.items ≡ notes.old.items ++ noted words.now reads.now) }
 {
-    if reads.is_empty() {
+    if reads.len() < 2 {
         return Ok(());
     }
-    let note = said(alloc, &[Piece::Raw(words), Piece::Raw(reads)])?;
-    notes.push(note)?;
+    let (_, read) = reads.split_at(2);
+    let pieces = [
+        Piece::Raw(words),
+        Piece::Say(": it had read "),
+        Piece::Raw(read),
+    ];
+    notes.push(said(alloc, &pieces)?)?;
     Ok(())
 }
 
@@ -201,10 +223,26 @@ fn push_end(
 {
     match reply {
         Ok(Reply::Aborted { runner, .. }) => {
-            push_ended(alloc, notes, keys, replies, before, " aborts at event ", *runner)
+            push_ended(
+                alloc,
+                notes,
+                keys,
+                replies,
+                before,
+                " aborts at event ",
+                *runner,
+            )
         }
         Ok(Reply::Faulted { runner, .. }) => {
-            push_ended(alloc, notes, keys, replies, before, " faults at event ", *runner)
+            push_ended(
+                alloc,
+                notes,
+                keys,
+                replies,
+                before,
+                " faults at event ",
+                *runner,
+            )
         }
         _ => Ok(()),
     }

@@ -2,8 +2,8 @@
 ghost use Rattle.std.specs.Prelude.{◌≡◌, length, IfOk};
 ghost use Rattle.stm_formats.specs.FormatRuns.{rows_from, left_from, notes_from, text_from, svg_from, html_from};
 
-use crate::format_html::html_of;
 use crate::format_ends::push_ends;
+use crate::format_html::html_of;
 use crate::format_notes::notes_of;
 use crate::format_reasons::push_reasons;
 use crate::format_row::Row;

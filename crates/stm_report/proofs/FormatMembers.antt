@@ -42,7 +42,7 @@ module _ (values : List Value) (i : ℕ) (value : Value) (within : i < length va
   next_member names name text total named so_far =
       let step : i + 1 ≡ suc i = omega arith in
       append_assoc text (member_text i name (view value)) (members_text names (i + 1) (items_view (drop (i + 1) values)))
-      ∙ ap (λ (n : ℕ). text ++ member_text i name (view value) ++ members_text names n (items_view (drop (i + 1) values))) step
-      ∙ ap (λ (it : List ℕ). text ++ member_text i it (view value) ++ members_text names (suc i) (items_view (drop (i + 1) values))) named
+      ∙ ap (λ (n : ℕ). text ++ (member_text i name (view value) ++ members_text names n (items_view (drop (i + 1) values)))) step
+      ∙ ap (λ (it : List ℕ). text ++ (member_text i it (view value) ++ members_text names (suc i) (items_view (drop (i + 1) values)))) named
       ∙ ap (λ (vs : List Value). text ++ members_text names i (items_view vs)) (sym left)
       ∙ so_far

@@ -7,4 +7,4 @@ pub mod FormatLoops
 pub mod FormatRowLemmas
 pub mod FormatWidths
 pub mod FormatPages
-mod FormatAttempts
+pub mod FormatAttempts

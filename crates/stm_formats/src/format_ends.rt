@@ -169,11 +169,11 @@ fn end_words<'a>(
 }
 
 /// Adds a note of these words and of what was read, where something was.
-fn push_noted(
+fn push_noted<'a>(
     alloc: Global,
     notes: &mut Vec<Sequence<u8>>,
-    words: &[u8],
-    reads: &[u8],
+    words: &'a [u8],
+    reads: &'a [u8],
 ) -> Result<(), AllocError>
     ensures { OnOk result (notes.new.items ≡ notes.old.items ++ noted words.now reads.now) }
 {

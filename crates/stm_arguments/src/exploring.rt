@@ -57,6 +57,9 @@ then stmrun explore s.json prints
 and of stmrun explore --level Serializable s.json none of the lines has both keys. With --witness a line behind each outcome is
 the scenario with the steps of a schedule that comes to it, as short as there is one: stmrun script takes it.
 
+A rule that is always kept says little where a program never committed, or where a misspelt key is asked for: standard error
+names these, and --strict makes the status 1 then, as a check that runs by itself wants it.
+
 With --serial no rule is needed. It is looked whether each outcome is what some serial order of the runners comes to, in which
 one after another makes all its steps, among the events of others. A run that gave up, or that the store ended, has changed
 nothing, and counts as one that never began.
@@ -89,6 +92,8 @@ pub struct ExploreWords<'a> {
     pub witness: bool,
     /// Whether it is looked whether serial orders come to each outcome.
     pub serial: bool,
+    /// Whether an answer that is worth little has status 1.
+    pub strict: bool,
     /// Whether a fault is explained.
     pub explain: bool,
 }
@@ -140,6 +145,11 @@ pub(crate) fn explore_command<'a>(alloc: Global) -> Result<Command<'a>, AllocErr
             "serial",
             "Looks for an outcome of a whole schedule that no serial order of the runners comes to; no rule is needed",
         ))?
+        .arg(flag(
+            alloc,
+            "strict",
+            "Status 1 also where a rule is kept, and a runner never committed or a key is asked for that nothing puts",
+        ))?
         .arg(explain(alloc))
 }
 
@@ -156,6 +166,7 @@ pub(crate) fn explore_of<'a>(
     let after = word_of(found, "after");
     let witness = flag_of(found, "witness");
     let serial = flag_of(found, "serial");
+    let strict = flag_of(found, "strict");
     let explain = flag_of(found, "explain");
     let keeps = words_of(alloc, found, "keeps")?;
     Ok(ExploreWords {
@@ -166,6 +177,7 @@ pub(crate) fn explore_of<'a>(
         after,
         witness,
         serial,
+        strict,
         explain,
     })
 }

@@ -15,13 +15,13 @@ use stm_exploring::{Level, Question as Sought, Rule, Wait, explore_to, outcomes_
 
 /// What is searched, and how.
 #[derive(Clone, Copy)]
-pub(crate) struct Search<'a> {
+pub(crate) struct Search<'a, 'w> {
     /// The path of the scenario.
-    pub(crate) path: &'a str,
+    pub(crate) path: &'w str,
     /// The words that name rules.
-    pub(crate) keeps: &'a [&'a str],
+    pub(crate) keeps: &'a [&'w str],
     /// Which runners wait for which others, as it is spelled.
-    pub(crate) after: Option<&'a str>,
+    pub(crate) after: Option<&'w str>,
     /// The levels at which the starts are taken.
     pub(crate) levels: Levels,
     /// Whether no rule is asked, and a schedule printed of each outcome.
@@ -39,7 +39,7 @@ pub(crate) struct Search<'a> {
 /// Looks through the interleavings of a scenario for one that breaks the rule of a file, at a level, or at each start's own.
 fn run_rule(
     rt: &HostRuntime,
-    search: &Search<'_>,
+    search: &Search<'_, '_>,
     scenario: &JsonFile<'_>,
     rule: &JsonFile<'_>,
     waits: &[Wait],
@@ -63,14 +63,13 @@ fn run_rule(
         &mut out,
         &mut err,
     );
-    close(&mut budget);
-    status
+    close(&mut budget, status)
 }
 
 /// Looks through the interleavings of a scenario for one that breaks each of these rules.
 fn ask(
     rt: &HostRuntime,
-    search: &Search<'_>,
+    search: &Search<'_, '_>,
     scenario: &JsonFile<'_>,
     rules: &[Rule],
     waits: &[Wait],
@@ -108,7 +107,7 @@ fn question_of(search: &Search<'_>) -> Sought {
 /// Goes through the interleavings of a scenario, at a level, or at each start's own.
 fn run_outcomes(
     rt: &HostRuntime,
-    search: &Search<'_>,
+    search: &Search<'_, '_>,
     scenario: &JsonFile<'_>,
     level: Option<Level>,
 ) -> u8 {
@@ -129,14 +128,13 @@ fn run_outcomes(
         &mut out,
         &mut err,
     );
-    close(&mut budget);
-    status
+    close(&mut budget, status)
 }
 
 /// Goes through the interleavings of a scenario; all levels are refused, unless it is looked for serial orders.
 fn search_outcomes(
     rt: &HostRuntime,
-    search: &Search<'_>,
+    search: &Search<'_, '_>,
     scenario: &JsonFile<'_>,
 ) -> Result<u8, u8> {
     match search.levels {
@@ -150,7 +148,7 @@ fn search_outcomes(
 /// Looks through the interleavings of a scenario for one that breaks the rule of a path.
 fn search_rule(
     rt: &HostRuntime,
-    search: &Search<'_>,
+    search: &Search<'_, '_>,
     scenario: &JsonFile<'_>,
     path: &str,
     waits: &[Wait],
@@ -175,7 +173,7 @@ fn is_named(word: &str, path: &str, rule: &SourceRule) -> bool {
 }
 
 /// Says which rules of the scenario's source are not asked, where words name those that are.
-fn say_others(rt: &HostRuntime, search: &Search<'_>, rules: &[SourceRule]) -> Result<(), u8> {
+fn say_others(rt: &HostRuntime, search: &Search<'_, '_>, rules: &[SourceRule]) -> Result<(), u8> {
     for rule in rules {
         if !search
             .keeps
@@ -189,7 +187,11 @@ fn say_others(rt: &HostRuntime, search: &Search<'_>, rules: &[SourceRule]) -> Re
 }
 
 /// Refuses runners that wait where no rule is asked, after it was said which do not.
-fn refuse_waiting(rt: &HostRuntime, search: &Search<'_>, waits: &[SourceWait]) -> Result<(), u8> {
+fn refuse_waiting(
+    rt: &HostRuntime,
+    search: &Search<'_, '_>,
+    waits: &[SourceWait],
+) -> Result<(), u8> {
     if search.after.is_some() {
         return Err(refuse_without_rule(rt, "--after <RUNNER:FIRST,..>"));
     }
@@ -204,7 +206,7 @@ fn refuse_waiting(rt: &HostRuntime, search: &Search<'_>, waits: &[SourceWait]) -
 /// Looks through the interleavings of a scenario for one that breaks a rule that words name. What its source has beside it says who waits.
 fn search_named(
     rt: &HostRuntime,
-    search: &Search<'_>,
+    search: &Search<'_, '_>,
     scenario: &JsonFile<'_>,
     beside: &Beside,
 ) -> Result<u8, u8> {
@@ -234,7 +236,7 @@ fn search_without(
 /// Looks through the interleavings of a scenario for one that breaks a rule of its source, or where that has none for what they come to.
 fn search_own(
     rt: &HostRuntime,
-    search: &Search<'_>,
+    search: &Search<'_, '_>,
     scenario: &JsonFile<'_>,
     beside: Beside,
 ) -> Result<u8, u8> {
@@ -285,7 +287,7 @@ pub(crate) fn run_search(
     let (scenario, beside) = source_at(rt, words.scenario, explain)?;
     let text = match scenario {
         JsonFile::Compiled(_, _) => text_at(rt, words.scenario, &beside),
-        JsonFile::Json(_) => None,
+        JsonFile::Json(_) | JsonFile::Held(_) => None,
     };
     let runners = match &text {
         Some(text) => text.runners.as_slice(),
@@ -301,6 +303,7 @@ pub(crate) fn run_search(
         told: Told {
             events: words.budget,
             runners,
+            strict: words.strict,
         },
         explain,
         source: text.as_ref(),

@@ -8,7 +8,7 @@ ghost use Rattle.stm_exploring.specs.Asking.{ends_of, place_of};
 ghost use Rattle.stm_exploring.specs.Levels.{leveled, levels};
 ghost use Rattle.stm_exploring.specs.SerialLevels.{AreComparedAt, ArePrintedAt, enough_serial, is_odd, is_serial, printed_at, serial_level_line, serial_level_text, serial_levels_text, verdict_at};
 
-use crate::audience::{Audience, Beside};
+use crate::audience::{Audience, Once};
 use crate::level_lines::{level_name, push_enough};
 use crate::leveled::{LEVELS, put_starts};
 use crate::lines::push_word;
@@ -35,6 +35,7 @@ fn compare_level<O: Audience>(
     scenario: &mut Scenario,
     level: Level,
     most: u64,
+    heard: &mut Vec<String>,
     audience: &mut O,
 ) -> Result<SerialLevel, AllocError>
     ensures leveled { OnOk result (scenario.new ≡ leveled level scenario.old) }
@@ -42,9 +43,9 @@ fn compare_level<O: Audience>(
     ensures answer { IfOk result (λ a. IsSerialAnswer (place_of scenario.new) (ends_of scenario.new) a.answer) }
 {
     put_starts(alloc, scenario, level);
-    let observer = Beside {
+    let observer = Once {
         alloc,
-        name: level_name(level),
+        heard,
         audience,
     };
     let mut budget = Budget {
@@ -65,9 +66,10 @@ fn compare_levels<O: Audience>(
 ) -> Result<Vec<SerialLevel>, AllocError>
     ensures { IfOk result (λ at. AreComparedAt levels.now scenario.old at.items) }
 {
+    let mut heard = Vec::new(alloc);
     let mut at = Vec::new(alloc);
     for level in levels {
-        let answer = compare_level(alloc, scenario, *level, most, audience)?;
+        let answer = compare_level(alloc, scenario, *level, most, &mut heard, audience)?;
         at.push(answer)?;
     }
     Ok(at)

@@ -91,7 +91,7 @@ fn ask(
 }
 
 /// What is asked of a scenario without a rule.
-fn question_of(search: &Search<'_>) -> Sought {
+fn question_of(search: &Search<'_, '_>) -> Sought {
     if search.serial {
         match search.levels {
             Levels::All => Sought::SerialLevels,
@@ -224,7 +224,7 @@ fn search_named(
 /// Goes through the interleavings of a scenario for what they come to. It is said which rules of its source are not asked.
 fn search_without(
     rt: &HostRuntime,
-    search: &Search<'_>,
+    search: &Search<'_, '_>,
     scenario: &JsonFile<'_>,
     beside: &Beside,
 ) -> Result<u8, u8> {

@@ -79,7 +79,8 @@ fn said_of_word(word: &str) -> &'static str {
         "var" | "const" => "a new variable is let NAME = VALUE",
         "func" | "fn" | "def" => "a program is program NAME(PARAMETER, ..) { .. }",
         "switch" | "case" | "match" => "choices are if, else if and else",
-        "while" | "loop" => "a loop is for NAME in 0..COUNT { .. }, or for NAME in ITEM, ITEM { .. }",
+        "while" | "loop" =>
+            "a loop is for NAME in 0..COUNT { .. }, or for NAME in ITEM, ITEM { .. }",
         "nil" | "null" | "none" | "None" => "an absent key has the value \"\"",
         "true" | "false" => "no value is true or false: a condition compares two values",
         "delete" => "a key is deleted by del(KEY)",

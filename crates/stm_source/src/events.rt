@@ -11,8 +11,8 @@ use std::alloc::Global;
 use stm_events::WorldEvent;
 use stm_history::Text;
 use stm_terms::{
-    Constants, SourceCause, SourceError, after_name, after_symbol, expect_name, fault, next_number, place,
-    unexpected,
+    Constants, SourceCause, SourceError, after_name, after_symbol, expect_name, fault, next_number,
+    place, unexpected,
 };
 use stm_tokens::{Symbol, Token};
 
@@ -75,10 +75,7 @@ fn advance<'a>(
 }
 
 /// The revision that a watcher begins at: 0 where it is not said.
-fn from<'a>(
-    constants: &Constants,
-    tokens: &'a [Token],
-) -> Result<(u64, &'a [Token]), SourceError>
+fn from<'a>(constants: &Constants, tokens: &'a [Token]) -> Result<(u64, &'a [Token]), SourceError>
     ensures { Returns (λ x. (x.0, x.1.now)) result (spec.from_at constants.now tokens.now) }
 {
     match after_name(tokens, "from") {

@@ -11,9 +11,9 @@ use stm_program::{
     MAX_DEPTH, MAX_NODES, MAX_PREFETCH, MAX_TEXT, Program, Stmt, is_listed, list_fits,
 };
 use stm_terms::{
-    Arguments, Constants, GivenText, MOST_BRACKETS, Runners, Scope, Shared, SourceCause, SourceError,
-    after_symbol, after_word, are_numbered, expect_symbol, fault, place, skip_semicolon,
-    statements_room, unexpected,
+    Arguments, Constants, GivenText, MOST_BRACKETS, Runners, Scope, Shared, SourceCause,
+    SourceError, after_symbol, after_word, are_numbered, expect_symbol, fault, place,
+    skip_semicolon, statements_room, unexpected,
 };
 use stm_tokens::{Symbol, Token, Word};
 

@@ -16,8 +16,8 @@ use std::alloc::{AllocError, Global};
 use stm_history::Text;
 use stm_program::{Level, Program};
 use stm_terms::{
-    Constants, Runners, Shared, SourceCause, SourceError, after_name, after_symbol, fault, next_name, place,
-    unexpected,
+    Constants, Runners, Shared, SourceCause, SourceError, after_name, after_symbol, fault,
+    next_name, place, unexpected,
 };
 use stm_tokens::{Symbol, Token};
 

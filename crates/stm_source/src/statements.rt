@@ -9,13 +9,13 @@ ghost use Rattle.stm_terms.specs.Outcome.{Returns};
 ghost use Rattle.stm_source.specs.Statements as spec;
 ghost use Rattle.stm_source.specs.Kept.{pushed_up};
 
-use crate::loops::{
-    after_zero, counted, items, limit, room_behind, shared_name, unknown_item,
-};
+use crate::loops::{after_zero, counted, items, limit, room_behind, shared_name, unknown_item};
 use std::alloc::{AllocError, Global};
 use std::sync::Arc;
 use stm_history::Sequence;
-use stm_program::{Block, Expr, ExprNode, MAX_LEASE, MAX_NODES, Operator, Stmt, StmtNode, Variable};
+use stm_program::{
+    Block, Expr, ExprNode, MAX_LEASE, MAX_NODES, Operator, Stmt, StmtNode, Variable,
+};
 use stm_terms::{
     Fronted, FrontedPair, Item, Join, Kind, MOST_BRACKETS, Scope, SharedText, SourceCause,
     SourceError, Tested, after_symbol, after_word, bracketed, condition, expect_symbol,

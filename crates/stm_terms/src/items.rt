@@ -38,11 +38,7 @@ fn copy_of_list(alloc: Global, items: &[Item]) -> Result<Sequence<Item>, AllocEr
 }
 
 /// A list of one.
-fn one(
-    alloc: Global,
-    argument: Argument,
-    at: Option<usize>,
-) -> Result<Sequence<Item>, AllocError>
+fn one(alloc: Global, argument: Argument, at: Option<usize>) -> Result<Sequence<Item>, AllocError>
     ensures { IfOk result (λ items. items ≡ spec.item_as argument at ∷ []) }
 {
     let argument = Shared::new(alloc, argument)?;

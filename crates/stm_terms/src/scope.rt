@@ -107,10 +107,7 @@ fn copy_of_runners(runners: &Option<Shared<Runners>>) -> Result<Option<Shared<Ru
 }
 
 /// A copy of the items of loops. It fails only when out of memory.
-fn copy_of_items(
-    alloc: Global,
-    items: &[NamedItem],
-) -> Result<Sequence<NamedItem>, AllocError>
+fn copy_of_items(alloc: Global, items: &[NamedItem]) -> Result<Sequence<NamedItem>, AllocError>
     ensures { IfOk result (λ copy. copy ≡ items.now) }
 {
     let mut copy = Sequence::new(alloc);

@@ -5,7 +5,9 @@ ghost use Rattle.stm_arguments.specs.Asking.{IsExplore};
 
 use crate::levels::{Levels, SEARCH_LEVELS, levels_at};
 use crate::numbers::budget_at;
-use crate::words::{Unasked, explain, flag_of, option, required, required_word, word_of, words_of};
+use crate::words::{
+    Unasked, explain, flag, flag_of, option, required, required_word, word_of, words_of,
+};
 use clap::builder::ValueParser;
 use clap::{ArgAction, ArgMatches, Command};
 use std::alloc::{AllocError, Global};
@@ -54,6 +56,9 @@ then stmrun explore s.json prints
 
 and of stmrun explore --level Serializable s.json none of the lines has both keys.
 
+A rule that is always kept says little where a program never committed, or where a misspelt key is asked for: standard error
+names these, and --strict makes the status 1 then, as a check that runs by itself wants it.
+
 Statuses: 0 always, or all outcomes were found, 1 broken, 2 bad input or usage, 3 out of memory or a failed device,
 4 open.";
 
@@ -70,6 +75,8 @@ pub struct ExploreWords<'a> {
     pub budget: u64,
     /// Which runners wait for which others, as it is spelled.
     pub after: Option<&'a str>,
+    /// Whether an answer that is worth little has status 1.
+    pub strict: bool,
     /// Whether a fault is explained.
     pub explain: bool,
 }
@@ -111,6 +118,11 @@ pub(crate) fn explore_command<'a>(alloc: Global) -> Result<Command<'a>, AllocErr
             ValueParser::String,
             "Which runners make no step before another has ended; RUNNER:FIRST:committed: and none at all unless that one committed",
         ))?
+        .arg(flag(
+            alloc,
+            "strict",
+            "Status 1 also where a rule is kept, and a runner never committed or a key is asked for that nothing puts",
+        ))?
         .arg(explain(alloc))
 }
 
@@ -125,6 +137,7 @@ pub(crate) fn explore_of<'a>(
     let levels = levels_at(word_of(found, "level"))?;
     let budget = budget_at(word_of(found, "budget"))?;
     let after = word_of(found, "after");
+    let strict = flag_of(found, "strict");
     let explain = flag_of(found, "explain");
     let keeps = words_of(alloc, found, "keeps")?;
     Ok(ExploreWords {
@@ -133,6 +146,7 @@ pub(crate) fn explore_of<'a>(
         levels,
         budget,
         after,
+        strict,
         explain,
     })
 }

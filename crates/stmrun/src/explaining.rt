@@ -123,7 +123,7 @@ pub(crate) fn run_rule(
         &mut out,
         &mut err,
     );
-    close(&mut budget);
+    let status = close(&mut budget, status);
     say_unread(rt, scenario.name, scenario.source.device.failure);
     say_unread(rt, rule.name, rule.source.device.failure);
     say_unwritten(rt, out.device.failure);
@@ -149,7 +149,7 @@ pub(crate) fn run_outcomes(
         &mut out,
         &mut err,
     );
-    close(&mut budget);
+    let status = close(&mut budget, status);
     say_unread(rt, scenario.name, scenario.source.device.failure);
     say_unwritten(rt, out.device.failure);
     status

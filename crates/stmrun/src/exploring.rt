@@ -8,20 +8,20 @@ use crate::sources::{JsonFile, SourceText, say_unasked, source_at, text_at};
 use crate::terminals::{Told, close, shown_budget};
 use crate::waits::{read_waits, refuse_without_rule};
 use std::slice;
-use stm_arguments::Levels;
+use stm_arguments::{ExploreWords, Levels};
 use stm_commands::Std;
 use stm_compiling::{Beside, Rule as SourceRule, Wait as SourceWait};
 use stm_exploring::{Level, Rule, Wait, explore_to, outcomes_to};
 
 /// What is searched, and how.
 #[derive(Clone, Copy)]
-pub(crate) struct Search<'a> {
+pub(crate) struct Search<'a, 'w> {
     /// The path of the scenario.
-    pub(crate) path: &'a str,
+    pub(crate) path: &'w str,
     /// The words that name rules.
-    pub(crate) keeps: &'a [&'a str],
+    pub(crate) keeps: &'a [&'w str],
     /// Which runners wait for which others, as it is spelled.
-    pub(crate) after: Option<&'a str>,
+    pub(crate) after: Option<&'w str>,
     /// The levels at which the starts are taken.
     pub(crate) levels: Levels,
     /// At most so many events are taken, and the runners are named so.
@@ -35,7 +35,7 @@ pub(crate) struct Search<'a> {
 /// Looks through the interleavings of a scenario for one that breaks the rule of a file, at a level, or at each start's own.
 fn run_rule(
     rt: &HostRuntime,
-    search: &Search<'_>,
+    search: &Search<'_, '_>,
     scenario: &JsonFile<'_>,
     rule: &JsonFile<'_>,
     waits: &[Wait],
@@ -59,14 +59,13 @@ fn run_rule(
         &mut out,
         &mut err,
     );
-    close(&mut budget);
-    status
+    close(&mut budget, status)
 }
 
 /// Looks through the interleavings of a scenario for one that breaks each of these rules.
 fn ask(
     rt: &HostRuntime,
-    search: &Search<'_>,
+    search: &Search<'_, '_>,
     scenario: &JsonFile<'_>,
     rules: &[Rule],
     waits: &[Wait],
@@ -90,7 +89,7 @@ fn ask(
 /// Goes through the interleavings of a scenario, at a level, or at each start's own.
 fn run_outcomes(
     rt: &HostRuntime,
-    search: &Search<'_>,
+    search: &Search<'_, '_>,
     scenario: &JsonFile<'_>,
     level: Option<Level>,
 ) -> u8 {
@@ -109,14 +108,13 @@ fn run_outcomes(
         &mut out,
         &mut err,
     );
-    close(&mut budget);
-    status
+    close(&mut budget, status)
 }
 
 /// Goes through the interleavings of a scenario; all levels are refused.
 fn search_outcomes(
     rt: &HostRuntime,
-    search: &Search<'_>,
+    search: &Search<'_, '_>,
     scenario: &JsonFile<'_>,
 ) -> Result<u8, u8> {
     match search.levels {
@@ -129,7 +127,7 @@ fn search_outcomes(
 /// Looks through the interleavings of a scenario for one that breaks the rule of a path.
 fn search_rule(
     rt: &HostRuntime,
-    search: &Search<'_>,
+    search: &Search<'_, '_>,
     scenario: &JsonFile<'_>,
     path: &str,
     waits: &[Wait],
@@ -154,7 +152,7 @@ fn is_named(word: &str, path: &str, rule: &SourceRule) -> bool {
 }
 
 /// Says which rules of the scenario's source are not asked, where words name those that are.
-fn say_others(rt: &HostRuntime, search: &Search<'_>, rules: &[SourceRule]) -> Result<(), u8> {
+fn say_others(rt: &HostRuntime, search: &Search<'_, '_>, rules: &[SourceRule]) -> Result<(), u8> {
     for rule in rules {
         if !search
             .keeps
@@ -168,7 +166,11 @@ fn say_others(rt: &HostRuntime, search: &Search<'_>, rules: &[SourceRule]) -> Re
 }
 
 /// Refuses runners that wait where no rule is asked, after it was said which do not.
-fn refuse_waiting(rt: &HostRuntime, search: &Search<'_>, waits: &[SourceWait]) -> Result<(), u8> {
+fn refuse_waiting(
+    rt: &HostRuntime,
+    search: &Search<'_, '_>,
+    waits: &[SourceWait],
+) -> Result<(), u8> {
     if search.after.is_some() {
         return Err(refuse_without_rule(rt, "--after <RUNNER:FIRST,..>"));
     }
@@ -183,7 +185,7 @@ fn refuse_waiting(rt: &HostRuntime, search: &Search<'_>, waits: &[SourceWait]) -
 /// Looks through the interleavings of a scenario for one that breaks a rule that words name. What its source has beside it says who waits.
 fn search_named(
     rt: &HostRuntime,
-    search: &Search<'_>,
+    search: &Search<'_, '_>,
     scenario: &JsonFile<'_>,
     beside: &Beside,
 ) -> Result<u8, u8> {
@@ -201,7 +203,7 @@ fn search_named(
 /// Looks through the interleavings of a scenario for one that breaks a rule of its source, or where that has none for what they come to.
 fn search_own(
     rt: &HostRuntime,
-    search: &Search<'_>,
+    search: &Search<'_, '_>,
     scenario: &JsonFile<'_>,
     beside: Beside,
 ) -> Result<u8, u8> {
@@ -223,24 +225,40 @@ fn has_one_input(path: &str, words: &[&str]) -> bool {
 
 /// Looks through the interleavings of a path's scenario for one that breaks a rule, one that words name, or where there are none one of its source, or
 /// where that has none for what they come to. Only one of the scenario and the rules can be standard input.
-pub(crate) fn run_search(rt: &HostRuntime, search: &Search<'_>) -> Result<u8, u8> {
-    if !has_one_input(search.path, search.keeps) {
+pub(crate) fn run_search(
+    rt: &HostRuntime,
+    words: &ExploreWords<'_>,
+    explain: bool,
+) -> Result<u8, u8> {
+    if !has_one_input(words.scenario, words.keeps.as_slice()) {
         let _ = rt.eprintln("stmrun: standard input can be only one of SCENARIO and PROGRAM");
         return Err(2);
     }
-    let (scenario, beside) = source_at(rt, search.path, search.explain)?;
+    let (scenario, beside) = source_at(rt, words.scenario, explain)?;
     let text = match scenario {
-        JsonFile::Compiled(_, _) => text_at(rt, search.path, &beside),
-        JsonFile::Json(_) => None,
+        JsonFile::Compiled(_, _) => text_at(rt, words.scenario, &beside),
+        JsonFile::Json(_) | JsonFile::Held(_) => None,
     };
-    let mut named = *search;
-    named.source = text.as_ref();
-    if let Some(text) = &text {
-        named.told.runners = text.runners.as_slice();
-    }
+    let runners = match &text {
+        Some(text) => text.runners.as_slice(),
+        None => &[],
+    };
+    let search = Search {
+        path: words.scenario,
+        keeps: words.keeps.as_slice(),
+        after: words.after,
+        levels: words.levels,
+        told: Told {
+            events: words.budget,
+            runners,
+            strict: words.strict,
+        },
+        explain,
+        source: text.as_ref(),
+    };
     if search.keeps.is_empty() {
-        search_own(rt, &named, &scenario, beside)
+        search_own(rt, &search, &scenario, beside)
     } else {
-        search_named(rt, &named, &scenario, &beside)
+        search_named(rt, &search, &scenario, &beside)
     }
 }

@@ -1,7 +1,9 @@
 //! The commands over a store that is kept in a file.
-ghost use Rattle.std.specs.Prelude.{◌≡◌, List, ℕ, IfOk, IsTrue};
+ghost use Rattle.std.specs.Prelude.{◌≡◌, List, ℕ, Ok as OkOf, IfOk, IsTrue};
 ghost use Rattle.stm_file_disk.specs.Event.{events_of};
 ghost use Rattle.stm_file_disk.specs.Replay.{replay};
+ghost use Rattle.stm_texts.specs.Opens.{IsOpening};
+ghost use Rattle.stm_texts.specs.Reading.{scenario_in};
 
 use crate::explaining::{kept_json, name_of, say_unread, say_unwritten};
 use crate::noting::Noting;
@@ -109,7 +111,10 @@ fn scenario_of(
     rt: &HostRuntime,
     file: &JsonFile<'_>,
     explain: bool,
-) -> Result<(Vec<u8>, Scenario), u8> {
+) -> Result<(Vec<u8>, Scenario), u8>
+    ensures spelled { IfOk result (λ read. scenario_in read.0.items ≡ OkOf read.1) }
+    ensures opening { IfOk result (λ read. IsOpening read.1.opening) }
+{
     let mut input = kept_json(rt, file);
     let read = match read_input(rt.alloc(), &mut input) {
         Ok(read) => Ok(read),
@@ -231,11 +236,27 @@ fn run_words(rt: &HostRuntime, words: &RunWords<'_>, explain: bool) -> Result<()
     run_program(rt, words.store, &file, manner, explain)
 }
 
+/// The format of what a store has: that of this name, lines where there is none.
+fn shown_format(rt: &HostRuntime, word: Option<&str>) -> Result<Format, u8> {
+    match word {
+        None | Some("lines") => Ok(Format::Lines),
+        Some("json") => Ok(Format::Json),
+        Some("text") => Ok(Format::Text),
+        Some(_) => {
+            let _ = rt.eprintln(
+                "error: unknown format for '--format <FORMAT>'\n  [possible values: lines, json, text]",
+            );
+            Err(2)
+        }
+    }
+}
+
 /// Prints what the store of a file has.
-fn show(rt: &HostRuntime, store: &str) -> Result<(), u8> {
+fn show(rt: &HostRuntime, store: &str, word: Option<&str>) -> Result<(), u8> {
+    let format = shown_format(rt, word)?;
     let (mut records, bytes) = opened_there(rt, store)?;
     let mut out = Std::new(Noting::new(rt.stdout()));
-    let shown = show_kept(Format::Lines, &mut records, bytes, &mut out);
+    let shown = show_kept(format, &mut records, bytes, &mut out);
     say_unwritten(rt, out.device.failure);
     match shown {
         Ok(()) => Ok(()),
@@ -349,7 +370,7 @@ pub(crate) fn run_stored_program(rt: &HostRuntime, words: &RunWords<'_>, explain
 pub(crate) fn run_shown(rt: &HostRuntime, words: &StoreWords<'_>) -> u8 {
     let store = words.store;
     status_of(match words.shown {
-        Shown::Now => show(rt, store),
+        Shown::Now => show(rt, store, words.format),
         Shown::At(revision) => show_past(rt, store, revision),
         Shown::Since(revision, which) => show_events(rt, store, revision, which),
         Shown::Whole => check(rt, store),

@@ -6,3 +6,4 @@ pub mod RuleLemmas
 pub mod ReadingLemmas
 pub mod PlaceLemmas
 pub mod ScheduledSpells
+pub mod AnswerLemmas

@@ -16,6 +16,6 @@ loop-chosen-preserved c =
 pub returns : goal.returns
 returns c =
     let start : Place = record { world = c.args.start.now; others = c.args.judged.now.others.now } in
-    ap (end_alone c.args.judged.now.rule.now)
+    ap (end_alone c.args.rule.now)
     (sym (all_made c.args.judged.now.others.now c.args.moves.now c.loop-chosen.chosen-index c.loop-chosen.place (place_after c.args.moves.now start) (omega arith) c.loop-chosen.invariant))
     ∙ c.in_ok-end.ensures

@@ -10,22 +10,22 @@ use Rattle.stm_explore.proofs.exploring.with_end.Goals as goal
 
 pub returns-in-Always-clause-explored : goal.returns-in-Always-clause-explored
 returns-in-Always-clause-explored c =
-    always_kept c.args.judged.now.rule.now c.args.judged.now.others.now c.args.start.now c.in-Always.longest
-    (subst (λ (it : Visited Move). IsVisited (rule_steps c.args.judged.now.rule.now c.args.judged.now.others.now) (record { world = c.args.start.now; taken = 0 }) it)
+    always_kept c.args.rule.now c.args.judged.now.others.now c.args.start.now c.in-Always.longest.now
+    (subst (λ (it : Visited Move). IsVisited (rule_steps c.args.rule.now c.args.judged.now.others.now) (record { world = c.args.start.now; taken = 0 }) it)
     c.in-Always.is c.requires)
 
 pub returns-in_ok-end-in-Broken-clause-explored : goal.returns-in_ok-end-in-Broken-clause-explored
 returns-in_ok-end-in-Broken-clause-explored c =
-    broken_by c.args.judged.now.rule.now c.args.judged.now.others.now c.args.start.now c.in-Broken.moves c.in_ok-end-in-Broken.end
-    (subst (λ (it : Visited Move). IsVisited (rule_steps c.args.judged.now.rule.now c.args.judged.now.others.now) (record { world = c.args.start.now; taken = 0 }) it)
+    broken_by c.args.rule.now c.args.judged.now.others.now c.args.start.now c.in-Broken.moves.now c.in_ok-end-in-Broken.end
+    (subst (λ (it : Visited Move). IsVisited (rule_steps c.args.rule.now c.args.judged.now.others.now) (record { world = c.args.start.now; taken = 0 }) it)
     c.in-Broken.is c.requires)
-    (subst (λ ms. end_alone c.args.judged.now.rule.now (place_after ms (record { world = c.args.start.now; others = c.args.judged.now.others.now })).world ≡ Some c.in_ok-end-in-Broken.end)
+    (subst (λ ms. end_alone c.args.rule.now (place_after ms (record { world = c.args.start.now; others = c.args.judged.now.others.now })).world ≡ Some c.in_ok-end-in-Broken.end)
     c.as_slice.ensures c.in_ok-end-in-Broken.ensures)
 
 pub returns-in-Open-clause-explored : goal.returns-in-Open-clause-explored
 returns-in-Open-clause-explored c =
-    open_at c.args.judged.now.rule.now c.args.judged.now.others.now c.args.start.now c.in-Open.kept
-    (subst (λ (it : Visited Move). IsVisited (rule_steps c.args.judged.now.rule.now c.args.judged.now.others.now) (record { world = c.args.start.now; taken = 0 }) it)
+    open_at c.args.rule.now c.args.judged.now.others.now c.args.start.now c.in-Open.kept.now
+    (subst (λ (it : Visited Move). IsVisited (rule_steps c.args.rule.now c.args.judged.now.others.now) (record { world = c.args.start.now; taken = 0 }) it)
     c.in-Open.is c.requires)
 
 pub returns-in-Open-clause-same : goal.returns-in-Open-clause-same
@@ -33,5 +33,5 @@ returns-in-Open-clause-same c = λ left spent. subst (λ (it : Visited Move). Op
 
 pub returns-in-Open-clause-far : goal.returns-in-Open-clause-far
 returns-in-Open-clause-far c = λ made far.
-    as_far c.args.judged.now.rule.now c.args.judged.now.others.now c.args.start.now made c.in-Open.kept
-    (subst (λ (it : Visited Move). IsFar (rule_steps c.args.judged.now.rule.now c.args.judged.now.others.now) (record { world = c.args.start.now; taken = 0 }) made it) c.in-Open.is far)
+    as_far c.args.rule.now c.args.judged.now.others.now c.args.start.now made c.in-Open.kept.now
+    (subst (λ (it : Visited Move). IsFar (rule_steps c.args.rule.now c.args.judged.now.others.now) (record { world = c.args.start.now; taken = 0 }) made it) c.in-Open.is far)

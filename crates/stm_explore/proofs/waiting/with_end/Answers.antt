@@ -11,19 +11,19 @@ use Rattle.stm_explore.proofs.waiting.with_end.Goals as goal
 
 pub returns-in-Always : goal.returns-in-Always
 returns-in-Always c =
-    always_patient c.args.waiting.now.waits.now c.args.waiting.now.when c.args.waiting.now.rule.now c.args.waiting.now.gathered.others.now c.args.start.now c.args.ends.now c.in-Always.longest
-    (subst (λ (it : Visited Move). IsVisited (waiting_steps c.args.waiting.now.waits.now c.args.waiting.now.when c.args.waiting.now.rule.now c.args.waiting.now.gathered.others.now) (start_of c.args.start.now c.args.ends.now) it) c.in-Always.is c.requires)
+    always_patient c.args.waiting.now.waits.now c.args.waiting.now.when c.args.rule.now c.args.waiting.now.gathered.others.now c.args.start.now c.args.ends.now c.in-Always.longest.now
+    (subst (λ (it : Visited Move). IsVisited (waiting_steps c.args.waiting.now.waits.now c.args.waiting.now.when c.args.rule.now c.args.waiting.now.gathered.others.now) (start_of c.args.start.now c.args.ends.now) it) c.in-Always.is c.requires)
 
 pub returns-in_ok-end-in-Broken : goal.returns-in_ok-end-in-Broken
 returns-in_ok-end-in-Broken c =
-    broken_patient c.args.waiting.now.waits.now c.args.waiting.now.when c.args.waiting.now.rule.now c.args.waiting.now.gathered.others.now c.args.start.now c.args.ends.now c.in-Broken.moves c.in_ok-end-in-Broken.end
-    (subst (λ (it : Visited Move). IsVisited (waiting_steps c.args.waiting.now.waits.now c.args.waiting.now.when c.args.waiting.now.rule.now c.args.waiting.now.gathered.others.now) (start_of c.args.start.now c.args.ends.now) it) c.in-Broken.is c.requires)
-    (subst (λ ms. end_for c.args.waiting.now.when c.args.waiting.now.rule.now
+    broken_patient c.args.waiting.now.waits.now c.args.waiting.now.when c.args.rule.now c.args.waiting.now.gathered.others.now c.args.start.now c.args.ends.now c.in-Broken.moves.now c.in_ok-end-in-Broken.end
+    (subst (λ (it : Visited Move). IsVisited (waiting_steps c.args.waiting.now.waits.now c.args.waiting.now.when c.args.rule.now c.args.waiting.now.gathered.others.now) (start_of c.args.start.now c.args.ends.now) it) c.in-Broken.is c.requires)
+    (subst (λ ms. end_for c.args.waiting.now.when c.args.rule.now
     (place_after ms (record { world = c.args.start.now; others = c.args.waiting.now.gathered.others.now })).world.standing.history
     (ends_after ms (record { world = c.args.start.now; others = c.args.waiting.now.gathered.others.now }) c.args.ends.now)
     ≡ Some c.in_ok-end-in-Broken.end) c.as_slice.ensures c.in_ok-end-in-Broken.ensures)
 
 pub returns-in-Open : goal.returns-in-Open
 returns-in-Open c =
-    open_patient c.args.waiting.now.waits.now c.args.waiting.now.when c.args.waiting.now.rule.now c.args.waiting.now.gathered.others.now c.args.start.now c.args.ends.now c.in-Open.kept
-    (subst (λ (it : Visited Move). IsVisited (waiting_steps c.args.waiting.now.waits.now c.args.waiting.now.when c.args.waiting.now.rule.now c.args.waiting.now.gathered.others.now) (start_of c.args.start.now c.args.ends.now) it) c.in-Open.is c.requires)
+    open_patient c.args.waiting.now.waits.now c.args.waiting.now.when c.args.rule.now c.args.waiting.now.gathered.others.now c.args.start.now c.args.ends.now c.in-Open.kept.now
+    (subst (λ (it : Visited Move). IsVisited (waiting_steps c.args.waiting.now.waits.now c.args.waiting.now.when c.args.rule.now c.args.waiting.now.gathered.others.now) (start_of c.args.start.now c.args.ends.now) it) c.in-Open.is c.requires)

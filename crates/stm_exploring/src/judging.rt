@@ -258,9 +258,10 @@ fn judge_by_both<O: Observer>(
     ensures { IfOk result (λ answers. AreAnswers rules.now (record { world = world.now; others = others.now }) answers.items) }
 {
     let mut answers = judge_part(alloc, world, others, rules, FIRST_MOVES, budget)?;
-    if has_open(answers.as_slice()) && budget.left > 0 {
-        judge_each_further(alloc, world, others, programs, rules, &mut answers, budget)?;
+    if !has_open(answers.as_slice()) || budget.left == 0 {
+        return Ok(answers);
     }
+    judge_each_further(alloc, world, others, programs, rules, &mut answers, budget)?;
     Ok(answers)
 }
 

@@ -2,6 +2,7 @@
 use Rattle.std.proofs.Common.{◌≡◌, ℕ, zero, suc, ◌+◌, ◌<◌, ◌≤◌, Bool, true, false, ◌||◌, cond, List, [], ◌∷◌, ◌++◌, length, get_or, map, take, drop, Contains, Option, Some, None, is_some, inl, inr, ◌⊎◌}
 use Rattle.std.proofs.Common.{option_map, flat_map, refl, sym, ◌∙◌, ap, subst, arith, append_assoc}
 use Rattle.std.proofs.Math.Seq.{take-suc, drop-cons}
+use Rattle.std.proofs.lemmas.List.{get_or_default}
 use Rattle.std.specs.Prelude.{not, ◌==◌}
 use Rattle.std.specs.Cmp.{unsigned_Decides}
 use Rattle.std.specs.List.{list_any, list_all}
@@ -171,6 +172,23 @@ known_further : {P M O : Type 0} (s : Steps P M O) (start : P) (k : ℕ) (next :
     IsKnown s start k before → IsKnown s start (k + 1) (option_or before (bad_among s 0 next))
 known_further s start k next None layer known = known_there s start k next (bad_among s 0 next) layer known refl
 known_further s start k next (Some ms) layer known = known
+
+-- one rule more of those that are asked at a layer
+pub founds_more : {P M O : Type 0} (s : ℕ → Steps P M O) (layer : List (Reached P M)) (before founds : List (Option (List M))) (rule : ℕ) (old found : Option (List M)) →
+    length founds ≡ rule → rule < length before → old ≡ get_or before rule old → found ≡ option_or old (bad_among (s rule) 0 layer) →
+    EachIs (λ n it. it ≡ option_or (get_or before n None) (bad_among (s n) 0 layer)) founds →
+    EachIs (λ n it. it ≡ option_or (get_or before n None) (bad_among (s n) 0 layer)) (founds ++ found ∷ [])
+founds_more {P} {M} {O} s layer before founds rule old found long within at is each =
+    each_push (λ n it. it ≡ option_or (get_or before n None) (bad_among (s n) 0 layer)) founds found each
+    (subst (λ n. found ≡ option_or (get_or before n None) (bad_among (s n) 0 layer)) (sym long)
+    (is ∙ ap (λ (o : Option (List M)). option_or o (bad_among (s rule) 0 layer)) (at ∙ get_or_default before rule old None within)))
+
+-- of none there is one before
+pub founds_begin : {P M O : Type 0} (s : ℕ → Steps P M O) (layer : List (Reached P M)) (none founds : List (Option (List M))) → length founds ≡ length none →
+    EachIs (λ n it. it ≡ None) none → EachIs (λ n it. it ≡ option_or (get_or none n None) (bad_among (s n) 0 layer)) founds →
+    EachIs (λ n it. it ≡ bad_among (s n) 0 layer) founds
+founds_begin {P} {M} {O} s layer none founds long empty each n d within =
+    each n d within ∙ ap (λ (o : Option (List M)). option_or o (bad_among (s n) 0 layer)) (empty n None (omega (arith, within, long)))
 
 -- what is known of each rule
 module _ {P M O : Type 0} (s : ℕ → Steps P M O) (start : P) where

@@ -16,7 +16,7 @@ use Rattle.stm_explore.specs.declared.asking.When.{When}
 use Rattle.stm_explore.specs.Spots.{place_of, after, reported_after, keeps_if_there, rule_steps, rules_steps}
 use Rattle.stm_explore.specs.Waiting.{allowed, asks_if_there, waiting_steps, waiting_rules_steps}
 
-steps_of : List WorldEvent → Option ProgramTree → Steps WorldPlace Move (Unit {0})
+abbrev steps_of : List WorldEvent → Option ProgramTree → Steps WorldPlace Move (Unit {0})
 steps_of others rule = record {
   moves = λ p. moves (place_of others p);
   after = after others;
@@ -32,7 +32,7 @@ pub far_one : (rules : List ProgramTree) (others : List WorldEvent) (n : ℕ) (r
     OpenIsFar (rules_steps rules others n) p made v → OpenIsFar (rule_steps rule others) p made v
 far_one rules others n rule p made v is far = subst (λ (o : Option ProgramTree). OpenIsFar (steps_of others o) p made v) is far
 
-waiting_of : List Wait → When → List WorldEvent → Option ProgramTree → Steps ReportedPlace Move Outcome
+abbrev waiting_of : List Wait → When → List WorldEvent → Option ProgramTree → Steps ReportedPlace Move Outcome
 waiting_of waits when others rule = record {
   moves = λ p. allowed waits p.ends (place_of others p.at);
   after = reported_after others;

@@ -20,6 +20,7 @@ use Rattle.stm_schedules.specs.declared.moves.Move.{Move}
 use Rattle.stm_schedules.specs.declared.moves.Move.TheVariants.{Step as StepOf, Other}
 use Rattle.stm_schedules.specs.declared.outcome.Outcome.{Outcome}
 use Rattle.stm_schedules.specs.Places.{Place, step_if_running, steps_up_to, next_other, moves, left_after, moved}
+use Rattle.stm_schedules.specs.Keeping.{keeps}
 use Rattle.stm_schedules.specs.Outcomes.{Ends, after_reply, after_reported, ends_moved, state_shown, known_ends}
 use Rattle.stm_visited.specs.Alike.{Respects}
 use Rattle.stm_explore.specs.declared.places.WorldPlace.{WorldPlace}
@@ -85,11 +86,16 @@ alike_after : (others : List WorldEvent) (m : Move) (p q : WorldPlace) → AreSa
 alike_after others m p q same =
     ap seen_place (after_is_moved others m p) ∙ alike_moved m (place_of others p) (place_of others q) same ∙ sym (ap seen_place (after_is_moved others m q))
 
+-- a rule sees the same, if there is one
+alike_kept : (rule : Option ProgramTree) (others : List WorldEvent) (p q : WorldPlace) → AreSame others p q → keeps_if_there rule p.world ≡ keeps_if_there rule q.world
+alike_kept None others p q same = refl
+alike_kept (Some rule) others p q same = ap (λ (v : Place). keeps rule v.world) same
+
 pub rules_respected : (rules : List ProgramTree) (others : List WorldEvent) (n : ℕ) → Respects WorldPlace Move (Unit {0}) (rules_steps rules others n) (AreSame others)
 rules_respected rules others n = record {
   moves = λ p q same. alike_moves (place_of others p) (place_of others q) same;
   after = alike_after others;
-  keeps = λ p q same. ap (λ (v : Place). keeps_if_there (slice_get rules n) v.world) same;
+  keeps = λ p q same. alike_kept (slice_get rules n) others p q same;
   shows = λ p q same. refl;
 }
 

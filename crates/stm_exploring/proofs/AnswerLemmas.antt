@@ -1,6 +1,7 @@
 -- Answers about several rules, each at the place of its rule.
-use Rattle.std.proofs.Common.{◌≡◌, ◌<◌, ◌≤◌, ℕ, zero, suc, ◌+◌, List, [], ◌∷◌, ◌++◌, length, map, take, drop, get_or, slice_set, All, refl, sym, ap, ap₂, ◌∙◌, subst, arith}
+use Rattle.std.proofs.Common.{◌≡◌, ◌<◌, ◌≤◌, ℕ, zero, suc, ◌+◌, ◌-◌, List, [], ◌∷◌, ◌++◌, length, map, take, drop, get_or, slice_set, All, refl, sym, ap, ap₂, ◌∙◌, subst, append_assoc, arith}
 use Rattle.std.specs.List.{AllZip}
+use Rattle.std.proofs.Math.Seq.{take-suc, drop-cons}
 use Rattle.std.proofs.lemmas.List.{map-append}
 use Rattle.std.proofs.lemmas.List.Elements.{All-push}
 use Rattle.stm_program.specs.Syntax.{ProgramTree}
@@ -88,3 +89,46 @@ module _ (when : When) (waits : List Wait) (p : Place) (ends : Ends) where
   -- the answers that are left are those of the rules that are left
   abbrev pub AreLeft : List Rule → List Answer → Type 0
   AreLeft rules left = AllZip (λ rule. IsFoundWhen when waits rule p ends) (map program rules) left
+
+  -- the next rule and the next answer
+  rest_is : (rules : List Rule) (i : ℕ) (rule : Rule) → i < length rules → rule ≡ get_or rules i rule → drop i rules ≡ rule ∷ drop (i + 1) rules
+  rest_is rules i rule within is =
+      let step : i + 1 ≡ suc i = omega arith in
+      drop-cons rules i rule within ∙ ap (λ (x : Rule). x ∷ drop (suc i) rules) (sym is) ∙ ap (λ n. rule ∷ drop n rules) (sym step)
+
+  next_both : (rules : List Rule) (i : ℕ) (rule : Rule) (answer : Answer) (left next : List Answer) → i < length rules → rule ≡ get_or rules i rule →
+      left ≡ answer ∷ next → AreLeft (drop i rules) left → IsFoundWhen when waits rule.program p ends answer × AreLeft (drop (i + 1) rules) next
+  next_both rules i rule answer left next within is taken found =
+      subst (λ (rest : List Rule). AreLeft rest (answer ∷ next)) (rest_is rules i rule within is) (subst (AreLeft (drop i rules)) taken found)
+
+  pub next_left : (rules : List Rule) (i : ℕ) (rule : Rule) (answer : Answer) (left next : List Answer) → i < length rules → rule ≡ get_or rules i rule →
+      left ≡ answer ∷ next → AreLeft (drop i rules) left → AreLeft (drop (i + 1) rules) next
+  next_left rules i rule answer left next within is taken found = (next_both rules i rule answer left next within is taken found).1
+
+  pub next_found : (rules : List Rule) (i : ℕ) (rule : Rule) (a : RuleAnswer) (left next : List Answer) (answers : List RuleAnswer) (before : List Rule) → i < length rules →
+      rule ≡ get_or rules i rule → a.rule ≡ rule → All (λ (r : Rule). r.when ≡ when) rules → left ≡ a.answer ∷ next → AreLeft (drop i rules) left →
+      AreFoundFrom waits (before ++ take i rules) p ends answers → AreFoundFrom waits (before ++ take (i + 1) rules) p ends (answers ++ a ∷ [])
+  next_found rules i rule a left next answers before within is same asked taken found so_far =
+      let step : i + 1 ≡ suc i = omega arith in
+      let more : (before ++ take i rules) ++ rule ∷ [] ≡ before ++ take (i + 1) rules =
+      append_assoc before (take i rules) (rule ∷ [])
+      ∙ ap (λ (xs : List Rule). before ++ xs)
+      (ap (λ (x : Rule). take i rules ++ x ∷ []) is ∙ sym (take-suc rules i rule within) ∙ ap (λ n. take n rules) (sym step)) in
+      subst (λ (xs : List Rule). AreFoundFrom waits xs p ends (answers ++ a ∷ [])) more
+      (push_one (before ++ take i rules) answers rule a same (subst (λ (r : Rule). r.when ≡ when) (sym is) (asked i rule within))
+      (next_both rules i rule a.answer left next within is taken found).0 so_far)
+
+-- ---- counts and parts of lists
+
+pub one_further : (i all left next : ℕ) → left ≡ suc next → i + left ≡ all → (i + 1) + next ≡ all
+one_further i all left next is each = omega (arith, is, each)
+
+-- the first of these, and those behind them up to another one
+pub joined_parts : {A : Type 0} (xs : List A) (i j : ℕ) → i ≤ j → take i xs ++ take (j - i) (drop i xs) ≡ take j xs
+joined_parts xs i j within = let e : i + (j - i) ≡ j = omega (arith, within) in parts xs i (j - i) ∙ ap (λ n. take n xs) e
+  where
+    parts : {A : Type 0} (xs : List A) (i n : ℕ) → take i xs ++ take n (drop i xs) ≡ take (i + n) xs
+    parts xs zero n = refl
+    parts [] (suc i) zero = refl
+    parts [] (suc i) (suc n) = refl
+    parts (x ∷ xs) (suc i) n = ap (λ ys. x ∷ ys) (parts xs i n)

@@ -233,8 +233,15 @@ fn judge_each_further<O: Observer>(
     for index in 0..rules.len() {
         budget.left = most;
         let rule = &rules[index];
-        let answer = &mut answers[index];
-        judge_further(alloc, world, others, programs, rule, answer, budget)?;
+        judge_further(
+            alloc,
+            world,
+            others,
+            programs,
+            rule,
+            &mut answers[index],
+            budget,
+        )?;
     }
     Ok(())
 }

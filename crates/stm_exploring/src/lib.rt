@@ -11,6 +11,7 @@ mod audience;
 mod command;
 mod explaining;
 mod exploring;
+mod grouping;
 mod judging;
 mod laws;
 mod level_lines;

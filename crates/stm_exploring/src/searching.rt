@@ -1,13 +1,11 @@
 //! A search about a scenario and rules, and what is printed of it.
-ghost use Rattle.std.specs.Prelude.{◌≡◌, ◌≤◌, ◌++◌, true, List, [], length, map, take, All, IfOk, OnOk};
+ghost use Rattle.std.specs.Prelude.{◌≡◌, ◌++◌, true, List, [], All, IfOk, OnOk};
 ghost use Rattle.std.specs.List.{AllZip};
-ghost use Rattle.stm_schedules.specs.Outcomes.{Ends, after_replies};
-ghost use Rattle.stm_schedules.specs.Places.{Place};
+ghost use Rattle.stm_schedules.specs.Outcomes.{after_replies};
 ghost use Rattle.stm_world.specs.World.{opened, replies_to, world_after};
 ghost use Rattle.stm_serial.specs.Serial.{IsComparing};
 ghost use Rattle.stm_serial_search.specs.Search.{AreProgramsOf};
 ghost use Rattle.stm_serial_search.specs.Started.{HaveNoStep};
-ghost use Rattle.stm_explore.specs.declared.waits.Wait.{Wait as WaitValue};
 ghost use Rattle.stm_exploring.specs.declared.rules.Rule.{Rule as RuleValue};
 ghost use Rattle.stm_exploring.specs.Asking.{opening_of, place_of};
 ghost use Rattle.stm_exploring.specs.Exploring.{IsPrinted};
@@ -15,10 +13,11 @@ ghost use Rattle.stm_exploring.specs.Judging.{AreAnswers, AreFound, AreFoundFrom
 
 use crate::accounts::tell_account;
 use crate::audience::{Audience, tell_parts};
+use crate::grouping::{asked_by, end_of_group, push_answers};
 use crate::judging::{Answer, judge_comparing, judge_schedules};
 use crate::printed::Printed;
 use crate::printing::print;
-use crate::rules::{Rule, RuleAnswer, copy_of};
+use crate::rules::{Rule, RuleAnswer};
 use crate::setup::{run_setup, setup_and_others};
 use crate::watching::judge_waiting;
 use std::alloc::{AllocError, Global};
@@ -96,41 +95,6 @@ fn judge_when<O: Observer>(
     }
 }
 
-/// The programs of these rules.
-fn asked_by(alloc: Global, rules: &[Rule]) -> Result<Vec<Program>, AllocError>
-    ensures { IfOk result (λ asked. asked.items ≡ map (λ (rule : RuleValue). rule.program) rules.now) }
-{
-    let mut asked = Vec::with_capacity(alloc, rules.len())?;
-    for rule in rules {
-        let copy = rule.program.clone()?;
-        asked.push(copy)?;
-    }
-    Ok(asked)
-}
-
-/// Adds what is known of these rules, all of which are asked then.
-fn push_answers(
-    rules: &[Rule],
-    when: When,
-    found: Vec<Answer>,
-    answers: &mut Vec<RuleAnswer>,
-) -> Result<(), AllocError>
-    requires { All (λ (rule : RuleValue). rule.when ≡ when) rules.now }
-    ensures { OnOk result ((waits : List WaitValue) (p : Place) (ends : Ends)
-        → AreFoundWhen when waits (map (λ (rule : RuleValue). rule.program) rules.now) p ends found.items
-        → (before : List RuleValue) → AreFoundFrom waits before p ends answers.old.items → AreFoundFrom waits (before ++ rules.now) p ends answers.new.items) }
-{
-    let mut index = 0;
-    for answer in found {
-        if index < rules.len() {
-            let rule = copy_of(&rules[index])?;
-            answers.push(RuleAnswer { rule, answer })?;
-            index += 1;
-        }
-    }
-    Ok(())
-}
-
 /// What is known of these rules, all of which are asked then: they are searched for in one walk, for which at most so many moves are made.
 fn judge_group<O: Observer>(
     alloc: Global,
@@ -166,20 +130,8 @@ fn judge_group<O: Observer>(
         asked.as_slice(),
         budget,
     )?;
-    push_answers(rules, when, found, answers)
-}
-
-/// How many of these rules, from the first on, are asked then.
-fn count_asked(rules: &[Rule], when: When) -> usize
-    ensures within { result ≤ length rules.now }
-    ensures asked { All (λ (rule : RuleValue). rule.when ≡ when) (take result rules.now) }
-{
-    for index in 0..rules.len() {
-        if rules[index].when != when {
-            return index;
-        }
-    }
-    rules.len()
+    push_answers(rules, when, found, answers)?;
+    Ok(())
 }
 
 /// What is known of each of these rules. Those that stand side by side and are asked at the same places are searched for in one walk, for which as many
@@ -203,26 +155,27 @@ fn judge_rules<O: Observer>(
     let mut answers = Vec::new(alloc);
     let mut done = 0;
     for turn in 0..rules.len() {
-        if done < rules.len() {
-            let when = rules[done].when;
-            let left = &rules[done..];
-            let count = count_asked(left, when);
-            judge_group(
-                alloc,
-                world,
-                others,
-                ends,
-                programs,
-                comparing,
-                waits,
-                when,
-                &left[..count],
-                most,
-                budget,
-                &mut answers,
-            )?;
-            done += count;
+        if done >= rules.len() {
+            return Ok(answers);
         }
+        let when = rules[done].when;
+        let end = end_of_group(rules, done, when);
+        let group = &rules[done..end];
+        judge_group(
+            alloc,
+            world,
+            others,
+            ends,
+            programs,
+            comparing,
+            waits,
+            when,
+            group,
+            most,
+            budget,
+            &mut answers,
+        )?;
+        done = end;
     }
     Ok(answers)
 }

@@ -1,15 +1,17 @@
 //! Whether rules are kept after every schedule: by schedules, and by serial orders where these are enough.
-ghost use Rattle.std.specs.Prelude.{◌≡◌, map, IfOk, OnOk};
+ghost use Rattle.std.specs.Prelude.{◌≡◌, List, length, map, IfOk, OnOk};
 ghost use Rattle.std.specs.List.{AllZip};
+ghost use Rattle.stm_program.specs.Syntax.{ProgramTree};
+ghost use Rattle.stm_schedules.specs.Places.{Place};
 ghost use Rattle.stm_explore.specs.Explored.{IsExplored, MergesAreKept};
 ghost use Rattle.stm_serial.specs.Serial.{IsComparing};
-ghost use Rattle.stm_serial_search.specs.Replaying.{IsJudged};
+ghost use Rattle.stm_serial_search.specs.Replaying.{AreJudged, IsJudged};
 ghost use Rattle.stm_serial_search.specs.Search.{AreProgramsOf};
 ghost use Rattle.stm_exploring.specs.declared.judging.Answer.TheVariants.{BySchedules};
 ghost use Rattle.stm_exploring.specs.Judging.{AreAnswers, IsAnswer};
 
 use std::alloc::{AllocError, Global};
-use std::slice;
+use std::{mem, slice};
 use stm_explore::{Budget, Explored, Observer, explore};
 use stm_meaning::Run;
 use stm_program::Program;
@@ -54,10 +56,11 @@ impl<O: Observer> Observer for Part<'_, O> {
     fn ended(&mut self) {}
 }
 
-/// Takes the moves of serial orders off a budget.
+/// Takes the moves of serial orders off a budget. Each walk through the orders has as many.
 #[derive(Drop)]
 struct Spending<'a, O> {
     budget: &'a mut Budget<O>,
+    most: u64,
 }
 
 impl<O: Observer> Follower for Spending<'_, O> {
@@ -71,6 +74,10 @@ impl<O: Observer> Follower for Spending<'_, O> {
             self.budget.observer.spent(left);
         }
         true
+    }
+
+    fn begins(&mut self) {
+        self.budget.left = self.most;
     }
 
     fn ran(&mut self, _runner: u64, _run: &Run) {}
@@ -133,34 +140,74 @@ fn judge_part<O: Observer>(
     Ok(answers)
 }
 
-/// What serial orders say of a rule.
+/// What serial orders say of the rules that are asked.
 fn judge_orders<O: Observer>(
     alloc: Global,
     world: &World,
     others: &[WorldEvent],
     programs: &[Program],
-    rule: &Program,
+    rules: &[Program],
+    asked: &[bool],
     budget: &mut Budget<O>,
-) -> Result<Judged, AllocError>
+) -> Result<Vec<Judged>, AllocError>
     requires enough { IsComparing (record { world = world.now; others = others.now }) }
     requires programs { AreProgramsOf programs.now world.now.runners }
-    ensures { IfOk result (IsJudged rule.now (record { world = world.now; others = others.now })) }
+    requires asked { length asked.now ≡ length rules.now }
+    ensures { IfOk result (λ judged. AreJudged rules.now (record { world = world.now; others = others.now }) judged.items) }
 {
-    let mut spending = Spending { budget };
-    judge_by_orders(alloc, world, others, programs, rule, &mut spending)
+    let most = budget.left;
+    let mut spending = Spending { budget, most };
+    judge_by_orders(alloc, world, others, programs, rules, asked, &mut spending)
 }
 
-/// Whether a search through schedules has not come to an end.
+/// Whether a search has not come to an end.
 fn is_open(answer: &Answer) -> bool {
     matches!(answer, Answer::BySchedules(Explored::Open { .. }))
 }
 
-/// Whether one of these has not.
+/// The rules for which a search has not come to an end.
+fn are_open(alloc: Global, answers: &[Answer]) -> Result<Vec<bool>, AllocError>
+    ensures { IfOk result (λ asked. length asked.items ≡ length answers.now) }
+{
+    let mut asked = Vec::with_capacity(alloc, answers.len())?;
+    for answer in answers {
+        asked.push(is_open(answer))?;
+    }
+    Ok(asked)
+}
+
+/// Whether one of these searches has not come to an end.
 fn has_open(answers: &[Answer]) -> bool {
     answers.iter().any(is_open)
 }
 
-/// Searches through all schedules for a rule, of which a part of them said this.
+/// Takes over what serial orders say of a rule for which a search has not come to an end.
+fn improve(answer: &mut Answer, judged: &mut Judged)
+    ensures answer { (rule : ProgramTree) (p : Place) → IsAnswer rule p answer.old → IsJudged rule p judged.old → IsAnswer rule p answer.new }
+    ensures judged { (rule : ProgramTree) (p : Place) → IsJudged rule p judged.old → IsJudged rule p judged.new }
+{
+    if !is_open(answer) {
+        return;
+    }
+    match mem::replace(judged, Judged::NotAsked) {
+        Judged::Always => *answer = Answer::AlwaysByOrders,
+        Judged::Broken(found) => *answer = Answer::BrokenByOrder(found),
+        Judged::Undecided | Judged::NotAsked => {}
+    }
+}
+
+/// The same of each rule.
+fn improve_each(answers: &mut Vec<Answer>, judged: &mut Vec<Judged>)
+    ensures { (rules : List ProgramTree) (p : Place) → AreAnswers rules p answers.old.items → AreJudged rules p judged.old.items → AreAnswers rules p answers.new.items }
+{
+    for index in 0..answers.len() {
+        if index < judged.len() {
+            improve(&mut answers[index], &mut judged[index]);
+        }
+    }
+}
+
+/// Searches through all schedules for a rule for which neither a part of them nor the orders came to an end.
 fn search_again<O: Observer>(
     alloc: Global,
     world: &World,
@@ -169,10 +216,9 @@ fn search_again<O: Observer>(
     answer: &mut Answer,
     budget: &mut Budget<O>,
 ) -> Result<(), AllocError>
-    ensures { OnOk result (IsAnswer rule.now (record { world = world.now; others = others.now }) answer.old
-        → IsAnswer rule.now (record { world = world.now; others = others.now }) answer.new) }
+    ensures { OnOk result (IsAnswer rule.now (record { world = world.now; others = others.now }) answer.old → IsAnswer rule.now (record { world = world.now; others = others.now }) answer.new) }
 {
-    if budget.left == 0 {
+    if !is_open(answer) || budget.left == 0 {
         return Ok(());
     }
     let rules = slice::from_ref(rule);
@@ -183,39 +229,29 @@ fn search_again<O: Observer>(
     Ok(())
 }
 
-/// What is known of a rule by serial orders, and else by all schedules, where a part of these did not decide it.
-fn judge_further<O: Observer>(
+/// The same of each rule, for which as many moves may be made.
+fn search_each<O: Observer>(
     alloc: Global,
     world: &World,
     others: &[WorldEvent],
-    programs: &[Program],
-    rule: &Program,
-    answer: &mut Answer,
+    rules: &[Program],
+    answers: &mut Vec<Answer>,
     budget: &mut Budget<O>,
 ) -> Result<(), AllocError>
-    requires enough { IsComparing (record { world = world.now; others = others.now }) }
-    requires programs { AreProgramsOf programs.now world.now.runners }
-    ensures { OnOk result (IsAnswer rule.now (record { world = world.now; others = others.now }) answer.old
-        → IsAnswer rule.now (record { world = world.now; others = others.now }) answer.new) }
+    requires { AreAnswers rules.now (record { world = world.now; others = others.now }) answers.old.items }
+    ensures { OnOk result (AreAnswers rules.now (record { world = world.now; others = others.now }) answers.new.items) }
 {
-    if !is_open(answer) {
-        return Ok(());
+    let most = budget.left;
+    for index in 0..rules.len() {
+        budget.left = most;
+        let rule = &rules[index];
+        search_again(alloc, world, others, rule, &mut answers[index], budget)?;
     }
-    match judge_orders(alloc, world, others, programs, rule, budget)? {
-        Judged::Always => {
-            *answer = Answer::AlwaysByOrders;
-            Ok(())
-        }
-        Judged::Broken(found) => {
-            *answer = Answer::BrokenByOrder(found);
-            Ok(())
-        }
-        Judged::Undecided => search_again(alloc, world, others, rule, answer, budget),
-    }
+    Ok(())
 }
 
-/// The same of each rule, for which as many moves may be made.
-fn judge_each_further<O: Observer>(
+/// What is known of rules by serial orders, and else by all schedules, where a part of these did not decide them.
+fn judge_further<O: Observer>(
     alloc: Global,
     world: &World,
     others: &[WorldEvent],
@@ -229,21 +265,18 @@ fn judge_each_further<O: Observer>(
     requires answers { AreAnswers rules.now (record { world = world.now; others = others.now }) answers.old.items }
     ensures { OnOk result (AreAnswers rules.now (record { world = world.now; others = others.now }) answers.new.items) }
 {
-    let most = budget.left;
-    for index in 0..rules.len() {
-        budget.left = most;
-        let rule = &rules[index];
-        judge_further(
-            alloc,
-            world,
-            others,
-            programs,
-            rule,
-            &mut answers[index],
-            budget,
-        )?;
-    }
-    Ok(())
+    let asked = are_open(alloc, answers.as_slice())?;
+    let mut judged = judge_orders(
+        alloc,
+        world,
+        others,
+        programs,
+        rules,
+        asked.as_slice(),
+        budget,
+    )?;
+    improve_each(answers, &mut judged);
+    search_each(alloc, world, others, rules, answers, budget)
 }
 
 /// Whether each of these rules is kept after every schedule: the moves of this world's runners, which have these programs and commit at levels that
@@ -268,7 +301,7 @@ fn judge_by_both<O: Observer>(
     if !has_open(answers.as_slice()) || budget.left == 0 {
         return Ok(answers);
     }
-    judge_each_further(alloc, world, others, programs, rules, &mut answers, budget)?;
+    judge_further(alloc, world, others, programs, rules, &mut answers, budget)?;
     Ok(answers)
 }
 

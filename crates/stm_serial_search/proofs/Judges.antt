@@ -32,11 +32,19 @@ zip_put R (a ∷ xs) [] i x d y within is at more all = absurd all
 zip_put R (a ∷ xs) (b ∷ ys) zero x d y within is at more all = (subst (λ z. R z y) is (more (subst (λ z. R x z) (sym at) (subst (λ z. R z b) (sym is) all.0))), all.1)
 zip_put R (a ∷ xs) (b ∷ ys) (suc i) x d y within is at more all = (all.0, zip_put R xs ys i x d y (omega (arith, within)) is at more all.1)
 
-pub zip_push : {A B : Type 0} (R : A → B → Type 0) (xs : List A) (ys : List B) (x : A) (y : B) → AllZip R xs ys → R x y → AllZip R (xs ++ x ∷ []) (ys ++ y ∷ [])
-zip_push R [] [] x y all more = (more, tt)
-zip_push R [] (b ∷ ys) x y all more = absurd all
-zip_push R (a ∷ xs) [] x y all more = absurd all
-zip_push R (a ∷ xs) (b ∷ ys) x y all more = (all.0, zip_push R xs ys x y all.1 more)
+-- one of them more, which is so of whatever stands there
+one_more_of : {A B : Type 0} (R : A → B → Type 0) (xs : List A) (ys : List B) (i : ℕ) (y : B) → i < length xs → ((x : A) → R x y) → AllZip R (take i xs) ys →
+    AllZip R (take (suc i) xs) (ys ++ y ∷ [])
+one_more_of R [] ys i y within any all = absurd (omega (arith, within))
+one_more_of R (x ∷ xs) [] zero y within any all = (any x, tt)
+one_more_of R (x ∷ xs) (b ∷ ys) zero y within any all = absurd all
+one_more_of R (x ∷ xs) [] (suc i) y within any all = absurd all
+one_more_of R (x ∷ xs) (b ∷ ys) (suc i) y within any all = (all.0, one_more_of R xs ys i y (omega (arith, within)) any all.1)
+
+pub any_more : {A B : Type 0} (R : A → B → Type 0) (xs : List A) (ys : List B) (i : ℕ) (y : B) → i < length xs → ((x : A) → R x y) → AllZip R (take i xs) ys →
+    AllZip R (take (i + 1) xs) (ys ++ y ∷ [])
+any_more R xs ys i y within any all =
+    let step : suc i ≡ i + 1 = omega arith in subst (λ n. AllZip R (take n xs) (ys ++ y ∷ [])) step (one_more_of R xs ys i y within any all)
 
 -- ---- what is kept by all
 

@@ -180,7 +180,7 @@ fn with_ends(
 }
 
 /// The place where a search starts.
-fn start_of(
+pub(crate) fn start_of(
     alloc: Global,
     world: &SharedWorld,
     ends: &[Option<RunnerEnd>],

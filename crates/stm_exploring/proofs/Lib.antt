@@ -7,3 +7,5 @@ pub mod ReadingLemmas
 pub mod PlaceLemmas
 pub mod ScheduledSpells
 pub mod AnswerLemmas
+pub mod SerialLevelLemmas
+pub mod OutcomeLineLemmas

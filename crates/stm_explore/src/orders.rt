@@ -124,9 +124,9 @@ fn seek<O: Observer>(
         left: budget.left,
         observer: Nobody,
     };
-    let visited = find_first_bad(alloc, turns, start, &mut quiet)?;
+    let answers = find_first_bad(alloc, turns, 1, start, &mut quiet)?;
     budget.left = quiet.left;
-    Ok(visited)
+    Ok(taken(Sequence::of(answers), 0))
 }
 
 /// Looks for a serial order that comes to an outcome.

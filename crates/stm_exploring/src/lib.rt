@@ -12,6 +12,7 @@ mod command;
 mod explaining;
 mod exploring;
 mod final_words;
+mod grouping;
 mod judging;
 mod key_use;
 mod laws;

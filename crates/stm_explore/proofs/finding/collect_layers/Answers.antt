@@ -18,7 +18,7 @@ returns-then-not-branch-clause-collected g c =
     first_end others c.args.start c.in_ok-layer.layer.items c.args.found.now.items c.collect_whole.new.found.items c.in_ok-layer.ensures c.requires.none_found
     (subst (λ (rs : List (Reached ReportedPlace Move)). Gathers (shown_among (outcome_steps others) 0 rs) c.args.found.now.items c.collect_whole.new.found.items)
     c.as_slice.ensures.value c.in_ok-collect_whole.ensures.gathers)
-    (ap (on_among (outcome_steps others) 1) (sym c.as_slice-2.ensures.value) ∙ sym c.in_ok-can_go_on.ensures ∙ c.if-not-branch.true)
+    (ap (on_among (outcome_steps others) 1) (sym c.as_slice-2.ensures.value) ∙ sym (c.in_ok-can_go_on.ensures 0) ∙ c.if-not-branch.true)
 
 pub loop-gone_through-init : goal.loop-gone_through-init
 loop-gone_through-init g c =
@@ -27,7 +27,7 @@ loop-gone_through-init g c =
       come = first_layer others c.args.start c.in_ok-layer.layer.items c.args.found.now.items c.collect_whole.new.found.items c.in_ok-layer.ensures c.requires.none_found
           (subst (λ (rs : List (Reached ReportedPlace Move)). Gathers (shown_among (outcome_steps others) 0 rs) c.args.found.now.items c.collect_whole.new.found.items)
           c.as_slice.ensures.value c.in_ok-collect_whole.ensures.gathers)
-          (ap (on_among (outcome_steps others) 1) (sym c.as_slice-2.ensures.value) ∙ sym c.in_ok-can_go_on.ensures ∙ c.if-not-branch.false);
+          (ap (on_among (outcome_steps others) 1) (sym c.as_slice-2.ensures.value) ∙ sym (c.in_ok-can_go_on.ensures 0) ∙ c.if-not-branch.false);
       witnessed = first_witnesses others c.args.start c.in_ok-layer.layer.items c.args.found.now.items c.collect_whole.new.found.items c.args.schedules.now.items
           c.collect_whole.new.schedules.items c.in_ok-layer.ensures c.requires.none_found c.requires.no_schedules
           (subst (λ (rs : List (Reached ReportedPlace Move)). HaveWitnesses others rs c.args.found.now.items c.collect_whole.new.found.items c.args.schedules.now.items
@@ -41,21 +41,21 @@ returns-then-not-branch-2-clause-collected g c =
     let others = c.args.gathered.now.others.now in
     let stand : StandFor ReportedPlace Move Outcome (outcome_steps others) c.in-Ok.next.items (moved_from_each (outcome_steps others) c.loop-gone_through.layer.items) =
     subst (λ (rs : List (Reached ReportedPlace Move)). StandFor ReportedPlace Move Outcome (outcome_steps others) c.in-Ok.next.items (moved_from_each (outcome_steps others) rs))
-    c.as_slice-in-loop-gone_through.ensures.value c.in-Ok.ensures.stand in
+    c.as_slice-in-loop-gone_through.ensures.value (c.in-Ok.ensures.stand 0) in
     next_end others c.args.start c.loop-gone_through.gone_through c.loop-gone_through.layer.items c.in-Ok.next.items c.loop-gone_through.found.items
     c.collect_whole-in-Ok.new.found.items c.loop-gone_through.invariant.come stand
     (subst (λ (rs : List (Reached ReportedPlace Move)). Gathers (shown_among (outcome_steps others) 0 rs) c.loop-gone_through.found.items c.collect_whole-in-Ok.new.found.items)
     c.as_slice-in-Ok.ensures.value c.in_ok-collect_whole-in-Ok.ensures.gathers)
-    (ap (on_among (outcome_steps others) 1) (sym c.as_slice-in-Ok-2.ensures.value) ∙ sym c.in_ok-can_go_on-in-Ok.ensures ∙ c.if-not-branch-2.true)
+    (ap (on_among (outcome_steps others) 1) (sym c.as_slice-in-Ok-2.ensures.value) ∙ sym (c.in_ok-can_go_on-in-Ok.ensures 0) ∙ c.if-not-branch-2.true)
 
 pub loop-gone_through-preserved : goal.loop-gone_through-preserved
 loop-gone_through-preserved g c =
     let others = c.args.gathered.now.others.now in
     let stand : StandFor ReportedPlace Move Outcome (outcome_steps others) c.in-Ok.next.items (moved_from_each (outcome_steps others) c.loop-gone_through.layer.items) =
     subst (λ (rs : List (Reached ReportedPlace Move)). StandFor ReportedPlace Move Outcome (outcome_steps others) c.in-Ok.next.items (moved_from_each (outcome_steps others) rs))
-    c.as_slice-in-loop-gone_through.ensures.value c.in-Ok.ensures.stand in
+    c.as_slice-in-loop-gone_through.ensures.value (c.in-Ok.ensures.stand 0) in
     let on : on_among (outcome_steps others) 1 c.in-Ok.next.items ≡ true =
-    ap (on_among (outcome_steps others) 1) (sym c.as_slice-in-Ok-2.ensures.value) ∙ sym c.in_ok-can_go_on-in-Ok.ensures ∙ c.if-not-branch-2.false in
+    ap (on_among (outcome_steps others) 1) (sym c.as_slice-in-Ok-2.ensures.value) ∙ sym (c.in_ok-can_go_on-in-Ok.ensures 0) ∙ c.if-not-branch-2.false in
     record {
       come = next_gathered others c.args.start c.loop-gone_through.gone_through c.loop-gone_through.layer.items c.in-Ok.next.items c.loop-gone_through.found.items
           c.collect_whole-in-Ok.new.found.items c.loop-gone_through.invariant.come stand
@@ -73,7 +73,7 @@ loop-gone_through-preserved g c =
       made = far_gathered others c.args.start c.loop-gone_through.gone_through c.loop-gone_through.layer.items
           c.loop-gone_through.found.items _ _ _ c.loop-gone_through.invariant.come c.loop-gone_through.invariant.made
           (subst (λ (rs : List (Reached ReportedPlace Move)). c.loop-gone_through.budget.left ≤ c.next_layer.new.budget.left + count_among (outcome_steps others) 1 rs)
-          c.as_slice-in-loop-gone_through.ensures.value c.next_layer.ensures.made);
+          c.as_slice-in-loop-gone_through.ensures.value (c.next_layer.ensures.made 0));
     }
 
 pub returns-in-Err-Spent-clause-collected : goal.returns-in-Err-Spent-clause-collected
@@ -98,7 +98,7 @@ returns-in-Err-Spent-clause-far g c =
     far_open others c.args.start c.loop-gone_through.gone_through c.loop-gone_through.layer.items c.loop-gone_through.found.items _ _ _
     c.loop-gone_through.invariant.come c.loop-gone_through.invariant.made
     (subst (λ (rs : List (Reached ReportedPlace Move)). c.loop-gone_through.budget.left ≤ c.next_layer.new.budget.left + count_among (outcome_steps others) 1 rs)
-    c.as_slice-in-loop-gone_through.ensures.value c.next_layer.ensures.made)
+    c.as_slice-in-loop-gone_through.ensures.value (c.next_layer.ensures.made 0))
     (c.in-Err-Spent.ensures.spent (cc))
 
 pub returns-clause-far : goal.returns-clause-far
@@ -123,7 +123,7 @@ returns-then-not-branch-2-clause-witnessed g c =
     let others = c.args.gathered.now.others.now in
     let stand : StandFor ReportedPlace Move Outcome (outcome_steps others) c.in-Ok.next.items (moved_from_each (outcome_steps others) c.loop-gone_through.layer.items) =
     subst (λ (rs : List (Reached ReportedPlace Move)). StandFor ReportedPlace Move Outcome (outcome_steps others) c.in-Ok.next.items (moved_from_each (outcome_steps others) rs))
-    c.as_slice-in-loop-gone_through.ensures.value c.in-Ok.ensures.stand in
+    c.as_slice-in-loop-gone_through.ensures.value (c.in-Ok.ensures.stand 0) in
     next_witnesses others c.args.start c.loop-gone_through.gone_through c.loop-gone_through.layer.items c.in-Ok.next.items c.loop-gone_through.found.items
     c.collect_whole-in-Ok.new.found.items c.loop-gone_through.schedules.items c.collect_whole-in-Ok.new.schedules.items c.loop-gone_through.invariant.come stand
     (subst (λ (rs : List (Reached ReportedPlace Move)). HaveWitnesses others rs c.loop-gone_through.found.items c.collect_whole-in-Ok.new.found.items

@@ -61,7 +61,7 @@ impl Definitions {
     }
 
     /// The program of a name.
-    fn named(&self, name: &str) -> Option<&Definition>
+    pub(crate) fn named(&self, name: &str) -> Option<&Definition>
         ensures { option_copied result ≡ spec.definition_named self.now name.now }
     {
         match self.meaning_of(name) {
@@ -122,7 +122,7 @@ fn parameters<'a>(alloc: Global, tokens: &'a [Token]) -> Result<(Names, &'a [Tok
 
 /// So many parameters of which each may be either.
 #[tactic(auto, using(crate::proofs::StepLemmas::open_more, crate::proofs::StepLemmas::open_out))]
-fn open_arguments(alloc: Global, times: usize) -> Result<Sequence<Given>, AllocError>
+pub(crate) fn open_arguments(alloc: Global, times: usize) -> Result<Sequence<Given>, AllocError>
     ensures { IfOk result (λ given. given ≡ spec.open_given times) }
 {
     let mut given = Sequence::new(alloc);

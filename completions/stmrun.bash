@@ -8,7 +8,7 @@ _stmrun() {
     else
         case "${COMP_WORDS[1]} $before" in
         "script --store") compopt -o default; return ;;
-        "script --format") words="lines json text svg" ;;
+        "script --format") words="lines json text svg html" ;;
         "threads --workers") words="" ;;
         "threads --repeat") words="" ;;
         "explore --keeps") compopt -o default; return ;;

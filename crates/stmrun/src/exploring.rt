@@ -15,13 +15,13 @@ use stm_exploring::{Level, Rule, Wait, explore_to, outcomes_to};
 
 /// What is searched, and how.
 #[derive(Clone, Copy)]
-pub(crate) struct Search<'a> {
+pub(crate) struct Search<'a, 'w> {
     /// The path of the scenario.
-    pub(crate) path: &'a str,
+    pub(crate) path: &'w str,
     /// The words that name rules.
-    pub(crate) keeps: &'a [&'a str],
+    pub(crate) keeps: &'a [&'w str],
     /// Which runners wait for which others, as it is spelled.
-    pub(crate) after: Option<&'a str>,
+    pub(crate) after: Option<&'w str>,
     /// The levels at which the starts are taken.
     pub(crate) levels: Levels,
     /// At most so many events are taken, and the runners are named so.
@@ -35,7 +35,7 @@ pub(crate) struct Search<'a> {
 /// Looks through the interleavings of a scenario for one that breaks the rule of a file, at a level, or at each start's own.
 fn run_rule(
     rt: &HostRuntime,
-    search: &Search<'_>,
+    search: &Search<'_, '_>,
     scenario: &JsonFile<'_>,
     rule: &JsonFile<'_>,
     waits: &[Wait],
@@ -65,7 +65,7 @@ fn run_rule(
 /// Looks through the interleavings of a scenario for one that breaks each of these rules.
 fn ask(
     rt: &HostRuntime,
-    search: &Search<'_>,
+    search: &Search<'_, '_>,
     scenario: &JsonFile<'_>,
     rules: &[Rule],
     waits: &[Wait],
@@ -89,7 +89,7 @@ fn ask(
 /// Goes through the interleavings of a scenario, at a level, or at each start's own.
 fn run_outcomes(
     rt: &HostRuntime,
-    search: &Search<'_>,
+    search: &Search<'_, '_>,
     scenario: &JsonFile<'_>,
     level: Option<Level>,
 ) -> u8 {
@@ -114,7 +114,7 @@ fn run_outcomes(
 /// Goes through the interleavings of a scenario; all levels are refused.
 fn search_outcomes(
     rt: &HostRuntime,
-    search: &Search<'_>,
+    search: &Search<'_, '_>,
     scenario: &JsonFile<'_>,
 ) -> Result<u8, u8> {
     match search.levels {
@@ -127,7 +127,7 @@ fn search_outcomes(
 /// Looks through the interleavings of a scenario for one that breaks the rule of a path.
 fn search_rule(
     rt: &HostRuntime,
-    search: &Search<'_>,
+    search: &Search<'_, '_>,
     scenario: &JsonFile<'_>,
     path: &str,
     waits: &[Wait],
@@ -152,7 +152,7 @@ fn is_named(word: &str, path: &str, rule: &SourceRule) -> bool {
 }
 
 /// Says which rules of the scenario's source are not asked, where words name those that are.
-fn say_others(rt: &HostRuntime, search: &Search<'_>, rules: &[SourceRule]) -> Result<(), u8> {
+fn say_others(rt: &HostRuntime, search: &Search<'_, '_>, rules: &[SourceRule]) -> Result<(), u8> {
     for rule in rules {
         if !search
             .keeps
@@ -166,7 +166,11 @@ fn say_others(rt: &HostRuntime, search: &Search<'_>, rules: &[SourceRule]) -> Re
 }
 
 /// Refuses runners that wait where no rule is asked, after it was said which do not.
-fn refuse_waiting(rt: &HostRuntime, search: &Search<'_>, waits: &[SourceWait]) -> Result<(), u8> {
+fn refuse_waiting(
+    rt: &HostRuntime,
+    search: &Search<'_, '_>,
+    waits: &[SourceWait],
+) -> Result<(), u8> {
     if search.after.is_some() {
         return Err(refuse_without_rule(rt, "--after <RUNNER:FIRST,..>"));
     }
@@ -181,7 +185,7 @@ fn refuse_waiting(rt: &HostRuntime, search: &Search<'_>, waits: &[SourceWait]) -
 /// Looks through the interleavings of a scenario for one that breaks a rule that words name. What its source has beside it says who waits.
 fn search_named(
     rt: &HostRuntime,
-    search: &Search<'_>,
+    search: &Search<'_, '_>,
     scenario: &JsonFile<'_>,
     beside: &Beside,
 ) -> Result<u8, u8> {
@@ -199,7 +203,7 @@ fn search_named(
 /// Looks through the interleavings of a scenario for one that breaks a rule of its source, or where that has none for what they come to.
 fn search_own(
     rt: &HostRuntime,
-    search: &Search<'_>,
+    search: &Search<'_, '_>,
     scenario: &JsonFile<'_>,
     beside: Beside,
 ) -> Result<u8, u8> {

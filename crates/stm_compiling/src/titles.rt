@@ -63,21 +63,32 @@ fn runners_of(alloc: Global, tokens: &[Token]) -> Result<Vec<&str>, AllocError> 
     Ok(runners)
 }
 
+/// Whether a name is among these.
+fn is_among(names: &[&str], name: &str) -> bool {
+    for known in names {
+        if *known == name {
+            return true;
+        }
+    }
+    false
+}
+
+/// Which these names are; nothing, where there are none, or a name is one of them.
+fn others_of(alloc: Global, names: &[&str], name: &str) -> Result<Option<String>, AllocError> {
+    if names.is_empty() || is_among(names, name) {
+        return Ok(None);
+    }
+    let words = allowed(alloc, names, "", name)?;
+    Ok(Some(words))
+}
+
 /// What is said of a name that is none of a source's programs, rules and finals: which those are; nothing, where it is one of them. It fails only when out
 /// of memory.
 pub fn unknown_in(alloc: Global, source: &[u8], name: &str) -> Result<Option<String>, AllocError> {
     let tokens = tokens_of(alloc, source)?;
     let titles = titles_of(alloc, tokens.as_slice())?;
-    for title in titles.as_slice() {
-        if *title == name {
-            return Ok(None);
-        }
-    }
-    if titles.is_empty() {
-        return Ok(None);
-    }
-    let words = allowed(alloc, titles.as_slice(), "", name)?;
-    Ok(Some(words))
+    let words = others_of(alloc, titles.as_slice(), name)?;
+    Ok(words)
 }
 
 /// Whether a place is that of a runner whose end is asked.

@@ -3,7 +3,7 @@ ghost use Rattle.std.specs.Prelude.{◌≡◌, ℕ, List, Some, IfOk, option_map
 ghost use Rattle.stm_explain.specs.Explaining.{explanation};
 ghost use Rattle.stm_compiling.specs.Faults.{IsExplanation, place_of};
 
-use crate::calls::{listed_behind, parameters_of};
+use crate::calls::{listed_behind, parameters_of, takes_list};
 use crate::fault::position_in;
 use crate::misfits::said_of_start;
 use crate::naming::{is_called, said_of_function, said_of_place};
@@ -81,7 +81,8 @@ fn said_of_word(word: &str) -> &'static str {
         "var" | "const" => "a new variable is let NAME = VALUE",
         "func" | "fn" | "def" => "a program is program NAME(PARAMETER, ..) { .. }",
         "switch" | "case" | "match" => "choices are if, else if and else",
-        "while" | "loop" => "a loop is for NAME in 0..COUNT { .. }",
+        "while" | "loop" =>
+            "a loop is for NAME in 0..COUNT { .. }, or for NAME in ITEM, ITEM { .. }",
         "nil" | "null" | "none" | "None" => "an absent key has the value \"\"",
         "true" | "false" => "no value is true or false: a condition compares two values",
         "delete" => "a key is deleted by del(KEY)",
@@ -285,6 +286,12 @@ fn range_words(alloc: Global, found: &str, spot: Spot<'_>) -> Result<String, All
 fn argument_words(alloc: Global, found: &str, spot: Spot<'_>) -> Result<String, AllocError> {
     let wanted = parameters_of(spot.before, name_in(spot));
     let given = listed_behind(spot.from);
+    if takes_list(spot.before, name_in(spot)) {
+        let least = wanted.saturating_sub(1);
+        return format!(in alloc;
+            "{found} has another number of parameters: {least} or more wanted, {given} found"
+        );
+    }
     format!(in alloc; "{found} has another number of parameters: {wanted} wanted, {given} found")
 }
 
@@ -297,7 +304,9 @@ fn token_words(alloc: Global, spot: Spot<'_>, character: &str) -> Result<String,
             "a text that is not closed in its line, or with an escape that JSON does not have",
         ),
         ":" if spot.is_behind_word(1, Word::For) => {
-            format!(in alloc; "{found} begins nothing: a loop is for NAME in 0..COUNT {{ .. }}")
+            format!(in alloc;
+                "{found} begins nothing: a loop is for NAME in 0..COUNT {{ .. }}, or for NAME in ITEM, ITEM {{ .. }}"
+            )
         }
         ":" => format!(in alloc; "{found} begins nothing: a new variable is let NAME = VALUE"),
         "'" | "`" => format!(in alloc; "{found} begins nothing: texts stand in double quotes"),
@@ -355,6 +364,10 @@ fn words_at(
             token_words(alloc, spot, character)
         }
         SourceCause::Syntax => syntax_words(alloc, source, found, spot),
+        SourceCause::Return => String::from_str(
+            alloc,
+            "a counted loop, for .. in 0.., has no return and no break: let found = 0 before it, and if found == 0 && .. in it",
+        ),
         SourceCause::Sort => sort_words(alloc, found, spot),
         SourceCause::Name => name_words(alloc, source, found, spot),
         SourceCause::Range => range_words(alloc, found, spot),

@@ -10,9 +10,9 @@ use strsim::levenshtein;
 const MOST_NEAR: usize = 60;
 
 /// The words that begin an event, or what stands beside events.
-const EVENTS: [&str; 15] = [
+const EVENTS: [&str; 16] = [
     "program", "start", "step", "txn", "grant", "keep", "revoke", "advance", "watch", "poll",
-    "cancel", "compact", "begin", "rule", "finally",
+    "cancel", "compact", "begin", "rule", "finally", "let",
 ];
 
 /// What may stand behind the program of a start.
@@ -90,6 +90,15 @@ fn in_event(spot: Spot<'_>) -> Wanted {
     }
     if spot.is_behind_word(0, Word::Rule) || spot.is_behind_word(0, Word::Finally) {
         return Wanted::Said("the name of the rule");
+    }
+    if spot.is_behind_word(0, Word::Let) {
+        return Wanted::Said("the name of the constant");
+    }
+    if spot.is_behind_word(1, Word::Let) {
+        return Wanted::Said("=");
+    }
+    if spot.is_behind_word(2, Word::Let) {
+        return Wanted::Said("a text or a number as it stands, or the name of one,");
     }
     if let Some(wanted) = behind_name(spot) {
         return wanted;
@@ -220,7 +229,7 @@ fn in_program(spot: Spot<'_>) -> Wanted {
         return Wanted::Said("in");
     }
     if spot.is_behind_word(0, Word::In) {
-        return Wanted::Said("0..COUNT");
+        return Wanted::Said("0..COUNT, or texts or numbers with commas between them,");
     }
     if is_behind_call(spot) {
         return Wanted::Said("(");

@@ -13,7 +13,7 @@ use Rattle.stm_terms.specs.declared.faults.SourceError.TheVariants.{OutOfMemory,
 use Rattle.stm_terms.specs.Outcome.{Read, ReturnsFault, ◌>>=◌}
 use Rattle.stm_source.specs.declared.statements.TheConstants.{MOST_STATEMENTS}
 use Rattle.stm_source.specs.Kept.{pushed_up}
-use Rattle.stm_source.specs.Statements.{ReadStatement, Blocks, statements_from, then_all, then_up, statement_by, block_by, block_at, choice_by, choice_at}
+use Rattle.stm_source.specs.Statements.{ReadStatement, Blocks, listed, statements_from, then_all, then_up, statement_by, block_by, block_at, choice_by, choice_at}
 
 pub then_all-end : (ss : List Statement) → then_all ss End ≡ block_of ss
 then_all-end [] = refl
@@ -22,6 +22,10 @@ then_all-end (s ∷ ss) = ap (Then s) (then_all-end ss)
 pub then_all-append : (ss more : List Statement) (b : Block) → then_all (ss ++ more) b ≡ then_all ss (then_all more b)
 then_all-append [] more b = refl
 then_all-append (s ∷ ss) more b = ap (Then s) (then_all-append ss more b)
+
+pub listed_of : (ss : List Statement) → listed (block_of ss) ≡ ss
+listed_of [] = refl
+listed_of (s ∷ ss) = ap (λ (rest : List Statement). s ∷ rest) (listed_of ss)
 
 -- what was read before, and what is still read
 abbrev pub with_front : List Statement → Read Block → Read Block

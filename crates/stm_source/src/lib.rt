@@ -6,8 +6,10 @@
 
 mod arguments;
 mod bulk;
+mod constants;
 mod definitions;
 mod events;
+mod loops;
 mod openings;
 mod programs;
 mod rules;

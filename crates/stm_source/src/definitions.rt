@@ -202,7 +202,7 @@ pub(crate) fn program_in_place<'a>(
 }
 
 /// How many parameters stand for one argument each.
-fn alone(parameters: &Names, takes_list: bool) -> usize
+pub(crate) fn alone(parameters: &Names, takes_list: bool) -> usize
     ensures { result ≡ spec.alone parameters.now takes_list }
 {
     if takes_list {

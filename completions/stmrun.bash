@@ -29,7 +29,7 @@ _stmrun() {
             check) case "$word" in -*) ;; *) compopt -o default; return ;; esac; words="--whole --explain --explain=never --help" ;;
             threads) case "$word" in -*) ;; *) compopt -o default; return ;; esac; words="--workers --ends --repeat --explain --explain=never --help" ;;
             recipe) words="transfer deposit enqueue dequeue reserve_slot release_slot --help" ;;
-            explore) case "$word" in -*) ;; *) compopt -o default; return ;; esac; words="--keeps --level --budget --after --strict --explain --explain=never --help" ;;
+            explore) case "$word" in -*) ;; *) compopt -o default; return ;; esac; words="--keeps --level --budget --after --witness --serial --strict --explain --explain=never --help" ;;
             audit) case "$word" in -*) ;; *) compopt -o default; return ;; esac; words="--help" ;;
             show) case "$word" in -*) ;; *) compopt -o default; return ;; esac; words="--program --help" ;;
             compile) case "$word" in -*) ;; *) compopt -o default; return ;; esac; words="--explain --explain=never --help" ;;

@@ -30,6 +30,8 @@ complete -c stmrun -n '__fish_seen_subcommand_from explore' -l keeps -d 'The fil
 complete -c stmrun -n '__fish_seen_subcommand_from explore' -l level -d 'The level of every start, in the place of its own' -x -a 'SerializableSnapshot Serializable RepeatableReads ReadCommitted all'
 complete -c stmrun -n '__fish_seen_subcommand_from explore' -l budget -d 'How many events are taken at most, 1500000 if not said' -x -a ''
 complete -c stmrun -n '__fish_seen_subcommand_from explore' -l after -d 'Which runners make no step before another has ended' -x -a ''
+complete -c stmrun -n '__fish_seen_subcommand_from explore' -l witness -d 'Prints the outcomes of whole schedules, and of each the scenario with a schedule that comes to it'
+complete -c stmrun -n '__fish_seen_subcommand_from explore' -l serial -d 'Looks for an outcome of a whole schedule that no serial order of the runners comes to'
 complete -c stmrun -n '__fish_seen_subcommand_from explore' -l strict -d 'Status 1 also where a rule is kept, and a runner never committed or a key is asked for that nothing puts'
 complete -c stmrun -n '__fish_seen_subcommand_from explore' -l explain -d 'Explains faults, of an input or of a run'
 complete -c stmrun -n '__fish_seen_subcommand_from explore' -a '--explain=never'

@@ -54,12 +54,25 @@ then stmrun explore s.json prints
   [\"outcome\",[[\"b\",\"1\"]],[[\"committed\",[]],[\"committed\",[]]]]
   [\"outcomes\",3]
 
-and of stmrun explore --level Serializable s.json none of the lines has both keys.
+and of stmrun explore --level Serializable s.json none of the lines has both keys. With --witness a line behind each outcome is
+the scenario with the steps of a schedule that comes to it, as short as there is one: stmrun script takes it.
 
 A rule that is always kept says little where a program never committed, or where a misspelt key is asked for: standard error
 names these, and --strict makes the status 1 then, as a check that runs by itself wants it.
 
-Statuses: 0 always, or all outcomes were found, 1 broken, 2 bad input or usage, 3 out of memory or a failed device,
+With --serial no rule is needed. It is looked whether each outcome is what some serial order of the runners comes to, in which
+one after another makes all its steps, among the events of others. A run that gave up, or that the store ended, has changed
+nothing, and counts as one that never began.
+
+  [\"serial\",COUNT]        each of the COUNT outcomes is
+  [\"anomaly\",LENGTH,STATE,ENDS]
+                           this one is not, and the next line is the scenario with a schedule of LENGTH moves that comes to it
+  [\"open\",LENGTH]          N events were taken before that was decided
+
+With --level all there is a line for each level, the weakest first, without the scenario, and then [\"enough\",LEVEL]. With
+--witness and --serial a source's rules are not asked.
+
+Statuses: 0 always, serial, or all outcomes were found, 1 broken or an anomaly, 2 bad input or usage, 3 out of memory or a failed device,
 4 open.";
 
 /// The words of `explore`.
@@ -75,6 +88,10 @@ pub struct ExploreWords<'a> {
     pub budget: u64,
     /// Which runners wait for which others, as it is spelled.
     pub after: Option<&'a str>,
+    /// Whether a schedule is printed of each outcome.
+    pub witness: bool,
+    /// Whether it is looked whether serial orders come to each outcome.
+    pub serial: bool,
     /// Whether an answer that is worth little has status 1.
     pub strict: bool,
     /// Whether a fault is explained.
@@ -120,6 +137,16 @@ pub(crate) fn explore_command<'a>(alloc: Global) -> Result<Command<'a>, AllocErr
         ))?
         .arg(flag(
             alloc,
+            "witness",
+            "Prints the outcomes of whole schedules, and of each the scenario with a schedule that comes to it",
+        ))?
+        .arg(flag(
+            alloc,
+            "serial",
+            "Looks for an outcome of a whole schedule that no serial order of the runners comes to; no rule is needed",
+        ))?
+        .arg(flag(
+            alloc,
             "strict",
             "Status 1 also where a rule is kept, and a runner never committed or a key is asked for that nothing puts",
         ))?
@@ -137,6 +164,8 @@ pub(crate) fn explore_of<'a>(
     let levels = levels_at(word_of(found, "level"))?;
     let budget = budget_at(word_of(found, "budget"))?;
     let after = word_of(found, "after");
+    let witness = flag_of(found, "witness");
+    let serial = flag_of(found, "serial");
     let strict = flag_of(found, "strict");
     let explain = flag_of(found, "explain");
     let keeps = words_of(alloc, found, "keeps")?;
@@ -146,6 +175,8 @@ pub(crate) fn explore_of<'a>(
         levels,
         budget,
         after,
+        witness,
+        serial,
         strict,
         explain,
     })

@@ -29,7 +29,7 @@ pub(crate) struct LevelAnswers {
 }
 
 /// The levels, the weakest first.
-const LEVELS: [Level; 4] = [
+pub(crate) const LEVELS: [Level; 4] = [
     Level::ReadCommitted,
     Level::RepeatableReads,
     Level::Serializable,
@@ -37,7 +37,7 @@ const LEVELS: [Level; 4] = [
 ];
 
 /// Puts each start of a scenario at a level.
-fn put_starts(alloc: Global, scenario: &mut Scenario, level: Level)
+pub(crate) fn put_starts(alloc: Global, scenario: &mut Scenario, level: Level)
     ensures { scenario.new ≡ leveled level scenario.old }
 {
     let mut events = mem::replace(&mut scenario.events, Sequence::new(alloc)).into_vec();

@@ -6,12 +6,12 @@ use crate::rules::{is_json, named_in, rules_named, rules_of, unnamed_rule};
 use crate::ruling::{Question, run_rules};
 use crate::sources::{JsonFile, SourceText, say_unasked, source_at, text_at};
 use crate::terminals::{Told, close, shown_budget};
-use crate::waits::{read_waits, refuse_without_rule};
+use crate::waits::{read_waits, refuse_beside, refuse_without_rule};
 use std::slice;
 use stm_arguments::{ExploreWords, Levels};
 use stm_commands::Std;
 use stm_compiling::{Beside, Rule as SourceRule, Wait as SourceWait};
-use stm_exploring::{Level, Rule, Wait, explore_to, outcomes_to};
+use stm_exploring::{Level, Question as Sought, Rule, Wait, explore_to, outcomes_to};
 
 /// What is searched, and how.
 #[derive(Clone, Copy)]
@@ -24,6 +24,10 @@ pub(crate) struct Search<'a, 'w> {
     pub(crate) after: Option<&'w str>,
     /// The levels at which the starts are taken.
     pub(crate) levels: Levels,
+    /// Whether no rule is asked, and a schedule printed of each outcome.
+    pub(crate) witness: bool,
+    /// Whether no rule is asked, but whether serial orders come to each outcome.
+    pub(crate) serial: bool,
     /// At most so many events are taken, and the runners are named so.
     pub(crate) told: Told<'a>,
     /// Whether a fault is explained.
@@ -86,6 +90,20 @@ fn ask(
     }
 }
 
+/// What is asked of a scenario without a rule.
+fn question_of(search: &Search<'_, '_>) -> Sought {
+    if search.serial {
+        match search.levels {
+            Levels::All => Sought::SerialLevels,
+            Levels::Own | Levels::One(_) => Sought::Serial,
+        }
+    } else if search.witness {
+        Sought::Witnesses
+    } else {
+        Sought::Outcomes
+    }
+}
+
 /// Goes through the interleavings of a scenario, at a level, or at each start's own.
 fn run_outcomes(
     rt: &HostRuntime,
@@ -93,8 +111,9 @@ fn run_outcomes(
     scenario: &JsonFile<'_>,
     level: Option<Level>,
 ) -> u8 {
+    let question = question_of(search);
     if search.explain {
-        return explaining::run_outcomes(rt, scenario, level, search.told);
+        return explaining::run_outcomes(rt, question, scenario, level, search.told);
     }
     let mut scenario = Std::new(scenario.open(rt));
     let mut out = Std::new(rt.stdout());
@@ -102,6 +121,7 @@ fn run_outcomes(
     let mut budget = shown_budget(rt, search.told, false);
     let status = outcomes_to(
         rt.alloc(),
+        question,
         &mut scenario,
         level,
         &mut budget,
@@ -111,7 +131,7 @@ fn run_outcomes(
     close(&mut budget, status)
 }
 
-/// Goes through the interleavings of a scenario; all levels are refused.
+/// Goes through the interleavings of a scenario; all levels are refused, unless it is looked for serial orders.
 fn search_outcomes(
     rt: &HostRuntime,
     search: &Search<'_, '_>,
@@ -120,6 +140,7 @@ fn search_outcomes(
     match search.levels {
         Levels::Own => Ok(run_outcomes(rt, search, scenario, None)),
         Levels::One(level) => Ok(run_outcomes(rt, search, scenario, Some(level))),
+        Levels::All if search.serial => Ok(run_outcomes(rt, search, scenario, None)),
         Levels::All => Err(refuse_without_rule(rt, "--level all")),
     }
 }
@@ -200,6 +221,18 @@ fn search_named(
     }
 }
 
+/// Goes through the interleavings of a scenario for what they come to. It is said which rules of its source are not asked.
+fn search_without(
+    rt: &HostRuntime,
+    search: &Search<'_, '_>,
+    scenario: &JsonFile<'_>,
+    beside: &Beside,
+) -> Result<u8, u8> {
+    say_unasked(rt, beside.rules.as_slice(), &[])?;
+    refuse_waiting(rt, search, beside.waits.as_slice())?;
+    search_outcomes(rt, search, scenario)
+}
+
 /// Looks through the interleavings of a scenario for one that breaks a rule of its source, or where that has none for what they come to.
 fn search_own(
     rt: &HostRuntime,
@@ -207,9 +240,8 @@ fn search_own(
     scenario: &JsonFile<'_>,
     beside: Beside,
 ) -> Result<u8, u8> {
-    if beside.rules.as_slice().is_empty() {
-        refuse_waiting(rt, search, beside.waits.as_slice())?;
-        return search_outcomes(rt, search, scenario);
+    if search.witness || search.serial || beside.rules.as_slice().is_empty() {
+        return search_without(rt, search, scenario, &beside);
     }
     let waits = read_waits(rt, search.after, &beside)?;
     let Beside { rules, .. } = beside;
@@ -223,6 +255,23 @@ fn has_one_input(path: &str, words: &[&str]) -> bool {
     count == 0 || (count == 1 && path != "-")
 }
 
+/// Refuses what is not asked beside a rule, where words name one, and the one question beside the other.
+fn refuse_rules(rt: &HostRuntime, words: &ExploreWords<'_>) -> Result<(), u8> {
+    if words.serial && words.witness {
+        return Err(refuse_beside(rt, "--serial", "--witness"));
+    }
+    if words.keeps.as_slice().is_empty() {
+        return Ok(());
+    }
+    if words.serial {
+        return Err(refuse_beside(rt, "--serial", "--keeps <PROGRAM>"));
+    }
+    if words.witness {
+        return Err(refuse_beside(rt, "--witness", "--keeps <PROGRAM>"));
+    }
+    Ok(())
+}
+
 /// Looks through the interleavings of a path's scenario for one that breaks a rule, one that words name, or where there are none one of its source, or
 /// where that has none for what they come to. Only one of the scenario and the rules can be standard input.
 pub(crate) fn run_search(
@@ -234,6 +283,7 @@ pub(crate) fn run_search(
         let _ = rt.eprintln("stmrun: standard input can be only one of SCENARIO and PROGRAM");
         return Err(2);
     }
+    refuse_rules(rt, words)?;
     let (scenario, beside) = source_at(rt, words.scenario, explain)?;
     let text = match scenario {
         JsonFile::Compiled(_, _) => text_at(rt, words.scenario, &beside),
@@ -248,6 +298,8 @@ pub(crate) fn run_search(
         keeps: words.keeps.as_slice(),
         after: words.after,
         levels: words.levels,
+        witness: words.witness,
+        serial: words.serial,
         told: Told {
             events: words.budget,
             runners,

@@ -80,7 +80,7 @@ fn argument_of(alloc: Global, kind: Option<Kind>, word: &str) -> Result<String, 
 {
     match kind {
         Some(Kind::Text) => quoted_word(alloc, word),
-        Some(Kind::Number | Kind::Either) | None => argument(alloc, word),
+        Some(Kind::Number) | Some(Kind::Either) | None => argument(alloc, word),
     }
 }
 

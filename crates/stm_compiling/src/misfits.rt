@@ -88,22 +88,13 @@ fn said_of_name(
     source: &[u8],
     spot: Spot<'_>,
 ) -> Result<Option<String>, AllocError> {
-    let (
-        Some(start),
-        [
-            Token {
-                kind: TokenKind::Name(name),
-                ..
-            },
-            behind @ ..,
-        ],
-    ) = (spot.before.last(), spot.from)
-    else {
+    let (Some(start), Some(TokenKind::Name(name))) = (spot.before.last(), spot.kind()) else {
         return Ok(None);
     };
     if !start.kind.is_named("start") {
         return Ok(None);
     }
+    let behind = spot.from.get(1..).unwrap_or(&[]);
     let kinds = kinds_before(alloc, source, start.at, name.as_str())?;
     match first_misfit(behind, kinds.as_slice()) {
         Some(misfit) => misfit_words(alloc, name.as_str(), misfit),

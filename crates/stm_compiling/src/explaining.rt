@@ -5,8 +5,10 @@ ghost use Rattle.stm_compiling.specs.Faults.{IsExplanation, place_of};
 
 use crate::calls::{listed_behind, parameters_of, takes_list};
 use crate::fault::position_in;
+use crate::misfits::said_of_start;
 use crate::naming::{is_called, said_of_function, said_of_place};
 use crate::spots::{Event, Place, Spot, spot_at};
+use crate::titles::said_of_names;
 use crate::wanted::{Wanted, allowed, is_behind_condition_word, nearest, numbers_at, wanted_at};
 use serde_json::Value as Json;
 use std::alloc::{AllocError, Global};
@@ -267,6 +269,9 @@ fn name_words(
     if !said.is_empty() {
         return format!(in alloc; "{found} is no name of anything here: {said}");
     }
+    if let Some(said) = said_of_names(alloc, found, name_in(spot), spot)? {
+        return Ok(said);
+    }
     let said = said_of_place(spot);
     format!(in alloc; "{found} {said}")
 }
@@ -313,6 +318,21 @@ fn token_words(alloc: Global, spot: Spot<'_>, character: &str) -> Result<String,
     }
 }
 
+/// What is said of a value of another kind than is wanted.
+fn kind_words(
+    alloc: Global,
+    source: &[u8],
+    found: &str,
+    spot: Spot<'_>,
+) -> Result<String, AllocError> {
+    match said_of_start(alloc, source, spot)? {
+        Some(said) => Ok(said),
+        None => format!(in alloc;
+            "{found} is of the other kind: a text where a number is wanted, or a number where a text is"
+        ),
+    }
+}
+
 /// The first character of a text.
 fn first_character(text: &str) -> &str {
     match text.chars().next() {
@@ -355,9 +375,7 @@ fn words_at(
             "{found} is an empty key, or one that stands in the list already"
         ),
         SourceCause::Arguments => argument_words(alloc, found, spot),
-        SourceCause::Kind => format!(in alloc;
-            "{found} is of the other kind: a text where a number is wanted, or a number where a text is"
-        ),
+        SourceCause::Kind => kind_words(alloc, source, found, spot),
         SourceCause::TooMany => format!(in alloc;
             "{found} is one too many: a program has 16 variables, a list 128 keys, a scenario 100000 events"
         ),

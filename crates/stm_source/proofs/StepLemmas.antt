@@ -302,15 +302,15 @@ turns_over n i story tokens total over so_far =
 
 -- ---- items
 
-pub items_end : (all : List Token) (n i : ℕ) (d : Definitions) (story : Story) (tokens : List Token) (total : Outcome Story) → i < n → at_end tokens ≡ true
-    → items_from all (n - i) d story tokens ≡ total → total ≡ Ok story
+pub items_end : (all : List Token) (n i : ℕ) (d : Definitions) (story : Story) (tokens : List Token) (total : Outcome (Definitions × Story)) → i < n → at_end tokens ≡ true
+    → items_from all (n - i) d story tokens ≡ total → total ≡ Ok (d, story)
 unfolding items_from
 items_end all n i d story tokens total less ended so_far =
     let k : n - i ≡ suc (n - (i + 1)) = omega arith in
-    let one : items_from all (n - i) d story tokens ≡ Ok story = rw (k, ended) refl in
+    let one : items_from all (n - i) d story tokens ≡ Ok (d, story) = rw (k, ended) refl in
     sym so_far ∙ one
 
-pub items_fault : (e : SourceError) (all : List Token) (n i : ℕ) (d : Definitions) (story : Story) (tokens : List Token) (total : Outcome Story) → i < n
+pub items_fault : (e : SourceError) (all : List Token) (n i : ℕ) (d : Definitions) (story : Story) (tokens : List Token) (total : Outcome (Definitions × Story)) → i < n
     → at_end tokens ≡ false → ReturnsFault e (item_at all d story tokens) → items_from all (n - i) d story tokens ≡ total → ReturnsFault e total
 unfolding items_from
 items_fault e all n i d story tokens total less goes is so_far =
@@ -318,7 +318,7 @@ items_fault e all n i d story tokens total less goes is so_far =
     fault_of e (item_at all d story tokens) total
     (λ f bad. let one : items_from all (n - i) d story tokens ≡ Err f = rw (k, goes, bad) refl in sym so_far ∙ one) is
 
-pub items_more : (all : List Token) (n i : ℕ) (d f : Definitions) (story after : Story) (tokens behind : List Token) (total : Outcome Story) → i < n
+pub items_more : (all : List Token) (n i : ℕ) (d f : Definitions) (story after : Story) (tokens behind : List Token) (total : Outcome (Definitions × Story)) → i < n
     → at_end tokens ≡ false → item_at all d story tokens ≡ Ok (f, after, behind) → items_from all (n - i) d story tokens ≡ total
     → items_from all (n - (i + 1)) f after behind ≡ total
 unfolding items_from
@@ -327,7 +327,7 @@ items_more all n i d f story after tokens behind total less goes is so_far =
     let one : items_from all (n - i) d story tokens ≡ items_from all (n - (i + 1)) f after behind = rw (k, goes, is) refl in
     sym one ∙ so_far
 
-pub items_over : (e : SourceError) (all : List Token) (n i : ℕ) (d : Definitions) (story : Story) (tokens : List Token) (total : Outcome Story) → n ≤ i
+pub items_over : (e : SourceError) (all : List Token) (n i : ℕ) (d : Definitions) (story : Story) (tokens : List Token) (total : Outcome (Definitions × Story)) → n ≤ i
     → e ≡ Bad (unexpected tokens) → items_from all (n - i) d story tokens ≡ total → ReturnsFault e total
 unfolding items_from
 items_over e all n i d story tokens total over is so_far =

@@ -10,6 +10,7 @@ pub mod Runners
 pub mod Sources
 pub mod Statements
 pub mod Txns
+pub mod Wanted
 pub mod Words
 pub use Rattle.stm_terms.specs.CauseNames
 pub use Rattle.stm_terms.specs.Outcome

@@ -20,9 +20,11 @@ mod statements;
 mod steps;
 mod story;
 mod txns;
+mod wanted;
 mod words;
 
 pub use sources::{Source, read_source, read_whole_source};
-pub use stm_terms::{BadSource, MOST_BRACKETS, Names, SourceCause, SourceError};
+pub use stm_terms::{BadSource, Kind, MOST_BRACKETS, Names, SourceCause, SourceError};
 pub use stm_texts::Scenario;
 pub use story::{Rule, Wait};
+pub use wanted::kinds_wanted;

@@ -9,7 +9,7 @@ use Rattle.stm_tokens.specs.declared.token.Symbol.TheVariants as symbol
 use Rattle.stm_tokens.specs.declared.token.Word.{Word}
 use Rattle.stm_tokens.specs.declared.token.Word.TheVariants as word
 use Rattle.stm_tokens.specs.Same.{same_symbol, same_word}
-use Rattle.stm_program.specs.declared.limits.TheConstants.{MAX_LEASE, MAX_NODES}
+use Rattle.stm_program.specs.declared.limits.TheConstants.{MAX_LEASE}
 use Rattle.stm_program.specs.declared.operator.Operator.TheVariants.{Add, Sub}
 use Rattle.stm_program.specs.Syntax.{Expression, Number, Variable, Statement, Set, Put, Del, If, For, Emit, Abort, Block, End, Then}
 use Rattle.stm_terms.specs.declared.faults.SourceCause.TheVariants as cause
@@ -210,7 +210,7 @@ listed (Then s b) = s ∷ listed b
 abbrev pub copy_at : Blocks → Scope → List ℕ → Item → List Token → Read (List Statement)
 copy_at block scope name item tokens = block (with_item scope name item) tokens >>= λ b. Ok (listed b.0, b.1)
 
--- behind these, those for each item, read of the same tokens, while there may be more nodes
+-- behind these, those for each item, read of the same tokens, while there may be more nodes: behind more than a program has none is read
 abbrev pub copies_from : (Item → List Token → Read (List Statement)) → List Token → ℕ → List Statement → List Item → List Token → Read (List Statement)
 copies_from copy tokens room done [] rest = Ok (done, rest)
 copies_from copy tokens room done (i ∷ is) rest =
@@ -220,7 +220,7 @@ copies_from copy tokens room done (i ∷ is) rest =
 -- where there is no item, the block is read and left out
 abbrev pub copies_at : Blocks → Scope → List ℕ → List Item → List Token → Read (List Statement)
 copies_at block scope name [] tokens = copy_at block scope name unknown_item tokens >>= λ c. Ok ([], c.1)
-copies_at block scope name (i ∷ is) tokens = copies_from (copy_at block scope name) tokens MAX_NODES [] (i ∷ is) tokens
+copies_at block scope name (i ∷ is) tokens = copies_from (copy_at block scope name) tokens MOST_STATEMENTS [] (i ∷ is) tokens
 
 -- behind its `in`
 abbrev pub item_loop : Blocks → ℕ → Scope → ℕ → List ℕ → List Token → Read (List Statement)

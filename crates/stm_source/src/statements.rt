@@ -2,7 +2,8 @@
 ghost use Rattle.std.specs.Prelude.{◌≡◌, ◌≤◌, [], option_map, Some, IfOk, OnOk};
 ghost use Rattle.stm_program.specs.BlockView.{block_of};
 ghost use Rattle.stm_program.specs.Syntax.{If, End};
-ghost use Rattle.stm_program.specs.declared.limits.TheConstants.{MAX_NODES, MAX_VARIABLE};
+ghost use Rattle.stm_program.specs.declared.limits.TheConstants.{MAX_VARIABLE};
+ghost use Rattle.stm_source.specs.declared.statements.TheConstants.{MOST_STATEMENTS};
 ghost use Rattle.stm_tokens.specs.declared.token.Word.TheVariants.{Else};
 ghost use Rattle.stm_terms.specs.Cursor as cursor;
 ghost use Rattle.stm_terms.specs.Outcome.{Returns};
@@ -452,10 +453,10 @@ fn copies<'a>(
     tokens: &'a [Token],
 ) -> Result<(Sequence<Stmt>, &'a [Token]), SourceError>
     ensures { Returns (λ x. (x.0, x.1.now)) result
-        (spec.copies_from (spec.copy_at (spec.block_at levels) scope.now name.now) tokens.now MAX_NODES [] items.now tokens.now) }
+        (spec.copies_from (spec.copy_at (spec.block_at levels) scope.now name.now) tokens.now MOST_STATEMENTS [] items.now tokens.now) }
 {
     let mut all = Vec::new(alloc);
-    let mut room = MAX_NODES;
+    let mut room = MOST_STATEMENTS;
     let mut rest = tokens;
     for item in items {
         if room == 0 {

@@ -1,5 +1,5 @@
 use Rattle.std.proofs.Common.{◌≡◌, ◌+◌, ◌-◌, ◌*◌, [], length, drop}
-use Rattle.stm_program.specs.declared.limits.TheConstants.{MAX_NODES}
+use Rattle.stm_source.specs.declared.statements.TheConstants.{MOST_STATEMENTS}
 use Rattle.stm_source.specs.Statements.{copies_from, copy_at, statements_from, statement_by, statements_at, block_at}
 use Rattle.stm_source.proofs.BlockLemmas.{with_front}
 use Rattle.stm_source.proofs.statements.+read_statements.Given as goal
@@ -68,4 +68,4 @@ invariant-statements-loop-done l =
 abbrev pub invariant-copies-loop-item : goal.invariant-copies-loop-item
 invariant-copies-loop-item l =
     copies_from (copy_at (block_at l.fn.levels) l.fn.scope l.fn.name) l.fn.tokens l.room l.all.items (drop l.item-index l.fn.items) l.rest
-    ≡ copies_from (copy_at (block_at l.fn.levels) l.fn.scope l.fn.name) l.fn.tokens MAX_NODES [] l.fn.items l.fn.tokens
+    ≡ copies_from (copy_at (block_at l.fn.levels) l.fn.scope l.fn.name) l.fn.tokens MOST_STATEMENTS [] l.fn.items l.fn.tokens

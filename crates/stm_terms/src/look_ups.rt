@@ -357,16 +357,22 @@ fn set_behind(alloc: Global, variable: Variable, value: Fronted) -> Result<Block
     block(alloc, statements.into_vec())
 }
 
-/// The look-ups of the value behind the `else` of one, which follow it, and the others.
-fn split_own<'a>(other: &Option<Other>, rest: &'a [LookUp]) -> (&'a [LookUp], &'a [LookUp])
-    ensures own { result.0.now ≡ take (spec.own_in other.now) rest.now }
-    ensures others { result.1.now ≡ drop (spec.own_in other.now) rest.now }
+/// How many of the look-ups behind one are those of the value behind its `else`.
+fn own_of(other: &Option<Other>) -> usize
+    ensures { result ≡ spec.own_in other.now }
 {
-    let own = match other {
+    match other {
         Some(other) => other.own,
         None => 0,
-    };
-    if own < rest.len() {
+    }
+}
+
+/// So many first ones of look-ups, and the others.
+fn split_own(own: usize, rest: &[LookUp]) -> (&[LookUp], &[LookUp])
+    ensures own { result.0.now ≡ take own rest.now }
+    ensures others { result.1.now ≡ drop own rest.now }
+{
+    if own <= rest.len() {
         rest.split_at(own)
     } else {
         rest.split_at(rest.len())
@@ -427,7 +433,7 @@ fn plan_first(
     if variable > MAX_VARIABLE {
         return Err(fault(first.at, SourceCause::TooMany));
     }
-    let (own, others) = split_own(&first.other, rest);
+    let (own, others) = split_own(own_of(&first.other), rest);
     let number = Variable::new(variable as u8);
     let other = else_block(alloc, most, number, &first.other, own)?;
     planned.push(Lift {

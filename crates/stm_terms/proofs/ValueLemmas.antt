@@ -5,11 +5,13 @@ use Rattle.stm_terms.specs.declared.scope.Scope.{Scope}
 use Rattle.stm_terms.specs.declared.kinds.Kind.{Kind}
 use Rattle.stm_terms.specs.declared.kinds.Valued.{Valued}
 use Rattle.stm_terms.specs.declared.values.Join.{Join}
+use Rattle.stm_terms.specs.declared.faults.SourceCause.TheVariants.{TooDeep}
+use Rattle.stm_terms.specs.declared.limits.TheConstants.{MOST_BRACKETS}
 use Rattle.stm_terms.specs.Cursor.{unexpected}
 use Rattle.stm_terms.specs.declared.faults.SourceError.{SourceError}
 use Rattle.stm_terms.specs.declared.faults.SourceError.TheVariants.{OutOfMemory, Bad}
 use Rattle.stm_terms.specs.Outcome.{Read, ReturnsFault}
-use Rattle.stm_terms.specs.Values.{Right, next_join, chain, behind_by, tier_behind, tier_by, operand_by, bracketed_by, bracketed_at}
+use Rattle.stm_terms.specs.Values.{Right, next_join, chain, behind_by, tier_behind, tier_by, operand_by, operand_within, bracketed_by, bracketed_at, Bracketed}
 
 pub behind_none : (operand : List Token → Read Valued) (scope : Scope) (tier at : ℕ) (first : Valued) (tokens : List Token) → tier ≡ 0
     → behind_by operand scope tier at first tokens ≡ Ok (first, tokens)
@@ -70,8 +72,22 @@ bracketed_none levels scope wanted tokens e none is = rw (is, none) refl
 
 pub bracketed_some : (levels : ℕ) (scope : Scope) (wanted : Kind) (tokens : List Token) → 0 < levels
     → bracketed_at levels scope wanted tokens
-    ≡ bracketed_by scope (tier_by (operand_by (levels - 1) (bracketed_at (levels - 1) scope) scope) scope 3) wanted tokens
+    ≡ bracketed_by scope (tier_by (operand_within (levels - 1) (bracketed_at (levels - 1) scope) scope MOST_BRACKETS) scope 3) wanted tokens
 unfolding bracketed_at
 bracketed_some levels scope wanted tokens some =
     let e : levels ≡ suc (levels - 1) = omega arith in
     ap (λ (n : ℕ). bracketed_at n scope wanted tokens) e
+
+-- ---- one `else` less
+
+pub within_none : (levels : ℕ) (bracketed : Bracketed) (scope : Scope) (more : ℕ) (tokens : List Token) (e : SourceError) → more ≡ 0
+    → e ≡ Bad (record { at = scope.program; cause = TooDeep }) → ReturnsFault e (operand_within levels bracketed scope more tokens)
+unfolding operand_within
+within_none levels bracketed scope more tokens e none is = rw (is, none) refl
+
+pub within_some : (levels : ℕ) (bracketed : Bracketed) (scope : Scope) (more : ℕ) (tokens : List Token) → 0 < more
+    → operand_within levels bracketed scope more tokens ≡ operand_by levels bracketed (operand_within levels bracketed scope (more - 1)) scope tokens
+unfolding operand_within
+within_some levels bracketed scope more tokens some =
+    let e : more ≡ suc (more - 1) = omega arith in
+    ap (λ (n : ℕ). operand_within levels bracketed scope n tokens) e

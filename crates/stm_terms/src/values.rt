@@ -15,8 +15,8 @@ use crate::cursor::{after_symbol, after_word, expect_symbol, next_number, place,
 use crate::endings::{ending_at, ending_of};
 use crate::faults::{SourceCause, SourceError, fault};
 use crate::kinds::{Kind, Valued};
-use crate::limits::MOST_JOINS;
-use crate::look_ups::{LookUp, Other, both, one_more};
+use crate::limits::{MOST_BRACKETS, MOST_JOINS};
+use crate::look_ups::{LookUp, both, with_else, with_look_up};
 use crate::scope::Scope;
 use std::alloc::{AllocError, Global};
 use std::sync::Arc;
@@ -233,92 +233,6 @@ fn call_kind(call: Call) -> Kind
     }
 }
 
-/// The value behind an `else`: a text, or a name.
-#[tactic(auto, unfolding(crate::specs::Values::other_value))]
-fn other_value<'a>(
-    alloc: Global,
-    scope: &Scope,
-    tokens: &'a [Token],
-) -> Result<(Valued, &'a [Token]), SourceError>
-    ensures { Returns (λ x. (x.0, x.1.now)) result (spec.other_value scope.now tokens.now) }
-{
-    let Some((first, rest)) = tokens.split_first() else {
-        return Err(unexpected(tokens));
-    };
-    match &first.kind {
-        TokenKind::Text(text) => literal(alloc, scope, first.at, text.as_str(), rest),
-        TokenKind::Number(number) => positive(alloc, scope, first.at, *number, rest),
-        TokenKind::Name(name) => named(alloc, scope, first.at, name.as_str(), rest),
-        TokenKind::Word(_) => Err(unexpected(tokens)),
-        TokenKind::Symbol(_) => Err(unexpected(tokens)),
-        TokenKind::Wrong => Err(unexpected(tokens)),
-        TokenKind::End => Err(unexpected(tokens)),
-    }
-}
-
-/// What stands for a look-up, behind the `else` that begins these tokens.
-fn other_behind<'a>(
-    alloc: Global,
-    scope: &Scope,
-    tokens: &[Token],
-    behind: &'a [Token],
-) -> Result<(Option<Other>, &'a [Token]), SourceError>
-    ensures { Returns (λ x. (x.0, x.1.now)) result (spec.other_behind scope.now tokens.now behind.now) }
-{
-    if scope.numbered {
-        return Err(unexpected(tokens));
-    }
-    let (value, rest) = other_value(alloc, scope, behind)?;
-    let Valued {
-        expression: value,
-        kind,
-        ..
-    } = value;
-    scope.want(Kind::Text, kind, place(behind))?;
-    let at = place(tokens);
-    Ok((Some(Other { at, value }), rest))
-}
-
-/// What stands for a look-up, if an `else` follows it.
-fn other_of<'a>(
-    alloc: Global,
-    scope: &Scope,
-    tokens: &'a [Token],
-) -> Result<(Option<Other>, &'a [Token]), SourceError>
-    ensures { Returns (λ x. (x.0, x.1.now)) result (spec.other_by scope.now tokens.now (cursor.after_word Else tokens.now)) }
-{
-    match after_word(tokens, Word::Else) {
-        Some(behind) => other_behind(alloc, scope, tokens, behind),
-        None => Ok((None, tokens)),
-    }
-}
-
-/// The look-ups of what is computed, which begins at a byte, of a value with these.
-fn call_look_ups<'a>(
-    alloc: Global,
-    scope: &Scope,
-    call: Call,
-    at: usize,
-    look_ups: Sequence<LookUp>,
-    tokens: &'a [Token],
-) -> Result<(Sequence<LookUp>, &'a [Token]), SourceError>
-    ensures { Returns (λ x. (x.0, x.1.now)) result (spec.call_look_ups scope.now call at look_ups tokens.now) }
-{
-    let mut look_ups = look_ups;
-    match call {
-        Call::Get => {
-            let (other, rest) = other_of(alloc, scope, tokens)?;
-            one_more(&mut look_ups, at, other)?;
-            Ok((look_ups, rest))
-        }
-        Call::Rev => {
-            one_more(&mut look_ups, at, None)?;
-            Ok((look_ups, tokens))
-        }
-        Call::NumOf | Call::TextOf => Ok((look_ups, tokens)),
-    }
-}
-
 fn call_node(call: Call, part: Arc<Expr>) -> Expr
     ensures { result ≡ spec.called call part.value }
 {
@@ -445,16 +359,37 @@ fn next_join(tier: usize, tokens: &[Token]) -> Option<(Join, &[Token])>
     }
 }
 
-/// An operand.
+/// An operand, in which so many may be behind an `else` within one another: one more is too deep, whatever it is.
+#[cycle(read_values)]
+fn operand_within<'a>(
+    alloc: Global,
+    scope: &Scope,
+    levels: usize,
+    more: usize,
+    tokens: &'a [Token],
+) -> Result<(Valued, &'a [Token]), SourceError>
+    requires { more ≤ 127 }
+    ensures { Returns (λ x. (x.0, x.1.now)) result (spec.operand_within levels (spec.bracketed_at levels scope.now) scope.now more tokens.now) }
+{
+    if more == 0 {
+        return Err(fault(scope.program, SourceCause::TooDeep));
+    }
+    operand(alloc, scope, levels, more - 1, tokens)
+}
+
+/// An operand, behind an `else` of which so many may be.
 #[cycle(read_values)]
 #[tactic(auto, unfolding(crate::specs::Values::operand_by))]
 fn operand<'a>(
     alloc: Global,
     scope: &Scope,
     levels: usize,
+    more: usize,
     tokens: &'a [Token],
 ) -> Result<(Valued, &'a [Token]), SourceError>
-    ensures { Returns (λ x. (x.0, x.1.now)) result (spec.operand_at levels scope.now tokens.now) }
+    requires { more ≤ 127 }
+    ensures { Returns (λ x. (x.0, x.1.now)) result
+        (spec.operand_by levels (spec.bracketed_at levels scope.now) (spec.operand_within levels (spec.bracketed_at levels scope.now) scope.now more) scope.now tokens.now) }
 {
     let Some((first, rest)) = tokens.split_first() else {
         return Err(unexpected(tokens));
@@ -465,7 +400,7 @@ fn operand<'a>(
         TokenKind::Name(name) => {
             named_operand(alloc, scope, levels, first.at, name.as_str(), rest)
         }
-        TokenKind::Word(word) => computed(alloc, scope, levels, *word, tokens, rest),
+        TokenKind::Word(word) => computed(alloc, scope, levels, more, *word, tokens, rest),
         TokenKind::Symbol(symbol) => signed(alloc, scope, levels, *symbol, tokens, rest),
         TokenKind::Wrong => Err(unexpected(tokens)),
         TokenKind::End => Err(unexpected(tokens)),
@@ -478,11 +413,14 @@ fn computed<'a>(
     alloc: Global,
     scope: &Scope,
     levels: usize,
+    more: usize,
     word: Word,
     tokens: &'a [Token],
     rest: &'a [Token],
 ) -> Result<(Valued, &'a [Token]), SourceError>
-    ensures { Returns (λ x. (x.0, x.1.now)) result (spec.call_by (spec.bracketed_at levels scope.now) scope.now tokens.now rest.now (spec.call_of word)) }
+    requires { more ≤ 127 }
+    ensures { Returns (λ x. (x.0, x.1.now)) result
+        (spec.call_by (spec.bracketed_at levels scope.now) (spec.operand_within levels (spec.bracketed_at levels scope.now) scope.now more) scope.now tokens.now rest.now (spec.call_of word)) }
 {
     let Some(call) = call_of(word) else {
         return Err(unexpected(tokens));
@@ -493,12 +431,88 @@ fn computed<'a>(
         look_ups,
         ..
     } = part;
-    let (look_ups, rest) = call_look_ups(alloc, scope, call, place(tokens), look_ups, rest)?;
+    let at = place(tokens);
+    let (look_ups, rest) = call_look_ups(alloc, scope, levels, more, call, at, look_ups, rest)?;
     let part = Arc::new(alloc, part)?;
     Ok((
         scope.valued_with(call_node(call, part), call_kind(call), look_ups),
         rest,
     ))
+}
+
+/// The value behind the `else` that begins these tokens: the look-up that it stands for begins at a byte.
+#[cycle(read_values)]
+fn else_behind<'a>(
+    alloc: Global,
+    scope: &Scope,
+    levels: usize,
+    more: usize,
+    at: usize,
+    look_ups: Sequence<LookUp>,
+    tokens: &[Token],
+    behind: &'a [Token],
+) -> Result<(Sequence<LookUp>, &'a [Token]), SourceError>
+    requires { more ≤ 127 }
+    ensures { Returns (λ x. (x.0, x.1.now)) result
+        (spec.else_behind (spec.operand_within levels (spec.bracketed_at levels scope.now) scope.now more) scope.now at look_ups tokens.now behind.now) }
+{
+    if scope.numbered {
+        return Err(unexpected(tokens));
+    }
+    let (value, rest) = operand_within(alloc, scope, levels, more, behind)?;
+    scope.want(Kind::Text, value.kind, place(behind))?;
+    let look_ups = with_else(look_ups, at, place(tokens), value)?;
+    Ok((look_ups, rest))
+}
+
+/// The look-ups of a `get`, which begins at a byte, of a key with these.
+#[cycle(read_values)]
+fn get_look_ups<'a>(
+    alloc: Global,
+    scope: &Scope,
+    levels: usize,
+    more: usize,
+    at: usize,
+    look_ups: Sequence<LookUp>,
+    tokens: &'a [Token],
+) -> Result<(Sequence<LookUp>, &'a [Token]), SourceError>
+    requires { more ≤ 127 }
+    ensures { Returns (λ x. (x.0, x.1.now)) result
+        (spec.else_by (spec.operand_within levels (spec.bracketed_at levels scope.now) scope.now more) scope.now at look_ups tokens.now (cursor.after_word Else tokens.now)) }
+{
+    match after_word(tokens, Word::Else) {
+        Some(behind) => else_behind(alloc, scope, levels, more, at, look_ups, tokens, behind),
+        None => {
+            let look_ups = with_look_up(look_ups, at)?;
+            Ok((look_ups, tokens))
+        }
+    }
+}
+
+/// The look-ups of what is computed, which begins at a byte, of a value with these.
+#[cycle(read_values)]
+fn call_look_ups<'a>(
+    alloc: Global,
+    scope: &Scope,
+    levels: usize,
+    more: usize,
+    call: Call,
+    at: usize,
+    look_ups: Sequence<LookUp>,
+    tokens: &'a [Token],
+) -> Result<(Sequence<LookUp>, &'a [Token]), SourceError>
+    requires { more ≤ 127 }
+    ensures { Returns (λ x. (x.0, x.1.now)) result
+        (spec.call_look_ups (spec.operand_within levels (spec.bracketed_at levels scope.now) scope.now more) scope.now call at look_ups tokens.now) }
+{
+    match call {
+        Call::Get => get_look_ups(alloc, scope, levels, more, at, look_ups, tokens),
+        Call::Rev => {
+            let look_ups = with_look_up(look_ups, at)?;
+            Ok((look_ups, tokens))
+        }
+        Call::NumOf | Call::TextOf => Ok((look_ups, tokens)),
+    }
 }
 
 /// What begins with a symbol.
@@ -588,7 +602,7 @@ fn operands<'a>(
     requires { tier ≤ 3 }
     ensures { Returns (λ x. (x.0, x.1.now)) result (spec.tier_at levels scope.now tier tokens.now) }
 {
-    let (first, rest) = operand(alloc, scope, levels, tokens)?;
+    let (first, rest) = operand_within(alloc, scope, levels, MOST_BRACKETS, tokens)?;
     joined_behind(alloc, scope, levels, tier, place(tokens), first, rest)
 }
 
@@ -708,7 +722,7 @@ pub(crate) fn first_operand<'a>(
 ) -> Result<(Valued, &'a [Token]), SourceError>
     ensures { Returns (λ x. (x.0, x.1.now)) result (spec.operand_at levels scope.now tokens.now) }
 {
-    operand(alloc, scope, levels, tokens)
+    operand_within(alloc, scope, levels, MOST_BRACKETS, tokens)
 }
 
 /// The rest of a value behind its first operand, which begins at a byte.

@@ -1,7 +1,7 @@
 use Rattle.std.proofs.Common.{◌≡◌, ◌+◌, ◌<◌, length, None, sym, arith, rules}
 use Rattle.std.proofs.lemmas.Result.{err_from_is_err_and}
-use Rattle.stm_terms.proofs.ValueLemmas.{behind_none, behind_some, chain_goes, chain_ends, chain_out, chain_fails, bracketed_none, bracketed_some}
-use Rattle.stm_terms.specs.Values.{operand_at, tier_at, joined_right, chain, next_join}
+use Rattle.stm_terms.proofs.ValueLemmas.{behind_none, behind_some, chain_goes, chain_ends, chain_out, chain_fails, bracketed_none, bracketed_some, within_none, within_some}
+use Rattle.stm_terms.specs.Values.{bracketed_at, operand_at, tier_at, joined_right, chain, next_join}
 use Rattle.stm_terms.proofs.values.+read_values.Goals as goal
 
 pub joined_behind-returns-then-tier-eq0 : goal.joined_behind-returns-then-tier-eq0
@@ -13,6 +13,14 @@ joined_behind-returns t c =
     let some : 0 < c.args.tier = omega arith in
     rw (behind_some (operand_at c.args.levels c.args.scope.now) c.args.scope.now c.args.tier c.args.at c.args.first c.args.tokens.now some)
     c.next_tier.ensures
+
+pub operand_within-returns-then-more-eq0 : goal.operand_within-returns-then-more-eq0
+operand_within-returns-then-more-eq0 t c = within_none _ _ _ _ _ _ c.if-more-eq0.true c.fault.ensures
+
+pub operand_within-returns : goal.operand_within-returns
+operand_within-returns t c =
+    let some : 0 < c.args.more = omega arith in
+    rw (within_some c.args.levels (bracketed_at c.args.levels c.args.scope.now) c.args.scope.now c.args.more c.args.tokens.now some) c.operand.ensures
 
 pub bracketed-returns-then-levels-eq0 : goal.bracketed-returns-then-levels-eq0
 bracketed-returns-then-levels-eq0 t c = bracketed_none _ _ _ _ _ c.if-levels-eq0.true c.unexpected.ensures

@@ -1,5 +1,5 @@
 -- Copying in what is defined outside of programs: a value whose parameters are its variables, in their order.
-use Rattle.std.specs.Prelude.{ℕ, ◌+◌, List, [], ◌∷◌, ◌++◌, Bool, true, false, ◌||◌, ◌&&◌, not, Option, Some, None, is_some, Ok, Err, Result, slice_get, unwrap_or, if◌then◌else◌}
+use Rattle.std.specs.Prelude.{ℕ, ◌+◌, List, [], ◌∷◌, ◌++◌, Bool, true, false, ◌||◌, ◌&&◌, not, Option, Some, None, is_some, Ok, Err, Result, slice_get, unwrap_or, nat_lt, if◌then◌else◌}
 use Rattle.stm_program.specs.declared.limits.TheConstants.{MAX_NODES}
 use Rattle.stm_program.specs.Syntax.{Expression, Text, Number, Variable, Get, Rev, Arithmetic, Cat, TextOf, NumOf}
 use Rattle.stm_terms.specs.declared.faults.SourceCause.{SourceCause}
@@ -12,7 +12,7 @@ use Rattle.stm_terms.specs.declared.look_ups.Other.{Other}
 use Rattle.stm_terms.specs.declared.scope.Scope.{Scope}
 use Rattle.stm_terms.specs.declared.uses.Copying.{Copying}
 use Rattle.stm_terms.specs.Kinds.{agrees, valued}
-use Rattle.stm_terms.specs.LookUps.{other_as, look_up_as, has_else}
+use Rattle.stm_terms.specs.LookUps.{other_as, look_up_as, first_else, has_else}
 use Rattle.stm_terms.specs.Outcome.{Outcome, bad, ◌>>=◌}
 use Rattle.stm_terms.specs.Room.{expression_room}
 
@@ -95,6 +95,17 @@ others_hold_else arguments (l ∷ ls) = if other_holds_else arguments l.other th
 abbrev pub may_stand : Scope → ℕ → Valued → List Valued → Outcome (Unit {0})
 may_stand scope at d arguments =
     if scope.numbered && has_else d.look_ups || others_hold_else arguments d.look_ups then bad at cause.Syntax else Ok tt
+
+-- ---- nor an `else` behind another one
+
+abbrev pub has_own : Option Other → Bool
+has_own None = false
+has_own (Some o) = nat_lt 0 o.own
+
+-- where the first one stands
+abbrev pub else_within : List LookUp → Option ℕ
+else_within [] = None
+else_within (l ∷ ls) = if has_own l.other then first_else ls else else_within ls
 
 -- ---- its kind, with these arguments: none, where one is of another kind than is wanted there
 

@@ -75,7 +75,7 @@ pub struct FrontedPair {
 }
 
 /// Where the first `else` of look-ups stands.
-fn first_else(look_ups: &[LookUp]) -> Option<usize>
+pub(crate) fn first_else(look_ups: &[LookUp]) -> Option<usize>
     ensures { result ≡ spec.first_else look_ups.now }
 {
     for look_up in look_ups {

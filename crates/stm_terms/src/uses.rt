@@ -1,12 +1,11 @@
 //! Copying in what is defined outside of programs.
 ghost use Rattle.std.specs.Prelude.{◌≡◌, ◌<◌, length, slice_get, option_copied, IfOk, IfSome, OnOk};
-ghost use Rattle.stm_terms.specs.LookUps.{has_else};
 ghost use Rattle.stm_terms.specs.Outcome.{Returns};
 ghost use Rattle.stm_terms.specs.Uses as spec;
 
 use crate::faults::{SourceCause, SourceError, fault};
 use crate::kinds::{Kind, Valued};
-use crate::look_ups::{LookUp, Other, both, has_else};
+use crate::look_ups::{LookUp, Other, both, first_else, has_else};
 use crate::room::expression_room;
 use crate::scope::Scope;
 use std::alloc::{AllocError, Global};
@@ -249,6 +248,16 @@ fn look_ups_of(
 
 // ---- what may not be copied in
 
+/// Whether the value behind an `else` has look-ups of its own.
+fn has_own(other: &Option<Other>) -> bool
+    ensures { result ≡ spec.has_own other.now }
+{
+    match other {
+        Some(other) => other.own > 0,
+        None => false,
+    }
+}
+
 /// Whether an argument with an `else` stands in a value.
 fn holds_else(arguments: &[Valued], value: &Expr) -> bool
     ensures { result ≡ spec.holds_else arguments.now value.now }
@@ -364,14 +373,27 @@ fn may_stand(
     Ok(())
 }
 
-/// A value of more nodes than a program has: the fault stands where that begins.
-fn has_room(scope: &Scope, value: &Expr) -> Result<(), SourceError>
+/// Refuses a value of more nodes than a program has, as `TooManyNodes` where what it stands in begins.
+pub fn has_room(scope: &Scope, value: &Expr) -> Result<(), SourceError>
     ensures { Returns (λ u. u) result (spec.has_room scope.now value.now) }
 {
     match expression_room(value, MAX_NODES + 1, MAX_NODES) {
         Ok(_) => Ok(()),
         Err(_) => Err(fault(scope.program, SourceCause::TooManyNodes)),
     }
+}
+
+/// Where the first `else` within an `else` of look-ups stands.
+pub fn else_within(look_ups: &[LookUp]) -> Option<usize>
+    ensures { result ≡ spec.else_within look_ups.now }
+{
+    for (index, look_up) in look_ups.iter().enumerate() {
+        if has_own(&look_up.other) {
+            let (_, behind) = look_ups.split_at(index + 1);
+            return first_else(behind);
+        }
+    }
+    None
 }
 
 /// What is defined, with arguments in the places of its parameters, by a name that begins at a byte.

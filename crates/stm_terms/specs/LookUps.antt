@@ -27,10 +27,6 @@ look_up_as at other = record { at = at; other = other }
 abbrev pub with_look_up : List LookUp → ℕ → List LookUp
 with_look_up ls at = ls ++ look_up_as at None ∷ []
 
--- one that has an `else`, and behind it those of the value that this gives
-abbrev pub with_else : List LookUp → ℕ → ℕ → Valued → List LookUp
-with_else ls at else_at x = (ls ++ look_up_as at (Some (other_as else_at x.expression (length x.look_ups))) ∷ []) ++ x.look_ups
-
 abbrev pub else_or : Option Other → Option ℕ → Option ℕ
 else_or (Some o) more = Some o.at
 else_or None more = more
@@ -42,6 +38,14 @@ first_else (l ∷ ls) = else_or l.other (first_else ls)
 
 abbrev pub has_else : List LookUp → Bool
 has_else ls = is_some (first_else ls)
+
+-- those of the value behind an `else`, where one has an `else`, too
+abbrev pub own_look_ups : Valued → List LookUp
+own_look_ups x = if has_else x.look_ups then x.look_ups else []
+
+-- one that has an `else`, and behind it those of the value that this gives
+abbrev pub with_else : List LookUp → ℕ → ℕ → Valued → List LookUp
+with_else ls at else_at x = (ls ++ look_up_as at (Some (other_as else_at x.expression (length (own_look_ups x)))) ∷ []) ++ own_look_ups x
 
 -- ---- the statements, and the value behind them
 

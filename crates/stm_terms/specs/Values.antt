@@ -22,13 +22,16 @@ use Rattle.stm_terms.specs.declared.values.Call.{Call}
 use Rattle.stm_terms.specs.declared.values.Call.TheVariants as call
 use Rattle.stm_terms.specs.declared.values.Join.{Join}
 use Rattle.stm_terms.specs.declared.values.Join.TheVariants as join
-use Rattle.stm_terms.specs.Outcome.{Read, bad, ◌>>=◌}
-use Rattle.stm_terms.specs.Cursor.{place, unexpected, after_word, expect_symbol, next_number}
+use Rattle.stm_terms.specs.Outcome.{Outcome, Read, bad, ◌>>=◌}
+use Rattle.stm_terms.specs.Cursor.{place, unexpected, after_symbol, after_word, expect_symbol, next_number}
 use Rattle.stm_terms.specs.declared.look_ups.LookUp.{LookUp}
 use Rattle.stm_terms.specs.LookUps.{with_look_up, with_else}
 use Rattle.stm_terms.specs.declared.arguments.Argument.{Argument}
 use Rattle.stm_terms.specs.declared.arguments.Argument.TheVariants as argument
+use Rattle.stm_terms.specs.declared.uses.Defined.{Defined}
+use Rattle.stm_terms.specs.Constants.{constant_named, defined_value}
 use Rattle.stm_terms.specs.Scope.{argument_named, blame, variable_of}
+use Rattle.stm_terms.specs.Uses.{copied_in}
 use Rattle.stm_terms.specs.declared.limits.TheConstants.{MOST_BRACKETS, MOST_JOINS}
 
 -- ---- operands
@@ -90,6 +93,32 @@ call_kind call.Rev = value_kind.Number
 call_kind call.NumOf = value_kind.Number
 call_kind call.TextOf = value_kind.Text
 
+-- values in brackets, with commas between them
+abbrev pub Uses : Type 0
+Uses = List Token → Read (List Valued)
+
+-- the arguments of what is defined: none, where no bracket opens
+abbrev pub arguments_by : Uses → List Token → Option (List Token) → Read (List Valued)
+arguments_by uses tokens None = Ok ([], tokens)
+arguments_by uses tokens (Some inner) = uses tokens
+
+abbrev pub counted_in : Scope → ℕ → Defined → List Valued → Outcome Valued
+counted_in scope at d arguments =
+    if not (nat_eq (length arguments) d.parameters) then bad at cause.Arguments else copied_in scope at d.value arguments
+
+-- what is defined, behind its name, which begins at a byte
+abbrev pub used_at : Uses → Scope → ℕ → Defined → List Token → Read Valued
+used_at uses scope at d tokens =
+    arguments_by uses tokens (after_symbol symbol.LeftParenthesis tokens) >>= λ x. counted_in scope at d x.0 >>= λ v. Ok (v, x.1)
+
+abbrev pub meant_by : Uses → Scope → ℕ → List ℕ → List Token → Option Defined → Read Valued
+meant_by uses scope at n rest None = named_at scope at n rest
+meant_by uses scope at n rest (Some d) = used_at uses scope at d rest
+
+-- a name is that of a variable, stands for a text or a number, or for a value that is defined
+abbrev pub meant_at : Uses → Scope → ℕ → List ℕ → List Token → Read Valued
+meant_at uses scope at n rest = meant_by uses scope at n rest (defined_value (constant_named scope.constants n))
+
 -- a value of a kind in brackets
 abbrev pub Bracketed : Type 0
 Bracketed = Kind → List Token → Read Valued
@@ -131,24 +160,25 @@ signed bracketed scope s tokens rest =
     else (if same_symbol s symbol.Not then bad (place tokens) cause.Sort
     else Err (unexpected tokens)))
 
-abbrev pub operand_kind : ℕ → Bracketed → Others → Scope → TokenKind → List Token → List Token → Read Valued
-operand_kind levels bracketed others scope (kind.Text s) tokens rest = literal scope (place tokens) s rest
-operand_kind levels bracketed others scope (kind.Number n) tokens rest = positive scope (place tokens) n rest
-operand_kind levels bracketed others scope (kind.Name n) tokens rest =
-    asked_of levels scope (place tokens) n (named_at scope (place tokens) n rest) rest scope.runners
-operand_kind levels bracketed others scope (kind.Word w) tokens rest = call_by bracketed others scope tokens rest (call_of w)
-operand_kind levels bracketed others scope (kind.Symbol s) tokens rest = signed bracketed scope s tokens rest
-operand_kind levels bracketed others scope kind.Wrong tokens rest = Err (unexpected tokens)
-operand_kind levels bracketed others scope kind.End tokens rest = Err (unexpected tokens)
+abbrev pub operand_kind : ℕ → Bracketed → Uses → Others → Scope → TokenKind → List Token → List Token → Read Valued
+operand_kind levels bracketed uses others scope (kind.Text s) tokens rest = literal scope (place tokens) s rest
+operand_kind levels bracketed uses others scope (kind.Number n) tokens rest = positive scope (place tokens) n rest
+operand_kind levels bracketed uses others scope (kind.Name n) tokens rest =
+    asked_of levels scope (place tokens) n (meant_at uses scope (place tokens) n rest) rest scope.runners
+operand_kind levels bracketed uses others scope (kind.Word w) tokens rest = call_by bracketed others scope tokens rest (call_of w)
+operand_kind levels bracketed uses others scope (kind.Symbol s) tokens rest = signed bracketed scope s tokens rest
+operand_kind levels bracketed uses others scope kind.Wrong tokens rest = Err (unexpected tokens)
+operand_kind levels bracketed uses others scope kind.End tokens rest = Err (unexpected tokens)
 
-unfoldable pub operand_by : ℕ → Bracketed → Others → Scope → List Token → Read Valued
-operand_by levels bracketed others scope [] = Err (unexpected [])
-operand_by levels bracketed others scope (t ∷ ts) = operand_kind levels bracketed others scope t.kind (t ∷ ts) ts
+unfoldable pub operand_by : ℕ → Bracketed → Uses → Others → Scope → List Token → Read Valued
+operand_by levels bracketed uses others scope [] = Err (unexpected [])
+operand_by levels bracketed uses others scope (t ∷ ts) = operand_kind levels bracketed uses others scope t.kind (t ∷ ts) ts
 
 -- in which so many may be behind an `else` within one another: one more is too deep, whatever it is
-unfoldable pub operand_within : ℕ → Bracketed → Scope → ℕ → List Token → Read Valued
-operand_within levels bracketed scope zero tokens = bad scope.program cause.TooDeep
-operand_within levels bracketed scope (suc more) tokens = operand_by levels bracketed (operand_within levels bracketed scope more) scope tokens
+unfoldable pub operand_within : ℕ → Bracketed → Uses → Scope → ℕ → List Token → Read Valued
+operand_within levels bracketed uses scope zero tokens = bad scope.program cause.TooDeep
+operand_within levels bracketed uses scope (suc more) tokens =
+    operand_by levels bracketed uses (operand_within levels bracketed uses scope more) scope tokens
 
 -- ---- operators, the strongest of tier 1
 
@@ -241,13 +271,34 @@ bracketed_by scope value wanted tokens =
     want scope wanted x.0.kind (place inner) >>= λ u.
     expect_symbol symbol.RightParenthesis x.1 >>= λ rest. Ok (x.0, rest)
 
--- where so many brackets may still be opened
-unfoldable pub bracketed_at : ℕ → Scope → Kind → List Token → Read Valued
-bracketed_at zero scope wanted tokens = Err (unexpected tokens)
-bracketed_at (suc levels) scope wanted tokens = bracketed_by scope (tier_by (operand_within levels (bracketed_at levels scope) scope MOST_BRACKETS) scope 3) wanted tokens
+abbrev pub uses_behind : (List Valued → List Token → Read (List Valued)) → List Valued → List Token → Option (List Token) → Read (List Valued)
+uses_behind more values tokens (Some rest) = more values rest
+uses_behind more values tokens None = expect_symbol symbol.RightParenthesis tokens >>= λ rest. Ok (values, rest)
+
+-- values behind these, at most so many
+unfoldable pub uses_from : (List Token → Read Valued) → ℕ → List Valued → List Token → Read (List Valued)
+uses_from value zero values tokens = Err (unexpected tokens)
+uses_from value (suc more) values tokens =
+    value tokens >>= λ x. uses_behind (uses_from value more) (values ++ x.0 ∷ []) x.1 (after_symbol symbol.Comma x.1)
+
+abbrev pub uses_by : (List Token → Read Valued) → Uses
+uses_by value tokens = expect_symbol symbol.LeftParenthesis tokens >>= λ inner. uses_from value (length inner) [] inner
+
+abbrev pub value_by : ℕ → Bracketed → Uses → Scope → List Token → Read Valued
+value_by levels bracketed uses scope = tier_by (operand_within levels bracketed uses scope MOST_BRACKETS) scope 3
+
+-- a value, and values, in brackets, of which so many may still be opened
+unfoldable mutual
+  pub bracketed_at : ℕ → Scope → Bracketed
+  bracketed_at zero scope wanted tokens = Err (unexpected tokens)
+  bracketed_at (suc levels) scope wanted tokens = bracketed_by scope (value_by levels (bracketed_at levels scope) (uses_at levels scope) scope) wanted tokens
+
+  pub uses_at : ℕ → Scope → Uses
+  uses_at zero scope tokens = Err (unexpected tokens)
+  uses_at (suc levels) scope tokens = uses_by (value_by levels (bracketed_at levels scope) (uses_at levels scope) scope) tokens
 
 abbrev pub operand_at : ℕ → Scope → List Token → Read Valued
-operand_at levels scope = operand_within levels (bracketed_at levels scope) scope MOST_BRACKETS
+operand_at levels scope = operand_within levels (bracketed_at levels scope) (uses_at levels scope) scope MOST_BRACKETS
 
 abbrev pub tier_at : ℕ → Scope → ℕ → List Token → Read Valued
 tier_at levels scope tier = tier_by (operand_at levels scope) scope tier

@@ -75,7 +75,7 @@ pub struct FrontedPair {
 }
 
 /// Where the first `else` of look-ups stands.
-fn first_else(look_ups: &[LookUp]) -> Option<usize>
+pub(crate) fn first_else(look_ups: &[LookUp]) -> Option<usize>
     ensures { result ≡ spec.first_else look_ups.now }
 {
     for look_up in look_ups {
@@ -87,7 +87,7 @@ fn first_else(look_ups: &[LookUp]) -> Option<usize>
 }
 
 /// Whether one of the look-ups has an `else`.
-fn has_else(look_ups: &[LookUp]) -> bool
+pub(crate) fn has_else(look_ups: &[LookUp]) -> bool
     ensures { result ≡ spec.has_else look_ups.now }
 {
     first_else(look_ups).is_some()
@@ -119,9 +119,10 @@ pub(crate) fn with_look_up(
     Ok(all)
 }
 
-/// One more look-up, which begins at a byte, and behind it those of the value that its `else` gives, which stands at another byte. It fails only when
-/// out of memory.
+/// One more look-up, which begins at a byte, and behind it those of the value that its `else` gives, which stands at another byte, where one of these has
+/// an `else`, too. It fails only when out of memory.
 pub(crate) fn with_else(
+    alloc: Global,
     look_ups: Sequence<LookUp>,
     at: usize,
     else_at: usize,
@@ -134,6 +135,11 @@ pub(crate) fn with_else(
         look_ups: more,
         ..
     } = value;
+    let more = if has_else(more.as_slice()) {
+        more
+    } else {
+        Sequence::new(alloc)
+    };
     let other = Some(Other {
         at: else_at,
         value,

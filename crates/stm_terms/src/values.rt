@@ -1,6 +1,7 @@
 //! Reading values.
 ghost use Rattle.std.specs.Prelude.{◌≡◌, ◌≤◌, ◌+◌, [], length, option_map, IfOk};
 ghost use Rattle.stm_program.specs.Syntax as tree;
+ghost use Rattle.stm_tokens.specs.declared.token.Symbol.TheVariants.{LeftParenthesis};
 ghost use Rattle.stm_tokens.specs.declared.token.Word.TheVariants.{Else};
 ghost use Rattle.stm_terms.specs.Endings.{asked_of};
 ghost use Rattle.stm_terms.specs.Kinds.{valued};
@@ -18,6 +19,7 @@ use crate::kinds::{Kind, Valued};
 use crate::limits::{MOST_BRACKETS, MOST_JOINS};
 use crate::look_ups::{LookUp, both, with_else, with_look_up};
 use crate::scope::Scope;
+use crate::uses::{Defined, copied_in};
 use std::alloc::{AllocError, Global};
 use std::sync::Arc;
 use stm_history::{Sequence, Text};
@@ -169,30 +171,6 @@ fn named<'a>(
     match scope.argument(name) {
         Some(argument) => argument_value(alloc, scope, scope.blame(name, at), argument, rest),
         None => Err(fault(at, SourceCause::Name)),
-    }
-}
-
-/// What a name stands for, or asks of the end of a runner.
-fn named_operand<'a>(
-    alloc: Global,
-    scope: &Scope,
-    levels: usize,
-    at: usize,
-    name: &str,
-    rest: &'a [Token],
-) -> Result<(Valued, &'a [Token]), SourceError>
-    ensures { Returns (λ x. (x.0, x.1.now)) result
-        (asked_of levels scope.now at name.now (spec.named_at scope.now at name.now rest.now) rest.now scope.now.runners) }
-{
-    let Some(runners) = &scope.runners else {
-        return named(alloc, scope, at, name, rest);
-    };
-    let Some(asked) = ending_of(name) else {
-        return named(alloc, scope, at, name, rest);
-    };
-    match after_symbol(rest, Symbol::LeftParenthesis) {
-        Some(_) => ending_at(alloc, scope, levels, at, runners.get(), asked, rest),
-        None => named(alloc, scope, at, name, rest),
     }
 }
 
@@ -359,6 +337,140 @@ fn next_join(tier: usize, tokens: &[Token]) -> Option<(Join, &[Token])>
     }
 }
 
+/// What a name stands for, or asks of the end of a runner.
+#[cycle(read_values)]
+fn named_operand<'a>(
+    alloc: Global,
+    scope: &Scope,
+    levels: usize,
+    at: usize,
+    name: &str,
+    rest: &'a [Token],
+) -> Result<(Valued, &'a [Token]), SourceError>
+    ensures { Returns (λ x. (x.0, x.1.now)) result
+        (asked_of levels scope.now at name.now (spec.meant_at (spec.uses_at levels scope.now) scope.now at name.now rest.now) rest.now scope.now.runners) }
+{
+    let Some(runners) = &scope.runners else {
+        return meant(alloc, scope, levels, at, name, rest);
+    };
+    let Some(asked) = ending_of(name) else {
+        return meant(alloc, scope, levels, at, name, rest);
+    };
+    match after_symbol(rest, Symbol::LeftParenthesis) {
+        Some(_) => ending_at(alloc, scope, levels, at, runners.get(), asked, rest),
+        None => meant(alloc, scope, levels, at, name, rest),
+    }
+}
+
+/// What a name stands for.
+#[cycle(read_values)]
+fn meant<'a>(
+    alloc: Global,
+    scope: &Scope,
+    levels: usize,
+    at: usize,
+    name: &str,
+    rest: &'a [Token],
+) -> Result<(Valued, &'a [Token]), SourceError>
+    ensures { Returns (λ x. (x.0, x.1.now)) result (spec.meant_at (spec.uses_at levels scope.now) scope.now at name.now rest.now) }
+{
+    match scope.constants.get().value_of(name) {
+        Some(defined) => used(alloc, scope, levels, at, defined, rest),
+        None => named(alloc, scope, at, name, rest),
+    }
+}
+
+/// A value that is defined, behind its name, which begins at a byte.
+#[cycle(read_values)]
+fn used<'a>(
+    alloc: Global,
+    scope: &Scope,
+    levels: usize,
+    at: usize,
+    defined: &Defined,
+    tokens: &'a [Token],
+) -> Result<(Valued, &'a [Token]), SourceError>
+    ensures { Returns (λ x. (x.0, x.1.now)) result (spec.used_at (spec.uses_at levels scope.now) scope.now at defined.now tokens.now) }
+{
+    let (arguments, rest) = use_arguments(alloc, scope, levels, tokens)?;
+    if arguments.len() != defined.parameters {
+        return Err(fault(at, SourceCause::Arguments));
+    }
+    let value = copied_in(alloc, scope, at, &defined.value, arguments.as_slice())?;
+    Ok((value, rest))
+}
+
+/// The arguments of what is defined: none, where no bracket opens.
+#[cycle(read_values)]
+fn use_arguments<'a>(
+    alloc: Global,
+    scope: &Scope,
+    levels: usize,
+    tokens: &'a [Token],
+) -> Result<(Sequence<Valued>, &'a [Token]), SourceError>
+    ensures { Returns (λ x. (x.0, x.1.now)) result
+        (spec.arguments_by (spec.uses_at levels scope.now) tokens.now (cursor.after_symbol LeftParenthesis tokens.now)) }
+{
+    match after_symbol(tokens, Symbol::LeftParenthesis) {
+        Some(_) => uses(alloc, scope, levels, tokens),
+        None => Ok((Sequence::new(alloc), tokens)),
+    }
+}
+
+/// Values in brackets, with commas between them, where so many brackets may still be opened.
+#[cycle(read_values)]
+fn uses<'a>(
+    alloc: Global,
+    scope: &Scope,
+    levels: usize,
+    tokens: &'a [Token],
+) -> Result<(Sequence<Valued>, &'a [Token]), SourceError>
+    ensures { Returns (λ x. (x.0, x.1.now)) result (spec.uses_at levels scope.now tokens.now) }
+{
+    if levels == 0 {
+        return Err(unexpected(tokens));
+    }
+    uses_between(alloc, scope, levels - 1, tokens)
+}
+
+/// Values between brackets, within which so many may still be opened.
+#[cycle(read_values)]
+fn uses_between<'a>(
+    alloc: Global,
+    scope: &Scope,
+    levels: usize,
+    tokens: &'a [Token],
+) -> Result<(Sequence<Valued>, &'a [Token]), SourceError>
+    ensures { Returns (λ x. (x.0, x.1.now)) result (spec.uses_by (spec.tier_at levels scope.now 3) tokens.now) }
+{
+    let inner = expect_symbol(tokens, Symbol::LeftParenthesis)?;
+    some_uses(alloc, scope, levels, inner)
+}
+
+/// Values up to the bracket that closes them, one at least.
+#[cycle(read_values)]
+fn some_uses<'a>(
+    alloc: Global,
+    scope: &Scope,
+    levels: usize,
+    tokens: &'a [Token],
+) -> Result<(Sequence<Valued>, &'a [Token]), SourceError>
+    ensures { Returns (λ x. (x.0, x.1.now)) result (spec.uses_from (spec.tier_at levels scope.now 3) (length tokens.now) [] tokens.now) }
+{
+    let mut values = Sequence::new(alloc);
+    let mut rest = tokens;
+    for _turn in 0..tokens.len() {
+        let (value, behind) = operands(alloc, scope, levels, 3, rest)?;
+        values.push(value)?;
+        let Some(next) = after_symbol(behind, Symbol::Comma) else {
+            let rest = expect_symbol(behind, Symbol::RightParenthesis)?;
+            return Ok((values, rest));
+        };
+        rest = next;
+    }
+    Err(unexpected(rest))
+}
+
 /// An operand, in which so many may be behind an `else` within one another: one more is too deep, whatever it is.
 #[cycle(read_values)]
 fn operand_within<'a>(
@@ -369,7 +481,7 @@ fn operand_within<'a>(
     tokens: &'a [Token],
 ) -> Result<(Valued, &'a [Token]), SourceError>
     requires { more ≤ 127 }
-    ensures { Returns (λ x. (x.0, x.1.now)) result (spec.operand_within levels (spec.bracketed_at levels scope.now) scope.now more tokens.now) }
+    ensures { Returns (λ x. (x.0, x.1.now)) result (spec.operand_within levels (spec.bracketed_at levels scope.now) (spec.uses_at levels scope.now) scope.now more tokens.now) }
 {
     if more == 0 {
         return Err(fault(scope.program, SourceCause::TooDeep));
@@ -389,7 +501,7 @@ fn operand<'a>(
 ) -> Result<(Valued, &'a [Token]), SourceError>
     requires { more ≤ 127 }
     ensures { Returns (λ x. (x.0, x.1.now)) result
-        (spec.operand_by levels (spec.bracketed_at levels scope.now) (spec.operand_within levels (spec.bracketed_at levels scope.now) scope.now more) scope.now tokens.now) }
+        (spec.operand_by levels (spec.bracketed_at levels scope.now) (spec.uses_at levels scope.now) (spec.operand_within levels (spec.bracketed_at levels scope.now) (spec.uses_at levels scope.now) scope.now more) scope.now tokens.now) }
 {
     let Some((first, rest)) = tokens.split_first() else {
         return Err(unexpected(tokens));
@@ -420,7 +532,7 @@ fn computed<'a>(
 ) -> Result<(Valued, &'a [Token]), SourceError>
     requires { more ≤ 127 }
     ensures { Returns (λ x. (x.0, x.1.now)) result
-        (spec.call_by (spec.bracketed_at levels scope.now) (spec.operand_within levels (spec.bracketed_at levels scope.now) scope.now more) scope.now tokens.now rest.now (spec.call_of word)) }
+        (spec.call_by (spec.bracketed_at levels scope.now) (spec.operand_within levels (spec.bracketed_at levels scope.now) (spec.uses_at levels scope.now) scope.now more) scope.now tokens.now rest.now (spec.call_of word)) }
 {
     let Some(call) = call_of(word) else {
         return Err(unexpected(tokens));
@@ -454,14 +566,14 @@ fn else_behind<'a>(
 ) -> Result<(Sequence<LookUp>, &'a [Token]), SourceError>
     requires { more ≤ 127 }
     ensures { Returns (λ x. (x.0, x.1.now)) result
-        (spec.else_behind (spec.operand_within levels (spec.bracketed_at levels scope.now) scope.now more) scope.now at look_ups tokens.now behind.now) }
+        (spec.else_behind (spec.operand_within levels (spec.bracketed_at levels scope.now) (spec.uses_at levels scope.now) scope.now more) scope.now at look_ups tokens.now behind.now) }
 {
     if scope.numbered {
         return Err(unexpected(tokens));
     }
     let (value, rest) = operand_within(alloc, scope, levels, more, behind)?;
     scope.want(Kind::Text, value.kind, place(behind))?;
-    let look_ups = with_else(look_ups, at, place(tokens), value)?;
+    let look_ups = with_else(alloc, look_ups, at, place(tokens), value)?;
     Ok((look_ups, rest))
 }
 
@@ -478,7 +590,7 @@ fn get_look_ups<'a>(
 ) -> Result<(Sequence<LookUp>, &'a [Token]), SourceError>
     requires { more ≤ 127 }
     ensures { Returns (λ x. (x.0, x.1.now)) result
-        (spec.else_by (spec.operand_within levels (spec.bracketed_at levels scope.now) scope.now more) scope.now at look_ups tokens.now (cursor.after_word Else tokens.now)) }
+        (spec.else_by (spec.operand_within levels (spec.bracketed_at levels scope.now) (spec.uses_at levels scope.now) scope.now more) scope.now at look_ups tokens.now (cursor.after_word Else tokens.now)) }
 {
     match after_word(tokens, Word::Else) {
         Some(behind) => else_behind(alloc, scope, levels, more, at, look_ups, tokens, behind),
@@ -503,7 +615,7 @@ fn call_look_ups<'a>(
 ) -> Result<(Sequence<LookUp>, &'a [Token]), SourceError>
     requires { more ≤ 127 }
     ensures { Returns (λ x. (x.0, x.1.now)) result
-        (spec.call_look_ups (spec.operand_within levels (spec.bracketed_at levels scope.now) scope.now more) scope.now call at look_ups tokens.now) }
+        (spec.call_look_ups (spec.operand_within levels (spec.bracketed_at levels scope.now) (spec.uses_at levels scope.now) scope.now more) scope.now call at look_ups tokens.now) }
 {
     match call {
         Call::Get => get_look_ups(alloc, scope, levels, more, at, look_ups, tokens),

@@ -1,3 +1,4 @@
 pub mod Around
+pub mod JobLemmas
 pub mod Ready
 pub mod Texts

@@ -116,7 +116,7 @@ fn try_out(mut world: World, program: Program, manner: Manner) -> Result<Tried, 
 }
 
 /// The scenario that a text spells.
-fn read(alloc: Global, text: &[u8]) -> Result<Scenario, StoreFault>
+pub(crate) fn read(alloc: Global, text: &[u8]) -> Result<Scenario, StoreFault>
     ensures spelled { IfOk result (λ s. scenario_in text.now ≡ OkOf s) }
     ensures opening { IfOk result (λ s. IsOpening s.opening) }
 {

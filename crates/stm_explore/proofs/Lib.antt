@@ -6,7 +6,6 @@ pub mod GatherLemmas
 pub mod OutcomeLemmas
 pub mod LayerOutcomes
 pub mod ShownLemmas
-pub mod LeaseLog
 pub mod SameRevisions
 pub mod AlikeStores
 pub mod AskedLemmas

@@ -9,7 +9,6 @@ pub mod OutcomeLemmas
 pub mod LayerOutcomes
 pub mod Witnessing
 pub mod ShownLemmas
-pub mod LeaseLog
 pub mod SameRevisions
 pub mod AlikeStores
 pub mod AskedLemmas

@@ -1,6 +1,6 @@
 use Rattle.std.proofs.Common.{arith}
-use Rattle.stm_explore.proofs.LeaseLog.{all_seen, same_leases}
-use Rattle.stm_explore.proofs.leases.leave_same_leases.Goals as goal
+use Rattle.stm_alike.proofs.LeaseLog.{all_seen, same_leases}
+use Rattle.stm_alike.proofs.leases.leave_same_leases.Goals as goal
 
 pub returns : goal.returns
 returns c = λ is r.

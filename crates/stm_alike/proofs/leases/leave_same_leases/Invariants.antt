@@ -1,6 +1,6 @@
 use Rattle.std.proofs.Common.{◌≡◌, ◌≤◌, ◌++◌, length, take, drop}
-use Rattle.stm_explore.specs.Leases.{leases_of}
-use Rattle.stm_explore.proofs.leases.leave_same_leases.Given as goal
+use Rattle.stm_alike.specs.Leases.{leases_of}
+use Rattle.stm_alike.proofs.leases.leave_same_leases.Given as goal
 
 abbrev pub invariant-loop-entry : goal.invariant-loop-entry
 invariant-loop-entry l = record {

@@ -15,7 +15,7 @@ use Rattle.stm_entries.specs.declared.entry.Entry.TheVariants.{Program, Foreign,
 use Rattle.stm_entries.specs.Replayed.{Replayed}
 use Rattle.stm_entries.specs.Replay.{replay, replay_entry, renewed_at}
 use Rattle.stm_entries.specs.Alone.{seen_at, left_by, left_by_run}
-use Rattle.stm_explore.specs.Leases.{is_about_lease, leases_of}
+use Rattle.stm_alike.specs.Leases.{is_about_lease, leases_of}
 
 live_by : Entry → Live → Live
 live_by (Program program level answers output trace revision) live = live

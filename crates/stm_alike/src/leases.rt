@@ -3,9 +3,9 @@ ghost use Rattle.std.specs.Prelude.{◌≡◌, ◌<◌, ◌≤◌, true, [], ◌
 ghost use Rattle.stm_entries.specs.declared.entry.Entry.{Entry as EntryValue};
 ghost use Rattle.stm_entries.specs.Replayed.{Replayed};
 ghost use Rattle.stm_entries.specs.Replay.{replay};
-ghost use Rattle.stm_explore.specs.Leases.{is_about_lease, leases_of};
+ghost use Rattle.stm_alike.specs.Leases.{is_about_lease, leases_of};
 
-use stm_alike::is_same_entry;
+use crate::entries::is_same_entry;
 use stm_entries::Entry;
 
 /// Whether an entry is about a lease.
@@ -59,7 +59,7 @@ fn has_no_lease(entries: &[Entry], from: usize) -> bool
 }
 
 /// Whether these entries leave the same live leases as those, wherever they are replayed.
-pub(crate) fn leave_same_leases(left: &[Entry], right: &[Entry]) -> bool
+pub fn leave_same_leases(left: &[Entry], right: &[Entry]) -> bool
     ensures { result ≡ true → (r : Replayed) → (replay left.now r).live ≡ (replay right.now r).live }
 {
     let mut next = 0;

@@ -11,6 +11,7 @@ mod audience;
 mod command;
 mod explaining;
 mod exploring;
+mod faulted;
 mod final_words;
 mod grouping;
 mod judging;

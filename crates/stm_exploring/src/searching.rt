@@ -13,6 +13,7 @@ ghost use Rattle.stm_exploring.specs.Judging.{AreAnswers, AreFound, AreFoundFrom
 
 use crate::accounts::tell_account;
 use crate::audience::{Audience, tell_parts};
+use crate::faulted::tell_faults;
 use crate::grouping::{asked_by, end_of_group, push_answers};
 use crate::judging::{Answer, judge_comparing, judge_schedules};
 use crate::printed::Printed;
@@ -271,7 +272,7 @@ fn programs_of(alloc: Global, scenario: &Scenario) -> Result<Vec<Program>, Alloc
 }
 
 /// Whether each rule is kept after every schedule of a scenario in which these runners wait.
-pub(crate) fn explore_scenario<O: Audience>(
+fn judge_scenario<O: Audience>(
     alloc: Global,
     scenario: &Scenario,
     waits: &[Wait],
@@ -285,6 +286,22 @@ pub(crate) fn explore_scenario<O: Audience>(
     let answers = explore_programs(alloc, scenario, programs.as_slice(), waits, rules, budget);
     drop(programs);
     answers
+}
+
+/// The same, and it is said why rules come to faults.
+pub(crate) fn explore_scenario<O: Audience>(
+    alloc: Global,
+    scenario: &Scenario,
+    waits: &[Wait],
+    rules: &[Rule],
+    budget: &mut Budget<O>,
+) -> Result<Vec<RuleAnswer>, AllocError>
+    requires stepless { HaveNoStep scenario.now.events }
+    ensures { IfOk result (λ answers. AreFound waits.now rules.now scenario.now answers.items) }
+{
+    let answers = judge_scenario(alloc, scenario, waits, rules, budget)?;
+    tell_faults(alloc, scenario, answers.as_slice(), &mut budget.observer);
+    Ok(answers)
 }
 
 /// What is printed of a search about a scenario in which these runners wait.

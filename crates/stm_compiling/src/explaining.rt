@@ -299,6 +299,10 @@ fn words_at(
             token_words(alloc, character)
         }
         SourceCause::Syntax => syntax_words(alloc, source, found, spot),
+        SourceCause::Return => String::from_str(
+            alloc,
+            "a counted loop, for .. in 0.., has no return and no break that leaves it: let found = 0 before it, and if found == 0 && .. in it",
+        ),
         SourceCause::Sort => sort_words(alloc, found, spot),
         SourceCause::Name => name_words(alloc, source, found, spot),
         SourceCause::Range => range_words(alloc, found, spot),

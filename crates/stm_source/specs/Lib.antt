@@ -2,6 +2,7 @@ pub mod Bulk
 pub mod Definitions
 pub mod Events
 pub mod Kept
+pub mod Leaving
 pub mod Programs
 pub mod Rules
 pub mod Runners

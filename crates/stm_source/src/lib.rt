@@ -8,6 +8,7 @@ mod arguments;
 mod bulk;
 mod definitions;
 mod events;
+mod leaving;
 mod openings;
 mod programs;
 mod rules;

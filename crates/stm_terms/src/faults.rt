@@ -16,6 +16,8 @@ pub enum SourceCause {
     Token,
     /// Another token is wanted there.
     Syntax,
+    /// A `return` or a `break` stands in a counted loop that it would leave.
+    Return,
     /// A value stands where a condition is wanted, or the reverse.
     Sort,
     /// A name is unknown, given twice, or of another sort.
@@ -46,6 +48,7 @@ impl SourceCause {
             SourceCause::TooLong => "TooLong",
             SourceCause::Token => "Token",
             SourceCause::Syntax => "Syntax",
+            SourceCause::Return => "Return",
             SourceCause::Sort => "Sort",
             SourceCause::Name => "Name",
             SourceCause::Range => "Range",

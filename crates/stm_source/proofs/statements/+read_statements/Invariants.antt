@@ -42,5 +42,5 @@ decreases-statements l = 500 * l.levels + 403
 -- the statements so far, and then what is read of the rest
 abbrev pub invariant-statements-loop-done : goal.invariant-statements-loop-done
 invariant-statements-loop-done l =
-    with_front l.statements.items (statements_from (statement_by (block_at l.fn.levels) l.fn.levels) l.done (length l.fn.tokens - l.done) l.scope l.rest)
-    ≡ statements_at l.fn.levels l.fn.outer l.fn.tokens
+    with_front l.parts.items (statements_from (statement_by (block_at l.fn.levels) l.fn.levels l.fn.around) l.done l.ending (length l.fn.tokens - l.done) l.scope l.rest)
+    ≡ statements_at l.fn.levels l.fn.around l.fn.outer l.fn.tokens

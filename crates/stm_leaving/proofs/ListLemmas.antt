@@ -1,0 +1,127 @@
+-- Statements of a source, from the end of a list to its beginning.
+use Rattle.std.proofs.Common.{◌≡◌, ℕ, zero, suc, ◌+◌, ◌-◌, ◌<◌, ◌≤◌, Bool, true, false, List, [], ◌∷◌, length, get_or, drop, refl, sym, ap, ◌∙◌, arith}
+use Rattle.std.specs.Prelude.{nat_lt, if◌then◌else◌}
+use Rattle.std.proofs.lemmas.List.{at_drop_more}
+use Rattle.std.proofs.lemmas.Bool.Decides.{nat_tests}
+use Rattle.stm_program.specs.Syntax.{Block}
+use Rattle.stm_leaving.specs.Source.{Source, Sources, Copies, Nil, Next, NoCopy, Copy}
+use Rattle.stm_leaving.specs.PartsView.{sources_of}
+use Rattle.stm_leaving.specs.CopiesView.{copies_of}
+use Rattle.stm_leaving.specs.Weight.{source_weight, sources_weight, copies_weight, sources_weight-positive, copies_weight-positive}
+use Rattle.stm_leaving.specs.declared.follow.Follow.{Follow}
+use Rattle.stm_leaving.specs.Closed.{nothing, with_next, copy_follow, is_abort, behind, closed, closed_one, closed_copies, first_abort, around}
+
+-- ---- weights
+
+source_weight-positive : (s : Source) → 1 ≤ source_weight s
+source_weight-positive s = by_case s
+  where
+    by_case : (s : Source) → 1 ≤ source_weight s
+    by_case s = grind arith
+
+pub item_weight : (ss : List Source) (i : ℕ) (s : Source) → i < length ss → s ≡ get_or ss i s → source_weight s + 1 ≤ sources_weight (sources_of ss)
+item_weight [] i s h e = absurd (omega arith)
+item_weight (t ∷ ss) zero s h e = omega (arith, ap source_weight e, sources_weight-positive ss)
+item_weight (t ∷ ss) (suc i) s h e = omega (arith, item_weight ss i s (omega arith) e, source_weight-positive t)
+
+pub copy_weight : (cs : List Sources) (i : ℕ) (c : Sources) → i < length cs → c ≡ get_or cs i c → sources_weight c + 1 ≤ copies_weight (copies_of cs)
+copy_weight [] i c h e = absurd (omega arith)
+copy_weight (d ∷ cs) zero c h e = omega (arith, ap sources_weight e, copies_weight-positive cs)
+copy_weight (d ∷ cs) (suc i) c h e = omega (arith, copy_weight cs i c (omega arith) e)
+
+-- ---- what is around a statement
+
+drop_end : {X : Type 0} (xs : List X) → drop (length xs) xs ≡ []
+drop_end [] = refl
+drop_end (x ∷ xs) = drop_end xs
+
+around_first : (ends : ℕ) (k : Follow) → around ends 0 k ≡ k
+around_first ends k = grind (arith, nat_tests)
+
+behind_nothing : (x : Bool) → (if x then nothing else nothing) ≡ nothing
+behind_nothing true = refl
+behind_nothing false = refl
+
+next_first : (x : Bool) (f : ℕ) (k : Follow) → (if x then nothing else around (if x then 0 else suc f) 0 k) ≡ around (if x then 0 else suc f) 1 k
+next_first true f k = refl
+next_first false f k = grind (arith, nat_tests)
+
+around_more : (f i : ℕ) (k : Follow) → around (suc f) (suc i) k ≡ around f i k
+around_more f i k = grind (arith, nat_tests)
+
+next_more : (x : Bool) (y : Source) (f i : ℕ) (k : Follow) → behind y (around f i k) ≡ around f (i + 1) k
+    → behind y (around (if x then 0 else suc f) (suc i) k) ≡ around (if x then 0 else suc f) (suc (i + 1)) k
+next_more true y f i k h = behind_nothing (is_abort y)
+next_more false y f i k h = ap (behind y) (around_more f i k) ∙ h ∙ sym (around_more f (i + 1) k)
+
+around_next : (xs : List Source) (i : ℕ) (d : Source) (k : Follow) → i < length xs
+    → behind (get_or xs i d) (around (first_abort xs) i k) ≡ around (first_abort xs) (i + 1) k
+around_next [] i d k less = absurd (omega arith)
+around_next (x ∷ xs) zero d k less = next_first (is_abort x) (first_abort xs) k
+around_next (x ∷ xs) (suc i) d k less = next_more (is_abort x) (get_or xs i d) (first_abort xs) i k (around_next xs i d k (omega arith))
+
+-- ---- the loops
+
+closed_before : (xs : List Source) (i : ℕ) (d : Source) (k : Follow) → i < length xs
+    → closed (sources_of (drop i xs)) (around (first_abort xs) i k)
+    ≡ closed_one (get_or xs i d) (with_next (around (first_abort xs) i k) (closed (sources_of (drop (i + 1) xs)) (around (first_abort xs) (i + 1) k)))
+unfolding closed
+closed_before xs i d k less =
+    let a = around (first_abort xs) i k in
+    let one : closed (sources_of (drop i xs)) a ≡ closed_one (get_or xs i d) (with_next a (closed (sources_of (drop (i + 1) xs)) (behind (get_or xs i d) a))) =
+    at_drop_more (λ ys. closed (sources_of ys) a) xs i d less in
+    one ∙ ap (λ f. closed_one (get_or xs i d) (with_next a (closed (sources_of (drop (i + 1) xs)) f))) (around_next xs i d k less)
+
+-- behind the last statement
+pub closed_end : (xs : List Source) (k : Follow) (next : Block) → next ≡ (around (first_abort xs) (length xs) k).next
+    → next ≡ closed (sources_of (drop (length xs) xs)) (around (first_abort xs) (length xs) k)
+unfolding closed
+closed_end xs k next is = rw (drop_end xs) is
+
+-- one statement more
+pub closed_more : (xs : List Source) (done place : ℕ) (d : Source) (k : Follow) (old new : Block) → done < length xs → place ≡ length xs - 1 - done
+    → old ≡ closed (sources_of (drop (length xs - done) xs)) (around (first_abort xs) (length xs - done) k)
+    → new ≡ closed_one (get_or xs place d) (with_next (around (first_abort xs) place k) old)
+    → new ≡ closed (sources_of (drop (length xs - (done + 1)) xs)) (around (first_abort xs) (length xs - (done + 1)) k)
+closed_more xs done place d k old new less at so_far is =
+    let here : length xs - (done + 1) ≡ place = omega arith in
+    let there : length xs - done ≡ place + 1 = omega arith in
+    let known : old ≡ closed (sources_of (drop (place + 1) xs)) (around (first_abort xs) (place + 1) k) =
+    so_far ∙ ap (λ n. closed (sources_of (drop n xs)) (around (first_abort xs) n k)) there in
+    is ∙ ap (λ b. closed_one (get_or xs place d) (with_next (around (first_abort xs) place k) b)) known ∙ sym (closed_before xs place d k (omega arith))
+    ∙ ap (λ n. closed (sources_of (drop n xs)) (around (first_abort xs) n k)) (sym here)
+
+-- the whole list
+pub closed_all : (xs : List Source) (done : ℕ) (k : Follow) (b : Block) → done ≡ length xs
+    → b ≡ closed (sources_of (drop (length xs - done) xs)) (around (first_abort xs) (length xs - done) k) → b ≡ closed (sources_of xs) k
+closed_all xs done k b all is =
+    let none : length xs - done ≡ 0 = omega arith in
+    is ∙ ap (λ n. closed (sources_of (drop n xs)) (around (first_abort xs) n k)) none ∙ ap (λ f. closed (sources_of xs) f) (around_first (first_abort xs) k)
+
+copies_before : (cs : List Sources) (i : ℕ) (d : Sources) (after : Block) → i < length cs
+    → closed_copies (copies_of (drop i cs)) after ≡ closed (get_or cs i d) (copy_follow (closed_copies (copies_of (drop (i + 1) cs)) after) after)
+unfolding closed
+copies_before cs i d after less = at_drop_more (λ ds. closed_copies (copies_of ds) after) cs i d less
+
+-- behind the last copy
+pub copies_end : (cs : List Sources) (after : Block) → after ≡ closed_copies (copies_of (drop (length cs) cs)) after
+unfolding closed
+copies_end cs after = rw (drop_end cs) refl
+
+-- one copy more
+pub copies_more : (cs : List Sources) (done place : ℕ) (d : Sources) (after old new : Block) → done < length cs → place ≡ length cs - 1 - done
+    → old ≡ closed_copies (copies_of (drop (length cs - done) cs)) after → new ≡ closed (get_or cs place d) (copy_follow old after)
+    → new ≡ closed_copies (copies_of (drop (length cs - (done + 1)) cs)) after
+copies_more cs done place d after old new less at so_far is =
+    let here : length cs - (done + 1) ≡ place = omega arith in
+    let there : length cs - done ≡ place + 1 = omega arith in
+    let known : old ≡ closed_copies (copies_of (drop (place + 1) cs)) after = so_far ∙ ap (λ n. closed_copies (copies_of (drop n cs)) after) there in
+    is ∙ ap (λ b. closed (get_or cs place d) (copy_follow b after)) known ∙ sym (copies_before cs place d after (omega arith))
+    ∙ ap (λ n. closed_copies (copies_of (drop n cs)) after) (sym here)
+
+-- all copies
+pub copies_all : (cs : List Sources) (done : ℕ) (after b : Block) → done ≡ length cs → b ≡ closed_copies (copies_of (drop (length cs - done) cs)) after
+    → b ≡ closed_copies (copies_of cs) after
+copies_all cs done after b all is =
+    let none : length cs - done ≡ 0 = omega arith in
+    is ∙ ap (λ n. closed_copies (copies_of (drop n cs)) after) none

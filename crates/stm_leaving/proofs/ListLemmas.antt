@@ -1,15 +1,17 @@
 -- Statements of a source, from the end of a list to its beginning.
-use Rattle.std.proofs.Common.{◌≡◌, ℕ, zero, suc, ◌+◌, ◌-◌, ◌<◌, ◌≤◌, Bool, true, false, List, [], ◌∷◌, length, get_or, drop, refl, sym, ap, ◌∙◌, arith}
+use Rattle.std.proofs.Common.{◌≡◌, ℕ, zero, suc, ◌+◌, ◌-◌, ◌<◌, ◌≤◌, Bool, true, false, ◌&&◌, List, [], ◌∷◌, length, get_or, drop, refl, sym, ap, ◌∙◌, arith}
 use Rattle.std.specs.Prelude.{nat_lt, if◌then◌else◌}
 use Rattle.std.proofs.lemmas.List.{at_drop_more}
 use Rattle.std.proofs.lemmas.Bool.Decides.{nat_tests}
-use Rattle.stm_program.specs.Syntax.{Block}
-use Rattle.stm_leaving.specs.Source.{Source, Sources, Copies, Nil, Next, NoCopy, Copy}
+use Rattle.std.proofs.lemmas.Bool.{and_parts}
+use Rattle.stm_program.specs.Syntax.{Condition, Block, If, For, End, Then}
+use Rattle.stm_leaving.specs.Source.{Source, Sources, Copies, Plain, Choice, Items, Count, Return, Break, Continue, Nil, Next, NoCopy, Copy}
+use Rattle.stm_leaving.specs.Leaving.{goes_on, keeps_to, keeps_to_one}
 use Rattle.stm_leaving.specs.PartsView.{sources_of}
 use Rattle.stm_leaving.specs.CopiesView.{copies_of}
 use Rattle.stm_leaving.specs.Weight.{source_weight, sources_weight, copies_weight, sources_weight-positive, copies_weight-positive}
 use Rattle.stm_leaving.specs.declared.follow.Follow.{Follow}
-use Rattle.stm_leaving.specs.Closed.{nothing, with_next, copy_follow, is_abort, behind, closed, closed_one, closed_copies, first_abort, around}
+use Rattle.stm_leaving.specs.Closed.{nothing, with_next, copy_follow, is_abort, behind, closed, closed_one, closed_copies, items_behind, first_abort, around, behind_last}
 
 -- ---- weights
 
@@ -72,23 +74,34 @@ closed_before xs i d k less =
     at_drop_more (λ ys. closed (sources_of ys) a) xs i d less in
     one ∙ ap (λ f. closed_one (get_or xs i d) (with_next a (closed (sources_of (drop (i + 1) xs)) f))) (around_next xs i d k less)
 
+next_of : (x : Bool) (k : Follow) → (if x then nothing else k).next ≡ behind_last x k.next
+next_of true k = refl
+next_of false k = refl
+
 -- behind the last statement
-pub closed_end : (xs : List Source) (k : Follow) (next : Block) → next ≡ (around (first_abort xs) (length xs) k).next
+pub closed_end : (xs : List Source) (k : Follow) (next : Block) → next ≡ behind_last (nat_lt (first_abort xs) (length xs)) k.next
     → next ≡ closed (sources_of (drop (length xs) xs)) (around (first_abort xs) (length xs) k)
 unfolding closed
-closed_end xs k next is = rw (drop_end xs) is
+closed_end xs k next is = rw (drop_end xs) (is ∙ sym (next_of (nat_lt (first_abort xs) (length xs)) k))
+
+-- what is next decides nothing but what is next
+next_apart : (x : Bool) (k : Follow) (a b : Block) → with_next (if x then nothing else with_next k a) b ≡ with_next (if x then nothing else k) b
+next_apart true k a b = refl
+next_apart false k a b = refl
 
 -- one statement more
-pub closed_more : (xs : List Source) (done place : ℕ) (d : Source) (k : Follow) (old new : Block) → done < length xs → place ≡ length xs - 1 - done
-    → old ≡ closed (sources_of (drop (length xs - done) xs)) (around (first_abort xs) (length xs - done) k)
+pub closed_more : (xs : List Source) (done place : ℕ) (d : Source) (k : Follow) (b old new : Block) → done < length xs → place ≡ length xs - 1 - done
+    → old ≡ closed (sources_of (drop (length xs - done) xs)) (around (first_abort xs) (length xs - done) (with_next k b))
     → new ≡ closed_one (get_or xs place d) (with_next (around (first_abort xs) place k) old)
-    → new ≡ closed (sources_of (drop (length xs - (done + 1)) xs)) (around (first_abort xs) (length xs - (done + 1)) k)
-closed_more xs done place d k old new less at so_far is =
+    → new ≡ closed (sources_of (drop (length xs - (done + 1)) xs)) (around (first_abort xs) (length xs - (done + 1)) (with_next k b))
+closed_more xs done place d j b old new less at so_far is =
+    let k = with_next j b in
     let here : length xs - (done + 1) ≡ place = omega arith in
     let there : length xs - done ≡ place + 1 = omega arith in
     let known : old ≡ closed (sources_of (drop (place + 1) xs)) (around (first_abort xs) (place + 1) k) =
     so_far ∙ ap (λ n. closed (sources_of (drop n xs)) (around (first_abort xs) n k)) there in
-    is ∙ ap (λ b. closed_one (get_or xs place d) (with_next (around (first_abort xs) place k) b)) known ∙ sym (closed_before xs place d k (omega arith))
+    is ∙ ap (closed_one (get_or xs place d)) (sym (next_apart (nat_lt (first_abort xs) place) j b old))
+    ∙ ap (λ c. closed_one (get_or xs place d) (with_next (around (first_abort xs) place k) c)) known ∙ sym (closed_before xs place d k (omega arith))
     ∙ ap (λ n. closed (sources_of (drop n xs)) (around (first_abort xs) n k)) (sym here)
 
 -- the whole list
@@ -97,6 +110,36 @@ pub closed_all : (xs : List Source) (done : ℕ) (k : Follow) (b : Block) → do
 closed_all xs done k b all is =
     let none : length xs - done ≡ 0 = omega arith in
     is ∙ ap (λ n. closed (sources_of (drop n xs)) (around (first_abort xs) n k)) none ∙ ap (λ f. closed (sources_of xs) f) (around_first (first_abort xs) k)
+
+-- a list that goes on uses nothing but what is next
+test_kept : (x : Bool) (c : Condition) (a b f g : Block) (k k' : Follow) → x ≡ true → k.next ≡ k'.next
+    → (if x then Then (If c a b) k.next else Then (If c f g) End) ≡ Then (If c a b) k'.next
+test_kept true c a b f g k k' h e = ap (Then (If c a b)) e
+test_kept false c a b f g k k' h e = cc
+
+one_kept : (q : Source) (k k' : Follow) → keeps_to_one goes_on q ≡ true → k.next ≡ k'.next → closed_one q k ≡ closed_one q k'
+unfolding closed keeps_to
+one_kept (Plain p) k k' h e = ap (Then p) e
+one_kept (Choice c a b) k k' h e =
+    test_kept (keeps_to goes_on a && keeps_to goes_on b) c (closed a nothing) (closed b nothing) (closed a k) (closed b k) k k' h e
+    ∙ sym (test_kept (keeps_to goes_on a && keeps_to goes_on b) c (closed a nothing) (closed b nothing) (closed a k') (closed b k') k' k' h refl)
+one_kept (Items cs) k k' h e = ap (items_behind cs) e
+one_kept (Count v n limit body) k k' h e = ap (Then (For v n limit (closed body nothing))) e
+one_kept Return k k' h e = cc
+one_kept Break k k' h e = cc
+one_kept Continue k k' h e = cc
+
+behind_kept : (x : Bool) (k k' : Follow) → k.next ≡ k'.next → (if x then nothing else k).next ≡ (if x then nothing else k').next
+behind_kept true k k' e = refl
+behind_kept false k k' e = e
+
+pub list_kept : (p : Sources) (k k' : Follow) → keeps_to goes_on p ≡ true → k.next ≡ k'.next → closed p k ≡ closed p k'
+unfolding closed keeps_to
+list_kept Nil k k' h e = e
+list_kept (Next q rest) k k' h e =
+    let both = and_parts (keeps_to_one goes_on q) (keeps_to goes_on rest) h in
+    one_kept q (with_next k (closed rest (behind q k))) (with_next k' (closed rest (behind q k'))) both.0
+    (list_kept rest (behind q k) (behind q k') both.1 (behind_kept (is_abort q) k k' e))
 
 copies_before : (cs : List Sources) (i : ℕ) (d : Sources) (after : Block) → i < length cs
     → closed_copies (copies_of (drop i cs)) after ≡ closed (get_or cs i d) (copy_follow (closed_copies (copies_of (drop (i + 1) cs)) after) after)

@@ -75,3 +75,7 @@ first_abort (s ∷ ss) = if is_abort s then 0 else suc (first_abort ss)
 -- what follows a statement at a place of a list whose first `abort` stands at the place `ends`
 abbrev pub around : ℕ → ℕ → Follow → Follow
 around ends place k = if nat_lt ends place then nothing else k
+
+-- what comes behind the last statement of a list
+abbrev pub behind_last : Bool → Block → Block
+behind_last has_abort next = if has_abort then End else next

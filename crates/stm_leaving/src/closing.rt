@@ -162,18 +162,36 @@ fn closed_items(alloc: Global, copies: &Copies, behind: Behind) -> Result<Behind
     Ok(Behind::of(alloc, all))
 }
 
+/// A copy of a loop's block, and the copies behind it: what comes behind them all follows a `break`.
+#[cycle(closed)]
+fn closed_copy(
+    alloc: Global,
+    copy: &Parts,
+    after: &Block,
+    more: Behind,
+) -> Result<Behind, AllocError>
+    ensures { IfOk result (λ b. b ≡ spec.closed copy.now (spec.copy_follow more after.now)) }
+{
+    if keeps_to(GOES_ON, copy) {
+        return closed_list(alloc, copy, &nothing(alloc)?, more);
+    }
+    let next = more.into_block(alloc)?;
+    let more = Behind::of(alloc, next.clone()?);
+    let follow = copy_follow(next, after)?;
+    closed_list(alloc, copy, &follow, more)
+}
+
 #[cycle(closed)]
 fn closed_copies(alloc: Global, copies: &Copies, after: &Block) -> Result<Block, AllocError>
     ensures { IfOk result (λ b. b ≡ spec.closed_copies copies.now after.now) }
 {
     let all: &Vec<Parts> = &copies.copies;
-    let mut more = after.clone()?;
+    let mut more = Behind::of(alloc, after.clone()?);
     for done in 0..all.len() {
         let place = all.len() - 1 - done;
-        let follow = copy_follow(more, after)?;
-        more = closed(alloc, &all[place], &follow)?;
+        more = closed_copy(alloc, &all[place], after, more)?;
     }
-    Ok(more)
+    more.into_block(alloc)
 }
 
 /// A statement of a list, and what comes behind it.
@@ -214,43 +232,66 @@ fn closed_one(
     }
 }
 
-/// Statements of a list, from its end to its beginning: behind its first `abort` nothing follows.
+/// What comes behind the last statement of a list: nothing, where it has an `abort`.
+fn behind_last(alloc: Global, has_abort: bool, behind: Behind) -> Result<Behind, AllocError>
+    ensures { IfOk result (λ b. b ≡ spec.behind_last has_abort behind) }
+{
+    if has_abort {
+        let end = no_statements(alloc)?;
+        return Ok(Behind::of(alloc, end));
+    }
+    Ok(behind)
+}
+
+/// Statements of a list, from its end to its beginning, and what comes behind it.
 #[cycle(closed)]
-fn closed_list(alloc: Global, parts: &Parts, follow: &Follow) -> Result<Behind, AllocError>
-    ensures { IfOk result (λ b. b ≡ spec.closed parts.now follow.now) }
+fn closed_list(
+    alloc: Global,
+    parts: &Parts,
+    follow: &Follow,
+    behind: Behind,
+) -> Result<Behind, AllocError>
+    ensures { IfOk result (λ b. b ≡ spec.closed parts.now (spec.with_next follow.now behind)) }
 {
     let all: &Vec<Part> = &parts.parts;
     let ends = first_abort(all);
     let nothing = nothing(alloc)?;
-    let last = around(ends, all.len(), follow, &nothing).next.clone()?;
-    let mut behind = Behind::of(alloc, last);
+    let mut more = behind_last(alloc, ends < all.len(), behind)?;
     for done in 0..all.len() {
         let place = all.len() - 1 - done;
-        behind = closed_one(
+        more = closed_one(
             alloc,
             &all[place],
             around(ends, place, follow, &nothing),
-            behind,
+            more,
         )?;
     }
-    Ok(behind)
+    Ok(more)
 }
 
 #[cycle(closed)]
 fn closed(alloc: Global, parts: &Parts, follow: &Follow) -> Result<Block, AllocError>
     ensures { IfOk result (λ b. b ≡ spec.closed parts.now follow.now) }
 {
-    let behind = closed_list(alloc, parts, follow)?;
+    let next = Behind::of(alloc, follow.next.clone()?);
+    let behind = closed_list(alloc, parts, follow, next)?;
     behind.into_block(alloc)
 }
 
-/// The statements of the program that statements of a source become: what follows a statement stands in the branches that come to it. It fails only
-/// when out of memory.
+/// The statements of the program that statements of a source become, where nothing follows them. It fails only when out of memory.
+pub fn closed_parts(alloc: Global, parts: &Parts) -> Result<Vec<Stmt>, AllocError>
+    ensures { IfOk result (λ all. block_of all.items ≡ spec.closed parts.now spec.nothing) }
+{
+    let nothing = nothing(alloc)?;
+    let end = no_statements(alloc)?;
+    let behind = closed_list(alloc, parts, &nothing, Behind::of(alloc, end))?;
+    behind.into_statements()
+}
+
+/// The same of statements in a list.
 pub fn closed_statements(alloc: Global, parts: Vec<Part>) -> Result<Vec<Stmt>, AllocError>
     ensures { IfOk result (λ all. block_of all.items ≡ spec.closed (sources_of parts.items) spec.nothing) }
 {
     let parts = Arc::new(alloc, parts)?;
-    let nothing = nothing(alloc)?;
-    let behind = closed_list(alloc, &Parts { parts }, &nothing)?;
-    behind.into_statements()
+    closed_parts(alloc, &Parts { parts })
 }

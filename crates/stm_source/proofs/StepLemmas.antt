@@ -1,5 +1,5 @@
 -- One turn of each reader that reads one thing after the other, at turn i of n: what it answers is what all of it does.
-use Rattle.std.proofs.Common.{◌≡◌, ℕ, suc, ◌-◌, ◌+◌, ◌<◌, ◌≤◌, List, [], ◌∷◌, ◌++◌, true, false, Option, Some, None, Ok, Err, refl, sym, ap, ◌∙◌, arith}
+use Rattle.std.proofs.Common.{◌≡◌, ℕ, suc, ◌-◌, ◌+◌, ◌<◌, ◌≤◌, List, [], ◌∷◌, ◌++◌, Bool, true, false, Option, Some, None, Ok, Err, refl, sym, ap, ◌∙◌, arith}
 use Rattle.std.proofs.lemmas.List.{append-nil, append_assoc}
 use Rattle.stm_tokens.specs.declared.token.Token.{Token}
 use Rattle.stm_tokens.specs.declared.token.Symbol.TheVariants.{Comma, And, RightBrace, RightParenthesis}
@@ -10,7 +10,8 @@ use Rattle.stm_terms.specs.declared.faults.BadSource.{BadSource}
 use Rattle.stm_terms.specs.declared.faults.SourceError.{SourceError}
 use Rattle.stm_terms.specs.declared.faults.SourceError.TheVariants.{OutOfMemory, Bad}
 use Rattle.stm_source.specs.declared.starts.Options.{Options}
-use Rattle.stm_terms.specs.declared.arguments.Arguments.{Arguments}
+use Rattle.stm_terms.specs.declared.constants.Constants.{Constants}
+use Rattle.stm_terms.specs.declared.scope.Scope.{Scope}
 use Rattle.stm_terms.specs.declared.arguments.Argument.TheVariants.{Either}
 use Rattle.stm_terms.specs.declared.arguments.Given.{Given}
 use Rattle.stm_source.specs.declared.definitions.Definitions.{Definitions}
@@ -18,7 +19,8 @@ use Rattle.stm_source.specs.declared.story.Story.{Story}
 use Rattle.stm_terms.specs.Cursor.{unexpected, after_symbol, expect_symbol, skip_semicolon}
 use Rattle.stm_source.specs.Events.{copies, is_turn, turn_at, turns_from, new_name_at, ReadNames, names_from, next_option, options_from, start_one, start_named}
 use Rattle.stm_terms.specs.Outcome.{Outcome, Read, ReturnsFault}
-use Rattle.stm_source.specs.Definitions.{argument_at, arguments_from, free_name_at, parameters_from, given_as, open_given}
+use Rattle.stm_terms.specs.Literals.{argument_at, given_as}
+use Rattle.stm_source.specs.Definitions.{arguments_from, free_name_at, ReadParameters, parameters_end, parameters_from, open_given}
 use Rattle.stm_source.specs.Programs.{key_at, with_key, keys_from}
 use Rattle.stm_source.specs.Sources.{at_end, item_at, items_from}
 use Rattle.stm_source.specs.Txns.{compare_at, compares_from, operation_at, operations_from}
@@ -31,14 +33,14 @@ fault_of (Bad f) part whole passes h = passes f h
 
 -- ---- keys
 
-pub keys_fault : (e : SourceError) (g : Arguments) (n i : ℕ) (xs : List (List ℕ)) (tokens : List Token) (total : Read (List (List ℕ))) → i < n
+pub keys_fault : (e : SourceError) (g : Scope) (n i : ℕ) (xs : List (List ℕ)) (tokens : List Token) (total : Read (List (List ℕ))) → i < n
     → ReturnsFault e (key_at g xs tokens) → keys_from g (n - i) xs tokens ≡ total → ReturnsFault e total
 unfolding keys_from
 keys_fault e g n i xs tokens total less is so_far =
     let k : n - i ≡ suc (n - (i + 1)) = omega arith in
     fault_of e (key_at g xs tokens) total (λ f bad. let one : keys_from g (n - i) xs tokens ≡ Err f = rw (k, bad) refl in sym so_far ∙ one) is
 
-pub keys_more : (g : Arguments) (n i : ℕ) (xs : List (List ℕ)) (x : Option (List ℕ)) (tokens behind next : List Token) (total : Read (List (List ℕ))) → i < n
+pub keys_more : (g : Scope) (n i : ℕ) (xs : List (List ℕ)) (x : Option (List ℕ)) (tokens behind next : List Token) (total : Read (List (List ℕ))) → i < n
     → key_at g xs tokens ≡ Ok (x, behind) → after_symbol Comma behind ≡ Some next → keys_from g (n - i) xs tokens ≡ total
     → keys_from g (n - (i + 1)) (with_key xs x) next ≡ total
 unfolding keys_from
@@ -47,7 +49,7 @@ keys_more g n i xs x tokens behind next total less is follows so_far =
     let one : keys_from g (n - i) xs tokens ≡ keys_from g (n - (i + 1)) (with_key xs x) next = rw (k, is, follows) refl in
     sym one ∙ so_far
 
-pub keys_over : (e : SourceError) (g : Arguments) (n i : ℕ) (xs : List (List ℕ)) (tokens : List Token) (total : Read (List (List ℕ))) → n ≤ i
+pub keys_over : (e : SourceError) (g : Scope) (n i : ℕ) (xs : List (List ℕ)) (tokens : List Token) (total : Read (List (List ℕ))) → n ≤ i
     → e ≡ Bad (unexpected tokens) → keys_from g (n - i) xs tokens ≡ total → ReturnsFault e total
 unfolding keys_from
 keys_over e g n i xs tokens total over is so_far =
@@ -55,7 +57,7 @@ keys_over e g n i xs tokens total over is so_far =
     let one : keys_from g (n - i) xs tokens ≡ Err (unexpected tokens) = rw k refl in
     rw is (sym so_far ∙ one)
 
-pub keys_last : (g : Arguments) (n i : ℕ) (xs : List (List ℕ)) (x : Option (List ℕ)) (tokens behind rest : List Token) (total : Read (List (List ℕ))) → i < n
+pub keys_last : (g : Scope) (n i : ℕ) (xs : List (List ℕ)) (x : Option (List ℕ)) (tokens behind rest : List Token) (total : Read (List (List ℕ))) → i < n
     → key_at g xs tokens ≡ Ok (x, behind) → after_symbol Comma behind ≡ None → expect_symbol RightParenthesis behind ≡ Ok rest
     → keys_from g (n - i) xs tokens ≡ total → total ≡ Ok (with_key xs x, rest)
 unfolding keys_from
@@ -64,7 +66,7 @@ keys_last g n i xs x tokens behind rest total less is ends closed so_far =
     let one : keys_from g (n - i) xs tokens ≡ Ok (with_key xs x, rest) = rw (k, is, ends, closed) refl in
     sym so_far ∙ one
 
-pub keys_unclosed : (e : SourceError) (g : Arguments) (n i : ℕ) (xs : List (List ℕ)) (x : Option (List ℕ)) (tokens behind : List Token)
+pub keys_unclosed : (e : SourceError) (g : Scope) (n i : ℕ) (xs : List (List ℕ)) (x : Option (List ℕ)) (tokens behind : List Token)
     (total : Read (List (List ℕ))) → i < n → key_at g xs tokens ≡ Ok (x, behind) → after_symbol Comma behind ≡ None
     → ReturnsFault e (expect_symbol RightParenthesis behind) → keys_from g (n - i) xs tokens ≡ total → ReturnsFault e total
 unfolding keys_from
@@ -75,124 +77,124 @@ keys_unclosed e g n i xs x tokens behind total less is ends unclosed so_far =
 
 -- ---- arguments
 
-pub arguments_fault : (e : SourceError) (n i : ℕ) (xs : List Given) (tokens : List Token) (total : Read (List Given)) → i < n
-    → ReturnsFault e (argument_at tokens) → arguments_from (n - i) xs tokens ≡ total → ReturnsFault e total
+pub arguments_fault : (e : SourceError) (cs : Constants) (n i : ℕ) (xs : List Given) (tokens : List Token) (total : Read (List Given)) → i < n
+    → ReturnsFault e (argument_at cs tokens) → arguments_from cs (n - i) xs tokens ≡ total → ReturnsFault e total
 unfolding arguments_from
-arguments_fault e n i xs tokens total less is so_far =
+arguments_fault e cs n i xs tokens total less is so_far =
     let k : n - i ≡ suc (n - (i + 1)) = omega arith in
-    fault_of e (argument_at tokens) total (λ f bad. let one : arguments_from (n - i) xs tokens ≡ Err f = rw (k, bad) refl in sym so_far ∙ one) is
+    fault_of e (argument_at cs tokens) total (λ f bad. let one : arguments_from cs (n - i) xs tokens ≡ Err f = rw (k, bad) refl in sym so_far ∙ one) is
 
-pub arguments_more : (n i : ℕ) (xs : List Given) (x : Given) (tokens behind next : List Token) (total : Read (List Given)) → i < n
-    → argument_at tokens ≡ Ok (x, behind) → after_symbol Comma behind ≡ Some next → arguments_from (n - i) xs tokens ≡ total
-    → arguments_from (n - (i + 1)) (xs ++ x ∷ []) next ≡ total
+pub arguments_more : (cs : Constants) (n i : ℕ) (xs : List Given) (x : Given) (tokens behind next : List Token) (total : Read (List Given)) → i < n
+    → argument_at cs tokens ≡ Ok (x, behind) → after_symbol Comma behind ≡ Some next → arguments_from cs (n - i) xs tokens ≡ total
+    → arguments_from cs (n - (i + 1)) (xs ++ x ∷ []) next ≡ total
 unfolding arguments_from
-arguments_more n i xs x tokens behind next total less is follows so_far =
+arguments_more cs n i xs x tokens behind next total less is follows so_far =
     let k : n - i ≡ suc (n - (i + 1)) = omega arith in
-    let one : arguments_from (n - i) xs tokens ≡ arguments_from (n - (i + 1)) (xs ++ x ∷ []) next = rw (k, is, follows) refl in
+    let one : arguments_from cs (n - i) xs tokens ≡ arguments_from cs (n - (i + 1)) (xs ++ x ∷ []) next = rw (k, is, follows) refl in
     sym one ∙ so_far
 
-pub arguments_over : (e : SourceError) (n i : ℕ) (xs : List Given) (tokens : List Token) (total : Read (List Given)) → n ≤ i
-    → e ≡ Bad (unexpected tokens) → arguments_from (n - i) xs tokens ≡ total → ReturnsFault e total
+pub arguments_over : (e : SourceError) (cs : Constants) (n i : ℕ) (xs : List Given) (tokens : List Token) (total : Read (List Given)) → n ≤ i
+    → e ≡ Bad (unexpected tokens) → arguments_from cs (n - i) xs tokens ≡ total → ReturnsFault e total
 unfolding arguments_from
-arguments_over e n i xs tokens total over is so_far =
+arguments_over e cs n i xs tokens total over is so_far =
     let k : n - i ≡ 0 = omega arith in
-    let one : arguments_from (n - i) xs tokens ≡ Err (unexpected tokens) = rw k refl in
+    let one : arguments_from cs (n - i) xs tokens ≡ Err (unexpected tokens) = rw k refl in
     rw is (sym so_far ∙ one)
 
-pub arguments_last : (n i : ℕ) (xs : List Given) (x : Given) (tokens behind rest : List Token) (total : Read (List Given)) → i < n
-    → argument_at tokens ≡ Ok (x, behind) → after_symbol Comma behind ≡ None → expect_symbol RightParenthesis behind ≡ Ok rest
-    → arguments_from (n - i) xs tokens ≡ total → total ≡ Ok (xs ++ x ∷ [], rest)
+pub arguments_last : (cs : Constants) (n i : ℕ) (xs : List Given) (x : Given) (tokens behind rest : List Token) (total : Read (List Given)) → i < n
+    → argument_at cs tokens ≡ Ok (x, behind) → after_symbol Comma behind ≡ None → expect_symbol RightParenthesis behind ≡ Ok rest
+    → arguments_from cs (n - i) xs tokens ≡ total → total ≡ Ok (xs ++ x ∷ [], rest)
 unfolding arguments_from
-arguments_last n i xs x tokens behind rest total less is ends closed so_far =
+arguments_last cs n i xs x tokens behind rest total less is ends closed so_far =
     let k : n - i ≡ suc (n - (i + 1)) = omega arith in
-    let one : arguments_from (n - i) xs tokens ≡ Ok (xs ++ x ∷ [], rest) = rw (k, is, ends, closed) refl in
+    let one : arguments_from cs (n - i) xs tokens ≡ Ok (xs ++ x ∷ [], rest) = rw (k, is, ends, closed) refl in
     sym so_far ∙ one
 
-pub arguments_unclosed : (e : SourceError) (n i : ℕ) (xs : List Given) (x : Given) (tokens behind : List Token) (total : Read (List Given)) → i < n
-    → argument_at tokens ≡ Ok (x, behind) → after_symbol Comma behind ≡ None → ReturnsFault e (expect_symbol RightParenthesis behind)
-    → arguments_from (n - i) xs tokens ≡ total → ReturnsFault e total
+pub arguments_unclosed : (e : SourceError) (cs : Constants) (n i : ℕ) (xs : List Given) (x : Given) (tokens behind : List Token) (total : Read (List Given)) → i < n
+    → argument_at cs tokens ≡ Ok (x, behind) → after_symbol Comma behind ≡ None → ReturnsFault e (expect_symbol RightParenthesis behind)
+    → arguments_from cs (n - i) xs tokens ≡ total → ReturnsFault e total
 unfolding arguments_from
-arguments_unclosed e n i xs x tokens behind total less is ends unclosed so_far =
+arguments_unclosed e cs n i xs x tokens behind total less is ends unclosed so_far =
     let k : n - i ≡ suc (n - (i + 1)) = omega arith in
     fault_of e (expect_symbol RightParenthesis behind) total
-    (λ f bad. let one : arguments_from (n - i) xs tokens ≡ Err f = rw (k, is, ends, bad) refl in sym so_far ∙ one) unclosed
+    (λ f bad. let one : arguments_from cs (n - i) xs tokens ≡ Err f = rw (k, is, ends, bad) refl in sym so_far ∙ one) unclosed
 
 -- ---- parameters
 
-pub parameters_fault : (e : SourceError) (n i : ℕ) (xs : List (List ℕ)) (tokens : List Token) (total : Read (List (List ℕ))) → i < n
-    → ReturnsFault e (free_name_at xs tokens) → parameters_from (n - i) xs tokens ≡ total → ReturnsFault e total
+pub parameters_fault : (e : SourceError) (cs : Constants) (n i : ℕ) (xs : List (List ℕ)) (tokens : List Token) (total : ReadParameters) → i < n
+    → ReturnsFault e (free_name_at xs cs tokens) → parameters_from cs (n - i) xs tokens ≡ total → ReturnsFault e total
 unfolding parameters_from
-parameters_fault e n i xs tokens total less is so_far =
+parameters_fault e cs n i xs tokens total less is so_far =
     let k : n - i ≡ suc (n - (i + 1)) = omega arith in
-    fault_of e (free_name_at xs tokens) total (λ f bad. let one : parameters_from (n - i) xs tokens ≡ Err f = rw (k, bad) refl in sym so_far ∙ one) is
+    fault_of e (free_name_at xs cs tokens) total (λ f bad. let one : parameters_from cs (n - i) xs tokens ≡ Err f = rw (k, bad) refl in sym so_far ∙ one) is
 
-pub parameters_more : (n i : ℕ) (xs : List (List ℕ)) (x : (List ℕ)) (tokens behind next : List Token) (total : Read (List (List ℕ))) → i < n
-    → free_name_at xs tokens ≡ Ok (x, behind) → after_symbol Comma behind ≡ Some next → parameters_from (n - i) xs tokens ≡ total
-    → parameters_from (n - (i + 1)) (xs ++ x ∷ []) next ≡ total
+pub parameters_more : (cs : Constants) (n i : ℕ) (xs : List (List ℕ)) (x : (List ℕ)) (tokens behind next : List Token) (total : ReadParameters) → i < n
+    → free_name_at xs cs tokens ≡ Ok (x, behind) → after_symbol Comma behind ≡ Some next → parameters_from cs (n - i) xs tokens ≡ total
+    → parameters_from cs (n - (i + 1)) (xs ++ x ∷ []) next ≡ total
 unfolding parameters_from
-parameters_more n i xs x tokens behind next total less is follows so_far =
+parameters_more cs n i xs x tokens behind next total less is follows so_far =
     let k : n - i ≡ suc (n - (i + 1)) = omega arith in
-    let one : parameters_from (n - i) xs tokens ≡ parameters_from (n - (i + 1)) (xs ++ x ∷ []) next = rw (k, is, follows) refl in
+    let one : parameters_from cs (n - i) xs tokens ≡ parameters_from cs (n - (i + 1)) (xs ++ x ∷ []) next = rw (k, is, follows) refl in
     sym one ∙ so_far
 
-pub parameters_over : (e : SourceError) (n i : ℕ) (xs : List (List ℕ)) (tokens : List Token) (total : Read (List (List ℕ))) → n ≤ i
-    → e ≡ Bad (unexpected tokens) → parameters_from (n - i) xs tokens ≡ total → ReturnsFault e total
+pub parameters_over : (e : SourceError) (cs : Constants) (n i : ℕ) (xs : List (List ℕ)) (tokens : List Token) (total : ReadParameters) → n ≤ i
+    → e ≡ Bad (unexpected tokens) → parameters_from cs (n - i) xs tokens ≡ total → ReturnsFault e total
 unfolding parameters_from
-parameters_over e n i xs tokens total over is so_far =
+parameters_over e cs n i xs tokens total over is so_far =
     let k : n - i ≡ 0 = omega arith in
-    let one : parameters_from (n - i) xs tokens ≡ Err (unexpected tokens) = rw k refl in
+    let one : parameters_from cs (n - i) xs tokens ≡ Err (unexpected tokens) = rw k refl in
     rw is (sym so_far ∙ one)
 
-pub parameters_last : (n i : ℕ) (xs : List (List ℕ)) (x : (List ℕ)) (tokens behind rest : List Token) (total : Read (List (List ℕ))) → i < n
-    → free_name_at xs tokens ≡ Ok (x, behind) → after_symbol Comma behind ≡ None → expect_symbol RightParenthesis behind ≡ Ok rest
-    → parameters_from (n - i) xs tokens ≡ total → total ≡ Ok (xs ++ x ∷ [], rest)
+pub parameters_last : (cs : Constants) (n i : ℕ) (xs : List (List ℕ)) (x : (List ℕ)) (l : Bool) (tokens behind rest : List Token) (total : ReadParameters) → i < n
+    → free_name_at xs cs tokens ≡ Ok (x, behind) → after_symbol Comma behind ≡ None → parameters_end behind ≡ Ok (l, rest)
+    → parameters_from cs (n - i) xs tokens ≡ total → total ≡ Ok (xs ++ x ∷ [], l, rest)
 unfolding parameters_from
-parameters_last n i xs x tokens behind rest total less is ends closed so_far =
+parameters_last cs n i xs x l tokens behind rest total less is ends closed so_far =
     let k : n - i ≡ suc (n - (i + 1)) = omega arith in
-    let one : parameters_from (n - i) xs tokens ≡ Ok (xs ++ x ∷ [], rest) = rw (k, is, ends, closed) refl in
+    let one : parameters_from cs (n - i) xs tokens ≡ Ok (xs ++ x ∷ [], l, rest) = rw (k, is, ends, closed) refl in
     sym so_far ∙ one
 
-pub parameters_unclosed : (e : SourceError) (n i : ℕ) (xs : List (List ℕ)) (x : (List ℕ)) (tokens behind : List Token) (total : Read (List (List ℕ))) → i < n
-    → free_name_at xs tokens ≡ Ok (x, behind) → after_symbol Comma behind ≡ None → ReturnsFault e (expect_symbol RightParenthesis behind)
-    → parameters_from (n - i) xs tokens ≡ total → ReturnsFault e total
+pub parameters_unclosed : (e : SourceError) (cs : Constants) (n i : ℕ) (xs : List (List ℕ)) (x : (List ℕ)) (tokens behind : List Token) (total : ReadParameters) → i < n
+    → free_name_at xs cs tokens ≡ Ok (x, behind) → after_symbol Comma behind ≡ None → ReturnsFault e (parameters_end behind)
+    → parameters_from cs (n - i) xs tokens ≡ total → ReturnsFault e total
 unfolding parameters_from
-parameters_unclosed e n i xs x tokens behind total less is ends unclosed so_far =
+parameters_unclosed e cs n i xs x tokens behind total less is ends unclosed so_far =
     let k : n - i ≡ suc (n - (i + 1)) = omega arith in
-    fault_of e (expect_symbol RightParenthesis behind) total
-    (λ f bad. let one : parameters_from (n - i) xs tokens ≡ Err f = rw (k, is, ends, bad) refl in sym so_far ∙ one) unclosed
+    fault_of e (parameters_end behind) total
+    (λ f bad. let one : parameters_from cs (n - i) xs tokens ≡ Err f = rw (k, is, ends, bad) refl in sym so_far ∙ one) unclosed
 
 -- ---- compares
 
-pub compares_fault : (e : SourceError) (n i : ℕ) (xs : List Compare) (tokens : List Token) (total : Read (List Compare)) → i < n → ReturnsFault e (compare_at tokens)
-    → compares_from (n - i) xs tokens ≡ total → ReturnsFault e total
+pub compares_fault : (e : SourceError) (cs : Constants) (n i : ℕ) (xs : List Compare) (tokens : List Token) (total : Read (List Compare)) → i < n → ReturnsFault e (compare_at cs tokens)
+    → compares_from cs (n - i) xs tokens ≡ total → ReturnsFault e total
 unfolding compares_from
-compares_fault e n i xs tokens total less is so_far =
+compares_fault e cs n i xs tokens total less is so_far =
     let k : n - i ≡ suc (n - (i + 1)) = omega arith in
-    fault_of e (compare_at tokens) total (λ f bad. let one : compares_from (n - i) xs tokens ≡ Err f = rw (k, bad) refl in sym so_far ∙ one) is
+    fault_of e (compare_at cs tokens) total (λ f bad. let one : compares_from cs (n - i) xs tokens ≡ Err f = rw (k, bad) refl in sym so_far ∙ one) is
 
-pub compares_more : (n i : ℕ) (xs : List Compare) (x : Compare) (tokens behind next : List Token) (total : Read (List Compare)) → i < n → compare_at tokens ≡ Ok (x, behind)
-    → after_symbol And behind ≡ Some next → compares_from (n - i) xs tokens ≡ total
-    → compares_from (n - (i + 1)) (xs ++ x ∷ []) next ≡ total
+pub compares_more : (cs : Constants) (n i : ℕ) (xs : List Compare) (x : Compare) (tokens behind next : List Token) (total : Read (List Compare)) → i < n → compare_at cs tokens ≡ Ok (x, behind)
+    → after_symbol And behind ≡ Some next → compares_from cs (n - i) xs tokens ≡ total
+    → compares_from cs (n - (i + 1)) (xs ++ x ∷ []) next ≡ total
 unfolding compares_from
-compares_more n i xs x tokens behind next total less is follows so_far =
+compares_more cs n i xs x tokens behind next total less is follows so_far =
     let k : n - i ≡ suc (n - (i + 1)) = omega arith in
-    let one : compares_from (n - i) xs tokens ≡ compares_from (n - (i + 1)) (xs ++ x ∷ []) next = rw (k, is, follows) refl in
+    let one : compares_from cs (n - i) xs tokens ≡ compares_from cs (n - (i + 1)) (xs ++ x ∷ []) next = rw (k, is, follows) refl in
     sym one ∙ so_far
 
-pub compares_over : (e : SourceError) (n i : ℕ) (xs : List Compare) (tokens : List Token) (total : Read (List Compare)) → n ≤ i → e ≡ Bad (unexpected tokens)
-    → compares_from (n - i) xs tokens ≡ total → ReturnsFault e total
+pub compares_over : (e : SourceError) (cs : Constants) (n i : ℕ) (xs : List Compare) (tokens : List Token) (total : Read (List Compare)) → n ≤ i → e ≡ Bad (unexpected tokens)
+    → compares_from cs (n - i) xs tokens ≡ total → ReturnsFault e total
 unfolding compares_from
-compares_over e n i xs tokens total over is so_far =
+compares_over e cs n i xs tokens total over is so_far =
     let k : n - i ≡ 0 = omega arith in
-    let one : compares_from (n - i) xs tokens ≡ Err (unexpected tokens) = rw k refl in
+    let one : compares_from cs (n - i) xs tokens ≡ Err (unexpected tokens) = rw k refl in
     rw is (sym so_far ∙ one)
 
-pub compares_last : (n i : ℕ) (xs : List Compare) (x : Compare) (tokens behind : List Token) (total : Read (List Compare)) → i < n → compare_at tokens ≡ Ok (x, behind)
-    → after_symbol And behind ≡ None → compares_from (n - i) xs tokens ≡ total → total ≡ Ok (xs ++ x ∷ [], behind)
+pub compares_last : (cs : Constants) (n i : ℕ) (xs : List Compare) (x : Compare) (tokens behind : List Token) (total : Read (List Compare)) → i < n → compare_at cs tokens ≡ Ok (x, behind)
+    → after_symbol And behind ≡ None → compares_from cs (n - i) xs tokens ≡ total → total ≡ Ok (xs ++ x ∷ [], behind)
 unfolding compares_from
-compares_last n i xs x tokens behind total less is ends so_far =
+compares_last cs n i xs x tokens behind total less is ends so_far =
     let k : n - i ≡ suc (n - (i + 1)) = omega arith in
-    let one : compares_from (n - i) xs tokens ≡ Ok (xs ++ x ∷ [], behind) = rw (k, is, ends) refl in
+    let one : compares_from cs (n - i) xs tokens ≡ Ok (xs ++ x ∷ [], behind) = rw (k, is, ends) refl in
     sym so_far ∙ one
 
 -- ---- names
@@ -232,37 +234,37 @@ names_last n i xs x tokens behind total less is ends so_far =
 
 -- ---- operations
 
-pub operations_closed : (n i : ℕ) (xs : List Op) (tokens rest : List Token) (total : Read (List Op)) → i < n → after_symbol RightBrace tokens ≡ Some rest
-    → operations_from (n - i) xs tokens ≡ total → total ≡ Ok (xs, rest)
+pub operations_closed : (cs : Constants) (n i : ℕ) (xs : List Op) (tokens rest : List Token) (total : Read (List Op)) → i < n → after_symbol RightBrace tokens ≡ Some rest
+    → operations_from cs (n - i) xs tokens ≡ total → total ≡ Ok (xs, rest)
 unfolding operations_from
-operations_closed n i xs tokens rest total less closed so_far =
+operations_closed cs n i xs tokens rest total less closed so_far =
     let k : n - i ≡ suc (n - (i + 1)) = omega arith in
-    let one : operations_from (n - i) xs tokens ≡ Ok (xs, rest) = rw (k, closed) refl in
+    let one : operations_from cs (n - i) xs tokens ≡ Ok (xs, rest) = rw (k, closed) refl in
     sym so_far ∙ one
 
-pub operations_fault : (e : SourceError) (n i : ℕ) (xs : List Op) (tokens : List Token) (total : Read (List Op)) → i < n
-    → after_symbol RightBrace tokens ≡ None → ReturnsFault e (operation_at tokens) → operations_from (n - i) xs tokens ≡ total → ReturnsFault e total
+pub operations_fault : (e : SourceError) (cs : Constants) (n i : ℕ) (xs : List Op) (tokens : List Token) (total : Read (List Op)) → i < n
+    → after_symbol RightBrace tokens ≡ None → ReturnsFault e (operation_at cs tokens) → operations_from cs (n - i) xs tokens ≡ total → ReturnsFault e total
 unfolding operations_from
-operations_fault e n i xs tokens total less unclosed is so_far =
+operations_fault e cs n i xs tokens total less unclosed is so_far =
     let k : n - i ≡ suc (n - (i + 1)) = omega arith in
-    fault_of e (operation_at tokens) total
-    (λ f bad. let one : operations_from (n - i) xs tokens ≡ Err f = rw (k, unclosed, bad) refl in sym so_far ∙ one) is
+    fault_of e (operation_at cs tokens) total
+    (λ f bad. let one : operations_from cs (n - i) xs tokens ≡ Err f = rw (k, unclosed, bad) refl in sym so_far ∙ one) is
 
-pub operations_more : (n i : ℕ) (xs : List Op) (x : Op) (tokens behind : List Token) (total : Read (List Op)) → i < n
-    → after_symbol RightBrace tokens ≡ None → operation_at tokens ≡ Ok (x, behind) → operations_from (n - i) xs tokens ≡ total
-    → operations_from (n - (i + 1)) (xs ++ x ∷ []) (skip_semicolon behind) ≡ total
+pub operations_more : (cs : Constants) (n i : ℕ) (xs : List Op) (x : Op) (tokens behind : List Token) (total : Read (List Op)) → i < n
+    → after_symbol RightBrace tokens ≡ None → operation_at cs tokens ≡ Ok (x, behind) → operations_from cs (n - i) xs tokens ≡ total
+    → operations_from cs (n - (i + 1)) (xs ++ x ∷ []) (skip_semicolon behind) ≡ total
 unfolding operations_from
-operations_more n i xs x tokens behind total less unclosed is so_far =
+operations_more cs n i xs x tokens behind total less unclosed is so_far =
     let k : n - i ≡ suc (n - (i + 1)) = omega arith in
-    let one : operations_from (n - i) xs tokens ≡ operations_from (n - (i + 1)) (xs ++ x ∷ []) (skip_semicolon behind) = rw (k, unclosed, is) refl in
+    let one : operations_from cs (n - i) xs tokens ≡ operations_from cs (n - (i + 1)) (xs ++ x ∷ []) (skip_semicolon behind) = rw (k, unclosed, is) refl in
     sym one ∙ so_far
 
-pub operations_over : (e : SourceError) (n i : ℕ) (xs : List Op) (tokens : List Token) (total : Read (List Op)) → n ≤ i → e ≡ Bad (unexpected tokens)
-    → operations_from (n - i) xs tokens ≡ total → ReturnsFault e total
+pub operations_over : (e : SourceError) (cs : Constants) (n i : ℕ) (xs : List Op) (tokens : List Token) (total : Read (List Op)) → n ≤ i → e ≡ Bad (unexpected tokens)
+    → operations_from cs (n - i) xs tokens ≡ total → ReturnsFault e total
 unfolding operations_from
-operations_over e n i xs tokens total over is so_far =
+operations_over e cs n i xs tokens total over is so_far =
     let k : n - i ≡ 0 = omega arith in
-    let one : operations_from (n - i) xs tokens ≡ Err (unexpected tokens) = rw k refl in
+    let one : operations_from cs (n - i) xs tokens ≡ Err (unexpected tokens) = rw k refl in
     rw is (sym so_far ∙ one)
 
 -- ---- turns

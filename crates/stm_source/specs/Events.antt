@@ -22,10 +22,13 @@ use Rattle.stm_source.specs.declared.story.Wait.{Wait}
 use Rattle.stm_source.specs.declared.starts.Options.{Options}
 use Rattle.stm_source.specs.declared.starts.After.{After}
 use Rattle.stm_terms.specs.Outcome.{Outcome, Read, bad, ◌>>=◌}
-use Rattle.stm_terms.specs.Cursor.{place, unexpected, after_symbol, after_name, expect_name, next_name, next_number, text_at}
+use Rattle.stm_terms.specs.Cursor.{place, unexpected, after_symbol, after_name, expect_name, next_name, next_number}
+use Rattle.stm_terms.specs.declared.constants.Constants.{Constants}
+use Rattle.stm_terms.specs.Constants.{text_at}
 use Rattle.stm_source.specs.declared.definitions.Definitions.{Definitions}
 use Rattle.stm_source.specs.Bulk.{program_bulk}
-use Rattle.stm_source.specs.Definitions.{ReadProgram, look_of, bound_program, named_program, definition_named}
+use Rattle.stm_source.specs.Definitions.{ReadProgram, look_of, no_arguments, named_program, definition_named}
+use Rattle.stm_source.specs.Programs.{program_at}
 use Rattle.stm_source.specs.Txns.{number_at, txn_at}
 use Rattle.stm_source.specs.Words.{event_word, level_word}
 
@@ -39,46 +42,46 @@ plain_by most tokens (Some p) = if nat_le p.0 most then Ok p else bad (place tok
 abbrev pub plain_number : ℕ → List Token → Read ℕ
 plain_number most tokens = plain_by most tokens (next_number tokens)
 
-abbrev pub grant_at : List Token → Read WorldEvent
-grant_at tokens =
-    number_at tokens >>= λ id. expect_name (codes "ttl") id.1 >>= λ rest. number_at rest >>= λ ttl. Ok (Grant id.0 ttl.0, ttl.1)
+abbrev pub grant_at : Constants → List Token → Read WorldEvent
+grant_at constants tokens =
+    number_at constants tokens >>= λ id. expect_name (codes "ttl") id.1 >>= λ rest. number_at constants rest >>= λ ttl. Ok (Grant id.0 ttl.0, ttl.1)
 
-abbrev pub keep_at : List Token → Read WorldEvent
-keep_at tokens = number_at tokens >>= λ id. Ok (Keep id.0, id.1)
+abbrev pub keep_at : Constants → List Token → Read WorldEvent
+keep_at constants tokens = number_at constants tokens >>= λ id. Ok (Keep id.0, id.1)
 
-abbrev pub revoke_at : List Token → Read WorldEvent
-revoke_at tokens = number_at tokens >>= λ id. Ok (Revoke id.0, id.1)
+abbrev pub revoke_at : Constants → List Token → Read WorldEvent
+revoke_at constants tokens = number_at constants tokens >>= λ id. Ok (Revoke id.0, id.1)
 
-abbrev pub advance_at : List Token → Read WorldEvent
-advance_at tokens = expect_name (codes "to") tokens >>= λ rest. number_at rest >>= λ now. Ok (Advance now.0, now.1)
+abbrev pub advance_at : Constants → List Token → Read WorldEvent
+advance_at constants tokens = expect_name (codes "to") tokens >>= λ rest. number_at constants rest >>= λ now. Ok (Advance now.0, now.1)
 
 -- the revision that a watcher begins at: 0 where it is not said
-abbrev pub from_by : List Token → Option (List Token) → Read ℕ
-from_by tokens None = Ok (0, tokens)
-from_by tokens (Some rest) = number_at rest
+abbrev pub from_by : Constants → List Token → Option (List Token) → Read ℕ
+from_by constants tokens None = Ok (0, tokens)
+from_by constants tokens (Some rest) = number_at constants rest
 
-abbrev pub from_at : List Token → Read ℕ
-from_at tokens = from_by tokens (after_name (codes "from") tokens)
+abbrev pub from_at : Constants → List Token → Read ℕ
+from_at constants tokens = from_by constants tokens (after_name (codes "from") tokens)
 
-abbrev pub watch_by : List ℕ → List Token → Option (List Token) → Read WorldEvent
-watch_by first tokens None = from_at tokens >>= λ from. Ok (WatchKey first from.0, from.1)
-watch_by first tokens (Some rest) = text_at rest >>= λ end. from_at end.1 >>= λ from. Ok (WatchRange first end.0 from.0, from.1)
+abbrev pub watch_by : Constants → List ℕ → List Token → Option (List Token) → Read WorldEvent
+watch_by constants first tokens None = from_at constants tokens >>= λ from. Ok (WatchKey first from.0, from.1)
+watch_by constants first tokens (Some rest) = text_at constants rest >>= λ end. from_at constants end.1 >>= λ from. Ok (WatchRange first end.0 from.0, from.1)
 
-abbrev pub watch_at : List Token → Read WorldEvent
-watch_at tokens = text_at tokens >>= λ first. watch_by first.0 first.1 (after_symbol symbol.Dots first.1)
+abbrev pub watch_at : Constants → List Token → Read WorldEvent
+watch_at constants tokens = text_at constants tokens >>= λ first. watch_by constants first.0 first.1 (after_symbol symbol.Dots first.1)
 
-abbrev pub poll_at : List Token → Read WorldEvent
-poll_at tokens =
-    number_at tokens >>= λ id. expect_name (codes "max") id.1 >>= λ rest. number_at rest >>= λ most. Ok (Poll id.0 most.0, most.1)
+abbrev pub poll_at : Constants → List Token → Read WorldEvent
+poll_at constants tokens =
+    number_at constants tokens >>= λ id. expect_name (codes "max") id.1 >>= λ rest. number_at constants rest >>= λ most. Ok (Poll id.0 most.0, most.1)
 
-abbrev pub cancel_at : List Token → Read WorldEvent
-cancel_at tokens = number_at tokens >>= λ id. Ok (Cancel id.0, id.1)
+abbrev pub cancel_at : Constants → List Token → Read WorldEvent
+cancel_at constants tokens = number_at constants tokens >>= λ id. Ok (Cancel id.0, id.1)
 
-abbrev pub compact_at : List Token → Read WorldEvent
-compact_at tokens = number_at tokens >>= λ revision. Ok (Compact revision.0, revision.1)
+abbrev pub compact_at : Constants → List Token → Read WorldEvent
+compact_at constants tokens = number_at constants tokens >>= λ revision. Ok (Compact revision.0, revision.1)
 
-abbrev pub txn_event_at : List Token → Read WorldEvent
-txn_event_at tokens = txn_at tokens >>= λ t. Ok (Txn t.0, t.1)
+abbrev pub txn_event_at : Constants → List Token → Read WorldEvent
+txn_event_at constants tokens = txn_at constants tokens >>= λ t. Ok (Txn t.0, t.1)
 
 -- ---- the scenario so far
 
@@ -298,8 +301,8 @@ started_with story at program o =
     if nat_eq o.named 0 then start_one at program o false story else start_named at program o o.named story
 
 abbrev pub program_by_name : List Token → Definitions → List Token → Option (List ℕ × List Token) → ReadProgram
-program_by_name all definitions tokens None = bound_program (look_of (place tokens) false) [] [] tokens >>= λ p. Ok (p.0, 0, p.1)
-program_by_name all definitions tokens (Some p) = named_program all (place tokens) p.1 (definition_named definitions p.0)
+program_by_name all definitions tokens None = program_at (look_of definitions.constants (place tokens) false) no_arguments tokens >>= λ p. Ok (p.0, 0, p.1)
+program_by_name all definitions tokens (Some p) = named_program definitions.constants all (place tokens) p.1 (definition_named definitions p.0)
 
 -- one that the start names, or its own in braces
 abbrev pub started_program : List Token → Definitions → List Token → ReadProgram
@@ -343,20 +346,20 @@ begin_at story tokens rest =
 -- ---- an event
 
 -- an event of the store, behind its word; no other has its place here
-abbrev pub store_event_at : EventWord → List Token → Read WorldEvent
-store_event_at event.Txn tokens = txn_event_at tokens
-store_event_at event.Grant tokens = grant_at tokens
-store_event_at event.Keep tokens = keep_at tokens
-store_event_at event.Revoke tokens = revoke_at tokens
-store_event_at event.Advance tokens = advance_at tokens
-store_event_at event.Watch tokens = watch_at tokens
-store_event_at event.Poll tokens = poll_at tokens
-store_event_at event.Cancel tokens = cancel_at tokens
-store_event_at event.Compact tokens = compact_at tokens
-store_event_at _ tokens = Err (unexpected tokens)
+abbrev pub store_event_at : Constants → EventWord → List Token → Read WorldEvent
+store_event_at constants event.Txn tokens = txn_event_at constants tokens
+store_event_at constants event.Grant tokens = grant_at constants tokens
+store_event_at constants event.Keep tokens = keep_at constants tokens
+store_event_at constants event.Revoke tokens = revoke_at constants tokens
+store_event_at constants event.Advance tokens = advance_at constants tokens
+store_event_at constants event.Watch tokens = watch_at constants tokens
+store_event_at constants event.Poll tokens = poll_at constants tokens
+store_event_at constants event.Cancel tokens = cancel_at constants tokens
+store_event_at constants event.Compact tokens = compact_at constants tokens
+store_event_at constants _ tokens = Err (unexpected tokens)
 
 abbrev pub event_at : List Token → Definitions → Story → EventWord → List Token → List Token → Outcome (Story × List Token)
 event_at all definitions story event.Begin tokens rest = begin_at story tokens rest
 event_at all definitions story event.Start tokens rest = start_at all definitions story (place tokens) rest
 event_at all definitions story event.Step tokens rest = step_at story rest
-event_at all definitions story w tokens rest = one_event story (place tokens) (store_event_at w rest)
+event_at all definitions story w tokens rest = one_event story (place tokens) (store_event_at definitions.constants w rest)

@@ -1,8 +1,10 @@
 pub mod Bulk
+pub mod Constants
 pub mod Definitions
 pub mod Events
 pub mod Kept
 pub mod Leaving
+pub mod Loops
 pub mod Programs
 pub mod Rules
 pub mod Runners

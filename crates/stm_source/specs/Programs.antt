@@ -15,7 +15,7 @@ use Rattle.stm_terms.specs.Outcome.{Outcome, Read, bad, ◌>>=◌}
 use Rattle.stm_terms.specs.Cursor.{place, unexpected, after_symbol, after_word, expect_symbol, skip_semicolon}
 use Rattle.stm_terms.specs.declared.arguments.Arguments.{Arguments}
 use Rattle.stm_terms.specs.declared.arguments.GivenText.{GivenText}
-use Rattle.stm_terms.specs.Arguments.{text_given}
+use Rattle.stm_terms.specs.Literals.{text_given}
 use Rattle.stm_terms.specs.Room.{block_room}
 use Rattle.stm_terms.specs.Scope.{numbered_from}
 use Rattle.stm_source.specs.declared.programs.Look.{Look}
@@ -43,8 +43,8 @@ key_behind keys at key rest =
     if nat_le MAX_PREFETCH (length keys) then bad at cause.TooMany
     else (new_key keys key.at key.text >>= λ u. Ok (key.text, rest))
 
-abbrev pub key_at : Arguments → List (List ℕ) → List Token → Read (Option (List ℕ))
-key_at arguments keys tokens = text_given arguments tokens >>= λ x. key_behind keys (place tokens) x.0 x.1
+abbrev pub key_at : Scope → List (List ℕ) → List Token → Read (Option (List ℕ))
+key_at scope keys tokens = text_given scope tokens >>= λ x. key_behind keys (place tokens) x.0 x.1
 
 abbrev pub with_key : List (List ℕ) → Option (List ℕ) → List (List ℕ)
 with_key keys None = keys
@@ -55,19 +55,19 @@ keys_behind more keys tokens (Some rest) = more keys rest
 keys_behind more keys tokens None = expect_symbol symbol.RightParenthesis tokens >>= λ rest. Ok (keys, rest)
 
 -- keys after these, at most so many
-unfoldable pub keys_from : Arguments → ℕ → List (List ℕ) → List Token → Read (List (List ℕ))
-keys_from arguments zero keys tokens = Err (unexpected tokens)
-keys_from arguments (suc more) keys tokens =
-    key_at arguments keys tokens >>= λ x. keys_behind (keys_from arguments more) (with_key keys x.0) x.1 (after_symbol symbol.Comma x.1)
+unfoldable pub keys_from : Scope → ℕ → List (List ℕ) → List Token → Read (List (List ℕ))
+keys_from scope zero keys tokens = Err (unexpected tokens)
+keys_from scope (suc more) keys tokens =
+    key_at scope keys tokens >>= λ x. keys_behind (keys_from scope more) (with_key keys x.0) x.1 (after_symbol symbol.Comma x.1)
 
-abbrev pub list_behind : Arguments → List Token → Option (List Token) → Read (List (List ℕ))
-list_behind arguments tokens None = Ok ([], tokens)
-list_behind arguments tokens (Some rest) =
-    expect_symbol symbol.LeftParenthesis rest >>= λ inner. keys_from arguments (length inner) [] inner >>= λ x. Ok (x.0, skip_semicolon x.1)
+abbrev pub list_behind : Scope → List Token → Option (List Token) → Read (List (List ℕ))
+list_behind scope tokens None = Ok ([], tokens)
+list_behind scope tokens (Some rest) =
+    expect_symbol symbol.LeftParenthesis rest >>= λ inner. keys_from scope (length inner) [] inner >>= λ x. Ok (x.0, skip_semicolon x.1)
 
 -- the keys of the list, none where there is no list
-abbrev pub list_at : Arguments → List Token → Read (List (List ℕ))
-list_at arguments tokens = list_behind arguments tokens (after_word word.Prefetch tokens)
+abbrev pub list_at : Scope → List Token → Read (List (List ℕ))
+list_at scope tokens = list_behind scope tokens (after_word word.Prefetch tokens)
 
 -- ---- the program
 
@@ -93,7 +93,9 @@ first_scope arguments look tokens = record {
   looks_at_kinds = look.at_kinds;
   kinds_at = look.kinds_at;
   program = look.program;
+  items = [];
   arguments = arguments;
+  constants = look.constants;
   runners = look.runners;
 }
 
@@ -101,8 +103,8 @@ first_scope arguments look tokens = record {
 abbrev pub parts_at : Look → Arguments → List Token → Outcome (List (List ℕ) × Sources × List Token)
 parts_at look arguments tokens =
     expect_symbol symbol.LeftBrace tokens >>= λ inner.
-    list_at arguments inner >>= λ keys.
-    statements_at (MOST_BRACKETS - 1) Program (first_scope arguments look keys.1) keys.1 >>= λ b. Ok (keys.0, b.0, b.2)
+    list_at (first_scope arguments look inner) inner >>= λ keys.
+    statements_at (MOST_BRACKETS - 1) Program (first_scope arguments look inner) keys.1 >>= λ b. Ok (keys.0, b.0, b.2)
 
 -- a program in braces
 abbrev pub program_at : Look → Arguments → List Token → Read ProgramTree

@@ -17,6 +17,8 @@ use Rattle.stm_source.specs.declared.story.TheConstants.{MOST_BULK}
 use Rattle.stm_source.specs.declared.words.EventWord.{EventWord}
 use Rattle.stm_terms.specs.Outcome.{Outcome, bad, ◌>>=◌}
 use Rattle.stm_terms.specs.Cursor.{unexpected, after_word, next_name}
+use Rattle.stm_terms.specs.Constants.{no_constants}
+use Rattle.stm_source.specs.Constants.{define_constant_at}
 use Rattle.stm_source.specs.Definitions.{define_at}
 use Rattle.stm_source.specs.Events.{event_at}
 use Rattle.stm_source.specs.Rules.{rule_at}
@@ -46,15 +48,17 @@ event_item_at all definitions story tokens = event_item_by all definitions story
 abbrev pub Item : Type 0
 Item = Outcome (Definitions × Story × List Token)
 
-abbrev pub item_by : List Token → Definitions → Story → List Token → Option (List Token) → Option (List Token) → Option (List Token) → Item
-item_by all definitions story tokens (Some rest) rule final = define_at definitions rest >>= λ d. Ok (d.0, story, d.1)
-item_by all definitions story tokens None (Some rest) final = rule_at all definitions story false rest
-item_by all definitions story tokens None None (Some rest) = rule_at all definitions story true rest
-item_by all definitions story tokens None None None = event_item_at all definitions story tokens >>= λ e. Ok (definitions, e.0, e.1)
+abbrev pub item_by : List Token → Definitions → Story → List Token → Option (List Token) → Option (List Token) → Option (List Token) → Option (List Token) → Item
+item_by all definitions story tokens (Some rest) program rule final = define_constant_at definitions rest >>= λ d. Ok (d.0, story, d.1)
+item_by all definitions story tokens None (Some rest) rule final = define_at definitions rest >>= λ d. Ok (d.0, story, d.1)
+item_by all definitions story tokens None None (Some rest) final = rule_at all definitions story false rest
+item_by all definitions story tokens None None None (Some rest) = rule_at all definitions story true rest
+item_by all definitions story tokens None None None None = event_item_at all definitions story tokens >>= λ e. Ok (definitions, e.0, e.1)
 
 abbrev pub item_at : List Token → Definitions → Story → List Token → Item
 item_at all definitions story tokens =
-    item_by all definitions story tokens (after_word word.Program tokens) (after_word word.Rule tokens) (after_word word.Finally tokens)
+    item_by all definitions story tokens (after_word word.Let tokens) (after_word word.Program tokens) (after_word word.Rule tokens)
+    (after_word word.Finally tokens)
 
 -- the items that are left, at most so many
 unfoldable pub items_from : List Token → ℕ → Definitions → Story → List Token → Outcome Story
@@ -63,7 +67,7 @@ items_from all (suc more) definitions story tokens =
     if at_end tokens then Ok story else (item_at all definitions story tokens >>= λ x. items_from all more x.0 x.1 x.2)
 
 abbrev pub no_definitions : Definitions
-no_definitions = record { names = []; meanings = [] }
+no_definitions = record { names = []; meanings = []; constants = no_constants }
 
 abbrev pub empty_story : Story
 empty_story = record {

@@ -9,7 +9,7 @@ use Rattle.stm_tokens.specs.declared.token.Symbol.TheVariants as symbol
 use Rattle.stm_tokens.specs.declared.token.Word.{Word}
 use Rattle.stm_tokens.specs.declared.token.Word.TheVariants as word
 use Rattle.stm_tokens.specs.Same.{same_symbol, same_word}
-use Rattle.stm_program.specs.declared.limits.TheConstants.{MAX_TURNS, MAX_LEASE}
+use Rattle.stm_program.specs.declared.limits.TheConstants.{MAX_LEASE}
 use Rattle.stm_program.specs.declared.operator.Operator.TheVariants.{Add, Sub}
 use Rattle.stm_program.specs.Syntax.{Expression, Number, Variable, Statement, Set, Put, Del, Emit, Abort}
 use Rattle.stm_terms.specs.declared.faults.SourceCause.TheVariants as cause
@@ -18,13 +18,16 @@ use Rattle.stm_terms.specs.declared.look_ups.Fronted.{Fronted}
 use Rattle.stm_terms.specs.LookUps.{with_front, pair_with_front}
 use Rattle.stm_terms.specs.declared.values.Join.{Join}
 use Rattle.stm_terms.specs.declared.values.Join.TheVariants as join
-use Rattle.stm_leaving.specs.Source.{Source, Sources, Plain, Choice, Count, Nil, Next}
+use Rattle.stm_source.specs.Loops.{counted_in, limit_at, after_zero, items_of, unknown_item, room_behind}
+use Rattle.stm_leaving.specs.Source.{Source, Sources, Plain, Choice, Items, Count, Nil, Next}
 use Rattle.stm_leaving.specs.PartsView.{sources_of}
+use Rattle.stm_leaving.specs.CopiesView.{copies_of}
+use Rattle.stm_leaving.specs.Closed.{nothing, closed}
 use Rattle.stm_source.specs.declared.leaving.Around.{Around}
 use Rattle.stm_source.specs.declared.leaving.Leave.{Leave}
 use Rattle.stm_source.specs.declared.leaving.Ending.{Ending}
 use Rattle.stm_source.specs.declared.leaving.Ending.TheVariants.{GoesOn, Leaves, Aborts}
-use Rattle.stm_source.specs.Leaving.{is_left, choice_ending, in_turns, leave_word, leaving_part}
+use Rattle.stm_source.specs.Leaving.{is_left, choice_ending, in_turns, in_items, leave_word, leaving_part}
 use Rattle.stm_source.specs.declared.statements.TheConstants.{MOST_STATEMENTS}
 use Rattle.stm_source.specs.declared.statements.Simple.{Simple}
 use Rattle.stm_source.specs.declared.statements.Simple.TheVariants as simple
@@ -32,10 +35,9 @@ use Rattle.stm_terms.specs.declared.limits.TheConstants.{MOST_BRACKETS}
 use Rattle.stm_terms.specs.Outcome.{Outcome, Read, bad, ◌>>=◌}
 use Rattle.stm_terms.specs.Cursor.{place, unexpected, after_symbol, after_word, after_name, expect_symbol, expect_word, skip_semicolon}
 use Rattle.stm_terms.specs.Cursor.{next_name, next_number, open_bracket}
-use Rattle.stm_terms.specs.declared.arguments.Arguments.{Arguments}
-use Rattle.stm_terms.specs.declared.arguments.Given.{Given}
-use Rattle.stm_terms.specs.Arguments.{given_named, argument_number, number_given}
-use Rattle.stm_terms.specs.Scope.{index_of, numbered_variable, variable_of, with_name, next_of, may_give}
+use Rattle.stm_terms.specs.declared.constants.Item.{Item}
+use Rattle.stm_terms.specs.Literals.{number_given}
+use Rattle.stm_terms.specs.Scope.{variable_of, with_item, with_name, next_of, knows, may_give}
 use Rattle.stm_terms.specs.declared.kinds.Kind.{Kind}
 use Rattle.stm_terms.specs.declared.kinds.Kind.TheVariants as value_kind
 use Rattle.stm_terms.specs.Kinds.{kind_of, want}
@@ -67,13 +69,13 @@ abbrev pub simple_at : ℕ → Scope → Simple → List Token → Read (List So
 simple_at levels scope s tokens =
     bracketed_at levels scope (simple_kind s) tokens >>= λ x. with_front scope x.0 >>= λ f. Ok (plain_behind f.front (simple_of s f.expression), x.1)
 
-abbrev pub lease_behind : Arguments → List Token → Option (List Token) → Read ℕ
-lease_behind arguments tokens None = Ok (0, tokens)
-lease_behind arguments tokens (Some rest) = number_given MAX_LEASE arguments rest
+abbrev pub lease_behind : Scope → List Token → Option (List Token) → Read ℕ
+lease_behind scope tokens None = Ok (0, tokens)
+lease_behind scope tokens (Some rest) = number_given MAX_LEASE scope rest
 
 -- the lease of a put: 0 where it does not say one
 abbrev pub lease_at : Scope → List Token → Read ℕ
-lease_at scope tokens = lease_behind scope.arguments tokens (after_symbol symbol.Comma tokens)
+lease_at scope tokens = lease_behind scope tokens (after_symbol symbol.Comma tokens)
 
 abbrev pub put_at : ℕ → Scope → List Token → Read (List Source)
 put_at levels scope tokens =
@@ -205,51 +207,6 @@ choice_at block levels scope (suc more) tokens = choice_by (choice_at block leve
 
 -- ---- loops
 
-abbrev pub counted_by_number : Scope → ℕ → Option ℕ → Outcome (ℕ × Scope)
-counted_by_number scope at None = bad at cause.Name
-counted_by_number scope at (Some v) = Ok (v, scope)
-
-abbrev pub counted_anew : Scope → List ℕ → ℕ → Option ℕ → Outcome (ℕ × Scope)
-counted_anew scope name at None = bad at cause.TooMany
-counted_anew scope name at (Some v) = Ok (v, with_name scope name (if scope.looks_at_kinds then value_kind.Number else value_kind.Either))
-
-abbrev pub counted_by_name : Scope → List ℕ → ℕ → Outcome (ℕ × Scope)
-counted_by_name scope name at = if may_give scope name then counted_anew scope name at (next_of scope) else bad at cause.Name
-
--- the variable that is counted, and the names in its block
-abbrev pub counted_in : Scope → List ℕ → ℕ → Outcome (ℕ × Scope)
-counted_in scope name at = if scope.numbered then counted_by_number scope at (numbered_variable name) else counted_by_name scope name at
-
--- a count that is a number is its own limit
-abbrev pub own_limit : Expression → ℕ → List Token → Read ℕ
-own_limit (Number (pos n)) at rest = if nat_le n MAX_TURNS then Ok (n, rest) else bad at cause.Range
-own_limit (Number (negsuc n)) at rest = bad at cause.Range
-own_limit _ at rest = Err (unexpected rest)
-
-abbrev pub sole_by : Scope → List Token → Option (List ℕ × List Token) → Option Given
-sole_by scope rest None = None
-sole_by scope rest (Some p) =
-    if not (nat_eq (length p.1) (length rest)) || is_some (variable_of scope p.0) then None else given_named scope.arguments p.0
-
--- what a count stands for, where it is a parameter alone, behind which the rest comes
-abbrev pub sole_parameter : Scope → List Token → List Token → Option Given
-sole_parameter scope tokens rest = sole_by scope rest (next_name tokens)
-
-abbrev pub count_limit : Expression → ℕ → List Token → Option Given → Read ℕ
-count_limit count at rest (Some g) = argument_number MAX_TURNS g.at g.argument rest
-count_limit count at rest None = own_limit count at rest
-
-abbrev pub limit_by : Scope → Expression → List Token → List Token → Option (List Token) → Read ℕ
-limit_by scope count tokens rest None = count_limit count (place tokens) rest (sole_parameter scope tokens rest)
-limit_by scope count tokens rest (Some behind) = number_given MAX_TURNS scope.arguments behind
-
-abbrev pub limit_at : Scope → Expression → List Token → List Token → Read ℕ
-limit_at scope count tokens rest = limit_by scope count tokens rest (after_name (codes "max") rest)
-
-abbrev pub zero_behind : List Token → Option (ℕ × List Token) → Outcome (List Token)
-zero_behind tokens None = Err (unexpected tokens)
-zero_behind tokens (Some p) = if nat_eq p.0 0 then Ok p.1 else Err (unexpected tokens)
-
 -- behind the counted name
 abbrev pub counted_by : Blocks → ℕ → Scope → ℕ → Scope → List Token → Read (List Source)
 counted_by block levels scope v inner tokens =
@@ -258,19 +215,50 @@ counted_by block levels scope v inner tokens =
     limit_at scope f.expression tokens count.1 >>= λ limit.
     block inner limit.1 >>= λ body. Ok (behind_front f.front (Count v f.expression limit.0 body.0), body.2)
 
+-- behind `0 ..`; its name begins at a byte
+abbrev pub count_loop : Blocks → ℕ → Scope → ℕ → List ℕ → List Token → Read (List Source)
+count_loop block levels scope at name tokens =
+    counted_in scope name at >>= λ counted. counted_by block levels scope counted.0 counted.1 tokens
+
+-- the statements of a block for one item
+abbrev pub copy_at : Blocks → Scope → List ℕ → Item → List Token → Read Sources
+copy_at block scope name item tokens = block (with_item scope name item) tokens >>= λ b. Ok (b.0, b.2)
+
+-- how many nodes may follow a copy
+abbrev pub copy_room : ℕ → Sources → ℕ
+copy_room room copy = room_behind room (closed copy nothing)
+
+-- behind these, those for each item, read of the same tokens, while there may be more nodes
+abbrev pub copies_from : (Item → List Token → Read Sources) → List Token → ℕ → List Sources → List Item → List Token → Read (List Sources)
+copies_from copy tokens room done [] rest = Ok (done, rest)
+copies_from copy tokens room done (i ∷ is) rest =
+    if nat_eq room 0 then Ok (done, rest)
+    else (copy i tokens >>= λ c. copies_from copy tokens (copy_room room c.0) (done ++ c.0 ∷ []) is c.1)
+
+-- where there is no item, the block is read and left out
+abbrev pub copies_at : Blocks → Scope → List ℕ → List Item → List Token → Read (List Source)
+copies_at block scope name [] tokens = copy_at block scope name unknown_item tokens >>= λ c. Ok ([], c.1)
+copies_at block scope name (i ∷ is) tokens =
+    copies_from (copy_at block scope name) tokens MOST_STATEMENTS [] (i ∷ is) tokens >>= λ c. Ok (Items (copies_of c.0) ∷ [], c.1)
+
+-- behind its `in`
+abbrev pub item_loop : Blocks → ℕ → Scope → ℕ → List ℕ → List Token → Read (List Source)
+item_loop block levels scope at name tokens =
+    items_of scope at name tokens >>= λ items. copies_at block scope name items.0 items.1
+
+abbrev pub loop_in : (Around → Blocks) → ℕ → Around → Scope → ℕ → List ℕ → List Token → Option (List Token) → Read (List Source)
+loop_in block levels around scope at name tokens (Some bound) = count_loop (block (in_turns around)) levels scope at name bound
+loop_in block levels around scope at name tokens None = item_loop (block (in_items around)) levels scope at name tokens
+
 -- behind its name, which begins at a byte
 abbrev pub loop_behind : (Around → Blocks) → ℕ → Around → Scope → ℕ → List ℕ → List Token → Read (List Source)
 loop_behind block levels around scope at name tokens =
-    expect_word word.In tokens >>= λ from.
-    zero_behind from (next_number from) >>= λ dots.
-    expect_symbol symbol.Dots dots >>= λ bound.
-    counted_in scope name at >>= λ counted.
-    counted_by (block (in_turns around)) levels scope counted.0 counted.1 bound
+    expect_word word.In tokens >>= λ inner. loop_in block levels around scope at name inner (after_zero inner)
 
 abbrev pub loop_by : (Around → Blocks) → ℕ → Around → Scope → List Token → Option (List ℕ × List Token) → Read (List Source)
 loop_by block levels around scope tokens None = Err (unexpected tokens)
 loop_by block levels around scope tokens (Some p) =
-    if is_some (index_of p.0 scope.names) then bad (place tokens) cause.Name else loop_behind block levels around scope (place tokens) p.0 p.1
+    if knows scope p.0 then bad (place tokens) cause.Name else loop_behind block levels around scope (place tokens) p.0 p.1
 
 -- behind a `for`
 abbrev pub loop_at : (Around → Blocks) → ℕ → Around → Scope → List Token → Read (List Source)

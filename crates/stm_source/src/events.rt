@@ -11,8 +11,8 @@ use std::alloc::Global;
 use stm_events::WorldEvent;
 use stm_history::Text;
 use stm_terms::{
-    SourceCause, SourceError, after_name, after_symbol, expect_name, fault, next_number, place,
-    unexpected,
+    Constants, SourceCause, SourceError, after_name, after_symbol, expect_name, fault, next_number,
+    place, unexpected,
 };
 use stm_tokens::{Symbol, Token};
 
@@ -31,43 +31,55 @@ pub(crate) fn plain_number(most: u64, tokens: &[Token]) -> Result<(u64, &[Token]
     }
 }
 
-fn grant(tokens: &[Token]) -> Result<(WorldEvent, &[Token]), SourceError>
-    ensures { Returns (λ x. (x.0, x.1.now)) result (spec.grant_at tokens.now) }
+fn grant<'a>(
+    constants: &Constants,
+    tokens: &'a [Token],
+) -> Result<(WorldEvent, &'a [Token]), SourceError>
+    ensures { Returns (λ x. (x.0, x.1.now)) result (spec.grant_at constants.now tokens.now) }
 {
-    let (id, rest) = number(tokens)?;
+    let (id, rest) = number(constants, tokens)?;
     let rest = expect_name(rest, "ttl")?;
-    let (ttl, rest) = number(rest)?;
+    let (ttl, rest) = number(constants, rest)?;
     Ok((WorldEvent::Grant { id, ttl }, rest))
 }
 
-fn keep(tokens: &[Token]) -> Result<(WorldEvent, &[Token]), SourceError>
-    ensures { Returns (λ x. (x.0, x.1.now)) result (spec.keep_at tokens.now) }
+fn keep<'a>(
+    constants: &Constants,
+    tokens: &'a [Token],
+) -> Result<(WorldEvent, &'a [Token]), SourceError>
+    ensures { Returns (λ x. (x.0, x.1.now)) result (spec.keep_at constants.now tokens.now) }
 {
-    let (id, rest) = number(tokens)?;
+    let (id, rest) = number(constants, tokens)?;
     Ok((WorldEvent::Keep { id }, rest))
 }
 
-fn revoke(tokens: &[Token]) -> Result<(WorldEvent, &[Token]), SourceError>
-    ensures { Returns (λ x. (x.0, x.1.now)) result (spec.revoke_at tokens.now) }
+fn revoke<'a>(
+    constants: &Constants,
+    tokens: &'a [Token],
+) -> Result<(WorldEvent, &'a [Token]), SourceError>
+    ensures { Returns (λ x. (x.0, x.1.now)) result (spec.revoke_at constants.now tokens.now) }
 {
-    let (id, rest) = number(tokens)?;
+    let (id, rest) = number(constants, tokens)?;
     Ok((WorldEvent::Revoke { id }, rest))
 }
 
-fn advance(tokens: &[Token]) -> Result<(WorldEvent, &[Token]), SourceError>
-    ensures { Returns (λ x. (x.0, x.1.now)) result (spec.advance_at tokens.now) }
+fn advance<'a>(
+    constants: &Constants,
+    tokens: &'a [Token],
+) -> Result<(WorldEvent, &'a [Token]), SourceError>
+    ensures { Returns (λ x. (x.0, x.1.now)) result (spec.advance_at constants.now tokens.now) }
 {
     let rest = expect_name(tokens, "to")?;
-    let (now, rest) = number(rest)?;
+    let (now, rest) = number(constants, rest)?;
     Ok((WorldEvent::Advance { now }, rest))
 }
 
 /// The revision that a watcher begins at: 0 where it is not said.
-fn from(tokens: &[Token]) -> Result<(u64, &[Token]), SourceError>
-    ensures { Returns (λ x. (x.0, x.1.now)) result (spec.from_at tokens.now) }
+fn from<'a>(constants: &Constants, tokens: &'a [Token]) -> Result<(u64, &'a [Token]), SourceError>
+    ensures { Returns (λ x. (x.0, x.1.now)) result (spec.from_at constants.now tokens.now) }
 {
     match after_name(tokens, "from") {
-        Some(rest) => number(rest),
+        Some(rest) => number(constants, rest),
         None => Ok((0, tokens)),
     }
 }
@@ -75,78 +87,94 @@ fn from(tokens: &[Token]) -> Result<(u64, &[Token]), SourceError>
 /// A watcher of what begins with a key.
 fn watch_behind<'a>(
     alloc: Global,
+    constants: &Constants,
     first: Text,
     tokens: &'a [Token],
 ) -> Result<(WorldEvent, &'a [Token]), SourceError>
-    ensures { Returns (λ x. (x.0, x.1.now)) result (spec.watch_by first tokens.now (cursor.after_symbol Dots tokens.now)) }
+    ensures { Returns (λ x. (x.0, x.1.now)) result (spec.watch_by constants.now first tokens.now (cursor.after_symbol Dots tokens.now)) }
 {
     let Some(rest) = after_symbol(tokens, Symbol::Dots) else {
-        let (from, rest) = from(tokens)?;
+        let (from, rest) = from(constants, tokens)?;
         return Ok((WorldEvent::WatchKey { key: first, from }, rest));
     };
-    let (end, rest) = text(alloc, rest)?;
-    let (from, rest) = from(rest)?;
+    let (end, rest) = text(alloc, constants, rest)?;
+    let (from, rest) = from(constants, rest)?;
     Ok((WorldEvent::WatchRange { first, end, from }, rest))
 }
 
-fn watch<'a>(alloc: Global, tokens: &'a [Token]) -> Result<(WorldEvent, &'a [Token]), SourceError>
-    ensures { Returns (λ x. (x.0, x.1.now)) result (spec.watch_at tokens.now) }
+fn watch<'a>(
+    alloc: Global,
+    constants: &Constants,
+    tokens: &'a [Token],
+) -> Result<(WorldEvent, &'a [Token]), SourceError>
+    ensures { Returns (λ x. (x.0, x.1.now)) result (spec.watch_at constants.now tokens.now) }
 {
-    let (first, rest) = text(alloc, tokens)?;
-    watch_behind(alloc, first, rest)
+    let (first, rest) = text(alloc, constants, tokens)?;
+    watch_behind(alloc, constants, first, rest)
 }
 
-fn poll(tokens: &[Token]) -> Result<(WorldEvent, &[Token]), SourceError>
-    ensures { Returns (λ x. (x.0, x.1.now)) result (spec.poll_at tokens.now) }
+fn poll<'a>(
+    constants: &Constants,
+    tokens: &'a [Token],
+) -> Result<(WorldEvent, &'a [Token]), SourceError>
+    ensures { Returns (λ x. (x.0, x.1.now)) result (spec.poll_at constants.now tokens.now) }
 {
-    let (watcher, rest) = number(tokens)?;
+    let (watcher, rest) = number(constants, tokens)?;
     let rest = expect_name(rest, "max")?;
-    let (most, rest) = number(rest)?;
+    let (most, rest) = number(constants, rest)?;
     Ok((WorldEvent::Poll { watcher, most }, rest))
 }
 
-fn cancel(tokens: &[Token]) -> Result<(WorldEvent, &[Token]), SourceError>
-    ensures { Returns (λ x. (x.0, x.1.now)) result (spec.cancel_at tokens.now) }
+fn cancel<'a>(
+    constants: &Constants,
+    tokens: &'a [Token],
+) -> Result<(WorldEvent, &'a [Token]), SourceError>
+    ensures { Returns (λ x. (x.0, x.1.now)) result (spec.cancel_at constants.now tokens.now) }
 {
-    let (watcher, rest) = number(tokens)?;
+    let (watcher, rest) = number(constants, tokens)?;
     Ok((WorldEvent::Cancel { watcher }, rest))
 }
 
-fn compact(tokens: &[Token]) -> Result<(WorldEvent, &[Token]), SourceError>
-    ensures { Returns (λ x. (x.0, x.1.now)) result (spec.compact_at tokens.now) }
+fn compact<'a>(
+    constants: &Constants,
+    tokens: &'a [Token],
+) -> Result<(WorldEvent, &'a [Token]), SourceError>
+    ensures { Returns (λ x. (x.0, x.1.now)) result (spec.compact_at constants.now tokens.now) }
 {
-    let (revision, rest) = number(tokens)?;
+    let (revision, rest) = number(constants, tokens)?;
     Ok((WorldEvent::Compact { revision }, rest))
 }
 
 fn txn_event<'a>(
     alloc: Global,
+    constants: &Constants,
     tokens: &'a [Token],
 ) -> Result<(WorldEvent, &'a [Token]), SourceError>
-    ensures { Returns (λ x. (x.0, x.1.now)) result (spec.txn_event_at tokens.now) }
+    ensures { Returns (λ x. (x.0, x.1.now)) result (spec.txn_event_at constants.now tokens.now) }
 {
-    let (txn, rest) = txn(alloc, tokens)?;
+    let (txn, rest) = txn(alloc, constants, tokens)?;
     Ok((WorldEvent::Txn { txn }, rest))
 }
 
 /// An event of the store, behind its word; of another word a fault that never comes.
 pub(crate) fn store_event<'a>(
     alloc: Global,
+    constants: &Constants,
     word: EventWord,
     tokens: &'a [Token],
 ) -> Result<(WorldEvent, &'a [Token]), SourceError>
-    ensures { Returns (λ x. (x.0, x.1.now)) result (spec.store_event_at word tokens.now) }
+    ensures { Returns (λ x. (x.0, x.1.now)) result (spec.store_event_at constants.now word tokens.now) }
 {
     match word {
-        EventWord::Txn => txn_event(alloc, tokens),
-        EventWord::Grant => grant(tokens),
-        EventWord::Keep => keep(tokens),
-        EventWord::Revoke => revoke(tokens),
-        EventWord::Advance => advance(tokens),
-        EventWord::Watch => watch(alloc, tokens),
-        EventWord::Poll => poll(tokens),
-        EventWord::Cancel => cancel(tokens),
-        EventWord::Compact => compact(tokens),
+        EventWord::Txn => txn_event(alloc, constants, tokens),
+        EventWord::Grant => grant(constants, tokens),
+        EventWord::Keep => keep(constants, tokens),
+        EventWord::Revoke => revoke(constants, tokens),
+        EventWord::Advance => advance(constants, tokens),
+        EventWord::Watch => watch(alloc, constants, tokens),
+        EventWord::Poll => poll(constants, tokens),
+        EventWord::Cancel => cancel(constants, tokens),
+        EventWord::Compact => compact(constants, tokens),
         EventWord::Begin | EventWord::Start | EventWord::Step => Err(unexpected(tokens)),
     }
 }

@@ -6,9 +6,11 @@
 
 mod arguments;
 mod bulk;
+mod constants;
 mod definitions;
 mod events;
 mod leaving;
+mod loops;
 mod openings;
 mod programs;
 mod rules;

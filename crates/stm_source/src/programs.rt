@@ -14,9 +14,9 @@ use stm_program::{
     MAX_DEPTH, MAX_NODES, MAX_PREFETCH, MAX_TEXT, Program, Stmt, is_listed, list_fits,
 };
 use stm_terms::{
-    Arguments, GivenText, MOST_BRACKETS, Runners, Scope, Shared, SourceCause, SourceError,
-    after_symbol, after_word, are_numbered, expect_symbol, fault, place, skip_semicolon,
-    statements_room, unexpected,
+    Arguments, Constants, GivenText, MOST_BRACKETS, Runners, Scope, Shared, SourceCause,
+    SourceError, after_symbol, after_word, are_numbered, expect_symbol, fault, place,
+    skip_semicolon, statements_room, unexpected,
 };
 use stm_tokens::{Symbol, Token, Word};
 
@@ -31,6 +31,8 @@ pub(crate) struct Look {
     pub kinds_at: Option<usize>,
     /// In a final, the runners that it names.
     pub runners: Option<Shared<Runners>>,
+    /// What is defined above it.
+    pub constants: Shared<Constants>,
 }
 
 /// That a key may come after these. It begins at a byte.
@@ -59,13 +61,13 @@ fn new_key(keys: &[String], key: &GivenText) -> Result<(), SourceError>
 /// A key of a list, that comes after these: none where a parameter stands that is not known yet.
 fn key<'a>(
     alloc: Global,
-    arguments: &Arguments,
+    scope: &Scope,
     keys: &[String],
     tokens: &'a [Token],
 ) -> Result<(Option<Text>, &'a [Token]), SourceError>
-    ensures { Returns (λ x. (x.0, x.1.now)) result (spec.key_at arguments.now (map string_bytes keys.now) tokens.now) }
+    ensures { Returns (λ x. (x.0, x.1.now)) result (spec.key_at scope.now (map string_bytes keys.now) tokens.now) }
 {
-    let (key, rest) = arguments.text(alloc, tokens)?;
+    let (key, rest) = scope.text(alloc, tokens)?;
     if keys.len() >= MAX_PREFETCH {
         return Err(fault(place(tokens), SourceCause::TooMany));
     }
@@ -96,15 +98,15 @@ fn add_known_key(alloc: Global, keys: &mut Vec<String>, key: Option<Text>) -> Re
 /// The keys of a list, behind its bracket.
 fn keys<'a>(
     alloc: Global,
-    arguments: &Arguments,
+    scope: &Scope,
     tokens: &'a [Token],
 ) -> Result<(Vec<String>, &'a [Token]), SourceError>
-    ensures { Returns (λ x. (map string_bytes x.0.items, x.1.now)) result (spec.keys_from arguments.now (length tokens.now) [] tokens.now) }
+    ensures { Returns (λ x. (map string_bytes x.0.items, x.1.now)) result (spec.keys_from scope.now (length tokens.now) [] tokens.now) }
 {
     let mut keys = Vec::new(alloc);
     let mut rest = tokens;
     for _turn in 0..tokens.len() {
-        let (key, behind) = key(alloc, arguments, keys.as_slice(), rest)?;
+        let (key, behind) = key(alloc, scope, keys.as_slice(), rest)?;
         add_known_key(alloc, &mut keys, key)?;
         let Some(next) = after_symbol(behind, Symbol::Comma) else {
             let rest = expect_symbol(behind, Symbol::RightParenthesis)?;
@@ -118,16 +120,16 @@ fn keys<'a>(
 /// The keys of the list that a program may begin with.
 fn list<'a>(
     alloc: Global,
-    arguments: &Arguments,
+    scope: &Scope,
     tokens: &'a [Token],
 ) -> Result<(Vec<String>, &'a [Token]), SourceError>
-    ensures { Returns (λ x. (map string_bytes x.0.items, x.1.now)) result (spec.list_at arguments.now tokens.now) }
+    ensures { Returns (λ x. (map string_bytes x.0.items, x.1.now)) result (spec.list_at scope.now tokens.now) }
 {
     let Some(rest) = after_word(tokens, Word::Prefetch) else {
         return Ok((Vec::new(alloc), tokens));
     };
     let inner = expect_symbol(rest, Symbol::LeftParenthesis)?;
-    let (keys, rest) = keys(alloc, arguments, inner)?;
+    let (keys, rest) = keys(alloc, scope, inner)?;
     Ok((keys, skip_semicolon(rest)))
 }
 
@@ -163,7 +165,7 @@ pub(crate) fn program_of(
     program_in_room(alloc, at, keys, statements)
 }
 
-/// What is in sight where a program begins, behind its list.
+/// What is in sight where a program begins, of which these tokens are left.
 fn first_scope(alloc: Global, arguments: Shared<Arguments>, look: Look, tokens: &[Token]) -> Scope
     ensures { result ≡ spec.first_scope arguments look tokens.now }
 {
@@ -172,6 +174,7 @@ fn first_scope(alloc: Global, arguments: Shared<Arguments>, look: Look, tokens: 
         at_kinds,
         kinds_at,
         runners,
+        constants,
     } = look;
     Scope {
         numbered: are_numbered(tokens),
@@ -180,7 +183,9 @@ fn first_scope(alloc: Global, arguments: Shared<Arguments>, look: Look, tokens: 
         looks_at_kinds: at_kinds,
         kinds_at,
         program,
+        items: Sequence::new(alloc),
         arguments,
+        constants,
         runners,
     }
 }
@@ -195,8 +200,8 @@ pub(crate) fn parts<'a>(
     ensures { Returns (λ x. (map string_bytes x.0.items, sources_of x.1.items, x.2.now)) result (spec.parts_at look arguments tokens.now) }
 {
     let inner = expect_symbol(tokens, Symbol::LeftBrace)?;
-    let (keys, rest) = list(alloc, arguments.get(), inner)?;
-    let scope = first_scope(alloc, arguments, look, rest);
+    let scope = first_scope(alloc, arguments, look, inner);
+    let (keys, rest) = list(alloc, &scope, inner)?;
     let (parts, _, rest) = statements(alloc, &scope, MOST_BRACKETS - 1, Around::Program, rest)?;
     Ok((keys, parts, rest))
 }

@@ -16,8 +16,8 @@ use std::alloc::{AllocError, Global};
 use stm_history::Text;
 use stm_program::{Level, Program};
 use stm_terms::{
-    Runners, Shared, SourceCause, SourceError, after_name, after_symbol, fault, next_name, place,
-    unexpected,
+    Constants, Runners, Shared, SourceCause, SourceError, after_name, after_symbol, fault,
+    next_name, place, unexpected,
 };
 use stm_tokens::{Symbol, Token};
 
@@ -52,19 +52,22 @@ fn asked_runners(
 /// How the body of a rule or a final is looked at. `at` is the place of what is wrong with it as a whole.
 fn rule_look(
     alloc: Global,
+    constants: &Shared<Constants>,
     story: &Story,
     is_final: bool,
     at: usize,
     tokens: &[Token],
 ) -> Result<Look, AllocError>
-    ensures { IfOk result (λ look. look ≡ spec.rule_look story.now is_final at tokens.now) }
+    ensures { IfOk result (λ look. look ≡ spec.rule_look constants.now story.now is_final at tokens.now) }
 {
     let runners = asked_runners(alloc, story, is_final, tokens)?;
+    let constants = constants.clone()?;
     Ok(Look {
         program: at,
         at_kinds: true,
         kinds_at: None,
         runners,
+        constants,
     })
 }
 
@@ -82,7 +85,7 @@ fn asked<'a>(
         (spec.asked_at all.now definitions.now story.now is_final at tokens.now) }
 {
     let Some(rest) = after_symbol(tokens, Symbol::Assign) else {
-        let look = rule_look(alloc, story, is_final, at, tokens)?;
+        let look = rule_look(alloc, &definitions.constants, story, is_final, at, tokens)?;
         let (program, rest) = program_in_place(alloc, look, tokens)?;
         return Ok((program, 0, rest));
     };
@@ -128,7 +131,7 @@ pub(crate) fn rule<'a>(
     ensures { Returns (λ rest. (definitions.new, story.new, rest.now)) result
         (spec.rule_at all.now definitions.old story.old is_final tokens.now) }
 {
-    let (name, rest) = free_name(&definitions.names, tokens)?;
+    let (name, rest) = free_name(&definitions.names, definitions.constants.get(), tokens)?;
     let (level, rest) = weakest_level(rest)?;
     let (program, again, rest) = asked(
         alloc,

@@ -5,6 +5,7 @@ ghost use Rattle.stm_terms.specs.Cursor as cursor;
 ghost use Rattle.stm_source.specs.Events as events;
 ghost use Rattle.stm_source.specs.Sources as spec;
 
+use crate::constants::define_constant;
 use crate::definitions::{Definitions, define};
 use crate::events::store_event;
 use crate::openings::begin;
@@ -16,7 +17,10 @@ use crate::words::{EventWord, event_word};
 use std::alloc::Global;
 use stm_history::Sequence;
 use stm_json::MOST_BYTES;
-use stm_terms::{Names, SourceCause, SourceError, after_word, fault, next_name, place, unexpected};
+use stm_terms::{
+    Constants, Names, Shared, SourceCause, SourceError, after_word, fault, next_name, place,
+    unexpected,
+};
 use stm_texts::Scenario;
 use stm_tokens::{Token, TokenKind, Word, tokens_of};
 
@@ -52,24 +56,28 @@ fn event<'a>(
         EventWord::Begin => begin(story, tokens, rest),
         EventWord::Start => start(alloc, all, definitions, story, place(tokens), rest),
         EventWord::Step => steps(story, rest),
-        _ => one_event(alloc, story, word, tokens, rest),
+        _ => {
+            let constants = definitions.constants.get();
+            one_event(alloc, constants, story, word, tokens, rest)
+        }
     }
 }
 
 /// Adds an event of the store.
 fn one_event<'a>(
     alloc: Global,
+    constants: &Constants,
     story: &mut Story,
     word: EventWord,
     tokens: &'a [Token],
     rest: &'a [Token],
 ) -> Result<&'a [Token], SourceError>
-    ensures { Returns (λ rest. (story.new, rest.now)) result (events.one_event story.old (cursor.place tokens.now) (events.store_event_at word rest.now)) }
+    ensures { Returns (λ rest. (story.new, rest.now)) result (events.one_event story.old (cursor.place tokens.now) (events.store_event_at constants.now word rest.now)) }
 {
     if !story.has_room(1) {
         return Err(fault(place(tokens), SourceCause::TooMany));
     }
-    let (event, behind) = store_event(alloc, word, rest)?;
+    let (event, behind) = store_event(alloc, constants, word, rest)?;
     story.events.push(event)?;
     story.has_events = true;
     Ok(behind)
@@ -105,6 +113,9 @@ fn item<'a>(
     ensures { Returns (λ rest. (definitions.new, story.new, rest.now)) result
         (spec.item_at all.now definitions.old story.old tokens.now) }
 {
+    if let Some(rest) = after_word(tokens, Word::Let) {
+        return define_constant(alloc, definitions, rest);
+    }
     if let Some(rest) = after_word(tokens, Word::Program) {
         return define(alloc, definitions, rest);
     }
@@ -195,6 +206,7 @@ fn source_at(alloc: Global, tokens: &[Token]) -> Result<Source, SourceError>
     let mut definitions = Definitions {
         names: Names::new(alloc),
         meanings: Sequence::new(alloc),
+        constants: Shared::new(alloc, Constants::new(alloc))?,
     };
     let mut story = empty_story(alloc);
     items(alloc, &mut definitions, &mut story, tokens)?;
@@ -214,7 +226,7 @@ pub fn read_source(alloc: Global, source: &[u8]) -> Result<Scenario, SourceError
 
 /// What a source spells, or its first fault.
 ///
-/// A source is a text in UTF-8 of at most 16777216 bytes: programs that have names, rules and finals, and events, one after another. `specs/Sources.antt`
+/// A source is a text in UTF-8 of at most 16777216 bytes: constants, programs that have names, rules and finals, and events, one after another. `specs/Sources.antt`
 /// says what each spells, and which fault comes first; its place is a byte of the source. `OutOfMemory` may come in place of any other answer, where an
 /// allocation failed.
 #[tactic(auto, unfolding(crate::specs::Sources::source_in))]

@@ -1,31 +1,30 @@
 //! Reading statements and blocks.
-ghost use Rattle.std.specs.Prelude.{◌≡◌, ◌≤◌, map, option_copied, option_map, Some, IfOk, OnOk};
+ghost use Rattle.std.specs.Prelude.{◌≡◌, ◌≤◌, [], ◌∷◌, map, option_map, Some, IfOk, OnOk};
 ghost use Rattle.stm_program.specs.declared.limits.TheConstants.{MAX_VARIABLE};
 ghost use Rattle.stm_tokens.specs.declared.token.Word.TheVariants.{Else};
 ghost use Rattle.stm_terms.specs.Cursor as cursor;
 ghost use Rattle.stm_terms.specs.Outcome.{Returns};
-ghost use Rattle.stm_terms.specs.Scope.{variable_of};
 ghost use Rattle.stm_source.specs.Statements as spec;
 ghost use Rattle.stm_source.specs.Kept.{pushed_up};
 ghost use Rattle.stm_source.specs.Leaving as leaving;
+ghost use Rattle.stm_source.specs.declared.statements.TheConstants.{MOST_STATEMENTS};
 ghost use Rattle.stm_leaving.specs.Source as tree;
 ghost use Rattle.stm_leaving.specs.Source.{Nil};
 ghost use Rattle.stm_leaving.specs.PartsView.{sources_of};
+ghost use Rattle.stm_leaving.specs.CopiesView.{copies_of};
 
-use crate::leaving::{Around, Ending, choice_ending, in_turns, leave_word, leaving_part};
+use crate::leaving::{Around, Ending, choice_ending, in_items, in_turns, leave_word, leaving_part};
+use crate::loops::{after_zero, counted, items, limit, room_behind, shared_name, unknown_item};
 use std::alloc::{AllocError, Global};
 use std::sync::Arc;
 use stm_history::Sequence;
-use stm_leaving::{Part, PartNode, Parts};
-use stm_program::{
-    Expr, ExprNode, MAX_LEASE, MAX_NODES, MAX_TURNS, Operator, Stmt, StmtNode, Variable,
-};
+use stm_leaving::{Copies, Part, PartNode, Parts, closed_parts};
+use stm_program::{Expr, ExprNode, MAX_LEASE, MAX_NODES, Operator, Stmt, StmtNode, Variable};
 use stm_terms::{
-    Fronted, FrontedPair, Given, Join, Kind, MOST_BRACKETS, Scope, SourceCause, SourceError,
-    Tested, after_name, after_symbol, after_word, argument_number, bracketed, condition,
-    expect_symbol, expect_word, fault, join_kind, join_node, next_name, next_number,
-    numbered_variable, open_bracket, pair_with_front, place, set, skip_semicolon, unexpected,
-    value, value_of, with_front,
+    Fronted, FrontedPair, Item, Join, Kind, MOST_BRACKETS, Scope, SharedText, SourceCause,
+    SourceError, Tested, after_symbol, after_word, bracketed, condition, expect_symbol,
+    expect_word, fault, join_kind, join_node, next_name, open_bracket, pair_with_front, place, set,
+    skip_semicolon, unexpected, value, value_of, with_front,
 };
 use stm_tokens::{Symbol, Token, TokenKind, Word};
 
@@ -124,7 +123,7 @@ fn lease<'a>(scope: &Scope, tokens: &'a [Token]) -> Result<(u64, &'a [Token]), S
     ensures { Returns (λ x. (x.0, x.1.now)) result (spec.lease_at scope.now tokens.now) }
 {
     match after_symbol(tokens, Symbol::Comma) {
-        Some(rest) => scope.arguments.get().number_up_to(MAX_LEASE, rest),
+        Some(rest) => scope.number_up_to(MAX_LEASE, rest),
         None => Ok((0, tokens)),
     }
 }
@@ -330,109 +329,6 @@ fn let_statement<'a>(
     }
 }
 
-/// The variable that a loop counts with, and the names in its block.
-fn counted(
-    alloc: Global,
-    scope: &Scope,
-    name: &str,
-    at: usize,
-) -> Result<(Variable, Scope), SourceError>
-    ensures { Returns (λ x. x) result (spec.counted_in scope.now name.now at) }
-{
-    let mut inner = scope.copy(alloc)?;
-    if scope.numbered {
-        let Some(number) = numbered_variable(name) else {
-            return Err(fault(at, SourceCause::Name));
-        };
-        return Ok((Variable::new(number as u8), inner));
-    }
-    if !scope.may_give(name) {
-        return Err(fault(at, SourceCause::Name));
-    }
-    let Some(variable) = scope.next_variable() else {
-        return Err(fault(at, SourceCause::TooMany));
-    };
-    let kind = if scope.looks_at_kinds {
-        Kind::Number
-    } else {
-        Kind::Either
-    };
-    inner.give(alloc, name, kind)?;
-    Ok((variable, inner))
-}
-
-/// The limit of a loop whose count says none: a count that is a number is its own.
-fn own_limit<'a>(
-    count: &Expr,
-    at: usize,
-    rest: &'a [Token],
-) -> Result<(u64, &'a [Token]), SourceError>
-    ensures { Returns (λ x. (x.0, x.1.now)) result (spec.own_limit count.now at rest.now) }
-{
-    match &count.node {
-        ExprNode::Number(number) => {
-            let number = *number;
-            if number < 0 || number as u64 > MAX_TURNS {
-                return Err(fault(at, SourceCause::Range));
-            }
-            Ok((number as u64, rest))
-        }
-        _ => Err(unexpected(rest)),
-    }
-}
-
-/// What a count stands for, where it is a parameter alone, behind which the rest comes.
-fn sole_parameter<'a>(scope: &'a Scope, tokens: &[Token], rest: &[Token]) -> Option<&'a Given>
-    ensures { option_copied result ≡ spec.sole_parameter scope.now tokens.now rest.now }
-{
-    let (name, behind) = next_name(tokens)?;
-    if behind.len() != rest.len() || scope.variable(name).is_some() {
-        return None;
-    }
-    scope.arguments.get().named(name)
-}
-
-/// The limit of a loop that says none.
-fn count_limit<'a>(
-    scope: &Scope,
-    count: &Expr,
-    tokens: &[Token],
-    rest: &'a [Token],
-) -> Result<(u64, &'a [Token]), SourceError>
-    ensures { Returns (λ x. (x.0, x.1.now)) result
-        (spec.count_limit count.now (cursor.place tokens.now) rest.now (spec.sole_parameter scope.now tokens.now rest.now)) }
-{
-    match sole_parameter(scope, tokens, rest) {
-        Some(given) => argument_number(MAX_TURNS, given, rest),
-        None => own_limit(count, place(tokens), rest),
-    }
-}
-
-/// The limit of a loop, of whose count these are the tokens, and the rest is behind it.
-fn limit<'a>(
-    scope: &Scope,
-    count: &Expr,
-    tokens: &[Token],
-    rest: &'a [Token],
-) -> Result<(u64, &'a [Token]), SourceError>
-    ensures { Returns (λ x. (x.0, x.1.now)) result (spec.limit_at scope.now count.now tokens.now rest.now) }
-{
-    match after_name(rest, "max") {
-        Some(behind) => scope.arguments.get().number_up_to(MAX_TURNS, behind),
-        None => count_limit(scope, count, tokens, rest),
-    }
-}
-
-/// The tokens behind a 0, which has to be the next token.
-fn expect_zero(tokens: &[Token]) -> Result<&[Token], SourceError>
-    ensures { Returns (λ rest. rest.now) result (spec.zero_behind tokens.now (cursor.next_number tokens.now)) }
-{
-    match next_number(tokens) {
-        Some((0, rest)) => Ok(rest),
-        _ => Err(unexpected(tokens)),
-    }
-}
-
 fn simple_word(word: Word) -> Option<Simple>
     ensures { result ≡ spec.simple_word word }
 {
@@ -480,6 +376,26 @@ fn chosen(
     let condition = Arc::new(alloc, condition)?;
     let node = PartNode::Choice(condition, yes, no);
     behind(alloc, front, Part { node })
+}
+
+/// How many nodes may follow a copy of a loop's block, of which there may be so many with its own.
+fn copy_room(alloc: Global, copy: &Parts, room: usize) -> Result<usize, AllocError>
+    ensures { IfOk result (λ left. left ≡ spec.copy_room room copy.now) }
+{
+    let statements = closed_parts(alloc, copy)?;
+    Ok(room_behind(statements.as_slice(), room))
+}
+
+/// A loop over items, as a statement.
+fn items_part(alloc: Global, copies: Vec<Parts>) -> Result<Sequence<Part>, AllocError>
+    ensures { IfOk result (λ all. all ≡ tree.Items (copies_of copies.items) ∷ []) }
+{
+    let copies = Arc::new(alloc, copies)?;
+    let mut all = Sequence::new(alloc);
+    all.push(Part {
+        node: PartNode::Items(Copies { copies }),
+    })?;
+    Ok(all)
 }
 
 /// What runs where the condition of a choice does not hold.
@@ -571,6 +487,112 @@ fn counted_loop<'a>(
     Ok((all, rest))
 }
 
+/// The statements of a loop's block for one item.
+#[cycle(read_statements)]
+fn copy<'a>(
+    alloc: Global,
+    scope: &Scope,
+    levels: usize,
+    around: Around,
+    name: &SharedText,
+    item: &Item,
+    tokens: &'a [Token],
+) -> Result<(Parts, &'a [Token]), SourceError>
+    ensures { Returns (λ x. (x.0, x.1.now)) result (spec.copy_at (spec.block_at levels (leaving.in_items around)) scope.now name.now item.now tokens.now) }
+{
+    let inner = scope.with_item(alloc, name, item)?;
+    let (parts, _, rest) = block(alloc, &inner, levels, in_items(around), tokens)?;
+    Ok((parts, rest))
+}
+
+/// The statements of a loop's block for each item, one after another. Behind so many that they are refused no other is read.
+#[cycle(read_statements)]
+fn copies<'a>(
+    alloc: Global,
+    scope: &Scope,
+    levels: usize,
+    around: Around,
+    name: &SharedText,
+    items: &[Item],
+    tokens: &'a [Token],
+) -> Result<(Vec<Parts>, &'a [Token]), SourceError>
+    ensures { Returns (λ x. (x.0.items, x.1.now)) result
+        (spec.copies_from (spec.copy_at (spec.block_at levels (leaving.in_items around)) scope.now name.now) tokens.now MOST_STATEMENTS [] items.now tokens.now) }
+{
+    let mut all = Vec::new(alloc);
+    let mut room = MOST_STATEMENTS;
+    let mut rest = tokens;
+    for item in items {
+        if room == 0 {
+            return Ok((all, rest));
+        }
+        let (parts, behind) = copy(alloc, scope, levels, around, name, item, tokens)?;
+        room = copy_room(alloc, &parts, room)?;
+        all.push(parts)?;
+        rest = behind;
+    }
+    Ok((all, rest))
+}
+
+/// The same, where there may be no item.
+#[cycle(read_statements)]
+fn all_copies<'a>(
+    alloc: Global,
+    scope: &Scope,
+    levels: usize,
+    around: Around,
+    name: &SharedText,
+    items: &[Item],
+    tokens: &'a [Token],
+) -> Result<(Sequence<Part>, &'a [Token]), SourceError>
+    ensures { Returns (λ x. (x.0, x.1.now)) result (spec.copies_at (spec.block_at levels (leaving.in_items around)) scope.now name.now items.now tokens.now) }
+{
+    if items.is_empty() {
+        let item = unknown_item(alloc)?;
+        let (parts, rest) = copy(alloc, scope, levels, around, name, &item, tokens)?;
+        drop(parts);
+        return Ok((Sequence::new(alloc), rest));
+    }
+    let (copies, rest) = copies(alloc, scope, levels, around, name, items, tokens)?;
+    let all = items_part(alloc, copies)?;
+    Ok((all, rest))
+}
+
+/// A loop over items, behind its `in`. Its name begins at a byte.
+#[cycle(read_statements)]
+fn item_loop<'a>(
+    alloc: Global,
+    scope: &Scope,
+    levels: usize,
+    around: Around,
+    at: usize,
+    name: &str,
+    tokens: &'a [Token],
+) -> Result<(Sequence<Part>, &'a [Token]), SourceError>
+    ensures { Returns (λ x. (x.0, x.1.now)) result (spec.item_loop (spec.block_at levels (leaving.in_items around)) levels scope.now at name.now tokens.now) }
+{
+    let (items, rest) = items(alloc, scope, at, name, tokens)?;
+    let name = shared_name(alloc, name)?;
+    all_copies(alloc, scope, levels, around, &name, items.as_slice(), rest)
+}
+
+/// A loop that counts, behind its `0 ..`. Its name begins at a byte.
+#[cycle(read_statements)]
+fn count_loop<'a>(
+    alloc: Global,
+    scope: &Scope,
+    levels: usize,
+    around: Around,
+    at: usize,
+    name: &str,
+    tokens: &'a [Token],
+) -> Result<(Sequence<Part>, &'a [Token]), SourceError>
+    ensures { Returns (λ x. (x.0, x.1.now)) result (spec.count_loop (spec.block_at levels (leaving.in_turns around)) levels scope.now at name.now tokens.now) }
+{
+    let (variable, inner) = counted(alloc, scope, name, at)?;
+    counted_loop(alloc, scope, levels, around, variable, &inner, tokens)
+}
+
 /// A loop, behind its `for`.
 #[cycle(read_statements)]
 fn repetition<'a>(
@@ -606,10 +628,10 @@ fn repetition_behind<'a>(
     ensures { Returns (λ x. (x.0, x.1.now)) result (spec.loop_behind (spec.block_at levels) levels around scope.now at name.now tokens.now) }
 {
     let rest = expect_word(tokens, Word::In)?;
-    let rest = expect_zero(rest)?;
-    let rest = expect_symbol(rest, Symbol::Dots)?;
-    let (variable, inner) = counted(alloc, scope, name, at)?;
-    counted_loop(alloc, scope, levels, around, variable, &inner, rest)
+    match after_zero(rest) {
+        Some(bound) => count_loop(alloc, scope, levels, around, at, name, bound),
+        None => item_loop(alloc, scope, levels, around, at, name, rest),
+    }
 }
 
 /// A statement that leaves its block, or one of one value, behind the word that begins it.

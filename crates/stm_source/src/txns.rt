@@ -1,6 +1,7 @@
 //! Reading transactions.
 ghost use Rattle.std.specs.Prelude.{◌≡◌, [], length};
 ghost use Rattle.stm_terms.specs.Outcome.{Returns};
+ghost use Rattle.stm_terms.specs.Constants.{text_at};
 ghost use Rattle.stm_terms.specs.Cursor as cursor;
 ghost use Rattle.stm_tokens.specs.declared.token.Symbol.TheVariants.{Comma};
 ghost use Rattle.stm_source.specs.Txns as spec;
@@ -10,44 +11,48 @@ use std::alloc::Global;
 use stm_history::{HIGHEST_NUMBER, Text};
 use stm_outcome::{Compare, Op, ShortList, Target, Txn};
 use stm_terms::{
-    SourceError, after_symbol, after_word, expect_symbol, expect_text, next_name, number_up_to,
-    skip_semicolon, unexpected,
+    Constants, SourceError, after_symbol, after_word, expect_symbol, next_name, skip_semicolon,
+    unexpected,
 };
 use stm_tokens::{Symbol, Token, Word};
 
 /// A number of a transaction or of an event.
-pub(crate) fn number(tokens: &[Token]) -> Result<(u64, &[Token]), SourceError>
-    ensures { Returns (λ x. (x.0, x.1.now)) result (spec.number_at tokens.now) }
+pub(crate) fn number<'a>(
+    constants: &Constants,
+    tokens: &'a [Token],
+) -> Result<(u64, &'a [Token]), SourceError>
+    ensures { Returns (λ x. (x.0, x.1.now)) result (spec.number_at constants.now tokens.now) }
 {
-    let (number, rest) = number_up_to(HIGHEST_NUMBER, tokens)?;
+    let (number, rest) = constants.number_up_to(HIGHEST_NUMBER, tokens)?;
     Ok((number, rest))
 }
 
 /// A text of a transaction or of an event, of any length.
 pub(crate) fn text<'a>(
     alloc: Global,
+    constants: &Constants,
     tokens: &'a [Token],
 ) -> Result<(Text, &'a [Token]), SourceError>
-    ensures { Returns (λ x. (x.0, x.1.now)) result (cursor.text_at tokens.now) }
+    ensures { Returns (λ x. (x.0, x.1.now)) result (text_at constants.now tokens.now) }
 {
-    let (text, rest) = expect_text(tokens)?;
-    let text = Text::copy_of(alloc, text)?;
+    let (text, rest) = constants.text(alloc, tokens)?;
     Ok((text, rest))
 }
 
 /// What a compare looks at, with the compare's side.
 fn target<'a>(
     alloc: Global,
+    constants: &Constants,
     word: TargetWord,
     tokens: &'a [Token],
 ) -> Result<(Target, &'a [Token]), SourceError>
-    ensures { Returns (λ x. (x.0, x.1.now)) result (spec.side_at word tokens.now) }
+    ensures { Returns (λ x. (x.0, x.1.now)) result (spec.side_at constants.now word tokens.now) }
 {
     if let TargetWord::Value = word {
-        let (text, rest) = text(alloc, tokens)?;
+        let (text, rest) = text(alloc, constants, tokens)?;
         return Ok((Target::Value(text), rest));
     }
-    let (number, rest) = number(tokens)?;
+    let (number, rest) = number(constants, tokens)?;
     let target = match word {
         TargetWord::Version => Target::Version(number),
         TargetWord::Create => Target::Create(number),
@@ -60,30 +65,35 @@ fn target<'a>(
 /// A compare, behind its word.
 fn compare_behind<'a>(
     alloc: Global,
+    constants: &Constants,
     word: TargetWord,
     tokens: &'a [Token],
 ) -> Result<(Compare, &'a [Token]), SourceError>
-    ensures { Returns (λ x. (x.0, x.1.now)) result (spec.compare_behind word tokens.now) }
+    ensures { Returns (λ x. (x.0, x.1.now)) result (spec.compare_behind constants.now word tokens.now) }
 {
     let rest = expect_symbol(tokens, Symbol::LeftParenthesis)?;
-    let (key, rest) = text(alloc, rest)?;
+    let (key, rest) = text(alloc, constants, rest)?;
     let rest = expect_symbol(rest, Symbol::RightParenthesis)?;
     let Some((order, behind)) = next_order(rest) else {
         return Err(unexpected(rest));
     };
-    let (target, rest) = target(alloc, word, behind)?;
+    let (target, rest) = target(alloc, constants, word, behind)?;
     Ok((Compare { key, target, order }, rest))
 }
 
 /// A compare.
-fn compare<'a>(alloc: Global, tokens: &'a [Token]) -> Result<(Compare, &'a [Token]), SourceError>
-    ensures { Returns (λ x. (x.0, x.1.now)) result (spec.compare_at tokens.now) }
+fn compare<'a>(
+    alloc: Global,
+    constants: &Constants,
+    tokens: &'a [Token],
+) -> Result<(Compare, &'a [Token]), SourceError>
+    ensures { Returns (λ x. (x.0, x.1.now)) result (spec.compare_at constants.now tokens.now) }
 {
     let Some((name, rest)) = next_name(tokens) else {
         return Err(unexpected(tokens));
     };
     match target_word(name) {
-        Some(word) => compare_behind(alloc, word, rest),
+        Some(word) => compare_behind(alloc, constants, word, rest),
         None => Err(unexpected(tokens)),
     }
 }
@@ -91,14 +101,15 @@ fn compare<'a>(alloc: Global, tokens: &'a [Token]) -> Result<(Compare, &'a [Toke
 /// Compares with `&&` between them.
 fn compares<'a>(
     alloc: Global,
+    constants: &Constants,
     tokens: &'a [Token],
 ) -> Result<(Vec<Compare>, &'a [Token]), SourceError>
-    ensures { Returns (λ x. (x.0.items, x.1.now)) result (spec.compares_from (length tokens.now) [] tokens.now) }
+    ensures { Returns (λ x. (x.0.items, x.1.now)) result (spec.compares_from constants.now (length tokens.now) [] tokens.now) }
 {
     let mut compares = Vec::new(alloc);
     let mut rest = tokens;
     for _turn in 0..tokens.len() {
-        let (compare, behind) = compare(alloc, rest)?;
+        let (compare, behind) = compare(alloc, constants, rest)?;
         compares.push(compare)?;
         let Some(next) = after_symbol(behind, Symbol::And) else {
             return Ok((compares, behind));
@@ -109,65 +120,88 @@ fn compares<'a>(
 }
 
 /// The number behind a comma, 0 where there is none.
-fn number_behind_comma(tokens: &[Token]) -> Result<(u64, &[Token]), SourceError>
-    ensures { Returns (λ x. (x.0, x.1.now)) result (spec.number_behind tokens.now (cursor.after_symbol Comma tokens.now)) }
+fn number_behind_comma<'a>(
+    constants: &Constants,
+    tokens: &'a [Token],
+) -> Result<(u64, &'a [Token]), SourceError>
+    ensures { Returns (λ x. (x.0, x.1.now)) result (spec.number_behind constants.now tokens.now (cursor.after_symbol Comma tokens.now)) }
 {
     match after_symbol(tokens, Symbol::Comma) {
-        Some(rest) => number(rest),
+        Some(rest) => number(constants, rest),
         None => Ok((0, tokens)),
     }
 }
 
-fn put<'a>(alloc: Global, tokens: &'a [Token]) -> Result<(Op, &'a [Token]), SourceError>
-    ensures { Returns (λ x. (x.0, x.1.now)) result (spec.put_behind tokens.now) }
+fn put<'a>(
+    alloc: Global,
+    constants: &Constants,
+    tokens: &'a [Token],
+) -> Result<(Op, &'a [Token]), SourceError>
+    ensures { Returns (λ x. (x.0, x.1.now)) result (spec.put_behind constants.now tokens.now) }
 {
     let rest = expect_symbol(tokens, Symbol::LeftParenthesis)?;
-    let (key, rest) = text(alloc, rest)?;
+    let (key, rest) = text(alloc, constants, rest)?;
     let rest = expect_symbol(rest, Symbol::Comma)?;
-    let (value, rest) = text(alloc, rest)?;
-    let (lease, rest) = number_behind_comma(rest)?;
+    let (value, rest) = text(alloc, constants, rest)?;
+    let (lease, rest) = number_behind_comma(constants, rest)?;
     let rest = expect_symbol(rest, Symbol::RightParenthesis)?;
     Ok((Op::Put { key, value, lease }, rest))
 }
 
-fn get<'a>(alloc: Global, tokens: &'a [Token]) -> Result<(Op, &'a [Token]), SourceError>
-    ensures { Returns (λ x. (x.0, x.1.now)) result (spec.get_behind tokens.now) }
+fn get<'a>(
+    alloc: Global,
+    constants: &Constants,
+    tokens: &'a [Token],
+) -> Result<(Op, &'a [Token]), SourceError>
+    ensures { Returns (λ x. (x.0, x.1.now)) result (spec.get_behind constants.now tokens.now) }
 {
     let rest = expect_symbol(tokens, Symbol::LeftParenthesis)?;
-    let (key, rest) = text(alloc, rest)?;
-    let (rev, rest) = number_behind_comma(rest)?;
+    let (key, rest) = text(alloc, constants, rest)?;
+    let (rev, rest) = number_behind_comma(constants, rest)?;
     let rest = expect_symbol(rest, Symbol::RightParenthesis)?;
     Ok((Op::Get { key, rev }, rest))
 }
 
-fn del<'a>(alloc: Global, tokens: &'a [Token]) -> Result<(Op, &'a [Token]), SourceError>
-    ensures { Returns (λ x. (x.0, x.1.now)) result (spec.del_behind tokens.now) }
+fn del<'a>(
+    alloc: Global,
+    constants: &Constants,
+    tokens: &'a [Token],
+) -> Result<(Op, &'a [Token]), SourceError>
+    ensures { Returns (λ x. (x.0, x.1.now)) result (spec.del_behind constants.now tokens.now) }
 {
     let rest = expect_symbol(tokens, Symbol::LeftParenthesis)?;
-    let (key, rest) = text(alloc, rest)?;
+    let (key, rest) = text(alloc, constants, rest)?;
     let rest = expect_symbol(rest, Symbol::RightParenthesis)?;
     Ok((Op::Del { key }, rest))
 }
 
 /// An operation.
-fn operation<'a>(alloc: Global, tokens: &'a [Token]) -> Result<(Op, &'a [Token]), SourceError>
-    ensures { Returns (λ x. (x.0, x.1.now)) result (spec.operation_at tokens.now) }
+fn operation<'a>(
+    alloc: Global,
+    constants: &Constants,
+    tokens: &'a [Token],
+) -> Result<(Op, &'a [Token]), SourceError>
+    ensures { Returns (λ x. (x.0, x.1.now)) result (spec.operation_at constants.now tokens.now) }
 {
     if let Some(rest) = after_word(tokens, Word::Put) {
-        return put(alloc, rest);
+        return put(alloc, constants, rest);
     }
     if let Some(rest) = after_word(tokens, Word::Get) {
-        return get(alloc, rest);
+        return get(alloc, constants, rest);
     }
     if let Some(rest) = after_word(tokens, Word::Del) {
-        return del(alloc, rest);
+        return del(alloc, constants, rest);
     }
     Err(unexpected(tokens))
 }
 
 /// The operations up to the brace that closes their list.
-fn operations<'a>(alloc: Global, tokens: &'a [Token]) -> Result<(Vec<Op>, &'a [Token]), SourceError>
-    ensures { Returns (λ x. (x.0.items, x.1.now)) result (spec.operations_from (length tokens.now) [] tokens.now) }
+fn operations<'a>(
+    alloc: Global,
+    constants: &Constants,
+    tokens: &'a [Token],
+) -> Result<(Vec<Op>, &'a [Token]), SourceError>
+    ensures { Returns (λ x. (x.0.items, x.1.now)) result (spec.operations_from constants.now (length tokens.now) [] tokens.now) }
 {
     let mut operations = Vec::new(alloc);
     let mut rest = tokens;
@@ -175,7 +209,7 @@ fn operations<'a>(alloc: Global, tokens: &'a [Token]) -> Result<(Vec<Op>, &'a [T
         if let Some(behind) = after_symbol(rest, Symbol::RightBrace) {
             return Ok((operations, behind));
         }
-        let (operation, behind) = operation(alloc, rest)?;
+        let (operation, behind) = operation(alloc, constants, rest)?;
         operations.push(operation)?;
         rest = skip_semicolon(behind);
     }
@@ -185,49 +219,56 @@ fn operations<'a>(alloc: Global, tokens: &'a [Token]) -> Result<(Vec<Op>, &'a [T
 /// A list of operations in braces.
 fn branch<'a>(
     alloc: Global,
+    constants: &Constants,
     tokens: &'a [Token],
 ) -> Result<(ShortList<Op>, &'a [Token]), SourceError>
-    ensures { Returns (λ x. (x.0, x.1.now)) result (spec.branch_at tokens.now) }
+    ensures { Returns (λ x. (x.0, x.1.now)) result (spec.branch_at constants.now tokens.now) }
 {
     let inner = expect_symbol(tokens, Symbol::LeftBrace)?;
-    let (operations, rest) = operations(alloc, inner)?;
+    let (operations, rest) = operations(alloc, constants, inner)?;
     Ok((ShortList::of(operations), rest))
 }
 
 /// The compares of a transaction, behind its word: none, where no `if` stands there.
 fn conditions<'a>(
     alloc: Global,
+    constants: &Constants,
     tokens: &'a [Token],
 ) -> Result<(ShortList<Compare>, &'a [Token]), SourceError>
-    ensures { Returns (λ x. (x.0, x.1.now)) result (spec.conditions_at tokens.now) }
+    ensures { Returns (λ x. (x.0, x.1.now)) result (spec.conditions_at constants.now tokens.now) }
 {
     let Some(rest) = after_word(tokens, Word::If) else {
         return Ok((ShortList::of(Vec::new(alloc)), tokens));
     };
-    let (compares, rest) = compares(alloc, rest)?;
+    let (compares, rest) = compares(alloc, constants, rest)?;
     Ok((ShortList::of(compares), rest))
 }
 
 /// The failure list of a transaction: empty, where no `else` stands there.
 fn failure<'a>(
     alloc: Global,
+    constants: &Constants,
     tokens: &'a [Token],
 ) -> Result<(ShortList<Op>, &'a [Token]), SourceError>
-    ensures { Returns (λ x. (x.0, x.1.now)) result (spec.failure_at tokens.now) }
+    ensures { Returns (λ x. (x.0, x.1.now)) result (spec.failure_at constants.now tokens.now) }
 {
     match after_word(tokens, Word::Else) {
-        Some(rest) => branch(alloc, rest),
+        Some(rest) => branch(alloc, constants, rest),
         None => Ok((ShortList::of(Vec::new(alloc)), tokens)),
     }
 }
 
 /// A transaction, behind its word.
-pub(crate) fn txn<'a>(alloc: Global, tokens: &'a [Token]) -> Result<(Txn, &'a [Token]), SourceError>
-    ensures { Returns (λ x. (x.0, x.1.now)) result (spec.txn_at tokens.now) }
+pub(crate) fn txn<'a>(
+    alloc: Global,
+    constants: &Constants,
+    tokens: &'a [Token],
+) -> Result<(Txn, &'a [Token]), SourceError>
+    ensures { Returns (λ x. (x.0, x.1.now)) result (spec.txn_at constants.now tokens.now) }
 {
-    let (compares, rest) = conditions(alloc, tokens)?;
-    let (success, rest) = branch(alloc, rest)?;
-    let (failure, rest) = failure(alloc, rest)?;
+    let (compares, rest) = conditions(alloc, constants, tokens)?;
+    let (success, rest) = branch(alloc, constants, rest)?;
+    let (failure, rest) = failure(alloc, constants, rest)?;
     let txn = Txn {
         compares,
         success,

@@ -1,5 +1,5 @@
 -- Looking at the next token.
-use Rattle.std.specs.Prelude.{ℕ, List, [], ◌∷◌, Option, Some, None, Ok, Err, nat_eq, nat_le, if◌then◌else◌}
+use Rattle.std.specs.Prelude.{ℕ, List, [], ◌∷◌, Option, Some, None, Ok, Err, nat_eq, if◌then◌else◌}
 use Rattle.stm_tokens.specs.declared.token.Symbol.{Symbol}
 use Rattle.stm_tokens.specs.declared.token.Symbol.TheVariants.{LeftParenthesis, Semicolon}
 use Rattle.stm_tokens.specs.declared.token.Word.{Word}
@@ -10,7 +10,7 @@ use Rattle.stm_tokens.specs.Same.{is_symbol, is_word, is_named}
 use Rattle.stm_terms.specs.declared.faults.BadSource.{BadSource}
 use Rattle.stm_terms.specs.declared.faults.SourceCause.{SourceCause}
 use Rattle.stm_terms.specs.declared.faults.SourceCause.TheVariants as cause
-use Rattle.stm_terms.specs.Outcome.{Outcome, bad}
+use Rattle.stm_terms.specs.Outcome.{Outcome}
 
 -- where the next token begins
 abbrev pub place : List Token → ℕ
@@ -90,24 +90,6 @@ abbrev pub next_text : List Token → Option (List ℕ × List Token)
 next_text [] = None
 next_text (t ∷ ts) = text_in t.kind ts
 
--- a number up to a greatest one
-abbrev pub number_by : ℕ → List Token → Option (ℕ × List Token) → Option (List ℕ × List Token) → Outcome (ℕ × List Token)
-number_by most tokens (Some p) name = if nat_le p.0 most then Ok (p.0, p.1) else bad (place tokens) cause.Range
-number_by most tokens None (Some name) = bad (place tokens) cause.Name
-number_by most tokens None None = Err (unexpected tokens)
-
-unfoldable pub number_up_to : ℕ → List Token → Outcome (ℕ × List Token)
-number_up_to most tokens = number_by most tokens (next_number tokens) (next_name tokens)
-
 -- behind an opened bracket, where so many may still be opened
 abbrev pub open_bracket : ℕ → List Token → Outcome (List Token)
 open_bracket levels tokens = if nat_eq levels 0 then Err (unexpected tokens) else expect_symbol LeftParenthesis tokens
-
--- a text; a name stands for none
-abbrev pub text_by : List Token → Option (List ℕ × List Token) → Option (List ℕ × List Token) → Outcome (List ℕ × List Token)
-text_by tokens (Some p) name = Ok p
-text_by tokens None (Some name) = bad (place tokens) cause.Name
-text_by tokens None None = Err (unexpected tokens)
-
-unfoldable pub text_at : List Token → Outcome (List ℕ × List Token)
-text_at tokens = text_by tokens (next_text tokens) (next_name tokens)

@@ -2,9 +2,12 @@ pub mod Arguments
 pub mod CauseNames
 pub mod Comparisons
 pub mod Conditions
+pub mod Constants
 pub mod Cursor
 pub mod Endings
+pub mod Items
 pub mod Kinds
+pub mod Literals
 pub mod LookUps
 pub mod Outcome
 pub mod Room

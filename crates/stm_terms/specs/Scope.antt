@@ -1,6 +1,6 @@
--- The names of a program's variables. A variable's number is its place among the names in sight, or it is called by its number.
+-- The names of a program. A variable's number is its place among the names in sight, or it is called by its number.
 use Rattle.std.specs.Prelude.{ℕ, zero, suc, List, [], ◌∷◌, ◌++◌, length, Bool, true, false, not, ◌&&◌, ◌||◌, nat_eq, nat_le, nat_lt, Option, Some, None}
-use Rattle.std.specs.Prelude.{is_some, if◌then◌else◌, bytes_eq}
+use Rattle.std.specs.Prelude.{is_some, unwrap_or, if◌then◌else◌, bytes_eq}
 use Rattle.std.specs.List.{list_any}
 use Rattle.stm_json.specs.Parts.{same}
 use Rattle.stm_tokens.specs.declared.token.Token.{Token}
@@ -13,6 +13,12 @@ use Rattle.stm_tokens.specs.Same.{is_symbol, is_word}
 use Rattle.stm_program.specs.declared.limits.TheConstants.{MAX_VARIABLE}
 use Rattle.stm_terms.specs.declared.kinds.Kind.{Kind}
 use Rattle.stm_terms.specs.declared.scope.Scope.{Scope}
+use Rattle.stm_terms.specs.declared.scope.NamedItem.{NamedItem}
+use Rattle.stm_terms.specs.declared.arguments.Argument.{Argument}
+use Rattle.stm_terms.specs.declared.arguments.Given.{Given}
+use Rattle.stm_terms.specs.declared.constants.Item.{Item}
+use Rattle.stm_terms.specs.Arguments.{given_named, list_named}
+use Rattle.stm_terms.specs.Constants.{constant_named, alone, listed}
 
 -- the place of a name among names, of which so many stand before these
 abbrev pub index_from : ℕ → List ℕ → List (List ℕ) → Option ℕ
@@ -51,11 +57,54 @@ with_name scope name k = record scope { names = scope.names ++ name ∷ []; kind
 abbrev pub next_of : Scope → Option ℕ
 next_of scope = if nat_lt MAX_VARIABLE (length scope.names) then None else Some (length scope.names)
 
+-- ---- what else is in sight: items of the loops around, parameters, and what is defined above
+
+abbrev pub item_named : List ℕ → List NamedItem → Option Item
+item_named name [] = None
+item_named name (n ∷ ns) = if same n.name name then Some n.item else item_named name ns
+
+abbrev pub argument_by : Option Item → Option Given → Option Argument → Option Argument
+argument_by (Some item) given constant = Some item.argument
+argument_by None (Some given) constant = Some given.argument
+argument_by None None constant = constant
+
+-- the text or the number that a name stands for
+abbrev pub argument_named : Scope → List ℕ → Option Argument
+argument_named scope name =
+    argument_by (item_named name scope.items) (given_named scope.arguments name) (alone (constant_named scope.constants name))
+
+abbrev pub list_by : Option (List Item) → Option (List Item) → Option (List Item)
+list_by (Some items) constant = Some items
+list_by None constant = constant
+
+-- the list that a name stands for
+abbrev pub list_in_sight : Scope → List ℕ → Option (List Item)
+list_in_sight scope name = list_by (list_named scope.arguments name) (listed (constant_named scope.constants name))
+
+abbrev pub blamed_by : Option Item → Option Given → Option ℕ
+blamed_by (Some item) given = item.at
+blamed_by None (Some given) = Some given.at
+blamed_by None None = None
+
+-- where what a name stands for is blamed, if not at the name: an argument of a start where that stands
+abbrev pub blamed : Scope → List ℕ → Option ℕ
+blamed scope name = blamed_by (item_named name scope.items) (given_named scope.arguments name)
+
+-- the same of a name that begins at a byte
+abbrev pub blame : Scope → List ℕ → ℕ → ℕ
+blame scope name at = unwrap_or (blamed scope name) at
+
+abbrev pub with_item : Scope → List ℕ → Item → Scope
+with_item scope name item = record scope { items = scope.items ++ record { name = name; item = item } ∷ [] }
+
+abbrev pub knows : Scope → List ℕ → Bool
+knows scope name =
+    is_some (index_of name scope.names) || is_some (item_named name scope.items) || list_any (bytes_eq name) scope.arguments.names
+    || list_any (bytes_eq name) scope.constants.names
+
 -- a name that is in sight is not given again, and a variable's own name never
 abbrev pub may_give : Scope → List ℕ → Bool
-may_give scope name =
-    not scope.numbered && not (is_some (numbered_variable name)) && not (is_some (index_of name scope.names))
-    && not (list_any (bytes_eq name) scope.arguments.names)
+may_give scope name = not scope.numbered && not (is_some (numbered_variable name)) && not (knows scope name)
 
 -- ---- a program has names of one of the two kinds: which, its first variable says
 

@@ -29,9 +29,7 @@ use Rattle.stm_terms.specs.declared.look_ups.Other.{Other}
 use Rattle.stm_terms.specs.LookUps.{look_up_as, other_as}
 use Rattle.stm_terms.specs.declared.arguments.Argument.{Argument}
 use Rattle.stm_terms.specs.declared.arguments.Argument.TheVariants as argument
-use Rattle.stm_terms.specs.declared.arguments.Given.{Given}
-use Rattle.stm_terms.specs.Arguments.{given_named}
-use Rattle.stm_terms.specs.Scope.{variable_of}
+use Rattle.stm_terms.specs.Scope.{argument_named, blame, variable_of}
 use Rattle.stm_terms.specs.declared.limits.TheConstants.{MOST_JOINS}
 
 -- ---- operands
@@ -56,11 +54,14 @@ argument_value scope at argument.Either rest = Ok (valued scope (Text []) value_
 argument_value scope at (argument.Text s) rest = literal scope at s rest
 argument_value scope at (argument.Number z) rest = Ok (valued scope (Number z) value_kind.Number [], rest)
 
--- a name is that of a variable, or a parameter
-abbrev pub named : Scope → ℕ → Option ℕ → Option Given → List Token → Read Valued
-named scope at (Some v) given rest = Ok (valued scope (Variable v) (kind_of scope v) [], rest)
-named scope at None (Some g) rest = argument_value scope g.at g.argument rest
-named scope at None None rest = bad at cause.Name
+-- a name is that of a variable, or stands for a text or a number
+abbrev pub named : Scope → ℕ → Option ℕ → Option Argument → ℕ → List Token → Read Valued
+named scope at (Some v) a blamed rest = Ok (valued scope (Variable v) (kind_of scope v) [], rest)
+named scope at None (Some a) blamed rest = argument_value scope blamed a rest
+named scope at None None blamed rest = bad at cause.Name
+
+abbrev pub named_at : Scope → ℕ → List ℕ → List Token → Read Valued
+named_at scope at n rest = named scope at (variable_of scope n) (argument_named scope n) (blame scope n at) rest
 
 -- what is computed of one value
 abbrev pub call_of : Word → Option Call
@@ -98,7 +99,7 @@ Bracketed = Kind → List Token → Read Valued
 abbrev pub other_kind : Scope → TokenKind → List Token → List Token → Read Valued
 other_kind scope (kind.Text s) tokens rest = literal scope (place tokens) s rest
 other_kind scope (kind.Number n) tokens rest = positive scope (place tokens) n rest
-other_kind scope (kind.Name n) tokens rest = named scope (place tokens) (variable_of scope n) (given_named scope.arguments n) rest
+other_kind scope (kind.Name n) tokens rest = named_at scope (place tokens) n rest
 other_kind scope (kind.Word w) tokens rest = Err (unexpected tokens)
 other_kind scope (kind.Symbol s) tokens rest = Err (unexpected tokens)
 other_kind scope kind.Wrong tokens rest = Err (unexpected tokens)
@@ -144,7 +145,7 @@ abbrev pub operand_kind : ℕ → Bracketed → Scope → TokenKind → List Tok
 operand_kind levels bracketed scope (kind.Text s) tokens rest = literal scope (place tokens) s rest
 operand_kind levels bracketed scope (kind.Number n) tokens rest = positive scope (place tokens) n rest
 operand_kind levels bracketed scope (kind.Name n) tokens rest =
-    asked_of levels scope (place tokens) n (named scope (place tokens) (variable_of scope n) (given_named scope.arguments n) rest) rest scope.runners
+    asked_of levels scope (place tokens) n (named_at scope (place tokens) n rest) rest scope.runners
 operand_kind levels bracketed scope (kind.Word w) tokens rest = call_by bracketed scope tokens rest (call_of w)
 operand_kind levels bracketed scope (kind.Symbol s) tokens rest = signed bracketed scope s tokens rest
 operand_kind levels bracketed scope kind.Wrong tokens rest = Err (unexpected tokens)

@@ -4,11 +4,12 @@ ghost use Rattle.std.specs.List.{list_any};
 ghost use Rattle.stm_terms.specs.Arguments as spec;
 ghost use Rattle.stm_terms.specs.Outcome.{Returns};
 
-use crate::cursor::{next_name, next_number, next_text, place, unexpected};
+use crate::constants::Item;
 use crate::faults::{SourceCause, SourceError, fault};
+use crate::kinds::Kind;
 use crate::names::Names;
 use crate::shared::Shared;
-use std::alloc::Global;
+use std::alloc::{AllocError, Global};
 use stm_history::{Sequence, Text};
 use stm_tokens::Token;
 
@@ -37,8 +38,10 @@ pub struct Given {
 pub struct Arguments {
     /// The names of the parameters.
     pub names: Shared<Names>,
-    /// What they stand for, in the same order.
+    /// What they stand for, in the same order. The last one may stand for a list and has none here.
     pub given: Sequence<Given>,
+    /// The list that the last one stands for.
+    pub list: Sequence<Item>,
 }
 
 /// A text that is wanted, which a parameter may stand for.
@@ -50,37 +53,65 @@ pub struct GivenText {
     pub at: usize,
 }
 
-/// The number that an argument gives, up to a greatest one: 0 where it is not known.
+impl Argument {
+    /// A copy. It fails only when out of memory.
+    pub(crate) fn copy(&self) -> Result<Argument, AllocError>
+        ensures { IfOk result (λ copy. copy ≡ self.now) }
+    {
+        match self {
+            Argument::Either => Ok(Argument::Either),
+            Argument::Text(text) => {
+                let text = text.clone()?;
+                Ok(Argument::Text(text))
+            }
+            Argument::Number(number) => Ok(Argument::Number(*number)),
+        }
+    }
+
+    /// Whether it is a text or a number.
+    pub(crate) fn kind(&self) -> Kind
+        ensures { result ≡ spec.kind_of_argument self.now }
+    {
+        match self {
+            Argument::Either => Kind::Either,
+            Argument::Text(_) => Kind::Text,
+            Argument::Number(_) => Kind::Number,
+        }
+    }
+}
+
+/// The number that an argument gives, up to a greatest one: 0 where it is not known. It is blamed at a byte.
 pub fn argument_number<'a>(
     most: u64,
-    given: &Given,
+    at: usize,
+    argument: &Argument,
     rest: &'a [Token],
 ) -> Result<(u64, &'a [Token]), SourceError>
-    ensures is { Returns (λ x. (x.0, x.1.now)) result (spec.argument_number most given.now.at given.now.argument rest.now) }
+    ensures is { Returns (λ x. (x.0, x.1.now)) result (spec.argument_number most at argument.now rest.now) }
     ensures bounded { IfOk result (λ x. x.0 ≤ most) }
 {
-    match &given.argument {
+    match argument {
         Argument::Either => Ok((0, rest)),
-        Argument::Text(_) => Err(fault(given.at, SourceCause::Kind)),
+        Argument::Text(_) => Err(fault(at, SourceCause::Kind)),
         Argument::Number(number) => {
             let number = *number;
             if number < 0 || number as u64 > most {
-                return Err(fault(given.at, SourceCause::Range));
+                return Err(fault(at, SourceCause::Range));
             }
             Ok((number as u64, rest))
         }
     }
 }
 
-/// The text that an argument gives.
-fn argument_text<'a>(
-    given: &Given,
+/// The text that an argument gives. It is blamed at a byte.
+pub(crate) fn argument_text<'a>(
+    at: usize,
+    argument: &Argument,
     rest: &'a [Token],
 ) -> Result<(GivenText, &'a [Token]), SourceError>
-    ensures { Returns (λ x. (x.0, x.1.now)) result (spec.argument_text given.now.at given.now.argument rest.now) }
+    ensures { Returns (λ x. (x.0, x.1.now)) result (spec.argument_text at argument.now rest.now) }
 {
-    let at = given.at;
-    match &given.argument {
+    match argument {
         Argument::Either => Ok((GivenText { text: None, at }, rest)),
         Argument::Text(text) => {
             let text = Some(text.clone()?);
@@ -98,8 +129,8 @@ impl Arguments {
         self.names.get().contains(name)
     }
 
-    /// What a name stands for, where it is that of a parameter.
-    pub fn named(&self, name: &str) -> Option<&Given>
+    /// What a name stands for, where it is that of a parameter that is no list.
+    pub(crate) fn named(&self, name: &str) -> Option<&Given>
         ensures { option_copied result ≡ spec.given_named self.now name.now }
     {
         let place = self.names.get().place(name)?;
@@ -111,78 +142,15 @@ impl Arguments {
         }
     }
 
-    /// The number that a name stands for.
-    fn number_named<'a>(
-        &self,
-        most: u64,
-        name: &str,
-        tokens: &'a [Token],
-        rest: &'a [Token],
-    ) -> Result<(u64, &'a [Token]), SourceError>
-        ensures is { Returns (λ x. (x.0, x.1.now)) result (spec.number_by_name most tokens.now rest.now (spec.given_named self.now name.now)) }
-        ensures bounded { IfOk result (λ x. x.0 ≤ most) }
+    /// The list that a name stands for, where it is that of a parameter that is one.
+    pub(crate) fn list_of(&self, name: &str) -> Option<&Sequence<Item>>
+        ensures { option_copied result ≡ spec.list_named self.now name.now }
     {
-        match self.named(name) {
-            Some(given) => argument_number(most, given, rest),
-            None => Err(fault(place(tokens), SourceCause::Name)),
-        }
-    }
-
-    /// A number up to a greatest one, which a parameter may stand for.
-    #[tactic(auto, unfolding(crate::specs::Arguments::number_given))]
-    pub fn number_up_to<'a>(
-        &self,
-        most: u64,
-        tokens: &'a [Token],
-    ) -> Result<(u64, &'a [Token]), SourceError>
-        ensures is { Returns (λ x. (x.0, x.1.now)) result (spec.number_given most self.now tokens.now) }
-        ensures bounded { IfOk result (λ x. x.0 ≤ most) }
-    {
-        let Some((number, rest)) = next_number(tokens) else {
-            let Some((name, rest)) = next_name(tokens) else {
-                return Err(unexpected(tokens));
-            };
-            return self.number_named(most, name, tokens, rest);
-        };
-        if number <= most {
-            Ok((number, rest))
+        let place = self.names.get().place(name)?;
+        if place == self.given.len() {
+            Some(&self.list)
         } else {
-            Err(fault(place(tokens), SourceCause::Range))
+            None
         }
-    }
-
-    /// The text that a name stands for.
-    fn text_named<'a>(
-        &self,
-        name: &str,
-        tokens: &'a [Token],
-        rest: &'a [Token],
-    ) -> Result<(GivenText, &'a [Token]), SourceError>
-        ensures { Returns (λ x. (x.0, x.1.now)) result (spec.text_by_name tokens.now rest.now (spec.given_named self.now name.now)) }
-    {
-        match self.named(name) {
-            Some(given) => argument_text(given, rest),
-            None => Err(fault(place(tokens), SourceCause::Name)),
-        }
-    }
-
-    /// A text, which a parameter may stand for.
-    #[tactic(auto, unfolding(crate::specs::Arguments::text_given))]
-    pub fn text<'a>(
-        &self,
-        alloc: Global,
-        tokens: &'a [Token],
-    ) -> Result<(GivenText, &'a [Token]), SourceError>
-        ensures { Returns (λ x. (x.0, x.1.now)) result (spec.text_given self.now tokens.now) }
-    {
-        let Some((text, rest)) = next_text(tokens) else {
-            let Some((name, rest)) = next_name(tokens) else {
-                return Err(unexpected(tokens));
-            };
-            return self.text_named(name, tokens, rest);
-        };
-        let text = Some(Text::copy_of(alloc, text)?);
-        let at = place(tokens);
-        Ok((GivenText { text, at }, rest))
     }
 }

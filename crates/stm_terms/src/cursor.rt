@@ -1,5 +1,5 @@
 //! Looking at the next token.
-ghost use Rattle.std.specs.Prelude.{◌≡◌, ◌≤◌, ◌<◌, option_map, IfOk, OnOk};
+ghost use Rattle.std.specs.Prelude.{◌≡◌, ◌<◌, option_map, OnOk};
 ghost use Rattle.stm_terms.specs.Cursor as spec;
 ghost use Rattle.stm_terms.specs.Outcome.{Returns};
 ghost use Rattle.stm_terms.specs.declared.faults.SourceError.TheVariants.{Bad};
@@ -146,25 +146,6 @@ pub fn next_text(tokens: &[Token]) -> Option<(&str, &[Token])>
     }
 }
 
-/// A number up to a greatest one. A name stands for none.
-#[tactic(auto, unfolding(crate::specs::Cursor::number_up_to))]
-pub fn number_up_to(most: u64, tokens: &[Token]) -> Result<(u64, &[Token]), SourceError>
-    ensures is { Returns (λ x. (x.0, x.1.now)) result (spec.number_up_to most tokens.now) }
-    ensures bounded { IfOk result (λ x. x.0 ≤ most) }
-{
-    let Some((number, rest)) = next_number(tokens) else {
-        if next_name(tokens).is_some() {
-            return Err(fault(place(tokens), SourceCause::Name));
-        }
-        return Err(unexpected(tokens));
-    };
-    if number <= most {
-        Ok((number, rest))
-    } else {
-        Err(fault(place(tokens), SourceCause::Range))
-    }
-}
-
 /// The tokens behind an opened bracket, where so many may still be opened.
 pub fn open_bracket(levels: usize, tokens: &[Token]) -> Result<&[Token], SourceError>
     ensures is { Returns (λ rest. rest.now) result (spec.open_bracket levels tokens.now) }
@@ -174,18 +155,4 @@ pub fn open_bracket(levels: usize, tokens: &[Token]) -> Result<&[Token], SourceE
         return Err(unexpected(tokens));
     }
     expect_symbol(tokens, Symbol::LeftParenthesis)
-}
-
-/// A text. A name stands for none.
-#[tactic(auto, unfolding(crate::specs::Cursor::text_at))]
-pub fn expect_text(tokens: &[Token]) -> Result<(&str, &[Token]), SourceError>
-    ensures { Returns (λ x. (x.0.now, x.1.now)) result (spec.text_at tokens.now) }
-{
-    let Some((text, rest)) = next_text(tokens) else {
-        if next_name(tokens).is_some() {
-            return Err(fault(place(tokens), SourceCause::Name));
-        }
-        return Err(unexpected(tokens));
-    };
-    Ok((text, rest))
 }

@@ -7,11 +7,14 @@
 mod arguments;
 mod comparisons;
 mod conditions;
+mod constants;
 mod cursor;
 mod endings;
 mod faults;
+mod items;
 mod kinds;
 mod limits;
+mod literals;
 mod look_ups;
 mod names;
 mod room;
@@ -21,21 +24,24 @@ mod values;
 
 pub use arguments::{Argument, Arguments, Given, GivenText, argument_number};
 pub use conditions::{Tested, condition};
+pub use constants::{Constant, Constants, Item};
 pub use cursor::{
-    after_name, after_symbol, after_word, expect_name, expect_symbol, expect_text, expect_word,
-    next_name, next_number, next_text, number_up_to, open_bracket, place, skip_semicolon,
-    unexpected,
+    after_name, after_symbol, after_word, expect_name, expect_symbol, expect_word, next_name,
+    next_number, next_text, open_bracket, place, skip_semicolon, unexpected,
 };
 pub use endings::{Ending, Runners};
 pub use faults::{BadSource, SourceCause, SourceError, fault};
+pub use items::list_of_items;
 pub use kinds::{Kind, Valued};
 pub use limits::MOST_BRACKETS;
+pub use literals::literal_argument;
 pub use look_ups::{Fronted, FrontedPair, LookUp, Other, pair_with_front, set, with_front};
 pub use names::Names;
 pub use room::statements_room;
-pub use scope::{Scope, are_numbered, braces_behind, numbered_variable};
+pub use scope::{NamedItem, Scope, are_numbered, braces_behind, numbered_variable};
 pub use shared::Shared;
 pub use stm_history::{Sequence, Text};
+pub use stm_keys::SharedText;
 pub use stm_program::{Cond, Expr, Stmt, Variable};
 pub use stm_tokens::{Symbol, Token, TokenKind, Word};
 pub use values::{Join, bracketed, join_kind, join_node, value, value_of};

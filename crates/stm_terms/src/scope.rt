@@ -1,9 +1,10 @@
-//! The names of a program's variables.
-ghost use Rattle.std.specs.Prelude.{◌≡◌, ◌<◌, ◌≤◌, ◌^◌, ◌+◌, length, true, false, is_some, IfOk, IfSome, OnOk};
+//! The names of a program: its variables, and what else is in sight.
+ghost use Rattle.std.specs.Prelude.{◌≡◌, ◌<◌, ◌≤◌, ◌^◌, ◌+◌, length, true, false, is_some, option_copied, IfOk, IfSome, OnOk};
 ghost use Rattle.stm_program.specs.declared.limits.TheConstants.{MAX_VARIABLE};
 ghost use Rattle.stm_terms.specs.Scope as spec;
 
-use crate::arguments::Arguments;
+use crate::arguments::{Argument, Arguments};
+use crate::constants::{Constants, Item};
 use crate::endings::Runners;
 use crate::kinds::Kind;
 use crate::shared::Shared;
@@ -13,7 +14,16 @@ use stm_keys::SharedText;
 use stm_program::{MAX_VARIABLE, Variable};
 use stm_tokens::{Symbol, Token, TokenKind, Word, number_length, number_of};
 
-/// What the variables of a program are called where it is read.
+/// An item of a loop, by the loop's name for it.
+#[derive(Debug, Drop)]
+pub struct NamedItem {
+    /// The name.
+    pub name: SharedText,
+    /// The item.
+    pub item: Item,
+}
+
+/// What the names of a program stand for where it is read.
 #[derive(Debug, Drop)]
 pub struct Scope {
     /// Whether the program calls them `v0` to `v15`. Else it gives them names.
@@ -28,8 +38,12 @@ pub struct Scope {
     pub kinds_at: Option<usize>,
     /// Where the program begins: the place of what is wrong with it as a whole.
     pub program: usize,
+    /// The items of the loops around, the outermost first.
+    pub items: Sequence<NamedItem>,
     /// Its parameters.
     pub arguments: Shared<Arguments>,
+    /// What is defined above it.
+    pub constants: Shared<Constants>,
     /// In a final, the runners that it names.
     pub runners: Option<Shared<Runners>>,
 }
@@ -92,6 +106,40 @@ fn copy_of_runners(runners: &Option<Shared<Runners>>) -> Result<Option<Shared<Ru
     }
 }
 
+/// A copy of the items of loops. It fails only when out of memory.
+fn copy_of_items(alloc: Global, items: &[NamedItem]) -> Result<Sequence<NamedItem>, AllocError>
+    ensures { IfOk result (λ copy. copy ≡ items.now) }
+{
+    let mut copy = Sequence::new(alloc);
+    for item in items {
+        copy.push(item.share()?)?;
+    }
+    Ok(copy)
+}
+
+/// The item that has a name.
+fn item_named<'a>(name: &str, items: &'a [NamedItem]) -> Option<&'a Item>
+    ensures { option_copied result ≡ spec.item_named name.now items.now }
+{
+    for named in items {
+        if named.name.as_str() == name {
+            return Some(&named.item);
+        }
+    }
+    None
+}
+
+impl NamedItem {
+    /// One more owner of it. It takes no memory.
+    fn share(&self) -> Result<NamedItem, AllocError>
+        ensures { IfOk result (λ named. named ≡ self.now) }
+    {
+        let name = self.name.clone()?;
+        let item = self.item.share()?;
+        Ok(NamedItem { name, item })
+    }
+}
+
 impl Scope {
     /// The number of the variable of a name that is in sight.
     #[tactic(auto, unfolding(crate::specs::Scope::variable_of))]
@@ -126,7 +174,9 @@ impl Scope {
             looks_at_kinds: self.looks_at_kinds,
             kinds_at: self.kinds_at,
             program: self.program,
+            items: copy_of_items(alloc, self.items.as_slice())?,
             arguments: self.arguments.clone()?,
+            constants: self.constants.clone()?,
             runners: copy_of_runners(&self.runners)?,
         })
     }
@@ -142,21 +192,87 @@ impl Scope {
         Some(Variable::new(number as u8))
     }
 
+    /// The item of a loop around that has a name.
+    fn item(&self, name: &str) -> Option<&Item>
+        ensures { option_copied result ≡ spec.item_named name.now self.now.items }
+    {
+        item_named(name, self.items.as_slice())
+    }
+
+    /// The text or the number that a name stands for that is no variable's: an item, a parameter, or what is defined above.
+    pub fn argument(&self, name: &str) -> Option<&Argument>
+        ensures { option_copied result ≡ spec.argument_named self.now name.now }
+    {
+        if let Some(item) = self.item(name) {
+            return Some(item.argument.get());
+        }
+        if let Some(given) = self.arguments.get().named(name) {
+            return Some(&given.argument);
+        }
+        self.constants.get().alone(name)
+    }
+
+    /// The list that a name stands for: the last parameter, or what is defined above.
+    pub(crate) fn list(&self, name: &str) -> Option<&Sequence<Item>>
+        ensures { option_copied result ≡ spec.list_in_sight self.now name.now }
+    {
+        if let Some(items) = self.arguments.get().list_of(name) {
+            return Some(items);
+        }
+        self.constants.get().list_of(name)
+    }
+
+    /// Where a name that begins at a byte is blamed for what it stands for, if not there: the argument of a start is.
+    pub(crate) fn blamed(&self, name: &str) -> Option<usize>
+        ensures { result ≡ spec.blamed self.now name.now }
+    {
+        if let Some(item) = self.item(name) {
+            return item.at;
+        }
+        match self.arguments.get().named(name) {
+            Some(given) => Some(given.at),
+            None => None,
+        }
+    }
+
+    /// The same, or its own place.
+    pub fn blame(&self, name: &str, at: usize) -> usize
+        ensures { result ≡ spec.blame self.now name.now at }
+    {
+        self.blamed(name).unwrap_or(at)
+    }
+
     /// Whether a name is in sight.
     pub fn knows(&self, name: &str) -> bool
-        ensures { result ≡ is_some (spec.index_of name.now self.now.names) }
+        ensures { result ≡ spec.knows self.now name.now }
     {
         shared_index_of(name, self.names.as_slice()).is_some()
+            || self.item(name).is_some()
+            || self.arguments.get().contains(name)
+            || self.constants.get().names.contains(name)
     }
 
     /// Whether a name may be given to a new variable.
     pub fn may_give(&self, name: &str) -> bool
         ensures { result ≡ spec.may_give self.now name.now }
     {
-        !self.numbered
-            && numbered_variable(name).is_none()
-            && !self.knows(name)
-            && !self.arguments.get().contains(name)
+        !self.numbered && numbered_variable(name).is_none() && !self.knows(name)
+    }
+
+    /// What is in sight in the block of a loop, by its name for an item. It fails only when out of memory.
+    pub fn with_item(
+        &self,
+        alloc: Global,
+        name: &SharedText,
+        item: &Item,
+    ) -> Result<Scope, AllocError>
+        ensures { IfOk result (λ scope. scope ≡ spec.with_item self.now name.now item.now) }
+    {
+        let mut inner = self.copy(alloc)?;
+        let name = name.clone()?;
+        let item = item.share()?;
+        inner.items.push(NamedItem { name, item })?;
+        Ok(inner)
     }
 
     /// Gives a name to the next variable, which is of a kind. It fails only when out of memory.

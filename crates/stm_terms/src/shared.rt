@@ -31,6 +31,17 @@ impl<T: Drop> Shared<T> {
         let value = Arc::new(alloc, value)?;
         Ok(Shared { value })
     }
+
+    /// The value of its only owner. It fails where there are others.
+    pub fn into_value(self) -> Result<T, AllocError>
+        ensures { IfOk result (λ value. value ≡ self) }
+    {
+        let Shared { value } = self;
+        match Arc::into_inner(value) {
+            Some(value) => Ok(value),
+            None => Err(AllocError),
+        }
+    }
 }
 
 impl<T> Shared<T> {

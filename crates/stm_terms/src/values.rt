@@ -7,11 +7,10 @@ ghost use Rattle.stm_terms.specs.Kinds.{valued};
 ghost use Rattle.stm_terms.specs.declared.kinds.Kind.TheVariants as kinds;
 ghost use Rattle.stm_terms.specs.Cursor as cursor;
 ghost use Rattle.stm_terms.specs.Outcome.{Returns};
-ghost use Rattle.stm_terms.specs.Arguments.{given_named};
-ghost use Rattle.stm_terms.specs.Scope.{variable_of};
+ghost use Rattle.stm_terms.specs.Scope.{argument_named, blame, variable_of};
 ghost use Rattle.stm_terms.specs.Values as spec;
 
-use crate::arguments::{Argument, Given};
+use crate::arguments::Argument;
 use crate::cursor::{after_symbol, after_word, expect_symbol, next_number, place, unexpected};
 use crate::endings::{ending_at, ending_of};
 use crate::faults::{SourceCause, SourceError, fault};
@@ -131,26 +130,27 @@ fn unknown(alloc: Global, scope: &Scope) -> Result<Valued, AllocError>
     Ok(scope.valued(alloc, Expr { node }, Kind::Either))
 }
 
-/// The value of an argument.
+/// The value of an argument, which is blamed at a byte.
 fn argument_value<'a>(
     alloc: Global,
     scope: &Scope,
-    given: &Given,
+    at: usize,
+    argument: &Argument,
     rest: &'a [Token],
 ) -> Result<(Valued, &'a [Token]), SourceError>
-    ensures { Returns (λ x. (x.0, x.1.now)) result (spec.argument_value scope.now given.now.at given.now.argument rest.now) }
+    ensures { Returns (λ x. (x.0, x.1.now)) result (spec.argument_value scope.now at argument.now rest.now) }
 {
-    match &given.argument {
+    match argument {
         Argument::Either => {
             let value = unknown(alloc, scope)?;
             Ok((value, rest))
         }
-        Argument::Text(text) => literal(alloc, scope, given.at, text.as_str(), rest),
+        Argument::Text(text) => literal(alloc, scope, at, text.as_str(), rest),
         Argument::Number(number) => Ok((number_of(alloc, scope, *number), rest)),
     }
 }
 
-/// The variable or the argument that a name stands for.
+/// The variable that a name is, or what it stands for.
 fn named<'a>(
     alloc: Global,
     scope: &Scope,
@@ -159,15 +159,15 @@ fn named<'a>(
     rest: &'a [Token],
 ) -> Result<(Valued, &'a [Token]), SourceError>
     ensures { Returns (λ x. (x.0, x.1.now)) result
-        (spec.named scope.now at (variable_of scope.now name.now) (given_named scope.now.arguments name.now) rest.now) }
+        (spec.named scope.now at (variable_of scope.now name.now) (argument_named scope.now name.now) (blame scope.now name.now at) rest.now) }
 {
     if let Some(number) = scope.variable(name) {
         let node = ExprNode::Variable(Variable::new(number as u8));
         let kind = scope.kind_of(number);
         return Ok((scope.valued(alloc, Expr { node }, kind), rest));
     }
-    match scope.arguments.get().named(name) {
-        Some(given) => argument_value(alloc, scope, given, rest),
+    match scope.argument(name) {
+        Some(argument) => argument_value(alloc, scope, scope.blame(name, at), argument, rest),
         None => Err(fault(at, SourceCause::Name)),
     }
 }
@@ -182,8 +182,7 @@ fn named_operand<'a>(
     rest: &'a [Token],
 ) -> Result<(Valued, &'a [Token]), SourceError>
     ensures { Returns (λ x. (x.0, x.1.now)) result
-        (asked_of levels scope.now at name.now (spec.named scope.now at (variable_of scope.now name.now) (given_named scope.now.arguments name.now) rest.now)
-        rest.now scope.now.runners) }
+        (asked_of levels scope.now at name.now (spec.named_at scope.now at name.now rest.now) rest.now scope.now.runners) }
 {
     let Some(runners) = &scope.runners else {
         return named(alloc, scope, at, name, rest);

@@ -11,25 +11,25 @@ returns-in_err-name c =
     let p = err_from_is_err_and c.from_residual.result c.from_residual.ensures.1 in
     let n = length c.args.tokens.now in
     let less : c.loop-turn._turn < n = omega arith in
-    rw (p.1, p.2) (parameters_fault c.in_err-name.field-0.0 n c.loop-turn._turn c.loop-turn.names c.loop-turn.rest.now
-    (parameters_from n [] c.args.tokens.now) less c.in_err-name.ensures.is c.loop-turn.invariant)
+    rw (p.1, p.2) (parameters_fault c.in_err-name.field-0.0 c.args.constants.now n c.loop-turn._turn c.loop-turn.names c.loop-turn.rest.now
+    (parameters_from c.args.constants.now n [] c.args.tokens.now) less c.in_err-name.ensures.is c.loop-turn.invariant)
 
-pub returns-in_err-rest : goal.returns-in_err-rest
-returns-in_err-rest c =
-    let p = err_from_is_err_and c.from_residual-in_err-rest.result c.from_residual-in_err-rest.ensures.1 in
+pub returns-in_err-parameters_end : goal.returns-in_err-parameters_end
+returns-in_err-parameters_end c =
+    let p = err_from_is_err_and c.from_residual-in_err-parameters_end.result c.from_residual-in_err-parameters_end.ensures.1 in
     let n = length c.args.tokens.now in
     let less : c.loop-turn._turn < n = omega arith in
     let ends : after_symbol Comma c.in_ok-name.behind.now ≡ None = search rules in
-    rw (p.1, p.2) (parameters_unclosed c.in_err-rest.field-0.0 n c.loop-turn._turn c.loop-turn.names c.in_ok-name.name.now c.loop-turn.rest.now
-    c.in_ok-name.behind.now (parameters_from n [] c.args.tokens.now) less c.in_ok-name.ensures.is ends c.in_err-rest.ensures c.loop-turn.invariant)
+    rw (p.1, p.2) (parameters_unclosed c.in_err-parameters_end.field-0.0 c.args.constants.now n c.loop-turn._turn c.loop-turn.names c.in_ok-name.name.now c.loop-turn.rest.now
+    c.in_ok-name.behind.now (parameters_from c.args.constants.now n [] c.args.tokens.now) less c.in_ok-name.ensures.is ends c.in_err-parameters_end.ensures c.loop-turn.invariant)
 
 pub returns-in_default : goal.returns-in_default
 returns-in_default c =
     let n = length c.args.tokens.now in
     let less : c.loop-turn._turn < n = omega arith in
     let ends : after_symbol Comma c.in_ok-name.behind.now ≡ None = search rules in
-    rw c.in_ok-push.ensures (parameters_last n c.loop-turn._turn c.loop-turn.names c.in_ok-name.name.now c.loop-turn.rest.now
-    c.in_ok-name.behind.now c.in_ok-rest.rest.now (parameters_from n [] c.args.tokens.now) less c.in_ok-name.ensures.is ends c.in_ok-rest.ensures
+    rw c.in_ok-push.ensures (parameters_last c.args.constants.now n c.loop-turn._turn c.loop-turn.names c.in_ok-name.name.now c.in_ok-parameters_end.is_list c.loop-turn.rest.now
+    c.in_ok-name.behind.now c.in_ok-parameters_end.rest.now (parameters_from c.args.constants.now n [] c.args.tokens.now) less c.in_ok-name.ensures.is ends c.in_ok-parameters_end.ensures
     c.loop-turn.invariant)
 
 pub loop-turn-preserved : goal.loop-turn-preserved
@@ -37,11 +37,11 @@ loop-turn-preserved c =
     let n = length c.args.tokens.now in
     let less : c.loop-turn._turn < n = omega arith in
     let follows : after_symbol Comma c.in_ok-name.behind.now ≡ Some c.in-Some.next.now = search rules in
-    rw c.in_ok-push.ensures (parameters_more n c.loop-turn._turn c.loop-turn.names c.in_ok-name.name.now c.loop-turn.rest.now
-    c.in_ok-name.behind.now c.in-Some.next.now (parameters_from n [] c.args.tokens.now) less c.in_ok-name.ensures.is follows c.loop-turn.invariant)
+    rw c.in_ok-push.ensures (parameters_more c.args.constants.now n c.loop-turn._turn c.loop-turn.names c.in_ok-name.name.now c.loop-turn.rest.now
+    c.in_ok-name.behind.now c.in-Some.next.now (parameters_from c.args.constants.now n [] c.args.tokens.now) less c.in_ok-name.ensures.is follows c.loop-turn.invariant)
 
 pub returns : goal.returns
 returns c =
     let n = length c.args.tokens.now in
-    parameters_over c.unexpected.result n c.loop-turn._turn c.loop-turn.names c.loop-turn.rest.now (parameters_from n [] c.args.tokens.now)
+    parameters_over c.unexpected.result c.args.constants.now n c.loop-turn._turn c.loop-turn.names c.loop-turn.rest.now (parameters_from c.args.constants.now n [] c.args.tokens.now)
     (omega arith) c.unexpected.ensures c.loop-turn.invariant

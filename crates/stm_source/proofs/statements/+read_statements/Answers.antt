@@ -7,13 +7,13 @@ use Rattle.stm_source.specs.Leaving.{is_left}
 use Rattle.stm_source.specs.Statements.{block_at, statement_by, statements_at}
 use Rattle.stm_source.proofs.statements.+read_statements.Goals as goal
 
-pub block-returns-then-levels-eq0 : goal.block-returns-then-levels-eq0
-block-returns-then-levels-eq0 t c = block_none _ _ _ _ _ c.if-levels-eq0.true c.unexpected.ensures
+pub braces-returns-then-levels-eq0 : goal.braces-returns-then-levels-eq0
+braces-returns-then-levels-eq0 t c = block_none _ _ _ _ _ c.if-levels-eq0.true c.unexpected.ensures
 
-pub block-returns : goal.block-returns
-block-returns t c =
+pub braces-returns : goal.braces-returns
+braces-returns t c =
     let some : 0 < c.args.levels = omega arith in
-    rw (block_some c.args.levels c.args.around c.args.scope.now c.args.tokens.now some) c.block_between.ensures
+    rw (block_some c.args.levels c.args.around c.args.scope.now c.args.tokens.now some) c.between_braces.ensures
 
 pub choice-returns-then-more-eq0 : goal.choice-returns-then-more-eq0
 choice-returns-then-more-eq0 t c = choice_none _ _ _ _ _ _ c.if-more-eq0.true c.fault.ensures

@@ -1,19 +1,36 @@
-use Rattle.std.proofs.Common.{◌≡◌, ◌+◌, ◌-◌, ◌*◌, length}
-use Rattle.stm_source.specs.Statements.{statements_from, statement_by, statements_at, block_at}
+use Rattle.std.proofs.Common.{◌≡◌, ◌+◌, ◌-◌, ◌*◌, [], length, drop}
+use Rattle.stm_source.specs.declared.statements.TheConstants.{MOST_STATEMENTS}
+use Rattle.stm_source.specs.Leaving.{in_items}
+use Rattle.stm_source.specs.Statements.{copies_from, copy_at, statements_from, statement_by, statements_at, block_at}
 use Rattle.stm_source.proofs.BlockLemmas.{with_front}
 use Rattle.stm_source.proofs.statements.+read_statements.Given as goal
 
 abbrev pub decreases-block : goal.decreases-block
 decreases-block l = 500 * l.levels
 
+abbrev pub decreases-copy : goal.decreases-copy
+decreases-copy l = 500 * l.levels + 1
+
+abbrev pub decreases-copies : goal.decreases-copies
+decreases-copies l = 500 * l.levels + 2
+
+abbrev pub decreases-all_copies : goal.decreases-all_copies
+decreases-all_copies l = 500 * l.levels + 3
+
+abbrev pub decreases-item_loop : goal.decreases-item_loop
+decreases-item_loop l = 500 * l.levels + 4
+
 abbrev pub decreases-counted_loop : goal.decreases-counted_loop
-decreases-counted_loop l = 500 * l.levels + 1
+decreases-counted_loop l = 500 * l.levels + 2
+
+abbrev pub decreases-count_loop : goal.decreases-count_loop
+decreases-count_loop l = 500 * l.levels + 3
 
 abbrev pub decreases-repetition_behind : goal.decreases-repetition_behind
-decreases-repetition_behind l = 500 * l.levels + 2
+decreases-repetition_behind l = 500 * l.levels + 5
 
 abbrev pub decreases-repetition : goal.decreases-repetition
-decreases-repetition l = 500 * l.levels + 3
+decreases-repetition l = 500 * l.levels + 6
 
 abbrev pub decreases-choice : goal.decreases-choice
 decreases-choice l = 500 * l.levels + 1 + 3 * l.more
@@ -44,3 +61,9 @@ abbrev pub invariant-statements-loop-done : goal.invariant-statements-loop-done
 invariant-statements-loop-done l =
     with_front l.parts.items (statements_from (statement_by (block_at l.fn.levels) l.fn.levels l.fn.around) l.done l.ending (length l.fn.tokens - l.done) l.scope l.rest)
     ≡ statements_at l.fn.levels l.fn.around l.fn.outer l.fn.tokens
+
+-- the items that are left lead to all
+abbrev pub invariant-copies-loop-item : goal.invariant-copies-loop-item
+invariant-copies-loop-item l =
+    copies_from (copy_at (block_at l.fn.levels (in_items l.fn.around)) l.fn.scope l.fn.name) l.fn.tokens l.room l.all.items (drop l.item-index l.fn.items) l.rest
+    ≡ copies_from (copy_at (block_at l.fn.levels (in_items l.fn.around)) l.fn.scope l.fn.name) l.fn.tokens MOST_STATEMENTS [] l.fn.items l.fn.tokens

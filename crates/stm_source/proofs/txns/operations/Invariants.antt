@@ -5,4 +5,4 @@ use Rattle.stm_source.proofs.txns.operations.Given as goal
 -- what is left leads to all
 abbrev pub invariant-loop-turn : goal.invariant-loop-turn
 invariant-loop-turn l =
-    operations_from (length l.fn.tokens - l._turn) l.operations.items l.rest ≡ operations_from (length l.fn.tokens) [] l.fn.tokens
+    operations_from l.fn.constants (length l.fn.tokens - l._turn) l.operations.items l.rest ≡ operations_from l.fn.constants (length l.fn.tokens) [] l.fn.tokens

@@ -15,7 +15,7 @@ pub(crate) struct Behind {
     /// What it begins with, the first of these last.
     statements: Vec<Stmt>,
     /// What comes behind them. It is shared.
-    then: Block,
+    rest: Block,
 }
 
 impl Model for Behind {
@@ -25,7 +25,7 @@ impl Model for Behind {
 
     ghost use Rattle.stm_leaving.specs.Behind.{turned};
 
-    ghost view = { λ b. turned b.statements.items b.then };
+    ghost view = { λ b. turned b.statements.items b.rest };
 }
 
 /// Adds copies of statements. It fails only when out of memory.
@@ -46,37 +46,38 @@ impl Behind {
     {
         Behind {
             statements: Vec::new(alloc),
-            then: block,
+            rest: block,
         }
     }
 
     /// A statement, and then the block. It fails only when out of memory.
     #[tactic(auto, using(crate::proofs::BehindLemmas::turned_push))]
-    pub(crate) fn with(self, statement: Stmt) -> Result<Behind, AllocError>
+    pub(crate) fn begun_with(self, statement: Stmt) -> Result<Behind, AllocError>
         ensures { IfOk result (λ b. b ≡ Then statement self) }
     {
         let Behind {
             mut statements,
-            then,
+            rest,
         } = self;
         statements.push(statement)?;
-        Ok(Behind { statements, then })
+        Ok(Behind { statements, rest })
     }
 
     /// The statements of a block, and then this one. It fails only when out of memory.
     #[tactic(auto, using(crate::proofs::BehindLemmas::turned_front))]
-    pub(crate) fn with_all(self, alloc: Global, front: &Block) -> Result<Behind, AllocError>
+    pub(crate) fn begun_with_all(self, alloc: Global, front: &Block) -> Result<Behind, AllocError>
         ensures { IfOk result (λ b. b ≡ one_behind front.now self) }
     {
         let Behind {
             mut statements,
-            then,
+            rest,
         } = self;
         let mut more = Vec::new(alloc);
-        push_copies(&mut more, &front.statements)?;
+        let own: &Vec<Stmt> = &front.statements;
+        push_copies(&mut more, own)?;
         more.reverse();
         statements.append(&mut more)?;
-        Ok(Behind { statements, then })
+        Ok(Behind { statements, rest })
     }
 
     /// The statements of the block. It fails only when out of memory.
@@ -86,10 +87,11 @@ impl Behind {
     {
         let Behind {
             mut statements,
-            then,
+            rest,
         } = self;
         statements.reverse();
-        push_copies(&mut statements, &then.statements)?;
+        let own: &Vec<Stmt> = &rest.statements;
+        push_copies(&mut statements, own)?;
         Ok(statements)
     }
 
@@ -98,8 +100,8 @@ impl Behind {
         ensures { IfOk result (λ b. b ≡ self) }
     {
         if self.statements.is_empty() {
-            let Behind { then, .. } = self;
-            return Ok(then);
+            let Behind { rest, .. } = self;
+            return Ok(rest);
         }
         let statements = self.into_statements()?;
         let statements = Arc::new(alloc, statements)?;

@@ -84,7 +84,7 @@ fn kept_choice(
 {
     let nothing = nothing(alloc)?;
     let choice = choice(alloc, condition, yes, no, &nothing)?;
-    behind.with(choice)
+    behind.begun_with(choice)
 }
 
 /// A choice that may be left: what comes behind it goes into its branches.
@@ -104,7 +104,7 @@ fn left_choice(
     let follow = with_next(follow, next)?;
     let choice = choice(alloc, condition, yes, no, &follow)?;
     let end = no_statements(alloc)?;
-    Behind::of(alloc, end).with(choice)
+    Behind::of(alloc, end).begun_with(choice)
 }
 
 #[cycle(closed)]
@@ -143,7 +143,7 @@ fn closed_count(
     let body = closed(alloc, body, &nothing)?;
     let count = count.clone()?;
     let node = StmtNode::For(variable, count, limit, body);
-    behind.with(Stmt { node })
+    behind.begun_with(Stmt { node })
 }
 
 /// The copies of a loop's block, and what comes behind them.
@@ -155,7 +155,7 @@ fn closed_items(alloc: Global, copies: &Copies, behind: Behind) -> Result<Behind
     if keep_to(in_copies(GOES_ON), copies) {
         let end = no_statements(alloc)?;
         let all = closed_copies(alloc, copies, &end)?;
-        return behind.with_all(alloc, &all);
+        return behind.begun_with_all(alloc, &all);
     }
     let after = behind.into_block(alloc)?;
     let all = closed_copies(alloc, copies, &after)?;
@@ -173,7 +173,8 @@ fn closed_copy(
     ensures { IfOk result (λ b. b ≡ spec.closed copy.now (spec.copy_follow more after.now)) }
 {
     if keeps_to(GOES_ON, copy) {
-        return closed_list(alloc, copy, &nothing(alloc)?, more);
+        let nothing = nothing(alloc)?;
+        return closed_list(alloc, copy, &nothing, more);
     }
     let next = more.into_block(alloc)?;
     let more = Behind::of(alloc, next.clone()?);
@@ -208,7 +209,7 @@ fn closed_one(
     match &part.node {
         PartNode::Plain(statement) => {
             let copy = statement.clone()?;
-            behind.with(copy)
+            behind.begun_with(copy)
         }
         PartNode::Choice(condition, yes, no) => {
             closed_choice(alloc, condition, yes, no, follow, behind)

@@ -2,6 +2,7 @@
 use Rattle.std.proofs.Common.{◌≡◌, ℕ, zero, suc, ◌+◌, ◌-◌, ◌<◌, ◌≤◌, Bool, true, false, ◌&&◌, List, [], ◌∷◌, length, get_or, drop, refl, sym, ap, ◌∙◌, arith}
 use Rattle.std.specs.Prelude.{nat_lt, if◌then◌else◌}
 use Rattle.std.proofs.lemmas.List.{at_drop_more}
+use Rattle.std.proofs.Math.Seq.{drop-length}
 use Rattle.std.proofs.lemmas.Bool.Decides.{nat_tests}
 use Rattle.std.proofs.lemmas.Bool.{and_parts}
 use Rattle.stm_program.specs.Syntax.{Condition, Block, If, For, End, Then}
@@ -16,10 +17,13 @@ use Rattle.stm_leaving.specs.Closed.{nothing, with_next, copy_follow, is_abort, 
 -- ---- weights
 
 source_weight-positive : (s : Source) → 1 ≤ source_weight s
-source_weight-positive s = by_case s
-  where
-    by_case : (s : Source) → 1 ≤ source_weight s
-    by_case s = grind arith
+source_weight-positive (Plain p) = omega arith
+source_weight-positive (Choice c a b) = omega arith
+source_weight-positive (Items cs) = omega arith
+source_weight-positive (Count v e n b) = omega arith
+source_weight-positive Return = omega arith
+source_weight-positive Break = omega arith
+source_weight-positive Continue = omega arith
 
 pub item_weight : (ss : List Source) (i : ℕ) (s : Source) → i < length ss → s ≡ get_or ss i s → source_weight s + 1 ≤ sources_weight (sources_of ss)
 item_weight [] i s h e = absurd (omega arith)
@@ -33,10 +37,6 @@ copy_weight (d ∷ cs) (suc i) c h e = omega (arith, copy_weight cs i c (omega a
 
 -- ---- what is around a statement
 
-drop_end : {X : Type 0} (xs : List X) → drop (length xs) xs ≡ []
-drop_end [] = refl
-drop_end (x ∷ xs) = drop_end xs
-
 around_first : (ends : ℕ) (k : Follow) → around ends 0 k ≡ k
 around_first ends k = grind (arith, nat_tests)
 
@@ -44,8 +44,11 @@ behind_nothing : (x : Bool) → (if x then nothing else nothing) ≡ nothing
 behind_nothing true = refl
 behind_nothing false = refl
 
+around_zero : (i : ℕ) (k : Follow) → around 0 (suc i) k ≡ nothing
+around_zero i k = grind (arith, nat_tests)
+
 next_first : (x : Bool) (f : ℕ) (k : Follow) → (if x then nothing else around (if x then 0 else suc f) 0 k) ≡ around (if x then 0 else suc f) 1 k
-next_first true f k = refl
+next_first true f k = sym (around_zero 0 k)
 next_first false f k = grind (arith, nat_tests)
 
 around_more : (f i : ℕ) (k : Follow) → around (suc f) (suc i) k ≡ around f i k
@@ -53,7 +56,7 @@ around_more f i k = grind (arith, nat_tests)
 
 next_more : (x : Bool) (y : Source) (f i : ℕ) (k : Follow) → behind y (around f i k) ≡ around f (i + 1) k
     → behind y (around (if x then 0 else suc f) (suc i) k) ≡ around (if x then 0 else suc f) (suc (i + 1)) k
-next_more true y f i k h = behind_nothing (is_abort y)
+next_more true y f i k h = ap (behind y) (around_zero i k) ∙ behind_nothing (is_abort y) ∙ sym (around_zero (i + 1) k)
 next_more false y f i k h = ap (behind y) (around_more f i k) ∙ h ∙ sym (around_more f (i + 1) k)
 
 around_next : (xs : List Source) (i : ℕ) (d : Source) (k : Follow) → i < length xs
@@ -71,8 +74,8 @@ unfolding closed
 closed_before xs i d k less =
     let a = around (first_abort xs) i k in
     let one : closed (sources_of (drop i xs)) a ≡ closed_one (get_or xs i d) (with_next a (closed (sources_of (drop (i + 1) xs)) (behind (get_or xs i d) a))) =
-    at_drop_more (λ ys. closed (sources_of ys) a) xs i d less in
-    one ∙ ap (λ f. closed_one (get_or xs i d) (with_next a (closed (sources_of (drop (i + 1) xs)) f))) (around_next xs i d k less)
+    at_drop_more (λ (ys : List Source). closed (sources_of ys) a) xs i d less in
+    one ∙ ap (λ (f : Follow). closed_one (get_or xs i d) (with_next a (closed (sources_of (drop (i + 1) xs)) f))) (around_next xs i d k less)
 
 next_of : (x : Bool) (k : Follow) → (if x then nothing else k).next ≡ behind_last x k.next
 next_of true k = refl
@@ -82,7 +85,7 @@ next_of false k = refl
 pub closed_end : (xs : List Source) (k : Follow) (next : Block) → next ≡ behind_last (nat_lt (first_abort xs) (length xs)) k.next
     → next ≡ closed (sources_of (drop (length xs) xs)) (around (first_abort xs) (length xs) k)
 unfolding closed
-closed_end xs k next is = rw (drop_end xs) (is ∙ sym (next_of (nat_lt (first_abort xs) (length xs)) k))
+closed_end xs k next is = rw (drop-length xs) (is ∙ sym (next_of (nat_lt (first_abort xs) (length xs)) k))
 
 -- what is next decides nothing but what is next
 next_apart : (x : Bool) (k : Follow) (a b : Block) → with_next (if x then nothing else with_next k a) b ≡ with_next (if x then nothing else k) b
@@ -90,26 +93,29 @@ next_apart true k a b = refl
 next_apart false k a b = refl
 
 -- one statement more
-pub closed_more : (xs : List Source) (done place : ℕ) (d : Source) (k : Follow) (b old new : Block) → done < length xs → place ≡ length xs - 1 - done
+pub closed_more : (xs : List Source) (done place : ℕ) (q : Source) (k : Follow) (b old new : Block) → done < length xs → place ≡ length xs - 1 - done
+    → q ≡ get_or xs place q
     → old ≡ closed (sources_of (drop (length xs - done) xs)) (around (first_abort xs) (length xs - done) (with_next k b))
-    → new ≡ closed_one (get_or xs place d) (with_next (around (first_abort xs) place k) old)
+    → new ≡ closed_one q (with_next (around (first_abort xs) place k) old)
     → new ≡ closed (sources_of (drop (length xs - (done + 1)) xs)) (around (first_abort xs) (length xs - (done + 1)) (with_next k b))
-closed_more xs done place d j b old new less at so_far is =
+closed_more xs done place q j b old new less at it so_far is =
     let k = with_next j b in
     let here : length xs - (done + 1) ≡ place = omega arith in
     let there : length xs - done ≡ place + 1 = omega arith in
     let known : old ≡ closed (sources_of (drop (place + 1) xs)) (around (first_abort xs) (place + 1) k) =
-    so_far ∙ ap (λ n. closed (sources_of (drop n xs)) (around (first_abort xs) n k)) there in
-    is ∙ ap (closed_one (get_or xs place d)) (sym (next_apart (nat_lt (first_abort xs) place) j b old))
-    ∙ ap (λ c. closed_one (get_or xs place d) (with_next (around (first_abort xs) place k) c)) known ∙ sym (closed_before xs place d k (omega arith))
-    ∙ ap (λ n. closed (sources_of (drop n xs)) (around (first_abort xs) n k)) (sym here)
+    so_far ∙ ap (λ (n : ℕ). closed (sources_of (drop n xs)) (around (first_abort xs) n k)) there in
+    let own : closed_one q (with_next (around (first_abort xs) place j) old) ≡ closed_one q (with_next (around (first_abort xs) place k) old) =
+    ap (closed_one q) (sym (next_apart (nat_lt (first_abort xs) place) j b old)) in
+    is ∙ own ∙ ap (λ (s : Source). closed_one s (with_next (around (first_abort xs) place k) old)) it
+    ∙ ap (λ (c : Block). closed_one (get_or xs place q) (with_next (around (first_abort xs) place k) c)) known ∙ sym (closed_before xs place q k (omega arith))
+    ∙ ap (λ (n : ℕ). closed (sources_of (drop n xs)) (around (first_abort xs) n k)) (sym here)
 
 -- the whole list
 pub closed_all : (xs : List Source) (done : ℕ) (k : Follow) (b : Block) → done ≡ length xs
     → b ≡ closed (sources_of (drop (length xs - done) xs)) (around (first_abort xs) (length xs - done) k) → b ≡ closed (sources_of xs) k
 closed_all xs done k b all is =
     let none : length xs - done ≡ 0 = omega arith in
-    is ∙ ap (λ n. closed (sources_of (drop n xs)) (around (first_abort xs) n k)) none ∙ ap (λ f. closed (sources_of xs) f) (around_first (first_abort xs) k)
+    is ∙ ap (λ (n : ℕ). closed (sources_of (drop n xs)) (around (first_abort xs) n k)) none ∙ ap (λ (f : Follow). closed (sources_of xs) f) (around_first (first_abort xs) k)
 
 -- a list that goes on uses nothing but what is next
 test_kept : (x : Bool) (c : Condition) (a b f g : Block) (k k' : Follow) → x ≡ true → k.next ≡ k'.next
@@ -144,27 +150,28 @@ list_kept (Next q rest) k k' h e =
 copies_before : (cs : List Sources) (i : ℕ) (d : Sources) (after : Block) → i < length cs
     → closed_copies (copies_of (drop i cs)) after ≡ closed (get_or cs i d) (copy_follow (closed_copies (copies_of (drop (i + 1) cs)) after) after)
 unfolding closed
-copies_before cs i d after less = at_drop_more (λ ds. closed_copies (copies_of ds) after) cs i d less
+copies_before cs i d after less = at_drop_more (λ (ds : List Sources). closed_copies (copies_of ds) after) cs i d less
 
 -- behind the last copy
 pub copies_end : (cs : List Sources) (after : Block) → after ≡ closed_copies (copies_of (drop (length cs) cs)) after
 unfolding closed
-copies_end cs after = rw (drop_end cs) refl
+copies_end cs after = rw (drop-length cs) refl
 
 -- one copy more
-pub copies_more : (cs : List Sources) (done place : ℕ) (d : Sources) (after old new : Block) → done < length cs → place ≡ length cs - 1 - done
-    → old ≡ closed_copies (copies_of (drop (length cs - done) cs)) after → new ≡ closed (get_or cs place d) (copy_follow old after)
+pub copies_more : (cs : List Sources) (done place : ℕ) (p : Sources) (after old new : Block) → done < length cs → place ≡ length cs - 1 - done
+    → p ≡ get_or cs place p → old ≡ closed_copies (copies_of (drop (length cs - done) cs)) after → new ≡ closed p (copy_follow old after)
     → new ≡ closed_copies (copies_of (drop (length cs - (done + 1)) cs)) after
-copies_more cs done place d after old new less at so_far is =
+copies_more cs done place p after old new less at it so_far is =
     let here : length cs - (done + 1) ≡ place = omega arith in
     let there : length cs - done ≡ place + 1 = omega arith in
-    let known : old ≡ closed_copies (copies_of (drop (place + 1) cs)) after = so_far ∙ ap (λ n. closed_copies (copies_of (drop n cs)) after) there in
-    is ∙ ap (λ b. closed (get_or cs place d) (copy_follow b after)) known ∙ sym (copies_before cs place d after (omega arith))
-    ∙ ap (λ n. closed_copies (copies_of (drop n cs)) after) (sym here)
+    let known : old ≡ closed_copies (copies_of (drop (place + 1) cs)) after =
+    so_far ∙ ap (λ (n : ℕ). closed_copies (copies_of (drop n cs)) after) there in
+    is ∙ ap (λ (d : Sources). closed d (copy_follow old after)) it ∙ ap (λ (b : Block). closed (get_or cs place p) (copy_follow b after)) known
+    ∙ sym (copies_before cs place p after (omega arith)) ∙ ap (λ (n : ℕ). closed_copies (copies_of (drop n cs)) after) (sym here)
 
 -- all copies
 pub copies_all : (cs : List Sources) (done : ℕ) (after b : Block) → done ≡ length cs → b ≡ closed_copies (copies_of (drop (length cs - done) cs)) after
     → b ≡ closed_copies (copies_of cs) after
 copies_all cs done after b all is =
     let none : length cs - done ≡ 0 = omega arith in
-    is ∙ ap (λ n. closed_copies (copies_of (drop n cs)) after) none
+    is ∙ ap (λ (n : ℕ). closed_copies (copies_of (drop n cs)) after) none

@@ -20,8 +20,11 @@ pub(crate) struct Behind {
 
 impl Model for Behind {
     ghost use Rattle.stm_program.specs.Syntax as tree;
+    ghost use Rattle.stm_program.specs.Coding.{coded_block};
 
     ghost Value = { tree.Block };
+
+    ghost coded = { coded_block };
 
     ghost use Rattle.stm_leaving.specs.Behind.{turned};
 

@@ -79,6 +79,27 @@ pub(crate) fn parameters_of(tokens: &[Token], name: &str) -> usize {
     0
 }
 
+/// Whether the last parameter of the program of a name, which is defined among these tokens, stands for all arguments that are left.
+pub(crate) fn takes_list(tokens: &[Token], name: &str) -> bool {
+    let mut is_in = false;
+    for (index, token) in tokens.iter().enumerate() {
+        let (_, from) = tokens.split_at(index);
+        match from {
+            [_, second, ..] if token.kind.is_word(Word::Program) => {
+                is_in = second.kind.is_named(name);
+            }
+            _ => {}
+        }
+        if is_in && token.kind.is_symbol(Symbol::RightParenthesis) {
+            return false;
+        }
+        if is_in && token.kind.is_symbol(Symbol::Dots) {
+            return true;
+        }
+    }
+    false
+}
+
 /// What is wanted in a place where a value of a call begins.
 pub(crate) fn value_in(spot: Spot<'_>) -> &'static str {
     match word_of(spot.call()) {

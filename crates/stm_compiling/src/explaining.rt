@@ -3,7 +3,7 @@ ghost use Rattle.std.specs.Prelude.{◌≡◌, ℕ, List, Some, IfOk, option_map
 ghost use Rattle.stm_explain.specs.Explaining.{explanation};
 ghost use Rattle.stm_compiling.specs.Faults.{IsExplanation, place_of};
 
-use crate::calls::{listed_behind, parameters_of};
+use crate::calls::{listed_behind, parameters_of, takes_list};
 use crate::fault::position_in;
 use crate::naming::{is_called, said_of_function, said_of_place};
 use crate::spots::{Event, Place, Spot, spot_at};
@@ -281,6 +281,12 @@ fn range_words(alloc: Global, found: &str, spot: Spot<'_>) -> Result<String, All
 fn argument_words(alloc: Global, found: &str, spot: Spot<'_>) -> Result<String, AllocError> {
     let wanted = parameters_of(spot.before, name_in(spot));
     let given = listed_behind(spot.from);
+    if takes_list(spot.before, name_in(spot)) {
+        let least = wanted.saturating_sub(1);
+        return format!(in alloc;
+            "{found} has another number of parameters: {least} or more wanted, {given} found"
+        );
+    }
     format!(in alloc; "{found} has another number of parameters: {wanted} wanted, {given} found")
 }
 

@@ -318,7 +318,8 @@ fn started_program<'a>(
     if let Some((name, rest)) = next_name(tokens) {
         return named_program(alloc, all, definitions, name, place(tokens), rest);
     }
-    let (program, rest) = program_in_place(alloc, look_of(place(tokens), false), tokens)?;
+    let look = look_of(&definitions.constants, place(tokens), false)?;
+    let (program, rest) = program_in_place(alloc, look, tokens)?;
     Ok((program, 0, rest))
 }
 

@@ -14,22 +14,22 @@ returns-in_err-name c =
     rw (p.1, p.2) (parameters_fault c.in_err-name.field-0.0 c.args.constants.now n c.loop-turn._turn c.loop-turn.names c.loop-turn.rest.now
     (parameters_from c.args.constants.now n [] c.args.tokens.now) less c.in_err-name.ensures.is c.loop-turn.invariant)
 
-pub returns-in_err-parameters_end : goal.returns-in_err-parameters_end
-returns-in_err-parameters_end c =
-    let p = err_from_is_err_and c.from_residual-in_err-parameters_end.result c.from_residual-in_err-parameters_end.ensures.1 in
+pub returns-in_err-is_list : goal.returns-in_err-is_list
+returns-in_err-is_list c =
+    let p = err_from_is_err_and c.from_residual-in_err-is_list.result c.from_residual-in_err-is_list.ensures.1 in
     let n = length c.args.tokens.now in
     let less : c.loop-turn._turn < n = omega arith in
     let ends : after_symbol Comma c.in_ok-name.behind.now ≡ None = search rules in
-    rw (p.1, p.2) (parameters_unclosed c.in_err-parameters_end.field-0.0 c.args.constants.now n c.loop-turn._turn c.loop-turn.names c.in_ok-name.name.now c.loop-turn.rest.now
-    c.in_ok-name.behind.now (parameters_from c.args.constants.now n [] c.args.tokens.now) less c.in_ok-name.ensures.is ends c.in_err-parameters_end.ensures c.loop-turn.invariant)
+    rw (p.1, p.2) (parameters_unclosed c.in_err-is_list.field-0.0 c.args.constants.now n c.loop-turn._turn c.loop-turn.names c.in_ok-name.name.now c.loop-turn.rest.now
+    c.in_ok-name.behind.now (parameters_from c.args.constants.now n [] c.args.tokens.now) less c.in_ok-name.ensures.is ends c.in_err-is_list.ensures c.loop-turn.invariant)
 
 pub returns-in_default : goal.returns-in_default
 returns-in_default c =
     let n = length c.args.tokens.now in
     let less : c.loop-turn._turn < n = omega arith in
     let ends : after_symbol Comma c.in_ok-name.behind.now ≡ None = search rules in
-    rw c.in_ok-push.ensures (parameters_last c.args.constants.now n c.loop-turn._turn c.loop-turn.names c.in_ok-name.name.now c.in_ok-parameters_end.is_list c.loop-turn.rest.now
-    c.in_ok-name.behind.now c.in_ok-parameters_end.rest.now (parameters_from c.args.constants.now n [] c.args.tokens.now) less c.in_ok-name.ensures.is ends c.in_ok-parameters_end.ensures
+    rw c.in_ok-push.ensures (parameters_last c.args.constants.now n c.loop-turn._turn c.loop-turn.names c.in_ok-name.name.now c.in_ok-is_list.is_list c.loop-turn.rest.now
+    c.in_ok-name.behind.now c.in_ok-is_list.rest.now (parameters_from c.args.constants.now n [] c.args.tokens.now) less c.in_ok-name.ensures.is ends c.in_ok-is_list.ensures
     c.loop-turn.invariant)
 
 pub loop-turn-preserved : goal.loop-turn-preserved

@@ -1,6 +1,6 @@
 -- A block with the statements that it begins with in front, the first of these last.
 use Rattle.std.proofs.Common.{◌≡◌, List, [], ◌∷◌, ◌++◌, reverse, refl, sym, ap, ◌∙◌}
-use Rattle.std.proofs.Math.ListN.{reverse_aux}
+use mathlib.Core.List.{reverse_aux}
 use Rattle.stm_program.specs.Syntax.{Statement, Block, Then}
 use Rattle.stm_program.specs.BlockView.{block_of}
 use Rattle.stm_leaving.specs.Closed.{one_behind}

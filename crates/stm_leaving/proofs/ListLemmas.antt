@@ -63,7 +63,10 @@ around_next : (xs : List Source) (i : ℕ) (d : Source) (k : Follow) → i < len
     → behind (get_or xs i d) (around (first_abort xs) i k) ≡ around (first_abort xs) (i + 1) k
 around_next [] i d k less = absurd (omega arith)
 around_next (x ∷ xs) zero d k less = next_first (is_abort x) (first_abort xs) k
-around_next (x ∷ xs) (suc i) d k less = next_more (is_abort x) (get_or xs i d) (first_abort xs) i k (around_next xs i d k (omega arith))
+around_next (x ∷ xs) (suc i) d k less =
+    let e : suc i + 1 ≡ suc (i + 1) = omega arith in
+    next_more (is_abort x) (get_or xs i d) (first_abort xs) i k (around_next xs i d k (omega arith))
+    ∙ ap (λ (n : ℕ). around (first_abort (x ∷ xs)) n k) (sym e)
 
 -- ---- the loops
 

@@ -11,7 +11,9 @@ mod auditing;
 mod explaining;
 mod exploring;
 mod files;
+mod naming;
 mod noting;
+mod resuming;
 mod rules;
 mod ruling;
 mod sources;
@@ -44,7 +46,7 @@ use stm_compiling::Part;
 pub use stm_exploring::{explore_explained_to, explore_to, outcomes_explained_to, outcomes_to};
 pub use stm_threading::{threads_as_to, threads_to};
 use storing::{run_shown, run_stored_program, run_stored_script};
-use terminals::is_shown;
+use terminals::{Told, is_shown};
 use threading::{printing_of, run_threads};
 
 /// The path of an input that may be named: that of standard input where it is not.
@@ -116,8 +118,12 @@ fn run_explore(rt: &HostRuntime, words: &ExploreWords<'_>, explain: bool) -> u8 
         keeps: words.keeps.as_slice(),
         after: words.after,
         levels: words.levels,
-        budget: words.budget,
+        told: Told {
+            events: words.budget,
+            runners: &[],
+        },
         explain,
+        source: None,
     };
     match run_search(rt, &wanted) {
         Ok(status) => status,

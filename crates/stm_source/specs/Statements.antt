@@ -1,6 +1,5 @@
 -- Statements and blocks: what tokens spell, or the first fault.
-use Rattle.std.specs.Prelude.{ℕ, zero, suc, ◌+◌, ◌-◌, pos, negsuc, List, [], ◌∷◌, ◌++◌, length, map, Bool, false, not, ◌||◌, Option, Some, None, is_some, Ok, Err}
-use Rattle.std.specs.Prelude.{nat_eq, nat_le, nat_lt, if◌then◌else◌, codes}
+use Rattle.std.specs.Prelude.{ℕ, zero, suc, ◌+◌, ◌-◌, List, [], ◌∷◌, ◌++◌, length, map, Bool, false, Option, Some, None, Ok, Err, nat_eq, nat_lt, if◌then◌else◌}
 use Rattle.stm_tokens.specs.declared.token.Token.{Token}
 use Rattle.stm_tokens.specs.declared.token.TokenKind.{TokenKind}
 use Rattle.stm_tokens.specs.declared.token.TokenKind.TheVariants as kind
@@ -11,7 +10,7 @@ use Rattle.stm_tokens.specs.declared.token.Word.TheVariants as word
 use Rattle.stm_tokens.specs.Same.{same_symbol, same_word}
 use Rattle.stm_program.specs.declared.limits.TheConstants.{MAX_LEASE}
 use Rattle.stm_program.specs.declared.operator.Operator.TheVariants.{Add, Sub}
-use Rattle.stm_program.specs.Syntax.{Expression, Number, Variable, Statement, Set, Put, Del, Emit, Abort}
+use Rattle.stm_program.specs.Syntax.{Expression, Variable, Statement, Set, Put, Del, Emit, Abort}
 use Rattle.stm_terms.specs.declared.faults.SourceCause.TheVariants as cause
 use Rattle.stm_terms.specs.declared.scope.Scope.{Scope}
 use Rattle.stm_terms.specs.declared.look_ups.Fronted.{Fronted}
@@ -33,8 +32,7 @@ use Rattle.stm_source.specs.declared.statements.Simple.{Simple}
 use Rattle.stm_source.specs.declared.statements.Simple.TheVariants as simple
 use Rattle.stm_terms.specs.declared.limits.TheConstants.{MOST_BRACKETS}
 use Rattle.stm_terms.specs.Outcome.{Outcome, Read, bad, ◌>>=◌}
-use Rattle.stm_terms.specs.Cursor.{place, unexpected, after_symbol, after_word, after_name, expect_symbol, expect_word, skip_semicolon}
-use Rattle.stm_terms.specs.Cursor.{next_name, next_number, open_bracket}
+use Rattle.stm_terms.specs.Cursor.{place, unexpected, after_symbol, after_word, expect_symbol, expect_word, skip_semicolon, next_name, open_bracket}
 use Rattle.stm_terms.specs.declared.constants.Item.{Item}
 use Rattle.stm_terms.specs.Literals.{number_given}
 use Rattle.stm_terms.specs.Scope.{variable_of, with_item, with_name, next_of, knows, may_give}

@@ -160,21 +160,21 @@ fn said_behind_a_way_out(spot: Spot<'_>) -> &'static str {
         0
     };
     let begins_a_statement = matches!(spot.kind(), Some(TokenKind::Word(_)));
-    if spot.is_behind_word(behind, Word::Return) {
-        return if begins_a_statement {
+    match (spot.back(behind), begins_a_statement) {
+        (Some(TokenKind::Word(Word::Return)), true) => {
             "nothing comes to it, since a return stands before it"
-        } else {
+        }
+        (Some(TokenKind::Word(Word::Return)), false) => {
             "a return has no value, and a run that is to commit nothing ends by abort(TEXT)"
-        };
-    }
-    if spot.is_behind_word(behind, Word::Break) || spot.is_behind_word(behind, Word::Continue) {
-        return if begins_a_statement {
+        }
+        (Some(TokenKind::Word(Word::Break | Word::Continue)), true) => {
             "nothing comes to it, since a break or a continue stands before it"
-        } else {
+        }
+        (Some(TokenKind::Word(Word::Break | Word::Continue)), false) => {
             "a break and a continue have no label, and are of the innermost for"
-        };
+        }
+        _ => "",
     }
-    ""
 }
 
 /// What is said of a symbol or a word that has its place elsewhere; nothing of others.

@@ -1,5 +1,5 @@
 -- What is answered about outcomes and the serial orders that come to them.
-use Rattle.std.specs.Prelude.{◌≡◌, ◌<◌, ℕ, suc, true, List, length, get_or, All}
+use Rattle.std.specs.Prelude.{◌≡◌, ◌<◌, suc, true, List, length, get_or, All}
 use Rattle.stm_schedules.specs.declared.moves.Move.{Move}
 use Rattle.stm_schedules.specs.declared.outcome.Outcome.{Outcome}
 use Rattle.stm_schedules.specs.Keeping.{goes_on}

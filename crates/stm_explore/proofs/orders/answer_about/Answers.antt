@@ -1,5 +1,4 @@
-use Rattle.std.proofs.Common.{◌≡◌, List, sym, ap, subst}
-use Rattle.stm_events.specs.declared.event.WorldEvent.{WorldEvent}
+use Rattle.std.proofs.Common.{List, subst}
 use Rattle.stm_schedules.specs.declared.outcome.Outcome.{Outcome}
 use Rattle.stm_schedules.specs.Places.{Place}
 use Rattle.stm_world.specs.World.{World}

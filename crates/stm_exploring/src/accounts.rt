@@ -118,7 +118,7 @@ impl Follower for Account {
 }
 
 /// A text as it is shown: in quotes, and of a long one its beginning.
-fn shown_text(alloc: Global, text: &str) -> Result<String, AllocError> {
+pub(crate) fn shown_text(alloc: Global, text: &str) -> Result<String, AllocError> {
     let copy = String::from_str(alloc, text)?;
     let json = Json::String(copy);
     let shown = shown(alloc, &json);

@@ -21,6 +21,7 @@ mod level_lines;
 mod leveled;
 mod lines;
 mod lists;
+mod naming;
 mod near_keys;
 mod outcome_lines;
 mod outcomes;

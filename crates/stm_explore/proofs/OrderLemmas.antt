@@ -80,18 +80,18 @@ within_lists p ends outcomes schedules AllSerial are compared = tt
 within_lists p ends outcomes schedules (Odd i) are compared = (compared.0, subst (λ (n : ℕ). i < n) (sym (as_many p ends outcomes schedules are)) compared.0)
 within_lists p ends outcomes schedules (NotKnown i) are compared = (compared, subst (λ (n : ℕ). i < n) (sym (as_many p ends outcomes schedules are)) compared)
 
+behind : (s : List Move) (schedules : List (List Move)) (j : ℕ) (e : List Move) → AllByRecursion (λ (other : List Move). length s ≤ length other) schedules →
+    j < length schedules → length s ≤ length (get_or schedules j e)
+behind s [] j e all within = absurd (omega (arith, within))
+behind s (other ∷ schedules) zero e all within = all.0
+behind s (other ∷ schedules) (suc j) e all within = behind s schedules j e all.1 (omega (arith, within))
+
 -- the schedule at an index is no longer than one behind it
 no_longer : (schedules : List (List Move)) (i j : ℕ) (d e : List Move) → AreOrdered schedules → i ≤ j → j < length schedules →
     length (get_or schedules i d) ≤ length (get_or schedules j e)
 no_longer [] i j d e are before within = absurd (omega (arith, within))
 no_longer (s ∷ schedules) zero zero d e are before within = omega arith
 no_longer (s ∷ schedules) zero (suc j) d e are before within = behind s schedules j e are.0 (omega (arith, within))
-  where
-    behind : (s : List Move) (schedules : List (List Move)) (j : ℕ) (e : List Move) → AllByRecursion (λ (other : List Move). length s ≤ length other) schedules →
-        j < length schedules → length s ≤ length (get_or schedules j e)
-    behind s [] j e all within = absurd (omega (arith, within))
-    behind s (other ∷ schedules) zero e all within = all.0
-    behind s (other ∷ schedules) (suc j) e all within = behind s schedules j e all.1 (omega (arith, within))
 no_longer (s ∷ schedules) (suc i) zero d e are before within = absurd (omega (arith, before))
 no_longer (s ∷ schedules) (suc i) (suc j) d e are before within = no_longer schedules i j d e are.1 (omega (arith, before)) (omega (arith, within))
 

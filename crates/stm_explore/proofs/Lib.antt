@@ -8,6 +8,7 @@ pub mod GatherLemmas
 pub mod OutcomeLemmas
 pub mod LayerOutcomes
 pub mod Witnessing
+pub mod Ordering
 pub mod ShownLemmas
 pub mod SameRevisions
 pub mod AlikeStores

@@ -10,6 +10,7 @@ _stmrun() {
         "script --store") compopt -o default; return ;;
         "script --format") words="lines json text svg html" ;;
         "threads --workers") words="" ;;
+        "threads --store") compopt -o default; return ;;
         "threads --repeat") words="" ;;
         "explore --keeps") compopt -o default; return ;;
         "explore --level") words="SerializableSnapshot Serializable RepeatableReads ReadCommitted all" ;;
@@ -27,7 +28,7 @@ _stmrun() {
             case "${COMP_WORDS[1]}" in
             script) case "$word" in -*) ;; *) compopt -o default; return ;; esac; words="--store --format --explain --explain=never --help" ;;
             check) case "$word" in -*) ;; *) compopt -o default; return ;; esac; words="--whole --explain --explain=never --help" ;;
-            threads) case "$word" in -*) ;; *) compopt -o default; return ;; esac; words="--workers --ends --repeat --explain --explain=never --help" ;;
+            threads) case "$word" in -*) ;; *) compopt -o default; return ;; esac; words="--workers --store --ends --repeat --explain --explain=never --help" ;;
             recipe) words="transfer deposit enqueue dequeue reserve_slot release_slot --help" ;;
             explore) case "$word" in -*) ;; *) compopt -o default; return ;; esac; words="--keeps --level --budget --after --witness --serial --strict --explain --explain=never --help" ;;
             audit) case "$word" in -*) ;; *) compopt -o default; return ;; esac; words="--help" ;;

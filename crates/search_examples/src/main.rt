@@ -4,6 +4,7 @@
 
 use anyhow::Result;
 use std::alloc::Global;
+use std::slice;
 use stm_explore::{Budget, Explored, Nobody, World, explore};
 use stm_program::{Level, Program};
 use stm_program_texts::read_program_text;
@@ -62,8 +63,11 @@ fn look(alloc: Global, world: &World, rule: &Program) -> Result<&'static str> {
         left: 10_000,
         observer: Nobody,
     };
-    let explored = explore(alloc, world, &[], rule, &mut budget)?;
-    Ok(verdict(&explored))
+    let answers = explore(alloc, world, &[], slice::from_ref(rule), &mut budget)?;
+    match answers.as_slice() {
+        [explored] => Ok(verdict(explored)),
+        _ => Ok("there is an answer for each rule"),
+    }
 }
 
 fn verdict(explored: &Explored) -> &'static str {

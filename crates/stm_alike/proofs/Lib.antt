@@ -3,3 +3,4 @@ pub mod Levelling
 pub mod Stepping
 pub mod LevelledSteps
 pub mod SeenSteps
+pub mod LeaseLog

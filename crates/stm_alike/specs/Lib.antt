@@ -1,2 +1,3 @@
 pub mod Levelled
 pub mod Seen
+pub mod Leases

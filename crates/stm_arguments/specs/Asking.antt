@@ -52,7 +52,7 @@ IsCheck rows words =
 
 abbrev pub IsThreads : List Row → ThreadsWords → Type 0
 IsThreads rows words =
-    HasWord rows (codes "FILE") words.scenario × NumberAt (first_of (codes "workers") rows) words.workers
+    HasWord rows (codes "store") words.store × HasWord rows (codes "FILE") words.scenario × NumberAt (first_of (codes "workers") rows) words.workers
     × (1 ≤ words.workers) × (words.workers ≤ MOST_WORKERS)
     × HasFlag rows (codes "ends") words.ends × RunsAt (first_of (codes "repeat") rows) words.repeat
     × HasFlag rows (codes "explain") words.explain

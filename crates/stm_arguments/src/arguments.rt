@@ -80,8 +80,8 @@ the end line:
   [\"key\",\"a\",\"1\",2,2,1,0]
   [\"end\",2,1]
 
-A store that lasts stands in a file: stmrun script --store FILE and stmrun run --store FILE PROGRAM go on from it,
-and stmrun store FILE prints what it has (stmrun store --help).
+A store that lasts stands in a file: script, threads and run go on from it with --store FILE, and stmrun store FILE
+prints what it has (stmrun store --help).
 
 Statuses: 0 done or yes, 1 no, 2 bad input or usage, 3 out of memory, a failed device, or a run of threads
 that was broken off; of explore also 1 for a rule that is broken, and 4 where all its events were taken.";

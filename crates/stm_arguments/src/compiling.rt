@@ -24,8 +24,9 @@ then stmrun compile s.stm prints
 A file whose name ends in .stm is such a source for script, check, threads and explore, too. stmrun show prints the source of
 a scenario that is JSON.
 
-With NAME it prints the program, or the rule, of that name, with the words behind NAME in place of its parameters: one that is spelled
-as a whole number of 64 bits is a number, each other one a text. Behind the word --text each is a text. If s.stm holds
+With NAME it prints the program, or the rule, of that name, with the words behind NAME in place of its parameters: a text where the
+program needs one, else a number where it is spelled as a whole number of 64 bits, else a text. Behind the word --text each is a
+text. If s.stm holds
 
   program claim(job, holder, lease) { if get(job) == \"\" { put(job, holder, lease) } }
 

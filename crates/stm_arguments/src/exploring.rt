@@ -66,14 +66,15 @@ nothing, and counts as one that never began.
 
   [\"serial\",COUNT]        each of the COUNT outcomes is
   [\"anomaly\",LENGTH,STATE,ENDS]
-                           this one is not, and the next line is the scenario with a schedule of LENGTH moves that comes to it
+                           this one is not, and the next line is the scenario with a schedule of LENGTH moves that
+                           comes to it
   [\"open\",LENGTH]          N events were taken before that was decided
 
 With --level all there is a line for each level, the weakest first, without the scenario, and then [\"enough\",LEVEL]. With
 --witness and --serial a source's rules are not asked.
 
-Statuses: 0 always, serial, or all outcomes were found, 1 broken or an anomaly, 2 bad input or usage, 3 out of memory or a failed device,
-4 open.";
+Statuses: 0 always, serial, or all outcomes were found, 1 broken or an anomaly, 2 bad input or usage, 3 out of memory or a
+failed device, 4 open.";
 
 /// The words of `explore`.
 #[derive(Drop)]

@@ -30,6 +30,12 @@ Statements
   for i in 0..COUNT max LIMIT { .. }  COUNT turns, i counting from 0; a     for i in 0..3 { emit(i) }
                                       fault above LIMIT, 0 to 1000, which
                                       may be left out of a number
+  for NAME in ITEM, .. { .. }         the block once for each text or       for w in \"a\", \"b\" { del(w) }
+                                      number, which the name stands for
+  return                              the run ends and commits, not in a    if get(\"a\") != \"\" { return }
+                                      loop that counts
+  break, continue                     behind the loop, to its next turn;    if get(w) == \"\" { continue }
+                                      a loop that counts has no break
   emit(EXPRESSION)                    a value is added to the output        emit(get(\"a\"))
   abort(TEXT)                         the run ends and commits nothing      abort(\"no funds\")
   prefetch(KEY, ..)                   first: the keys that each attempt     prefetch(\"a\", \"b\")
@@ -54,6 +60,11 @@ Conditions
 Programs
   program NAME(PARAMETER, ..) { .. }  statements with a name; parameters    program take(job) { put(job, \"1\") }
                                       stand for a start's arguments
+  program NAME(PARAMETER, LAST..)     the last one a list: an item of a     program take(job, from..) { .. }
+                                      for
+  let NAME = TEXT                     outside of programs: a constant, of   let ttl = 60
+                                      a text or a number
+  let NAME = ITEM, ITEM ..            a list                                let sites = \"ams\", \"fra\"
 
 Events
   begin REVISION limit OPERATIONS     first: the store's opening            begin 5 limit 3

@@ -18,8 +18,8 @@ program [[\"put\",\"a\",\"1\",0]] over a new store
   [2,\"committed\",1,2,1,[],[],[]]
 
 A commit is printed once it is on the disk. Where the program aborts, comes to a fault, or is refused, nothing is kept.
-A FILE whose name ends in .stm is a source: NAME is a program of it, and the words behind NAME are its arguments, as stmrun
-compile FILE NAME takes them. Another FILE has an array of statements, as stmrun recipe prints one; stmrun help formats has them.
+A FILE whose name ends in .stm is a source: NAME is a program of it, and the words behind NAME are its arguments, numbers or texts
+as the program needs them, as stmrun compile FILE NAME takes them; behind the word --text each is a text. Another FILE has an array of statements, as stmrun recipe prints one; stmrun help formats has them.
 
 Statuses: 0 committed, 1 not committed, 2 bad input or usage, 3 out of memory, a failed disk or device, or a store that another process has open.";
 

@@ -37,12 +37,18 @@ of runs that came to that. The last line has the number of all. Of the same file
   [\"outcome\",[[\"a\",\"1\"],[\"b\",\"1\"]],[[\"committed\",[]]],1000]
   [\"runs\",1000]
 
+With --store STORE the jobs go on from the store of that file, which is made where it is missing, and all that they have
+changed is put on the disk at once, before anything is printed. stmrun store --help has more of such stores.
+
 Which job goes first is not said, nor that the run ends. Statuses: 0 done, 2 bad input or usage, 3 out of
-memory, a failed device, no thread, or a job whose end is not what the store says (audit JOB).";
+memory, a failed disk or device, no thread, a job whose end is not what the store says (audit JOB), or a store that
+another process has open.";
 
 /// The words of `threads`.
 #[derive(Clone, Copy)]
 pub struct ThreadsWords<'a> {
+    /// The path of the store that the jobs go on from, where it is one that lasts.
+    pub store: Option<&'a str>,
     /// The path of the scenario; standard input, where there is none.
     pub scenario: Option<&'a str>,
     /// How many threads run jobs, from 1 to `MOST_WORKERS`.
@@ -73,6 +79,13 @@ pub(crate) fn threads_command<'a>(alloc: Global) -> Result<Command<'a>, AllocErr
             "How many threads run the jobs, from 1 to 16",
         )
         .required(true))?
+        .arg(option(
+            alloc,
+            "store",
+            "STORE",
+            ValueParser::String,
+            "The file of a store that the jobs go on from, which is made where it is missing",
+        ))?
         .arg(flag(
             alloc,
             "ends",
@@ -92,6 +105,7 @@ pub(crate) fn threads_command<'a>(alloc: Global) -> Result<Command<'a>, AllocErr
 pub(crate) fn threads_of<'a>(found: &ArgMatches<'a>) -> Result<ThreadsWords<'a>, Unasked>
     ensures { IfOk result (IsThreads (rows_of (found_of found.now))) }
 {
+    let store = word_of(found, "store");
     let scenario = word_of(found, "FILE");
     let text = required_word(found, "workers")?;
     let workers = workers_in(text)?;
@@ -100,6 +114,7 @@ pub(crate) fn threads_of<'a>(found: &ArgMatches<'a>) -> Result<ThreadsWords<'a>,
     let repeat = runs_at(named)?;
     let explain = flag_of(found, "explain");
     Ok(ThreadsWords {
+        store,
         scenario,
         workers,
         ends,

@@ -8,6 +8,9 @@ use Rattle.stm_program_source.specs.Texts.{separated}
 use Rattle.stm_report_lines.specs.Text.{line_text}
 use Rattle.stm_source.specs.Sources.{scenario_in}
 use Rattle.stm_source.specs.declared.story.Rule.{Rule}
+use Rattle.stm_source.specs.Wanted.{kinds_wanted}
+use Rattle.stm_terms.specs.declared.kinds.Kind.{Kind}
+use Rattle.stm_terms.specs.declared.kinds.Kind.TheVariants as wanted
 use Rattle.stm_terms.specs.Outcome.{Outcome, bad, ◌>>=◌}
 use Rattle.stm_terms.specs.declared.faults.SourceCause.TheVariants as cause
 use Rattle.stm_tokens.specs.Numbers.{number_length, value_from}
@@ -39,9 +42,21 @@ abbrev pub before_mark : List (List ℕ) → ℕ
 before_mark [] = 0
 before_mark (w ∷ ws) = if bytes_eq w (codes "--text") then 0 else suc (before_mark ws)
 
+-- a text where it has to be one
+abbrev pub argument_of : Option Kind → List ℕ → List ℕ
+argument_of (Some wanted.Text) word = quoted word
+argument_of (Some wanted.Number) word = argument word
+argument_of (Some wanted.Either) word = argument word
+argument_of None word = argument word
+
+-- words from a place on, of which these have to be of these kinds
+abbrev pub arguments_from : List Kind → ℕ → List (List ℕ) → List (List ℕ)
+arguments_from kinds place [] = []
+arguments_from kinds place (w ∷ ws) = argument_of (slice_get kinds place) w ∷ arguments_from kinds (suc place) ws
+
 -- behind `--text` each word is a text
-abbrev pub arguments : List (List ℕ) → List (List ℕ)
-arguments words = map argument (take (before_mark words) words) ++ map quoted (drop (before_mark words + 1) words)
+abbrev pub arguments : List Kind → List (List ℕ) → List (List ℕ)
+arguments kinds words = arguments_from kinds 0 (take (before_mark words) words) ++ map quoted (drop (before_mark words + 1) words)
 
 -- ---- the program
 
@@ -53,12 +68,12 @@ end_by (Some b) = if nat_eq b 10 then [] else codes "\n"
 abbrev pub end_of : List ℕ → List ℕ
 end_of source = end_by (slice_get source (length source - 1))
 
--- the line that starts a program
-abbrev pub start_line : List ℕ → List (List ℕ) → List ℕ
-start_line name words = codes "start " ++ name ++ codes "(" ++ separated (codes ", ") (arguments words) ++ codes ")\n"
+-- the line that starts a program whose arguments have to be of these kinds
+abbrev pub start_line : List Kind → List ℕ → List (List ℕ) → List ℕ
+start_line kinds name words = codes "start " ++ name ++ codes "(" ++ separated (codes ", ") (arguments kinds words) ++ codes ")\n"
 
 abbrev pub started : List ℕ → List ℕ → List (List ℕ) → List ℕ
-started source name words = (source ++ end_of source) ++ start_line name words
+started source name words = (source ++ end_of source) ++ start_line (kinds_wanted source name) name words
 
 -- where that line begins
 abbrev pub start_at : List ℕ → ℕ
@@ -92,7 +107,7 @@ rule_named name rules = find (λ r. bytes_eq r.name name) rules
 -- the line of a rule, which takes no arguments: else it is the name that is wrong in the last line of a text, which begins at a byte
 abbrev pub line_of_rule : ℕ → Rule → List (List ℕ) → Outcome (List ℕ)
 line_of_rule at rule words =
-    if nat_eq (length (arguments words)) 0 then Ok (line_text (written_program rule.program)) else bad (at + 6) cause.Arguments
+    if nat_eq (length (arguments [] words)) 0 then Ok (line_text (written_program rule.program)) else bad (at + 6) cause.Arguments
 
 abbrev pub line_by : Option Rule → ℕ → List ℕ → List (List ℕ) → List ℕ → Outcome (List ℕ)
 line_by (Some rule) at name words text = line_of_rule at rule words

@@ -5,8 +5,10 @@ ghost use Rattle.stm_compiling.specs.Faults.{IsExplanation, place_of};
 
 use crate::calls::{listed_behind, parameters_of, takes_list};
 use crate::fault::position_in;
+use crate::misfits::said_of_start;
 use crate::naming::{is_called, said_of_function, said_of_place};
 use crate::spots::{Event, Place, Spot, spot_at};
+use crate::titles::said_of_names;
 use crate::wanted::{Wanted, allowed, is_behind_condition_word, nearest, numbers_at, wanted_at};
 use serde_json::Value as Json;
 use std::alloc::{AllocError, Global};
@@ -152,6 +154,31 @@ fn is_else_of_look_up(spot: Spot<'_>) -> bool {
     }
 }
 
+/// What is said of a token behind a statement that leaves its block, where only a `}` may stand; nothing of others.
+fn said_behind_a_way_out(spot: Spot<'_>) -> &'static str {
+    let behind = if spot.is_behind_symbol(0, Symbol::Semicolon) {
+        1
+    } else {
+        0
+    };
+    let begins_a_statement = matches!(spot.kind(), Some(TokenKind::Word(_)));
+    match (spot.back(behind), begins_a_statement) {
+        (Some(TokenKind::Word(Word::Return)), true) => {
+            "nothing comes to it, since a return stands before it"
+        }
+        (Some(TokenKind::Word(Word::Return)), false) => {
+            "a return has no value, and a run that is to commit nothing ends by abort(TEXT)"
+        }
+        (Some(TokenKind::Word(Word::Break | Word::Continue)), true) => {
+            "nothing comes to it, since a break or a continue stands before it"
+        }
+        (Some(TokenKind::Word(Word::Break | Word::Continue)), false) => {
+            "a break and a continue have no label, and are of the innermost for"
+        }
+        _ => "",
+    }
+}
+
 /// What is said of a symbol or a word that has its place elsewhere; nothing of others.
 fn said_of_symbol(spot: Spot<'_>) -> &'static str {
     if is_else_of_look_up(spot) {
@@ -159,6 +186,10 @@ fn said_of_symbol(spot: Spot<'_>) -> &'static str {
     }
     if spot.is_before_a_block() {
         return "";
+    }
+    let said = said_behind_a_way_out(spot);
+    if !said.is_empty() {
+        return said;
     }
     match (spot.kind(), spot.place()) {
         (Some(TokenKind::Symbol(Symbol::Semicolon)), Place::Events) => {
@@ -176,11 +207,8 @@ fn said_of_symbol(spot: Spot<'_>) -> &'static str {
         (Some(TokenKind::Word(Word::Prefetch)), Place::Statements) => {
             "the list of keys stands before all statements"
         }
-        (Some(TokenKind::Word(Word::Return)), Place::Statements) => {
-            "what follows goes into the other branch of the if, and a run is broken off by abort(TEXT)"
-        }
         (Some(TokenKind::Word(Word::Break | Word::Continue)), Place::Statements) => {
-            "a variable says that the rest is skipped: if done == 0 { .. }"
+            "it stands in the block of a for"
         }
         _ => "",
     }
@@ -267,6 +295,9 @@ fn name_words(
     if !said.is_empty() {
         return format!(in alloc; "{found} is no name of anything here: {said}");
     }
+    if let Some(said) = said_of_names(alloc, found, name_in(spot), spot)? {
+        return Ok(said);
+    }
     let said = said_of_place(spot);
     format!(in alloc; "{found} {said}")
 }
@@ -313,6 +344,21 @@ fn token_words(alloc: Global, spot: Spot<'_>, character: &str) -> Result<String,
     }
 }
 
+/// What is said of a value of another kind than is wanted.
+fn kind_words(
+    alloc: Global,
+    source: &[u8],
+    found: &str,
+    spot: Spot<'_>,
+) -> Result<String, AllocError> {
+    match said_of_start(alloc, source, spot)? {
+        Some(said) => Ok(said),
+        None => format!(in alloc;
+            "{found} is of the other kind: a text where a number is wanted, or a number where a text is"
+        ),
+    }
+}
+
 /// The first character of a text.
 fn first_character(text: &str) -> &str {
     match text.chars().next() {
@@ -355,9 +401,7 @@ fn words_at(
             "{found} is an empty key, or one that stands in the list already"
         ),
         SourceCause::Arguments => argument_words(alloc, found, spot),
-        SourceCause::Kind => format!(in alloc;
-            "{found} is of the other kind: a text where a number is wanted, or a number where a text is"
-        ),
+        SourceCause::Kind => kind_words(alloc, source, found, spot),
         SourceCause::TooMany => format!(in alloc;
             "{found} is one too many: a program has 16 variables, a list 128 keys, a scenario 100000 events"
         ),

@@ -15,12 +15,13 @@ pub(crate) fn said_of_function(name: &str) -> &'static str {
         "Rev" => "the revision at which a key was put last is rev(KEY)",
         "Put" | "write" => "a key is put by put(KEY, VALUE)",
         "Del" | "Delete" => "a key is deleted by del(KEY)",
+        "end" | "why" | "out" => "how a runner ended is asked in a finally alone",
         _ => "the functions are get(KEY), rev(KEY), num_of(TEXT) and text_of(NUMBER)",
     }
 }
 
 /// Whether a name stands among those of the runners that a start waits for.
-fn is_awaited(spot: Spot<'_>) -> bool {
+pub(crate) fn is_awaited(spot: Spot<'_>) -> bool {
     for token in spot.before.iter().rev() {
         if token.kind.is_named("after") {
             return true;

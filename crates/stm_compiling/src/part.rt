@@ -6,8 +6,8 @@ use stm_history::Text;
 pub enum Part<'a> {
     /// Its scenario.
     Scenario,
-    /// The rule of a name, which takes no words; or the program of that name, with the words that its arguments are: one that is a whole number of
-    /// 64 bits by its spelling is a number, and each other one a text; behind `--text`, which is none itself, each is a text.
+    /// The rule of a name, which takes no words; or the program of that name, with the words that its arguments are: a text where it needs one, else a
+    /// number where the word is a whole number of 64 bits by its spelling, else a text; behind `--text`, which is none itself, each is a text.
     Program { name: &'a str, words: &'a [String] },
 }
 

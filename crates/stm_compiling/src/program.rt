@@ -1,5 +1,5 @@
 //! The line of a rule of a source, or of a program with its arguments, as JSON.
-ghost use Rattle.std.specs.Prelude.{◌≡◌, ◌≤◌, ◌+◌, ◌++◌, codes, drop, if◌then◌else◌, length, map, IfOk, OnOk, option_copied, string_bytes};
+ghost use Rattle.std.specs.Prelude.{◌≡◌, ◌≤◌, ◌+◌, ◌++◌, codes, drop, if◌then◌else◌, length, map, IfOk, OnOk, option_copied, slice_get, string_bytes};
 ghost use Rattle.json.specs.Print.{quoted};
 ghost use Rattle.stm_program_source.specs.Texts.{joined, separated};
 ghost use Rattle.stm_source.specs.Sources.{scenario_in};
@@ -10,7 +10,7 @@ ghost use Rattle.stm_compiling.specs.Programs as spec;
 use crate::line::program_line;
 use std::alloc::{AllocError, Global};
 use stm_program_source::push_quoted;
-use stm_source::{Rule, Scenario, SourceCause, SourceError, read_source};
+use stm_source::{Kind, Rule, Scenario, SourceCause, SourceError, kinds_wanted, read_source};
 use stm_terms::fault;
 use stm_texts::WorldEvent;
 use stm_tokens::{TokenKind, number_length, number_of, tokens_of};
@@ -74,16 +74,38 @@ fn before_mark(words: &[String]) -> usize
     words.len()
 }
 
-/// Adds words, each a number where it is spelled as one, else a text.
+/// A word as a source has it, where a text or a number is wanted.
+fn argument_of(alloc: Global, kind: Option<Kind>, word: &str) -> Result<String, AllocError>
+    ensures { IfOk result (λ token. string_bytes token ≡ spec.argument_of kind word.now) }
+{
+    match kind {
+        Some(Kind::Text) => quoted_word(alloc, word),
+        Some(Kind::Number) | Some(Kind::Either) | None => argument(alloc, word),
+    }
+}
+
+/// What is wanted in a place, where it is known.
+fn kind_at(kinds: &[Kind], place: usize) -> Option<Kind>
+    ensures { result ≡ slice_get kinds.now place }
+{
+    if place < kinds.len() {
+        Some(kinds[place])
+    } else {
+        None
+    }
+}
+
+/// Adds words, each a text where it has to be one, else a number where it is spelled as one, else a text.
 fn push_arguments(
     alloc: Global,
     tokens: &mut Vec<String>,
+    kinds: &[Kind],
     words: &[String],
 ) -> Result<(), AllocError>
-    ensures { OnOk result (map string_bytes tokens.new.items ≡ map string_bytes tokens.old.items ++ map spec.argument (map string_bytes words.now)) }
+    ensures { OnOk result (map string_bytes tokens.new.items ≡ map string_bytes tokens.old.items ++ spec.arguments_from kinds.now 0 (map string_bytes words.now)) }
 {
-    for word in words {
-        let token = argument(alloc, word.as_str())?;
+    for (place, word) in words.iter().enumerate() {
+        let token = argument_of(alloc, kind_at(kinds, place), word.as_str())?;
         tokens.push(token)?;
     }
     Ok(())
@@ -113,12 +135,12 @@ fn behind_mark(words: &[String], mark: usize) -> &[String]
 
 /// The arguments that words are, as a source has them.
 #[tactic(auto, using(crate::proofs::Arguments::marked))]
-fn arguments(alloc: Global, words: &[String]) -> Result<Vec<String>, AllocError>
-    ensures { IfOk result (λ tokens. map string_bytes tokens.items ≡ spec.arguments (map string_bytes words.now)) }
+fn arguments(alloc: Global, kinds: &[Kind], words: &[String]) -> Result<Vec<String>, AllocError>
+    ensures { IfOk result (λ tokens. map string_bytes tokens.items ≡ spec.arguments kinds.now (map string_bytes words.now)) }
 {
     let mark = before_mark(words);
     let mut tokens = Vec::new(alloc);
-    push_arguments(alloc, &mut tokens, &words[..mark])?;
+    push_arguments(alloc, &mut tokens, kinds, &words[..mark])?;
     push_texts(alloc, &mut tokens, behind_mark(words, mark))?;
     Ok(tokens)
 }
@@ -147,11 +169,16 @@ fn push_separated(out: &mut String, texts: &[String]) -> Result<(), AllocError>
     }
 }
 
-/// The line that starts a program.
-fn start_line(alloc: Global, name: &str, words: &[String]) -> Result<String, AllocError>
-    ensures { IfOk result (λ line. string_bytes line ≡ spec.start_line name.now (map string_bytes words.now)) }
+/// The line that starts a program, whose arguments have to be of these kinds.
+fn start_line(
+    alloc: Global,
+    kinds: &[Kind],
+    name: &str,
+    words: &[String],
+) -> Result<String, AllocError>
+    ensures { IfOk result (λ line. string_bytes line ≡ spec.start_line kinds.now name.now (map string_bytes words.now)) }
 {
-    let tokens = arguments(alloc, words)?;
+    let tokens = arguments(alloc, kinds, words)?;
     let mut line = String::from_str(alloc, "start ")?;
     line.push_str(name)?;
     line.push('(')?;
@@ -188,7 +215,8 @@ pub(crate) fn started(
 ) -> Result<Vec<u8>, AllocError>
     ensures { IfOk result (λ text. text.items ≡ spec.started source.now name.now (map string_bytes words.now)) }
 {
-    let line = start_line(alloc, name, words)?;
+    let kinds = kinds_wanted(alloc, source, name)?;
+    let line = start_line(alloc, kinds.as_slice(), name, words)?;
     let mut text = Vec::new(alloc);
     text.extend_from_slice(source)?;
     text.extend_from_slice(end_of(source).as_bytes())?;
@@ -265,7 +293,7 @@ fn line_of_rule(
     requires { at + 6 ≤ usize.MAX }
     ensures { Returns string_bytes result (spec.line_of_rule at rule.now (map string_bytes words.now)) }
 {
-    let arguments = arguments(alloc, words)?;
+    let arguments = arguments(alloc, &[], words)?;
     if arguments.is_empty() {
         Ok(program_line(alloc, &rule.program)?)
     } else {

@@ -281,7 +281,7 @@ fn is_behind_else_of_look_up(spot: Spot<'_>) -> bool {
 /// What is wanted in a place.
 pub(crate) fn wanted_at(spot: Spot<'_>) -> Wanted {
     if is_behind_else_of_look_up(spot) {
-        return Wanted::Said("a text, or a name that stands for one,");
+        return Wanted::Said("a text: as it stands, a name, get(..), or a value in parentheses,");
     }
     match spot.place() {
         Place::Events => in_event(spot),

@@ -1,3 +1,5 @@
+pub mod Zipped
+pub mod RuleSteps
 pub mod KeepLemmas
 pub mod MoveLemmas
 pub mod ExploreLemmas
@@ -6,8 +8,8 @@ pub mod GatherLemmas
 pub mod OutcomeLemmas
 pub mod LayerOutcomes
 pub mod Witnessing
+pub mod Ordering
 pub mod ShownLemmas
-pub mod LeaseLog
 pub mod SameRevisions
 pub mod AlikeStores
 pub mod AskedLemmas

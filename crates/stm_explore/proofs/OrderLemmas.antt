@@ -1,12 +1,14 @@
 -- What is known of outcomes by the serial orders that come to them.
-use Rattle.std.proofs.Common.{◌≡◌, ◌∙◌, ℕ, zero, suc, ◌+◌, ◌<◌, List, [], ◌∷◌, ◌++◌, length, take, get_or, All, refl, sym, ap, subst, arith}
+use Rattle.std.proofs.Common.{◌≡◌, ◌∙◌, ◌⊎◌, inl, inr, ℕ, zero, suc, ◌+◌, ◌<◌, ◌≤◌, List, [], ◌∷◌, ◌++◌, length, take, get_or, All, refl, sym, ap, subst, arith}
 use Rattle.std.proofs.Math.Seq.{take-suc}
+use Rattle.std.proofs.lemmas.List.{get_or-take, length-take-le}
 use Rattle.std.proofs.lemmas.List.Elements.{All-push}
+use Rattle.std.specs.List.{AllByRecursion}
 use Rattle.stm_events.specs.declared.event.WorldEvent.{WorldEvent}
 use Rattle.stm_world.specs.World.{World}
 use Rattle.stm_schedules.specs.declared.moves.Move.{Move}
 use Rattle.stm_schedules.specs.declared.outcome.Outcome.{Outcome}
-use Rattle.stm_schedules.specs.Outcomes.{Ends}
+use Rattle.stm_schedules.specs.Outcomes.{Comes, Ends}
 use Rattle.stm_schedules.specs.Places.{Place}
 use Rattle.stm_visited.specs.Answers.{IsVisited}
 use Rattle.stm_visited.specs.declared.visited.Visited.{Visited}
@@ -17,7 +19,7 @@ use Rattle.stm_explore.specs.declared.orders.Compared.TheVariants.{Serial as All
 use Rattle.stm_explore.specs.declared.orders.SerialAnswer.TheVariants.{Serial, Anomaly, Undecided}
 use Rattle.stm_explore.specs.Orders.{Answers, AreCompared, IsExplained, IsSought, IsWithin, explained_by}
 use Rattle.stm_explore.specs.Turns.{IsSerial, counted, turn_steps}
-use Rattle.stm_explore.specs.Witnesses.{AreWitnesses, IsWitness}
+use Rattle.stm_explore.specs.Witnesses.{AreOrdered, AreWitnesses, IsWitness}
 use Rattle.stm_explore.proofs.TurnLemmas.{no_order, order_found, start_of}
 
 -- ---- one outcome
@@ -78,17 +80,57 @@ within_lists p ends outcomes schedules AllSerial are compared = tt
 within_lists p ends outcomes schedules (Odd i) are compared = (compared.0, subst (λ (n : ℕ). i < n) (sym (as_many p ends outcomes schedules are)) compared.0)
 within_lists p ends outcomes schedules (NotKnown i) are compared = (compared, subst (λ (n : ℕ). i < n) (sym (as_many p ends outcomes schedules are)) compared)
 
--- what stands at the index is that outcome and its witness
+behind : (s : List Move) (schedules : List (List Move)) (j : ℕ) (e : List Move) → AllByRecursion (λ (other : List Move). length s ≤ length other) schedules →
+    j < length schedules → length s ≤ length (get_or schedules j e)
+behind s [] j e all within = absurd (omega (arith, within))
+behind s (other ∷ schedules) zero e all within = all.0
+behind s (other ∷ schedules) (suc j) e all within = behind s schedules j e all.1 (omega (arith, within))
+
+-- the schedule at an index is no longer than one behind it
+no_longer : (schedules : List (List Move)) (i j : ℕ) (d e : List Move) → AreOrdered schedules → i ≤ j → j < length schedules →
+    length (get_or schedules i d) ≤ length (get_or schedules j e)
+no_longer [] i j d e are before within = absurd (omega (arith, within))
+no_longer (s ∷ schedules) zero zero d e are before within = omega arith
+no_longer (s ∷ schedules) zero (suc j) d e are before within = behind s schedules j e are.0 (omega (arith, within))
+no_longer (s ∷ schedules) (suc i) zero d e are before within = absurd (omega (arith, before))
+no_longer (s ∷ schedules) (suc i) (suc j) d e are before within = no_longer schedules i j d e are.1 (omega (arith, before)) (omega (arith, within))
+
+less_or_not : (a b : ℕ) → (a < b) ⊎ (b ≤ a)
+less_or_not a zero = inr (omega arith)
+less_or_not zero (suc b) = inl (omega arith)
+less_or_not (suc a) (suc b) = elim (less_or_not a b) [ inl less ↦ inl (omega (arith, less)) | inr not ↦ inr (omega (arith, not)) ]
+
+-- one before the index is among those before it
+before_index : (P : Outcome → Type 0) (outcomes : List Outcome) (i j : ℕ) (o : Outcome) → All P (take i outcomes) → j < i → i < length outcomes →
+    P (get_or outcomes j o)
+before_index P outcomes i j o all less within =
+    let long : length (take i outcomes) ≡ i = length-take-le i outcomes (omega (arith, within)) in
+    subst P (get_or-take i outcomes j o less) (all j o (omega (arith, less, long)))
+
+-- what stands at the index is that outcome and its witness, and no other odd outcome has a shorter one
 pub anomaly_by : (outcomes : List Outcome) (schedules : List (List Move)) (i : ℕ) (it : Outcome) (schedule : List Move) → it ≡ get_or outcomes i it →
     schedule ≡ get_or schedules i schedule → Answers outcomes schedules (Odd i) (Anomaly it schedule)
-anomaly_by outcomes schedules i it schedule at scheduled p ends all are compared = (
+anomaly_by outcomes schedules i it schedule at scheduled p ends all are ordered compared = (
   witness_of p ends outcomes schedules i it schedule are compared.0 at scheduled,
   λ serial. compared.1 it (subst (IsSerial p ends) at serial),
+  λ other o comes odd.
+      let there = (all.0 o).1 (other, comes) in
+      let j : ℕ = there.0 in
+      elim (less_or_not j i) [
+        | inl less ↦ absurd (odd (subst (IsSerial p ends) there.2 (before_index (IsSerial p ends) outcomes i j o compared.2 less compared.0)))
+        | inr not ↦
+            let within : j < length schedules = subst (λ (n : ℕ). j < n) (sym (as_many p ends outcomes schedules are)) there.1 in
+            let first : length (get_or schedules i schedule) ≤ length (get_or schedules j other) = no_longer schedules i j schedule other ordered not within in
+            let same : length schedule ≡ length (get_or schedules i schedule) = ap length scheduled in
+            let least : length (get_or schedules j other) ≤ length other =
+            (witness_at p ends outcomes schedules j o other are there.1).shortest other (subst (Comes other p ends) (sym there.2) comes) in
+            omega (arith, first, same, least)
+      ],
 )
 
 pub unknown_by : (outcomes : List Outcome) (schedules : List (List Move)) (i : ℕ) (it : Outcome) (schedule : List Move) → it ≡ get_or outcomes i it →
     schedule ≡ get_or schedules i schedule → Answers outcomes schedules (NotKnown i) (Undecided it schedule)
-unknown_by outcomes schedules i it schedule at scheduled p ends all are compared = witness_of p ends outcomes schedules i it schedule are compared at scheduled
+unknown_by outcomes schedules i it schedule at scheduled p ends all are ordered compared = witness_of p ends outcomes schedules i it schedule are compared at scheduled
 
 pub serial_by : (outcomes : List Outcome) (schedules : List (List Move)) (count : ℕ) → length outcomes ≡ count → Answers outcomes schedules AllSerial (Serial count)
-serial_by outcomes schedules count is p ends all are compared = (outcomes, all, compared, is)
+serial_by outcomes schedules count is p ends all are ordered compared = (outcomes, all, compared, is)

@@ -1,5 +1,5 @@
 -- Serial orders, as a search goes through them.
-use Rattle.std.proofs.Common.{◌≡◌, ◌∙◌, ◌⊎◌, ℕ, Bool, true, false, not, List, [], ◌∷◌, length, filter, Contains, Option, Some, None, refl, sym, ap, subst, Decides}
+use Rattle.std.proofs.Common.{◌≡◌, ◌∙◌, ℕ, Bool, true, false, not, List, [], ◌∷◌, length, filter, Option, None, refl, sym, ap, subst}
 use Rattle.stm_events.specs.declared.event.WorldEvent.{WorldEvent}
 use Rattle.stm_world.specs.World.{World}
 use Rattle.stm_schedules.specs.declared.moves.Move.{Move}
@@ -15,11 +15,10 @@ use Rattle.stm_visited.specs.Search.{Leads}
 use Rattle.stm_visited.specs.Answers.{IsVisited}
 use Rattle.stm_visited.specs.declared.visited.Visited.{Visited}
 use Rattle.stm_visited.specs.declared.visited.Visited.TheVariants.{Always, Broken}
-use Rattle.stm_explore.specs.declared.places.ReportedPlace.{ReportedPlace}
 use Rattle.stm_explore.specs.declared.turns.TurnPlace.{TurnPlace}
 use Rattle.stm_explore.specs.AlikeSpots.{after_is_moved}
-use Rattle.stm_explore.specs.Spots.{place_of, after, reported_after}
-use Rattle.stm_explore.specs.Turns.{AreInTurn, IsOrderFor, IsSerial, comes_to, counted, moves_in_turn, is_goal, is_in_turn, last_turn, turn_of, turn_steps}
+use Rattle.stm_explore.specs.Spots.{place_of, reported_after}
+use Rattle.stm_explore.specs.Turns.{AreInTurn, IsOrderFor, IsSerial, comes_to, counted, moves_in_turn, is_in_turn, last_turn, turn_of, turn_steps}
 use Rattle.stm_explore.proofs.LeadLemmas.{found_leads, none_leads, none_longer}
 use Rattle.stm_explore.proofs.PatientSchedules.{is_kept, was_there}
 use Rattle.stm_explore.proofs.Walking.{at_start}

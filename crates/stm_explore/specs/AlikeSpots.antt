@@ -1,5 +1,5 @@
 -- Places that are alike have the same moves, are alike after the same move, keep the same rules and show the same.
-use Rattle.std.proofs.Common.{◌≡◌, ◌∙◌, ℕ, zero, suc, List, [], ◌∷◌, ◌++◌, drop, map, length, Option, Some, None, option_map, Result, Ok, Err, refl, sym, ap}
+use Rattle.std.proofs.Common.{◌≡◌, ◌∙◌, ℕ, zero, suc, List, [], ◌∷◌, ◌++◌, drop, map, length, Option, Some, None, option_map, slice_get, Result, Ok, Err, refl, sym, ap}
 use Rattle.std.proofs.lemmas.List.{length-map}
 use Rattle.stm_program.specs.Syntax.{ProgramTree}
 use Rattle.stm_watch.specs.declared.watched.Watched.TheVariants.{Key, Range}
@@ -25,7 +25,7 @@ use Rattle.stm_schedules.specs.Outcomes.{Ends, after_reply, after_reported, ends
 use Rattle.stm_visited.specs.Alike.{Respects}
 use Rattle.stm_explore.specs.declared.places.WorldPlace.{WorldPlace}
 use Rattle.stm_explore.specs.declared.places.ReportedPlace.{ReportedPlace}
-use Rattle.stm_explore.specs.Spots.{taken_next, place_of, after, seen_place, AreSame, ShowTheSame, rule_steps, outcome_steps}
+use Rattle.stm_explore.specs.Spots.{taken_next, place_of, after, seen_place, AreSame, ShowTheSame, keeps_if_there, rules_steps, outcome_steps}
 
 -- ---- where a move leads to
 
@@ -86,11 +86,16 @@ alike_after : (others : List WorldEvent) (m : Move) (p q : WorldPlace) → AreSa
 alike_after others m p q same =
     ap seen_place (after_is_moved others m p) ∙ alike_moved m (place_of others p) (place_of others q) same ∙ sym (ap seen_place (after_is_moved others m q))
 
-pub rules_respected : (rule : ProgramTree) (others : List WorldEvent) → Respects WorldPlace Move (Unit {0}) (rule_steps rule others) (AreSame others)
-rules_respected rule others = record {
+-- a rule sees the same, if there is one
+alike_kept : (rule : Option ProgramTree) (others : List WorldEvent) (p q : WorldPlace) → AreSame others p q → keeps_if_there rule p.world ≡ keeps_if_there rule q.world
+alike_kept None others p q same = refl
+alike_kept (Some rule) others p q same = ap (λ (v : Place). keeps rule v.world) same
+
+pub rules_respected : (rules : List ProgramTree) (others : List WorldEvent) (n : ℕ) → Respects WorldPlace Move (Unit {0}) (rules_steps rules others n) (AreSame others)
+rules_respected rules others n = record {
   moves = λ p q same. alike_moves (place_of others p) (place_of others q) same;
   after = alike_after others;
-  keeps = λ p q same. ap (λ (v : Place). keeps rule v.world) same;
+  keeps = λ p q same. alike_kept (slice_get rules n) others p q same;
   shows = λ p q same. refl;
 }
 

@@ -11,7 +11,7 @@ use Rattle.stm_schedules.specs.Merges.{IsMerge}
 use Rattle.stm_visited.specs.Search.{total}
 use Rattle.stm_schedules.specs.Outcomes.{Ends, IsOutcome}
 use Rattle.stm_explore.specs.Gathering.{AreDistinct}
-use Rattle.stm_explore.specs.Witnesses.{AreWitnesses}
+use Rattle.stm_explore.specs.Witnesses.{AreOrdered, AreWitnesses}
 use Rattle.stm_explore.specs.declared.exploring.Explored.{Explored}
 use Rattle.stm_explore.specs.declared.exploring.Explored.TheVariants.{Always, Broken, Open}
 use Rattle.stm_explore.specs.declared.finding.Outcomes.{Outcomes}
@@ -45,9 +45,9 @@ abbrev pub AreOutcomes : Place → Ends → Outcomes → Type 0
 AreOutcomes p ends (Found outcomes schedules) = AreAllOutcomes p ends outcomes
 AreOutcomes p ends (OpenAt gone_through) = goes_on (suc gone_through) p ≡ true
 
--- each outcome has its witness
+-- each outcome has its witness, and no witness is longer than one behind it
 abbrev pub OutcomesAreWitnessed : Place → Ends → Outcomes → Type 0
-OutcomesAreWitnessed p ends (Found outcomes schedules) = AreWitnesses p ends outcomes schedules
+OutcomesAreWitnessed p ends (Found outcomes schedules) = AreWitnesses p ends outcomes schedules × AreOrdered schedules
 OutcomesAreWitnessed p ends (OpenAt gone_through) = Unit {0}
 
 -- ---- the budget: an answer is open only where nothing is left of it

@@ -1,4 +1,3 @@
-pub mod Leases
 pub mod Spots
 pub mod AlikeSpots
 pub mod Gathering

@@ -1,9 +1,9 @@
 -- What is answered about outcomes and the serial orders that come to them.
-use Rattle.std.specs.Prelude.{◌≡◌, ◌<◌, ℕ, suc, true, List, length, get_or, All}
+use Rattle.std.specs.Prelude.{◌≡◌, ◌<◌, suc, true, List, length, get_or, All, ◌≤◌, take}
 use Rattle.stm_schedules.specs.declared.moves.Move.{Move}
 use Rattle.stm_schedules.specs.declared.outcome.Outcome.{Outcome}
 use Rattle.stm_schedules.specs.Keeping.{goes_on}
-use Rattle.stm_schedules.specs.Outcomes.{Ends}
+use Rattle.stm_schedules.specs.Outcomes.{Comes, Ends}
 use Rattle.stm_schedules.specs.Places.{Place}
 use Rattle.stm_visited.specs.declared.visited.Visited.{Visited}
 use Rattle.stm_visited.specs.declared.visited.Visited.TheVariants.{Always, Broken, Open}
@@ -15,13 +15,15 @@ use Rattle.stm_explore.specs.declared.orders.SerialAnswer.{SerialAnswer}
 use Rattle.stm_explore.specs.declared.orders.SerialAnswer.TheVariants.{Serial, Anomaly, Open as OpenAt, Undecided}
 use Rattle.stm_explore.specs.Explored.{AreAllOutcomes}
 use Rattle.stm_explore.specs.Turns.{IsOrderFor, IsSerial}
-use Rattle.stm_explore.specs.Witnesses.{AreWitnesses, IsWitness}
+use Rattle.stm_explore.specs.Witnesses.{AreOrdered, AreWitnesses, IsWitness}
 
--- These are all outcomes, and to each some serial order comes; or to this outcome, which has this witness, none does; or some schedule is longer than those
--- that were gone through; or of this outcome it is not known.
+-- These are all outcomes, and to each some serial order comes; or to this outcome, which has this witness, none does, and no schedule that comes to such an
+-- outcome is shorter; or some schedule is longer than those that were gone through; or of this outcome it is not known.
 abbrev pub IsSerialAnswer : Place → Ends → SerialAnswer → Type 0
 IsSerialAnswer p ends (Serial count) = (outcomes : List Outcome) × AreAllOutcomes p ends outcomes × All (IsSerial p ends) outcomes × (length outcomes ≡ count)
-IsSerialAnswer p ends (Anomaly it schedule) = IsWitness p ends it schedule × (IsSerial p ends it → ⊥)
+IsSerialAnswer p ends (Anomaly it schedule) =
+    IsWitness p ends it schedule × (IsSerial p ends it → ⊥)
+    × ((other : List Move) (o : Outcome) → Comes other p ends o → (IsSerial p ends o → ⊥) → length schedule ≤ length other)
 IsSerialAnswer p ends (OpenAt gone_through) = goes_on (suc gone_through) p ≡ true
 IsSerialAnswer p ends (Undecided it schedule) = IsWitness p ends it schedule
 
@@ -43,10 +45,11 @@ IsExplained it p ends Yes = IsSerial p ends it
 IsExplained it p ends No = IsSerial p ends it → ⊥
 IsExplained it p ends Unknown = Unit {0}
 
--- some serial order comes to each of these; or none does to the one at this index
+-- some serial order comes to each of these; or none does to the one at this index, and one to each before
 abbrev pub AreCompared : Place → Ends → List Outcome → Compared → Type 0
 AreCompared p ends outcomes AllSerial = All (IsSerial p ends) outcomes
-AreCompared p ends outcomes (Odd i) = (i < length outcomes) × ((d : Outcome) → IsSerial p ends (get_or outcomes i d) → ⊥)
+AreCompared p ends outcomes (Odd i) =
+    (i < length outcomes) × ((d : Outcome) → IsSerial p ends (get_or outcomes i d) → ⊥) × All (IsSerial p ends) (take i outcomes)
 AreCompared p ends outcomes (NotKnown i) = i < length outcomes
 
 -- there is an outcome and a schedule at the index
@@ -58,5 +61,5 @@ IsWithin outcomes schedules (NotKnown i) = (i < length outcomes) × (i < length 
 -- the answer is so wherever these are the outcomes, with these witnesses
 abbrev pub Answers : List Outcome → List (List Move) → Compared → SerialAnswer → Type 0
 Answers outcomes schedules compared answer =
-    (p : Place) (ends : Ends) → AreAllOutcomes p ends outcomes → AreWitnesses p ends outcomes schedules → AreCompared p ends outcomes compared
+    (p : Place) (ends : Ends) → AreAllOutcomes p ends outcomes → AreWitnesses p ends outcomes schedules → AreOrdered schedules → AreCompared p ends outcomes compared
     → IsSerialAnswer p ends answer

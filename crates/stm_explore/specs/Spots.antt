@@ -1,8 +1,8 @@
 -- The places of a scenario, as a search goes through them.
-use Rattle.std.specs.Prelude.{◌≡◌, ℕ, suc, true, List, [], ◌∷◌, drop}
+use Rattle.std.specs.Prelude.{◌≡◌, ℕ, suc, Bool, true, List, [], ◌∷◌, drop, Option, None, Some, slice_get}
 use Rattle.stm_program.specs.Syntax.{ProgramTree}
 use Rattle.stm_events.specs.declared.event.WorldEvent.{WorldEvent}
-use Rattle.stm_world.specs.World.{world_after}
+use Rattle.stm_world.specs.World.{World, world_after}
 use Rattle.stm_alike.specs.Seen.{seen_world}
 use Rattle.stm_schedules.specs.declared.moves.Move.{Move}
 use Rattle.stm_schedules.specs.declared.moves.Move.TheVariants.{Step as StepOf, Other}
@@ -60,6 +60,20 @@ rule_steps rule others = record {
   moves = λ p. moves (place_of others p);
   after = after others;
   keeps = λ p. keeps rule p.world;
+  shows = λ p. tt {0};
+}
+
+-- a rule is kept in a world, if there is one
+abbrev pub keeps_if_there : Option ProgramTree → World → Bool
+keeps_if_there None w = true
+keeps_if_there (Some rule) w = keeps rule w
+
+-- where the rule of a number among these is looked at
+abbrev pub rules_steps : List ProgramTree → List WorldEvent → ℕ → Steps WorldPlace Move (Unit {0})
+rules_steps rules others n = record {
+  moves = λ p. moves (place_of others p);
+  after = after others;
+  keeps = λ p. keeps_if_there (slice_get rules n) p.world;
   shows = λ p. tt {0};
 }
 

@@ -16,7 +16,6 @@ use Rattle.stm_schedules.specs.Schedules.{place_after, IsSchedule}
 use Rattle.stm_schedules.specs.Outcomes.{Ends, ends_moved, ends_after, shown, outcome_after}
 use Rattle.stm_visited.specs.Search.{Steps}
 use Rattle.stm_visited.specs.Alike.{Respects}
-use Rattle.stm_explore.specs.declared.places.ReportedPlace.{ReportedPlace}
 use Rattle.stm_explore.specs.declared.turns.TurnPlace.{TurnPlace}
 use Rattle.stm_explore.specs.Spots.{place_of, reported_after, ShowTheSame}
 use Rattle.stm_explore.specs.AlikeSpots.{outcomes_respected}

@@ -1,7 +1,8 @@
 -- Runners that wait for others, and what a search through their schedules answers.
 use Rattle.std.specs.Prelude.{◌≡◌, ◌<◌, ◌≤◌, ℕ, suc, ◌-◌, nat_eq, Bool, true, false, not, ◌||◌, List, [], ◌∷◌, length, filter, Option, None, Some, slice_get}
-use Rattle.std.proofs.Common.{ap, ◌∙◌}
+use Rattle.std.proofs.Common.{refl, ap, ◌∙◌}
 use Rattle.std.specs.List.{list_all}
+use Rattle.stm_history.specs.History.{History}
 use Rattle.stm_program.specs.Syntax.{ProgramTree}
 use Rattle.stm_events.specs.declared.event.WorldEvent.{WorldEvent}
 use Rattle.stm_schedules.specs.declared.moves.Move.{Move}
@@ -71,22 +72,42 @@ waiting_steps waits when rule others = record {
   shows = λ p. shown p.at.world p.ends;
 }
 
+-- a rule is kept, if there is one
+abbrev pub asks_if_there : When → Option ProgramTree → List Move → History → Ends → Bool
+asks_if_there when None moves h ends = true
+asks_if_there when (Some rule) moves h ends = asks when rule moves h ends
+
+-- where the rule of a number among these is asked
+abbrev pub waiting_rules_steps : List Wait → When → List ProgramTree → List WorldEvent → ℕ → Steps ReportedPlace Move Outcome
+waiting_rules_steps waits when rules others n = record {
+  moves = λ p. allowed waits p.ends (place_of others p.at);
+  after = reported_after others;
+  keeps = λ p. asks_if_there when (slice_get rules n) (allowed waits p.ends (place_of others p.at)) p.at.world.standing.history p.ends;
+  shows = λ p. shown p.at.world p.ends;
+}
+
 -- alike places, of whose ends the same is known, have the same moves
-pub waiting_respected : (waits : List Wait) (when : When) (rule : ProgramTree) (others : List WorldEvent) →
-    Respects ReportedPlace Move Outcome (waiting_steps waits when rule others) (ShowTheSame others)
-waiting_respected waits when rule others = record {
+pub waiting_respected : (waits : List Wait) (when : When) (rules : List ProgramTree) (others : List WorldEvent) (n : ℕ) →
+    Respects ReportedPlace Move Outcome (waiting_rules_steps waits when rules others n) (ShowTheSame others)
+waiting_respected waits when rules others n = record {
   moves = same_moves;
   after = (outcomes_respected others).after;
-  keeps = λ p q same.
-      ap (λ (ms : List Move). asks when rule ms p.at.world.standing.history p.ends) (same_moves p q same)
-      ∙ ap (λ (v : Place). asks when rule (allowed waits q.ends (place_of others q.at)) v.world.standing.history p.ends) same.0
-      ∙ ap (asks when rule (allowed waits q.ends (place_of others q.at)) q.at.world.standing.history) same.1;
+  keeps = λ p q same. same_asked (slice_get rules n) p q same;
   shows = (outcomes_respected others).shows;
 } where
   same_moves : (p q : ReportedPlace) → ShowTheSame others p q → allowed waits p.ends (place_of others p.at) ≡ allowed waits q.ends (place_of others q.at)
   same_moves p q same =
       ap (λ (known : Ends). allowed waits known (place_of others p.at)) same.1
       ∙ ap (filter (is_allowed waits q.ends)) ((outcomes_respected others).moves p q same)
+
+  same_asked : (rule : Option ProgramTree) (p q : ReportedPlace) → ShowTheSame others p q →
+      asks_if_there when rule (allowed waits p.ends (place_of others p.at)) p.at.world.standing.history p.ends
+      ≡ asks_if_there when rule (allowed waits q.ends (place_of others q.at)) q.at.world.standing.history q.ends
+  same_asked None p q same = refl
+  same_asked (Some rule) p q same =
+      ap (λ (ms : List Move). asks when rule ms p.at.world.standing.history p.ends) (same_moves p q same)
+      ∙ ap (λ (v : Place). asks when rule (allowed waits q.ends (place_of others q.at)) v.world.standing.history p.ends) same.0
+      ∙ ap (asks when rule (allowed waits q.ends (place_of others q.at)) q.at.world.standing.history) same.1
 
 -- ---- what it answers
 

@@ -1,5 +1,6 @@
 -- Schedules that come to outcomes.
 use Rattle.std.specs.Prelude.{◌≡◌, ◌<◌, ◌≤◌, ℕ, List, [], ◌∷◌, length, Contains}
+use Rattle.std.specs.List.{AllByRecursion}
 use Rattle.stm_events.specs.declared.event.WorldEvent.{WorldEvent}
 use Rattle.stm_schedules.specs.declared.moves.Move.{Move}
 use Rattle.stm_schedules.specs.declared.outcome.Outcome.{Outcome}
@@ -22,6 +23,11 @@ AreWitnesses p ends [] (schedule ∷ schedules) = ⊥
 AreWitnesses p ends (it ∷ outcomes) [] = ⊥
 AreWitnesses p ends (it ∷ outcomes) (schedule ∷ schedules) = IsWitness p ends it schedule × AreWitnesses p ends outcomes schedules
 
+-- none of these schedules is longer than one behind it
+abbrev pub AreOrdered : List (List Move) → Type 0
+AreOrdered [] = Unit {0}
+AreOrdered (schedule ∷ schedules) = AllByRecursion (λ (other : List Move). length schedule ≤ length other) schedules × AreOrdered schedules
+
 -- ---- while they are gathered
 
 -- the paths to the places of a layer lead there, by as many moves
@@ -38,3 +44,12 @@ abbrev pub HaveWitnesses : List WorldEvent → List (Reached ReportedPlace Move)
 HaveWitnesses others layer old new known more =
     (start : ReportedPlace) (k : ℕ) → AreLed others start k layer → HasShorter others start k old
     → AreWitnesses (place_of others start.at) start.ends old known → AreWitnesses (place_of others start.at) start.ends new more
+
+-- these schedules have up to k moves
+abbrev pub AreUpTo : ℕ → List (List Move) → Type 0
+AreUpTo k schedules = AllByRecursion (λ (schedule : List Move). length schedule ≤ k) schedules
+
+-- so they are in order after a layer, whose paths have as many moves, where they were before
+abbrev pub KeepOrder : List (Reached ReportedPlace Move) → List (List Move) → List (List Move) → Type 0
+KeepOrder layer known more =
+    (k : ℕ) → ((r : Reached ReportedPlace Move) → Contains layer r → length r.path ≡ k) → AreUpTo k known → AreOrdered known → AreUpTo k more × AreOrdered more

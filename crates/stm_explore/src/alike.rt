@@ -3,9 +3,8 @@ ghost use Rattle.std.specs.Prelude.{◌≡◌, true, []};
 ghost use Rattle.stm_txn.specs.Standing.{with_watchers};
 ghost use Rattle.stm_alike.specs.Seen.{AreAlike};
 
-use crate::leases::leave_same_leases;
 use crate::revisions::have_same_revisions;
-use stm_alike::are_same_entries;
+use stm_alike::{are_same_entries, leave_same_leases};
 use stm_keys::{Event, Keys};
 use stm_retry::SharedWorld;
 use stm_txn::Store;

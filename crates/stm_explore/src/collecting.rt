@@ -4,7 +4,7 @@ ghost use Rattle.stm_schedules.specs.Outcomes.{shown, outcome_if_whole};
 ghost use Rattle.stm_schedules.specs.Places.{moves};
 ghost use Rattle.stm_visited.specs.Layers.{shown_among};
 ghost use Rattle.stm_explore.specs.Gathering.{Gathers, HasAdded};
-ghost use Rattle.stm_explore.specs.Witnesses.{HaveWitnesses};
+ghost use Rattle.stm_explore.specs.Witnesses.{HaveWitnesses, KeepOrder};
 ghost use Rattle.stm_explore.specs.Spots.{place_of, outcome_steps};
 
 use crate::found::add;
@@ -49,6 +49,7 @@ pub(crate) fn collect_whole(
 ) -> Result<(), AllocError>
     ensures gathers { OnOk result (Gathers (shown_among (outcome_steps others.now) 0 layer.now) found.old.items found.new.items) }
     ensures witnesses { OnOk result (HaveWitnesses others.now layer.now found.old.items found.new.items schedules.old.items schedules.new.items) }
+    ensures ordered { OnOk result (KeepOrder layer.now schedules.old.items schedules.new.items) }
 {
     for r in layer {
         collect_at(alloc, others, r, found, schedules)?;

@@ -1,7 +1,7 @@
 //! What whole schedules come to.
 ghost use Rattle.std.specs.Prelude.{◌≡◌, ◌≤◌, suc, [], IfOk, IfSome, OnOk, OnSome};
 ghost use Rattle.stm_explore.specs.Explored.{IsCollected, AreOutcomes, OutcomesAreWitnessed, OpenOutcomesAreSpent, OpenOutcomesAreFar, count_up_to};
-ghost use Rattle.stm_explore.specs.Witnesses.{AreWitnesses};
+ghost use Rattle.stm_explore.specs.Witnesses.{AreOrdered, AreWitnesses};
 ghost use Rattle.stm_explore.specs.Spots.{place_of};
 
 use crate::collecting::collect_whole;
@@ -22,7 +22,7 @@ pub enum Outcomes {
     Found {
         /// The outcomes.
         outcomes: Sequence<Outcome>,
-        /// Of each outcome, in their order, a schedule that comes to it: none that does is shorter.
+        /// Of each outcome, in their order, a schedule that comes to it: none that does is shorter. None of these is longer than one behind it.
         schedules: Sequence<Sequence<Move>>,
     },
     /// As many moves were made as may be, before all of them were found.
@@ -48,6 +48,7 @@ fn collect_layers<O: Observer>(
     requires no_schedules { schedules.old.items ≡ [] }
     ensures collected { IfOk result (IsCollected (place_of gathered.now.others.now start.at) start.ends found.new.items) }
     ensures witnessed { OnOk result (AreWitnesses (place_of gathered.now.others.now start.at) start.ends found.new.items schedules.new.items) }
+    ensures ordered { OnOk result (AreOrdered schedules.new.items) }
     ensures left { budget.new.left ≤ budget.old.left }
     ensures spent { IfOk result (λ stopped. OnSome stopped (budget.new.left ≡ 0)) }
     ensures far { IfOk result (λ stopped. IfSome stopped (λ n. budget.old.left ≤ count_up_to (suc n) (place_of gathered.now.others.now start.at))) }
@@ -90,6 +91,7 @@ fn collect_all<O: Observer>(
     requires no_schedules { schedules.old.items ≡ [] }
     ensures collected { IfOk result (IsCollected (record { world = world.now; others = others.now }) ends.now found.new.items) }
     ensures witnessed { OnOk result (AreWitnesses (record { world = world.now; others = others.now }) ends.now found.new.items schedules.new.items) }
+    ensures ordered { OnOk result (AreOrdered schedules.new.items) }
     ensures left { budget.new.left ≤ budget.old.left }
     ensures spent { IfOk result (λ stopped. OnSome stopped (budget.new.left ≡ 0)) }
     ensures far { IfOk result (λ stopped. IfSome stopped (λ n. budget.old.left ≤ count_up_to (suc n) (record { world = world.now; others = others.now }))) }
@@ -139,7 +141,7 @@ pub(crate) fn gather_outcomes<O: Observer>(
     }
 }
 
-/// What whole schedules come to, each outcome with a schedule that comes to it: those of the moves of this world's runners, and of others that have
+/// What whole schedules come to, each outcome with a schedule that comes to it, in the order of their lengths: those of the moves of this world's runners, and of others that have
 /// these events yet to bring.
 ///
 /// `ends` has what is known of the runners' ends before, by the runners' numbers, as `ends_reported` returns it. Places are gone through by the

@@ -54,7 +54,7 @@ impl<'a> System for Gathered<'a> {
 
     type Shown = Outcome;
 
-    ghost steps = { λ s. outcome_steps s.others.now };
+    ghost steps = { λ s rule. outcome_steps s.others.now };
 
     ghost Alike = { λ s. ShowTheSame s.others.now };
 
@@ -92,7 +92,7 @@ impl<'a> System for Gathered<'a> {
         })
     }
 
-    fn is_kept(&self, _place: &ReportedPlace) -> Result<bool, AllocError> {
+    fn is_kept(&self, _rule: usize, _place: &ReportedPlace) -> Result<bool, AllocError> {
         Ok(true)
     }
 
@@ -110,5 +110,5 @@ impl<'a> System for Gathered<'a> {
         hint_of(&place.at.world).rotate_left(7) ^ place.at.taken as u64
     }
 
-    ghost respects = { λ s. outcomes_respected s.others.now };
+    ghost respects = { λ s rule. outcomes_respected s.others.now };
 }

@@ -1,7 +1,7 @@
-//! The places of a scenario, where a rule is kept or is not.
-ghost use Rattle.std.specs.Prelude.{◌≡◌, true, IfOk};
+//! The places of a scenario, where rules are kept or are not.
+ghost use Rattle.std.specs.Prelude.{◌≡◌, true, option_copied, slice_get, IfOk};
 ghost use Rattle.stm_schedules.specs.Keeping.{keeps};
-ghost use Rattle.stm_explore.specs.Spots.{rule_steps, AreSame};
+ghost use Rattle.stm_explore.specs.Spots.{keeps_if_there, rules_steps, AreSame};
 ghost use Rattle.stm_explore.specs.AlikeSpots.{rules_respected};
 
 use crate::alike::{hint_of, is_alike};
@@ -16,12 +16,23 @@ use stm_schedules::Move;
 use stm_visited::System;
 use stm_world::WorldEvent;
 
-/// What the others bring, and a rule.
+/// What the others bring, and rules.
 #[derive(Drop)]
 pub(crate) struct Judged<'a> {
     pub(crate) alloc: Global,
     pub(crate) others: &'a [WorldEvent],
-    pub(crate) rule: &'a Program,
+    pub(crate) rules: &'a [Program],
+}
+
+/// The rule of a number among these, if there is one.
+pub(crate) fn rule_at(rules: &[Program], rule: usize) -> Option<&Program>
+    ensures { option_copied result ≡ slice_get rules.now rule }
+{
+    if rule < rules.len() {
+        Some(&rules[rule])
+    } else {
+        None
+    }
 }
 
 /// Whether a rule is kept in a world.
@@ -38,6 +49,21 @@ pub(crate) fn is_kept(
     }
 }
 
+/// Whether the rule of a number among these is kept in a world, if there is one.
+fn is_kept_if_there(
+    alloc: Global,
+    rules: &[Program],
+    rule: usize,
+    world: &SharedWorld,
+) -> Result<bool, AllocError>
+    ensures { IfOk result (λ kept. kept ≡ keeps_if_there (slice_get rules.now rule) world.now) }
+{
+    match rule_at(rules, rule) {
+        None => Ok(true),
+        Some(rule) => is_kept(alloc, rule, world),
+    }
+}
+
 impl<'a> System for Judged<'a> {
     type Place = WorldPlace;
 
@@ -45,7 +71,7 @@ impl<'a> System for Judged<'a> {
 
     type Shown = ();
 
-    ghost steps = { λ s. rule_steps s.rule.now s.others.now };
+    ghost steps = { λ s. rules_steps s.rules.now s.others.now };
 
     ghost Alike = { λ s. AreSame s.others.now };
 
@@ -66,8 +92,8 @@ impl<'a> System for Judged<'a> {
         })
     }
 
-    fn is_kept(&self, place: &WorldPlace) -> Result<bool, AllocError> {
-        is_kept(self.alloc, self.rule, &place.world)
+    fn is_kept(&self, rule: usize, place: &WorldPlace) -> Result<bool, AllocError> {
+        is_kept_if_there(self.alloc, self.rules, rule, &place.world)
     }
 
     fn is_alike(&self, one: &WorldPlace, other: &WorldPlace) -> bool {
@@ -81,5 +107,5 @@ impl<'a> System for Judged<'a> {
         hint_of(&place.world).rotate_left(7) ^ place.taken as u64
     }
 
-    ghost respects = { λ s. rules_respected s.rule.now s.others.now };
+    ghost respects = { λ s. rules_respected s.rules.now s.others.now };
 }

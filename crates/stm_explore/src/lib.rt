@@ -18,7 +18,6 @@ mod found;
 mod gathering;
 mod judging;
 mod keeping;
-mod leases;
 mod moving;
 mod orders;
 mod places;

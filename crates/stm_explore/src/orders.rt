@@ -4,7 +4,7 @@ ghost use Rattle.stm_visited.specs.Answers.{IsVisited};
 ghost use Rattle.stm_explore.specs.Explored.{AreAllOutcomes, AreOutcomes, OutcomesAreWitnessed};
 ghost use Rattle.stm_explore.specs.Orders.{Answers, AreCompared, IsExplained, IsSerialAnswer, IsSought, IsWithin, explained_by};
 ghost use Rattle.stm_explore.specs.Turns.{counted, counts, turn_steps};
-ghost use Rattle.stm_explore.specs.Witnesses.{AreWitnesses};
+ghost use Rattle.stm_explore.specs.Witnesses.{AreOrdered, AreWitnesses};
 
 use crate::ends::copy_of;
 use crate::finding::{Outcomes, gather_outcomes};
@@ -34,7 +34,7 @@ pub enum SerialAnswer {
     Anomaly {
         /// The outcome.
         outcome: Outcome,
-        /// A schedule that comes to it: none that does is shorter.
+        /// A schedule that comes to it: none that comes to such an outcome is shorter.
         moves: Sequence<Move>,
     },
     /// As many moves were made as may be, before all outcomes were found.
@@ -124,9 +124,9 @@ fn seek<O: Observer>(
         left: budget.left,
         observer: Nobody,
     };
-    let visited = find_first_bad(alloc, turns, start, &mut quiet)?;
+    let answers = find_first_bad(alloc, turns, 1, start, &mut quiet)?;
     budget.left = quiet.left;
-    Ok(visited)
+    Ok(taken(Sequence::of(answers), 0))
 }
 
 /// Looks for a serial order that comes to an outcome.
@@ -262,7 +262,7 @@ fn answer_about<O: Observer>(
     budget: &mut Budget<O>,
 ) -> Result<SerialAnswer, AllocError>
     requires all { AreAllOutcomes (record { world = world.now; others = others.now }) ends.now outcomes }
-    requires witnessed { AreWitnesses (record { world = world.now; others = others.now }) ends.now outcomes schedules }
+    requires witnessed { AreWitnesses (record { world = world.now; others = others.now }) ends.now outcomes schedules × AreOrdered schedules }
     ensures { IfOk result (IsSerialAnswer (record { world = world.now; others = others.now }) ends.now) }
 {
     let world = shared_copy(alloc, world)?;

@@ -178,7 +178,7 @@ impl<'a> System for Turns<'a> {
 
     type Shown = Outcome;
 
-    ghost steps = { λ s. turn_steps s.wanted.now s.goal.now s.gathered.others.now };
+    ghost steps = { λ s rule. turn_steps s.wanted.now s.goal.now s.gathered.others.now };
 
     ghost Alike = { λ s. TurnsAreAlike s.gathered.others.now };
 
@@ -196,7 +196,7 @@ impl<'a> System for Turns<'a> {
         })
     }
 
-    fn is_kept(&self, place: &TurnPlace) -> Result<bool, AllocError> {
+    fn is_kept(&self, _rule: usize, place: &TurnPlace) -> Result<bool, AllocError> {
         let left = self.moves(place)?;
         let alloc = self.gathered.alloc;
         let comes = comes_to(alloc, self.goal, left.as_slice(), &place.reported)?;
@@ -211,5 +211,5 @@ impl<'a> System for Turns<'a> {
         self.gathered.hint(&place.reported) ^ place.last.unwrap_or(0)
     }
 
-    ghost respects = { λ s. turns_respected s.wanted.now s.goal.now s.gathered.others.now };
+    ghost respects = { λ s rule. turns_respected s.wanted.now s.goal.now s.gathered.others.now };
 }

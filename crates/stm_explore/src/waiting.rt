@@ -1,16 +1,18 @@
-//! The places of a scenario in which runners wait for others, and whether a rule is kept there.
-ghost use Rattle.std.specs.Prelude.{◌≡◌, true, filter, Some, IfOk};
+//! The places of a scenario in which runners wait for others, and whether rules are kept there.
+ghost use Rattle.std.specs.Prelude.{◌≡◌, true, filter, length, Some, slice_get, IfOk};
+ghost use Rattle.std.specs.List.{AllZip};
 ghost use Rattle.stm_schedules.specs.Outcomes.{ends_after};
 ghost use Rattle.stm_schedules.specs.Schedules.{place_after};
-ghost use Rattle.stm_visited.specs.Answers.{IsVisited};
+ghost use Rattle.stm_visited.specs.Answers.{EachIs, IsVisited};
 ghost use Rattle.stm_explore.specs.Asked.{end_for};
 ghost use Rattle.stm_explore.specs.Spots.{ShowTheSame};
-ghost use Rattle.stm_explore.specs.Waiting.{is_allowed, waiting_steps, waiting_respected, IsExploredPatiently};
+ghost use Rattle.stm_explore.specs.Waiting.{is_allowed, asks_if_there, waiting_steps, waiting_rules_steps, waiting_respected, IsExploredPatiently};
 
 use crate::asking::{When, asks, end_for};
 use crate::ends::copy_of_ends;
-use crate::exploring::Explored;
+use crate::exploring::{Explored, copy_of_moves};
 use crate::gathering::Gathered;
+use crate::judging::rule_at;
 use crate::places::{ReportedPlace, WorldPlace, shared_copy};
 use crate::waits::{Wait, is_allowed};
 use std::alloc::{AllocError, Global};
@@ -22,13 +24,13 @@ use stm_schedules::{Move, Outcome, RunnerEnd};
 use stm_visited::{Budget, Observer, System, Visited, find_first_bad};
 use stm_world::WorldEvent;
 
-/// What the others bring, the waits of runners, and a rule.
+/// What the others bring, the waits of runners, and rules.
 #[derive(Drop)]
 pub(crate) struct Waiting<'a> {
     pub(crate) gathered: Gathered<'a>,
     pub(crate) waits: &'a [Wait],
     pub(crate) when: When,
-    pub(crate) rule: &'a Program,
+    pub(crate) rules: &'a [Program],
 }
 
 /// Those of these moves that are allowed.
@@ -40,6 +42,24 @@ fn only_allowed(moves: Vec<Move>, waits: &[Wait], ends: &[Option<RunnerEnd>]) ->
     left
 }
 
+/// Whether the rule of a number among these is kept at a place, from where these moves can be made, if there is one.
+fn asks_if_there(
+    alloc: Global,
+    when: When,
+    rules: &[Program],
+    rule: usize,
+    moves: &[Move],
+    place: &ReportedPlace,
+) -> Result<bool, AllocError>
+    ensures { IfOk result (λ kept. kept ≡ asks_if_there when (slice_get rules.now rule) moves.now place.now.at.world.standing.history place.now.ends) }
+{
+    let ends = place.ends.as_slice();
+    match rule_at(rules, rule) {
+        None => Ok(true),
+        Some(rule) => asks(alloc, when, rule, moves, &place.at.world, ends),
+    }
+}
+
 impl<'a> System for Waiting<'a> {
     type Place = ReportedPlace;
 
@@ -47,7 +67,7 @@ impl<'a> System for Waiting<'a> {
 
     type Shown = Outcome;
 
-    ghost steps = { λ s. waiting_steps s.waits.now s.when s.rule.now s.gathered.others.now };
+    ghost steps = { λ s. waiting_rules_steps s.waits.now s.when s.rules.now s.gathered.others.now };
 
     ghost Alike = { λ s. ShowTheSame s.gathered.others.now };
 
@@ -60,17 +80,15 @@ impl<'a> System for Waiting<'a> {
         self.gathered.moved(place, chosen)
     }
 
-    fn is_kept(&self, place: &ReportedPlace) -> Result<bool, AllocError> {
+    fn is_kept(&self, rule: usize, place: &ReportedPlace) -> Result<bool, AllocError> {
         let moves = self.moves(place)?;
-        let alloc = self.gathered.alloc;
-        let ends = place.ends.as_slice();
-        asks(
-            alloc,
+        asks_if_there(
+            self.gathered.alloc,
             self.when,
-            self.rule,
+            self.rules,
+            rule,
             moves.as_slice(),
-            &place.at.world,
-            ends,
+            place,
         )
     }
 
@@ -82,18 +100,19 @@ impl<'a> System for Waiting<'a> {
         self.gathered.hint(place)
     }
 
-    ghost respects = { λ s. waiting_respected s.waits.now s.when s.rule.now s.gathered.others.now };
+    ghost respects = { λ s. waiting_respected s.waits.now s.when s.rules.now s.gathered.others.now };
 }
 
 /// The end that the rule's program has after a schedule.
 fn end_in(
     alloc: Global,
     waiting: &Waiting,
+    rule: &Program,
     start: &SharedWorld,
     ends: &[Option<RunnerEnd>],
     moves: &[Move],
 ) -> Result<End, AllocError>
-    ensures { IfOk result (λ end. end_for waiting.now.when waiting.now.rule.now
+    ensures { IfOk result (λ end. end_for waiting.now.when rule.now
         (place_after moves.now (record { world = start.now; others = waiting.now.gathered.others.now })).world.standing.history
         (ends_after moves.now (record { world = start.now; others = waiting.now.gathered.others.now }) ends.now) ≡ Some end) }
 {
@@ -105,33 +124,59 @@ fn end_in(
     let end = end_for(
         alloc,
         waiting.when,
-        waiting.rule,
+        rule,
         &place.at.world,
         place.ends.as_slice(),
     )?;
     Ok(end)
 }
 
-/// What the search through places has found, with the end of the rule's program where the rule is broken.
+/// What the search through places has found of a rule, with the end of its program where it is broken.
 fn with_end(
+    alloc: Global,
+    waiting: &Waiting,
+    rule: &Program,
+    start: &SharedWorld,
+    ends: &[Option<RunnerEnd>],
+    visited: &Visited<Move>,
+) -> Result<Explored, AllocError>
+    requires { IsVisited (waiting_steps waiting.now.waits.now waiting.now.when rule.now waiting.now.gathered.others.now)
+        (record { at = record { world = start.now; taken = 0 }; ends = ends.now }) visited.now }
+    ensures { IfOk result (IsExploredPatiently waiting.now.waits.now waiting.now.when rule.now (record { world = start.now; others = waiting.now.gathered.others.now }) ends.now) }
+{
+    match visited {
+        Visited::Always { longest } => Ok(Explored::Always { longest: *longest }),
+        Visited::Broken { moves } => {
+            let end = end_in(alloc, waiting, rule, start, ends, moves.as_slice())?;
+            let moves = copy_of_moves(alloc, moves)?;
+            Ok(Explored::Broken { moves, end })
+        }
+        Visited::Open { kept } => Ok(Explored::Open { kept: *kept }),
+    }
+}
+
+/// The same of each rule.
+fn with_ends(
     alloc: Global,
     waiting: &Waiting,
     start: &SharedWorld,
     ends: &[Option<RunnerEnd>],
-    visited: Visited<Move>,
-) -> Result<Explored, AllocError>
-    requires { IsVisited (waiting_steps waiting.now.waits.now waiting.now.when waiting.now.rule.now waiting.now.gathered.others.now)
-        (record { at = record { world = start.now; taken = 0 }; ends = ends.now }) visited }
-    ensures { IfOk result (IsExploredPatiently waiting.now.waits.now waiting.now.when waiting.now.rule.now (record { world = start.now; others = waiting.now.gathered.others.now }) ends.now) }
+    answers: &[Visited<Move>],
+) -> Result<Vec<Explored>, AllocError>
+    requires each { length answers.now ≡ length waiting.now.rules.now }
+    requires visited { EachIs (λ n. IsVisited (waiting_rules_steps waiting.now.waits.now waiting.now.when waiting.now.rules.now waiting.now.gathered.others.now n)
+        (record { at = record { world = start.now; taken = 0 }; ends = ends.now })) answers.now }
+    ensures { IfOk result (λ all. AllZip (λ rule. IsExploredPatiently waiting.now.waits.now waiting.now.when rule (record { world = start.now; others = waiting.now.gathered.others.now }) ends.now)
+        waiting.now.rules.now all.items) }
 {
-    match visited {
-        Visited::Always { longest } => Ok(Explored::Always { longest }),
-        Visited::Broken { moves } => {
-            let end = end_in(alloc, waiting, start, ends, moves.as_slice())?;
-            Ok(Explored::Broken { moves, end })
-        }
-        Visited::Open { kept } => Ok(Explored::Open { kept }),
+    let rules = waiting.rules;
+    let mut all = Vec::new(alloc);
+    for index in 0..answers.len() {
+        let visited = &answers[index];
+        let explored = with_end(alloc, waiting, &rules[index], start, ends, visited)?;
+        all.push(explored)?;
     }
+    Ok(all)
 }
 
 /// The place where a search starts.
@@ -150,28 +195,30 @@ pub(crate) fn start_of(
     })
 }
 
-/// Whether a rule is kept after every schedule in which the runners wait.
+/// Whether each rule is kept after every schedule in which the runners wait.
 fn explore_places<O: Observer>(
     alloc: Global,
     waiting: &Waiting,
     world: &World,
     ends: &[Option<RunnerEnd>],
     budget: &mut Budget<O>,
-) -> Result<Explored, AllocError>
-    ensures { IfOk result (IsExploredPatiently waiting.now.waits.now waiting.now.when waiting.now.rule.now (record { world = world.now; others = waiting.now.gathered.others.now }) ends.now) }
+) -> Result<Vec<Explored>, AllocError>
+    ensures { IfOk result (λ all. AllZip (λ rule. IsExploredPatiently waiting.now.waits.now waiting.now.when rule (record { world = world.now; others = waiting.now.gathered.others.now }) ends.now)
+        waiting.now.rules.now all.items) }
 {
     let world = shared_copy(alloc, world)?;
     let start = start_of(alloc, &world, ends)?;
-    let visited = find_first_bad(alloc, waiting, start, budget)?;
-    let explored = with_end(alloc, waiting, &world, ends, visited)?;
-    Ok(explored)
+    let answers = find_first_bad(alloc, waiting, waiting.rules.len(), start, budget)?;
+    let all = with_ends(alloc, waiting, &world, ends, answers.as_slice())?;
+    Ok(all)
 }
 
-/// Whether a rule is kept after every schedule in which runners wait for others: a runner makes no step before each runner that it waits for has
-/// ended, and none at all unless that one has committed, where it is to. `when` says at which places the rule is asked.
+/// Whether each of these rules is kept after every schedule in which runners wait for others: a runner makes no step before each runner that it waits
+/// for has ended, and none at all unless that one has committed, where it is to. `when` says at which places the rules are asked. All are asked in one
+/// walk through the places.
 ///
 /// `ends` has what is known of the runners' ends before, by the runners' numbers, as `ends_reported` returns it. All else is as with `explore`,
-/// in which no runner waits: the first schedule that does not keep the rule is the first of those in which the runners wait.
+/// in which no runner waits: the first schedule that does not keep a rule is the first of those in which the runners wait.
 pub fn explore_waiting<O: Observer>(
     alloc: Global,
     world: &World,
@@ -179,16 +226,16 @@ pub fn explore_waiting<O: Observer>(
     ends: &[Option<RunnerEnd>],
     waits: &[Wait],
     when: When,
-    rule: &Program,
+    rules: &[Program],
     budget: &mut Budget<O>,
-) -> Result<Explored, AllocError>
-    ensures { IfOk result (IsExploredPatiently waits.now when rule.now (record { world = world.now; others = others.now }) ends.now) }
+) -> Result<Vec<Explored>, AllocError>
+    ensures { IfOk result (λ all. AllZip (λ rule. IsExploredPatiently waits.now when rule (record { world = world.now; others = others.now }) ends.now) rules.now all.items) }
 {
     let waiting = Waiting {
         gathered: Gathered { alloc, others },
         waits,
         when,
-        rule,
+        rules,
     };
     let explored = explore_places(alloc, &waiting, world, ends, budget);
     budget.observer.ended();

@@ -6,5 +6,6 @@ pub mod RuleLemmas
 pub mod ReadingLemmas
 pub mod PlaceLemmas
 pub mod ScheduledSpells
+pub mod AnswerLemmas
 pub mod SerialLevelLemmas
 pub mod OutcomeLineLemmas

@@ -1,6 +1,6 @@
 -- What is known of rules, by schedules or by serial orders, and what is printed of that.
 use Rattle.std.specs.Prelude.{◌≡◌, ℕ, List, [], ◌∷◌, ◌++◌, length, map, All, Bool, true, false, if◌then◌else◌, Option, None, Some, codes}
-use Rattle.std.specs.List.{concat, find, list_all, list_any}
+use Rattle.std.specs.List.{AllZip, concat, find, list_all, list_any}
 use Rattle.serde_json.specs.Data.{Data, null, string}
 use Rattle.stm_report_lines.specs.LineData.{list, whole}
 use Rattle.stm_report_lines.specs.Text.{line_text}
@@ -35,23 +35,29 @@ IsAnswer rule p (BySchedules explored) = IsExplored rule p explored × MergesAre
 IsAnswer rule p AlwaysByOrders = IsJudged rule p AlwaysJudged
 IsAnswer rule p (BrokenByOrder found) = IsJudged rule p (BrokenJudged found)
 
--- It is so where these runners wait, of whose ends this is known: where none waits, as above, and else by a search through the schedules in which they
--- wait.
+-- so it is of each of these rules
+abbrev pub AreAnswers : List ProgramTree → Place → List Answer → Type 0
+AreAnswers rules p answers = AllZip (λ rule. IsAnswer rule p) rules answers
+
+-- It is so by a search through the schedules in which these runners wait, of whose ends this is known.
+abbrev pub IsFoundPatiently : List Wait → When → ProgramTree → Place → Ends → Answer → Type 0
+IsFoundPatiently waits when rule p ends (BySchedules explored) = IsExploredPatiently waits when rule p ends explored
+IsFoundPatiently waits when rule p ends AlwaysByOrders = ⊥
+IsFoundPatiently waits when rule p ends (BrokenByOrder found) = ⊥
+
+-- It is so where these runners wait: where none waits, by any search, and else by one through the schedules in which they wait.
 abbrev pub IsFoundFrom : List Wait → ProgramTree → Place → Ends → Answer → Type 0
 IsFoundFrom [] rule p ends answer = IsAnswer rule p answer
-IsFoundFrom (w ∷ ws) rule p ends (BySchedules explored) = IsExploredPatiently (w ∷ ws) Each rule p ends explored
-IsFoundFrom (w ∷ ws) rule p ends AlwaysByOrders = ⊥
-IsFoundFrom (w ∷ ws) rule p ends (BrokenByOrder found) = ⊥
+IsFoundFrom (w ∷ ws) rule p ends answer = IsFoundPatiently (w ∷ ws) Each rule p ends answer
 
--- the same of a rule that is asked at the last places alone: there is no law that serial orders are enough
-abbrev pub IsFoundLast : List Wait → ProgramTree → Place → Ends → Answer → Type 0
-IsFoundLast waits rule p ends (BySchedules explored) = IsExploredPatiently waits Last rule p ends explored
-IsFoundLast waits rule p ends AlwaysByOrders = ⊥
-IsFoundLast waits rule p ends (BrokenByOrder found) = ⊥
-
+-- the same of a rule that is asked then: there is no law that serial orders are enough where it is asked at the last places alone
 abbrev pub IsFoundWhen : When → List Wait → ProgramTree → Place → Ends → Answer → Type 0
 IsFoundWhen Each waits rule p ends answer = IsFoundFrom waits rule p ends answer
-IsFoundWhen Last waits rule p ends answer = IsFoundLast waits rule p ends answer
+IsFoundWhen Last waits rule p ends answer = IsFoundPatiently waits Last rule p ends answer
+
+-- the same of each of these, which are asked then
+abbrev pub AreFoundWhen : When → List Wait → List ProgramTree → Place → Ends → List Answer → Type 0
+AreFoundWhen when waits rules p ends answers = AllZip (λ rule. IsFoundWhen when waits rule p ends) rules answers
 
 -- the same of each rule, in their order
 abbrev pub AreFoundFrom : List Wait → List Rule → Place → Ends → List RuleAnswer → Type 0

@@ -4,7 +4,7 @@ ghost use Rattle.std.specs.Prelude.{◌<◌, length, IfSome};
 ghost use Rattle.stm_serial_search.specs.Search.{AreProgramsOf};
 
 use crate::audience::Audience;
-use crate::final_words::wrong_ends;
+use crate::final_words::{AskedOutput, outputs_asked, wrong_ends};
 use crate::key_use::{AskedKey, KeyUse};
 use crate::near_keys::{are_of_a_list, nearest};
 use crate::rules::{RuleAnswer, has_kept};
@@ -72,6 +72,8 @@ struct Came {
 struct Runs {
     has_committed: bool,
     ends: Vec<Came>,
+    /// How many outputs a run of it had at most.
+    outputs: usize,
 }
 
 /// How the programs of runners end, each run alone, in every serial order.
@@ -82,6 +84,8 @@ struct Account {
     runners: Vec<Runs>,
     /// Which keys are asked for, and which are put.
     keys: KeyUse,
+    /// Which outputs are asked for.
+    outputs: Vec<AskedOutput>,
     /// It goes on while something is to be learned of what is said.
     told: Told,
     /// How many runners have not committed so far.
@@ -114,7 +118,7 @@ impl Follower for Account {
 }
 
 /// A text as it is shown: in quotes, and of a long one its beginning.
-fn shown_text(alloc: Global, text: &str) -> Result<String, AllocError> {
+pub(crate) fn shown_text(alloc: Global, text: &str) -> Result<String, AllocError> {
     let copy = String::from_str(alloc, text)?;
     let json = Json::String(copy);
     let shown = shown(alloc, &json);
@@ -153,6 +157,7 @@ fn no_runs(alloc: Global) -> Runs {
     Runs {
         has_committed: false,
         ends: Vec::new(alloc),
+        outputs: 0,
     }
 }
 
@@ -174,9 +179,14 @@ impl Account {
         self.left -= 1;
         match self.told {
             Told::All => true,
-            Told::Never => self.waiting > 0 || self.keys.is_open(),
-            Told::None => self.keys.is_open(),
+            Told::Never => self.waiting > 0 || self.asks(),
+            Told::None => self.asks(),
         }
+    }
+
+    /// Whether it is yet to be seen of something that is asked for whether a run has it.
+    fn asks(&self) -> bool {
+        !self.outputs.is_empty() || self.keys.is_open()
     }
 
     /// Whether nothing puts a key, by what the spelling of programs says of it or by their runs in all serial orders.
@@ -189,13 +199,20 @@ impl Account {
         self.is_unput(key) && !self.keys.is_spelled(key)
     }
 
-    /// Nothing is known of the runs of so many runners, and this of keys.
-    fn new(alloc: Global, count: usize, keys: KeyUse, told: Told) -> Result<Account, AllocError> {
+    /// Nothing is known of the runs of so many runners, and this of keys and outputs.
+    fn new(
+        alloc: Global,
+        count: usize,
+        keys: KeyUse,
+        outputs: Vec<AskedOutput>,
+        told: Told,
+    ) -> Result<Account, AllocError> {
         let runners = no_account(alloc, count)?;
         Ok(Account {
             alloc,
             runners,
             keys,
+            outputs,
             told,
             waiting: count,
             left: MOST_MOVES,
@@ -211,28 +228,29 @@ impl Account {
             self.keys.note_run(place as usize, run)?;
         }
         match &run.end {
-            End::Done => self.note_commit(runner),
+            End::Done => self.note_commit(runner, run.output.len()),
             End::Aborted(text) => self.note_abort(runner, text),
             End::Faulted(fault) => self.note_word(runner, "faulted", fault.name()),
         }
     }
 
-    /// Marks a runner of which a run was committed.
-    fn mark(&mut self, runner: u64) {
+    /// Marks a runner of which a run was committed that had so many outputs.
+    fn mark(&mut self, runner: u64, outputs: usize) {
         let index = runner.saturating_sub(1);
         if index >= self.runners.len() as u64 {
             return;
         }
         let runs = &mut self.runners[index as usize];
+        runs.outputs = runs.outputs.max(outputs);
         if !runs.has_committed {
             runs.has_committed = true;
             self.waiting = self.waiting.saturating_sub(1);
         }
     }
 
-    /// Notes that a run of a runner was committed.
-    fn note_commit(&mut self, runner: u64) -> Result<(), AllocError> {
-        self.mark(runner);
+    /// Notes that a run of a runner was committed that had so many outputs.
+    fn note_commit(&mut self, runner: u64, outputs: usize) -> Result<(), AllocError> {
+        self.mark(runner, outputs);
         let how = String::from_str(self.alloc, "committed")?;
         self.note(runner, how)
     }
@@ -463,6 +481,47 @@ fn tell_ends<O: Audience>(
     Ok(())
 }
 
+/// Says that a final asks for an output that no run of its runner has.
+fn tell_output<O: Audience>(
+    account: &Account,
+    answers: &[RuleAnswer],
+    asked: AskedOutput,
+    audience: &mut O,
+) -> Result<(), AllocError> {
+    let index = asked.runner.saturating_sub(1);
+    if index >= account.runners.len() as u64 {
+        return Ok(());
+    }
+    let runs = &account.runners[index as usize];
+    let most = runs.outputs;
+    if !runs.has_committed || asked.place < most as u64 {
+        return Ok(());
+    }
+    let who = rule_word(account.alloc, answers, asked.rule)?;
+    let who = who.as_str();
+    let runner = asked.runner;
+    let place = asked.place;
+    let line = format!(in account.alloc;
+        "{who} asks for output {place} of runner {runner}, which has {most} at most in any serial order"
+    )?;
+    audience.doubt(line.as_str());
+    Ok(())
+}
+
+/// Says of finals which outputs they ask for that no run has, where all orders were gone through.
+fn tell_outputs<O: Audience>(
+    account: &Account,
+    answers: &[RuleAnswer],
+    audience: &mut O,
+) -> Result<(), AllocError> {
+    if account.is_whole {
+        for asked in account.outputs.as_slice() {
+            tell_output(account, answers, *asked, audience)?;
+        }
+    }
+    Ok(())
+}
+
 /// Says what an account of serial orders has.
 fn tell_orders<O: Audience>(
     account: &Account,
@@ -477,7 +536,8 @@ fn tell_orders<O: Audience>(
     tell_runs(account, account.told, of, audience)?;
     tell_of_runners(account, audience)?;
     tell_of_rules(account, answers, audience)?;
-    tell_ends(account.alloc, answers, audience)
+    tell_ends(account.alloc, answers, audience)?;
+    tell_outputs(account, answers, audience)
 }
 
 /// Notes which keys rules and programs ask for, and which the programs and the others put.
@@ -493,6 +553,23 @@ fn note_keys(
     keys.note_events(others)
 }
 
+/// The account of no run of so many runners, of which this is known of keys.
+fn account_of(
+    alloc: Global,
+    count: usize,
+    keys: KeyUse,
+    answers: &[RuleAnswer],
+    told: Told,
+) -> Result<Account, AllocError> {
+    match outputs_asked(alloc, answers) {
+        Ok(outputs) => Account::new(alloc, count, keys, outputs, told),
+        Err(_) => {
+            drop(keys);
+            Err(AllocError)
+        }
+    }
+}
+
 /// The account of no run, about rules.
 fn account_before(
     alloc: Global,
@@ -504,7 +581,7 @@ fn account_before(
 ) -> Result<Account, AllocError> {
     let mut keys = KeyUse::new(alloc, world)?;
     match note_keys(alloc, &mut keys, others, programs, answers) {
-        Ok(()) => Account::new(alloc, world.runner_count(), keys, told),
+        Ok(()) => account_of(alloc, world.runner_count(), keys, answers, told),
         Err(_) => {
             drop(keys);
             Err(AllocError)

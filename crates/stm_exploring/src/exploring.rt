@@ -71,8 +71,8 @@ pub fn explore_sources<S: Source, R: Source, O: Audience>(
     search_alone(alloc, &scenario, waits, keeps, budget)
 }
 
-/// Reads a scenario from its source to the end, and looks for each rule after which schedules of it the rule is kept, as `explore_sources` does: one
-/// after another, and for each at most as many events are taken as `budget` has left.
+/// Reads a scenario from its source to the end, and looks for each rule after which schedules of it the rule is kept, as `explore_sources` does:
+/// those that stand side by side and are asked at the same places in one walk, and for each at most as many events are taken as `budget` has left.
 pub fn search_for<S: Source, O: Audience>(
     alloc: Global,
     scenario: &mut S,

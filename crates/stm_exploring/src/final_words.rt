@@ -1,13 +1,16 @@
-//! What finals ask of the ends of runners that no runner's end is.
+//! What finals ask of runners: of their ends what none is, and of their outputs which.
 
 use crate::rules::RuleAnswer;
 use std::alloc::{AllocError, Global};
 use stm_explore::When;
-use stm_named_keys::{Compared, values_compared};
+use stm_named_keys::{Compared, Name, keys_looked_up, values_compared};
 use strsim::levenshtein;
 
 /// What the key of how a runner ended begins with, before the runner's number.
 const END_KEY: &str = "#end/";
+
+/// What the key of an output begins with, before the runner's number, a slash and the output's place.
+const OUTPUT_KEY: &str = "#out/";
 
 /// How a runner ends.
 const ENDS: [&str; 5] = ["committed", "aborted", "faulted", "gaveup", "ended"];
@@ -101,4 +104,58 @@ pub(crate) fn wrong_ends(
         }
     }
     Ok(wrong)
+}
+
+/// An output that a final asks for.
+#[derive(Clone, Copy)]
+pub(crate) struct AskedOutput {
+    /// The place of the rule.
+    pub(crate) rule: usize,
+    /// The runner's number.
+    pub(crate) runner: u64,
+    /// The place of the output among those of the runner.
+    pub(crate) place: u64,
+}
+
+/// The output whose key this is, where it is one.
+fn output_of(rule: usize, key: &str) -> Option<AskedOutput> {
+    let rest = key.strip_prefix(OUTPUT_KEY)?;
+    let (runner, place) = rest.split_once('/')?;
+    match (runner.parse::<u64>(), place.parse::<u64>()) {
+        (Ok(runner), Ok(place)) => Some(AskedOutput {
+            rule,
+            runner,
+            place,
+        }),
+        _ => None,
+    }
+}
+
+/// Adds the outputs that are asked for by these keys.
+fn add_outputs(
+    asked: &mut Vec<AskedOutput>,
+    rule: usize,
+    names: &[Name],
+) -> Result<(), AllocError> {
+    for name in names {
+        if let (true, Some(output)) = (name.is_whole, output_of(rule, name.text.as_str())) {
+            asked.push(output)?;
+        }
+    }
+    Ok(())
+}
+
+/// The outputs that finals ask for by their spelling.
+pub(crate) fn outputs_asked(
+    alloc: Global,
+    answers: &[RuleAnswer],
+) -> Result<Vec<AskedOutput>, AllocError> {
+    let mut asked = Vec::new(alloc);
+    for (rule, a) in answers.iter().enumerate() {
+        if a.rule.when == When::Last {
+            let names = keys_looked_up(alloc, &a.rule.program)?;
+            add_outputs(&mut asked, rule, names.as_slice())?;
+        }
+    }
+    Ok(asked)
 }

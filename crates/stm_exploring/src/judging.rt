@@ -1,12 +1,17 @@
-//! Whether a rule is kept after every schedule: by schedules, and by serial orders where these are enough.
-ghost use Rattle.std.specs.Prelude.{IfOk};
+//! Whether rules are kept after every schedule: by schedules, and by serial orders where these are enough.
+ghost use Rattle.std.specs.Prelude.{◌≡◌, List, length, map, IfOk, OnOk};
+ghost use Rattle.std.specs.List.{AllZip};
+ghost use Rattle.stm_program.specs.Syntax.{ProgramTree};
+ghost use Rattle.stm_schedules.specs.Places.{Place};
 ghost use Rattle.stm_explore.specs.Explored.{IsExplored, MergesAreKept};
 ghost use Rattle.stm_serial.specs.Serial.{IsComparing};
-ghost use Rattle.stm_serial_search.specs.Replaying.{IsJudged};
+ghost use Rattle.stm_serial_search.specs.Replaying.{AreJudged, IsJudged};
 ghost use Rattle.stm_serial_search.specs.Search.{AreProgramsOf};
-ghost use Rattle.stm_exploring.specs.Judging.{IsAnswer};
+ghost use Rattle.stm_exploring.specs.declared.judging.Answer.TheVariants.{BySchedules};
+ghost use Rattle.stm_exploring.specs.Judging.{AreAnswers, IsAnswer};
 
 use std::alloc::{AllocError, Global};
+use std::{mem, slice};
 use stm_explore::{Budget, Explored, Observer, explore};
 use stm_meaning::Run;
 use stm_program::Program;
@@ -51,10 +56,11 @@ impl<O: Observer> Observer for Part<'_, O> {
     fn ended(&mut self) {}
 }
 
-/// Takes the moves of serial orders off a budget.
+/// Takes the moves of serial orders off a budget. Each walk through the orders has as many.
 #[derive(Drop)]
 struct Spending<'a, O> {
     budget: &'a mut Budget<O>,
+    most: u64,
 }
 
 impl<O: Observer> Follower for Spending<'_, O> {
@@ -70,22 +76,26 @@ impl<O: Observer> Follower for Spending<'_, O> {
         true
     }
 
+    fn begins(&mut self) {
+        self.budget.left = self.most;
+    }
+
     fn ran(&mut self, _runner: u64, _run: &Run) {}
 
     fn refused(&mut self, _runner: u64, _cause: EventRefusal) {}
 }
 
-/// Searches through schedules, for which at most this many moves are made.
+/// Searches through schedules for these rules, for which at most this many moves are made.
 fn explore_part<O: Observer>(
     alloc: Global,
     world: &World,
     others: &[WorldEvent],
-    rule: &Program,
+    rules: &[Program],
     most: u64,
     budget: &mut Budget<O>,
-) -> Result<Explored, AllocError>
-    ensures explored { IfOk result (IsExplored rule.now (record { world = world.now; others = others.now })) }
-    ensures merges { IfOk result (MergesAreKept rule.now (record { world = world.now; others = others.now })) }
+) -> Result<Vec<Explored>, AllocError>
+    ensures explored { IfOk result (λ all. AllZip (λ rule. IsExplored rule (record { world = world.now; others = others.now })) rules.now all.items) }
+    ensures merges { IfOk result (λ all. AllZip (λ rule. MergesAreKept rule (record { world = world.now; others = others.now })) rules.now all.items) }
 {
     let later = budget.left.saturating_sub(most);
     let first = budget.left - later;
@@ -97,86 +107,202 @@ fn explore_part<O: Observer>(
         left: first,
         observer,
     };
-    let explored = explore(alloc, world, others, rule, &mut part);
+    let explored = explore(alloc, world, others, rules, &mut part);
     let left = part.left;
     budget.left = later.saturating_add(left);
     explored
 }
 
-/// What serial orders say of a rule.
+/// What a search through schedules came to, as answers.
+pub(crate) fn by_schedules(alloc: Global, all: Vec<Explored>) -> Result<Vec<Answer>, AllocError>
+    ensures { IfOk result (λ answers. answers.items ≡ map BySchedules all.items) }
+{
+    let mut answers = Vec::new(alloc);
+    for explored in all {
+        answers.push(Answer::BySchedules(explored))?;
+    }
+    Ok(answers)
+}
+
+/// What is known of these rules by a search through schedules, for which at most this many moves are made.
+fn judge_part<O: Observer>(
+    alloc: Global,
+    world: &World,
+    others: &[WorldEvent],
+    rules: &[Program],
+    most: u64,
+    budget: &mut Budget<O>,
+) -> Result<Vec<Answer>, AllocError>
+    ensures { IfOk result (λ answers. AreAnswers rules.now (record { world = world.now; others = others.now }) answers.items) }
+{
+    let all = explore_part(alloc, world, others, rules, most, budget)?;
+    let answers = by_schedules(alloc, all)?;
+    Ok(answers)
+}
+
+/// What serial orders say of the rules that are asked.
 fn judge_orders<O: Observer>(
     alloc: Global,
     world: &World,
     others: &[WorldEvent],
     programs: &[Program],
-    rule: &Program,
+    rules: &[Program],
+    asked: &[bool],
     budget: &mut Budget<O>,
-) -> Result<Judged, AllocError>
+) -> Result<Vec<Judged>, AllocError>
     requires enough { IsComparing (record { world = world.now; others = others.now }) }
     requires programs { AreProgramsOf programs.now world.now.runners }
-    ensures { IfOk result (IsJudged rule.now (record { world = world.now; others = others.now })) }
+    requires asked { length asked.now ≡ length rules.now }
+    ensures { IfOk result (λ judged. AreJudged rules.now (record { world = world.now; others = others.now }) judged.items) }
 {
-    let mut spending = Spending { budget };
-    judge_by_orders(alloc, world, others, programs, rule, &mut spending)
+    let most = budget.left;
+    let mut spending = Spending { budget, most };
+    judge_by_orders(alloc, world, others, programs, rules, asked, &mut spending)
 }
 
-/// Whether a search through schedules has not come to an end.
-fn is_open(explored: &Explored) -> bool {
-    matches!(explored, Explored::Open { .. })
+/// Whether a search has not come to an end.
+fn is_open(answer: &Answer) -> bool {
+    matches!(answer, Answer::BySchedules(Explored::Open { .. }))
 }
 
-/// What is known of a rule by serial orders, and else by all schedules: `first` is what a part of these came to.
+/// The rules for which a search has not come to an end.
+fn are_open(alloc: Global, answers: &[Answer]) -> Result<Vec<bool>, AllocError>
+    ensures { IfOk result (λ asked. length asked.items ≡ length answers.now) }
+{
+    let mut asked = Vec::with_capacity(alloc, answers.len())?;
+    for answer in answers {
+        asked.push(is_open(answer))?;
+    }
+    Ok(asked)
+}
+
+/// Whether one of these searches has not come to an end.
+fn has_open(answers: &[Answer]) -> bool {
+    answers.iter().any(is_open)
+}
+
+/// Takes over what serial orders say of a rule for which a search has not come to an end.
+fn improve(answer: &mut Answer, judged: &mut Judged)
+    ensures answer { (rule : ProgramTree) (p : Place) → IsAnswer rule p answer.old → IsJudged rule p judged.old → IsAnswer rule p answer.new }
+    ensures judged { (rule : ProgramTree) (p : Place) → IsJudged rule p judged.old → IsJudged rule p judged.new }
+{
+    if !is_open(answer) {
+        return;
+    }
+    match mem::replace(judged, Judged::NotAsked) {
+        Judged::Always => *answer = Answer::AlwaysByOrders,
+        Judged::Broken(found) => *answer = Answer::BrokenByOrder(found),
+        Judged::Undecided | Judged::NotAsked => {}
+    }
+}
+
+/// The same of each rule.
+fn improve_each(answers: &mut Vec<Answer>, judged: &mut Vec<Judged>)
+    ensures { (rules : List ProgramTree) (p : Place) → AreAnswers rules p answers.old.items → AreJudged rules p judged.old.items → AreAnswers rules p answers.new.items }
+{
+    for index in 0..answers.len() {
+        if index < judged.len() {
+            improve(&mut answers[index], &mut judged[index]);
+        }
+    }
+}
+
+/// Searches through all schedules for a rule for which neither a part of them nor the orders came to an end.
+fn search_again<O: Observer>(
+    alloc: Global,
+    world: &World,
+    others: &[WorldEvent],
+    rule: &Program,
+    answer: &mut Answer,
+    budget: &mut Budget<O>,
+) -> Result<(), AllocError>
+    ensures { OnOk result (IsAnswer rule.now (record { world = world.now; others = others.now }) answer.old → IsAnswer rule.now (record { world = world.now; others = others.now }) answer.new) }
+{
+    if !is_open(answer) || budget.left == 0 {
+        return Ok(());
+    }
+    let rules = slice::from_ref(rule);
+    let mut answers = judge_part(alloc, world, others, rules, u64::MAX, budget)?;
+    if let Some(further) = answers.pop() {
+        *answer = further;
+    }
+    Ok(())
+}
+
+/// The same of each rule, for which as many moves may be made.
+fn search_each<O: Observer>(
+    alloc: Global,
+    world: &World,
+    others: &[WorldEvent],
+    rules: &[Program],
+    answers: &mut Vec<Answer>,
+    budget: &mut Budget<O>,
+) -> Result<(), AllocError>
+    requires { AreAnswers rules.now (record { world = world.now; others = others.now }) answers.old.items }
+    ensures { OnOk result (AreAnswers rules.now (record { world = world.now; others = others.now }) answers.new.items) }
+{
+    let most = budget.left;
+    for index in 0..rules.len() {
+        budget.left = most;
+        let rule = &rules[index];
+        search_again(alloc, world, others, rule, &mut answers[index], budget)?;
+    }
+    Ok(())
+}
+
+/// What is known of rules by serial orders, and else by all schedules, where a part of these did not decide them.
 fn judge_further<O: Observer>(
     alloc: Global,
     world: &World,
     others: &[WorldEvent],
     programs: &[Program],
-    rule: &Program,
-    first: Explored,
+    rules: &[Program],
+    answers: &mut Vec<Answer>,
     budget: &mut Budget<O>,
-) -> Result<Answer, AllocError>
+) -> Result<(), AllocError>
     requires enough { IsComparing (record { world = world.now; others = others.now }) }
     requires programs { AreProgramsOf programs.now world.now.runners }
-    requires explored { IsExplored rule.now (record { world = world.now; others = others.now }) first }
-    requires merges { MergesAreKept rule.now (record { world = world.now; others = others.now }) first }
-    ensures { IfOk result (IsAnswer rule.now (record { world = world.now; others = others.now })) }
+    requires answers { AreAnswers rules.now (record { world = world.now; others = others.now }) answers.old.items }
+    ensures { OnOk result (AreAnswers rules.now (record { world = world.now; others = others.now }) answers.new.items) }
 {
-    match judge_orders(alloc, world, others, programs, rule, budget)? {
-        Judged::Always => Ok(Answer::AlwaysByOrders),
-        Judged::Broken(found) => Ok(Answer::BrokenByOrder(found)),
-        Judged::Undecided => {
-            if budget.left == 0 {
-                return Ok(Answer::BySchedules(first));
-            }
-            let explored = explore_part(alloc, world, others, rule, u64::MAX, budget)?;
-            Ok(Answer::BySchedules(explored))
-        }
-    }
+    let asked = are_open(alloc, answers.as_slice())?;
+    let mut judged = judge_orders(
+        alloc,
+        world,
+        others,
+        programs,
+        rules,
+        asked.as_slice(),
+        budget,
+    )?;
+    improve_each(answers, &mut judged);
+    search_each(alloc, world, others, rules, answers, budget)
 }
 
-/// Whether a rule is kept after every schedule: the moves of this world's runners, which have these programs and commit at levels that compare their
-/// reads, and of others that have these events yet to bring.
+/// Whether each of these rules is kept after every schedule: the moves of this world's runners, which have these programs and commit at levels that
+/// compare their reads, and of others that have these events yet to bring.
 ///
-/// At most 4000 moves are made for schedules, since these tell the first schedule that breaks the rule, and the length of the longest. Then serial
-/// orders are judged, which are enough and far fewer. Where an order that breaks the rule does not break it step by step, all schedules are searched.
-/// At most as many moves are made as `budget` has left. It fails only when out of memory.
+/// At most 4000 moves are made for schedules, since these tell the first schedule that breaks a rule, and the length of the longest. Then serial
+/// orders are judged, which are enough and far fewer. Where an order that breaks a rule does not break it step by step, all schedules are searched.
+/// It fails only when out of memory.
 fn judge_by_both<O: Observer>(
     alloc: Global,
     world: &World,
     others: &[WorldEvent],
     programs: &[Program],
-    rule: &Program,
+    rules: &[Program],
     budget: &mut Budget<O>,
-) -> Result<Answer, AllocError>
+) -> Result<Vec<Answer>, AllocError>
     requires enough { IsComparing (record { world = world.now; others = others.now }) }
     requires programs { AreProgramsOf programs.now world.now.runners }
-    ensures { IfOk result (IsAnswer rule.now (record { world = world.now; others = others.now })) }
+    ensures { IfOk result (λ answers. AreAnswers rules.now (record { world = world.now; others = others.now }) answers.items) }
 {
-    let first = explore_part(alloc, world, others, rule, FIRST_MOVES, budget)?;
-    if !is_open(&first) || budget.left == 0 {
-        return Ok(Answer::BySchedules(first));
+    let mut answers = judge_part(alloc, world, others, rules, FIRST_MOVES, budget)?;
+    if !has_open(answers.as_slice()) || budget.left == 0 {
+        return Ok(answers);
     }
-    judge_further(alloc, world, others, programs, rule, first, budget)
+    judge_further(alloc, world, others, programs, rules, &mut answers, budget)?;
+    Ok(answers)
 }
 
 /// The same, and the observer is notified that the search has ended.
@@ -185,29 +311,31 @@ pub(crate) fn judge_comparing<O: Observer>(
     world: &World,
     others: &[WorldEvent],
     programs: &[Program],
-    rule: &Program,
+    rules: &[Program],
     budget: &mut Budget<O>,
-) -> Result<Answer, AllocError>
+) -> Result<Vec<Answer>, AllocError>
     requires enough { IsComparing (record { world = world.now; others = others.now }) }
     requires programs { AreProgramsOf programs.now world.now.runners }
-    ensures { IfOk result (IsAnswer rule.now (record { world = world.now; others = others.now })) }
+    ensures { IfOk result (λ answers. AreAnswers rules.now (record { world = world.now; others = others.now }) answers.items) }
 {
-    let answer = judge_by_both(alloc, world, others, programs, rule, budget);
+    let answers = judge_by_both(alloc, world, others, programs, rules, budget);
     budget.observer.ended();
-    let answer = answer?;
-    Ok(answer)
+    let answers = answers?;
+    Ok(answers)
 }
 
-/// Whether a rule is kept after every schedule, by schedules alone.
+/// Whether each of these rules is kept after every schedule, by schedules alone.
 pub(crate) fn judge_schedules<O: Observer>(
     alloc: Global,
     world: &World,
     others: &[WorldEvent],
-    rule: &Program,
+    rules: &[Program],
     budget: &mut Budget<O>,
-) -> Result<Answer, AllocError>
-    ensures { IfOk result (IsAnswer rule.now (record { world = world.now; others = others.now })) }
+) -> Result<Vec<Answer>, AllocError>
+    ensures { IfOk result (λ answers. AreAnswers rules.now (record { world = world.now; others = others.now }) answers.items) }
 {
-    let explored = explore(alloc, world, others, rule, budget)?;
-    Ok(Answer::BySchedules(explored))
+    let answers = judge_part(alloc, world, others, rules, u64::MAX, budget);
+    budget.observer.ended();
+    let answers = answers?;
+    Ok(answers)
 }

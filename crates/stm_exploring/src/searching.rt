@@ -1,20 +1,24 @@
 //! A search about a scenario and rules, and what is printed of it.
-ghost use Rattle.std.specs.Prelude.{◌≡◌, true, [], IfOk};
+ghost use Rattle.std.specs.Prelude.{◌≡◌, ◌++◌, true, List, [], All, IfOk, OnOk};
+ghost use Rattle.std.specs.List.{AllZip};
 ghost use Rattle.stm_schedules.specs.Outcomes.{after_replies};
 ghost use Rattle.stm_world.specs.World.{opened, replies_to, world_after};
 ghost use Rattle.stm_serial.specs.Serial.{IsComparing};
 ghost use Rattle.stm_serial_search.specs.Search.{AreProgramsOf};
 ghost use Rattle.stm_serial_search.specs.Started.{HaveNoStep};
+ghost use Rattle.stm_exploring.specs.declared.rules.Rule.{Rule as RuleValue};
 ghost use Rattle.stm_exploring.specs.Asking.{opening_of, place_of};
 ghost use Rattle.stm_exploring.specs.Exploring.{IsPrinted};
-ghost use Rattle.stm_exploring.specs.Judging.{AreFound, AreFoundFrom, IsAnswer, IsFoundFrom, IsFoundWhen};
+ghost use Rattle.stm_exploring.specs.Judging.{AreAnswers, AreFound, AreFoundFrom, AreFoundWhen, IsFoundFrom};
 
 use crate::accounts::tell_account;
 use crate::audience::{Audience, tell_parts};
+use crate::faulted::tell_faults;
+use crate::grouping::{asked_by, end_of_group, push_answers};
 use crate::judging::{Answer, judge_comparing, judge_schedules};
 use crate::printed::Printed;
 use crate::printing::print;
-use crate::rules::{Rule, RuleAnswer, copy_of};
+use crate::rules::{Rule, RuleAnswer};
 use crate::setup::{run_setup, setup_and_others};
 use crate::watching::judge_waiting;
 use std::alloc::{AllocError, Global};
@@ -24,7 +28,7 @@ use stm_retry::World;
 use stm_serial_search::{are_orderly, programs_started};
 use stm_texts::{Scenario, WorldEvent, opens_with};
 
-/// Whether a program keeps its rule after every schedule, from where a world is, whose runners have these programs: by serial orders, too, where all
+/// Whether each of these rules is kept after every schedule, from where a world is, whose runners have these programs: by serial orders, too, where all
 /// commit at levels that compare.
 fn judge<O: Observer>(
     alloc: Global,
@@ -32,20 +36,20 @@ fn judge<O: Observer>(
     others: &[WorldEvent],
     programs: &[Program],
     comparing: bool,
-    keeps: &Program,
+    rules: &[Program],
     budget: &mut Budget<O>,
-) -> Result<Answer, AllocError>
+) -> Result<Vec<Answer>, AllocError>
     requires programs { AreProgramsOf programs.now world.now.runners }
     requires comparing { comparing ≡ true → IsComparing (record { world = world.now; others = others.now }) }
-    ensures { IfOk result (IsAnswer keeps.now (record { world = world.now; others = others.now })) }
+    ensures { IfOk result (λ answers. AreAnswers rules.now (record { world = world.now; others = others.now }) answers.items) }
 {
     if comparing {
-        return judge_comparing(alloc, world, others, programs, keeps, budget);
+        return judge_comparing(alloc, world, others, programs, rules, budget);
     }
-    judge_schedules(alloc, world, others, keeps, budget)
+    judge_schedules(alloc, world, others, rules, budget)
 }
 
-/// Whether a program keeps its rule after every schedule in which these runners wait, of whose ends this is known.
+/// Whether each is kept after every schedule in which these runners wait, of whose ends this is known.
 fn judge_beside<O: Observer>(
     alloc: Global,
     world: &World,
@@ -54,20 +58,20 @@ fn judge_beside<O: Observer>(
     programs: &[Program],
     comparing: bool,
     waits: &[Wait],
-    keeps: &Program,
+    rules: &[Program],
     budget: &mut Budget<O>,
-) -> Result<Answer, AllocError>
+) -> Result<Vec<Answer>, AllocError>
     requires programs { AreProgramsOf programs.now world.now.runners }
     requires comparing { comparing ≡ true → IsComparing (record { world = world.now; others = others.now }) }
-    ensures { IfOk result (IsFoundFrom waits.now keeps.now (record { world = world.now; others = others.now }) ends.now) }
+    ensures { IfOk result (λ answers. AllZip (λ rule. IsFoundFrom waits.now rule (record { world = world.now; others = others.now }) ends.now) rules.now answers.items) }
 {
     match waits {
-        [] => judge(alloc, world, others, programs, comparing, keeps, budget),
-        [_, ..] => judge_waiting(alloc, world, others, ends, waits, When::Each, keeps, budget),
+        [] => judge(alloc, world, others, programs, comparing, rules, budget),
+        [_, ..] => judge_waiting(alloc, world, others, ends, waits, When::Each, rules, budget),
     }
 }
 
-/// The same of a program that is asked then.
+/// The same of rules that are asked then.
 fn judge_when<O: Observer>(
     alloc: Global,
     world: &World,
@@ -77,23 +81,23 @@ fn judge_when<O: Observer>(
     comparing: bool,
     waits: &[Wait],
     when: When,
-    keeps: &Program,
+    rules: &[Program],
     budget: &mut Budget<O>,
-) -> Result<Answer, AllocError>
+) -> Result<Vec<Answer>, AllocError>
     requires programs { AreProgramsOf programs.now world.now.runners }
     requires comparing { comparing ≡ true → IsComparing (record { world = world.now; others = others.now }) }
-    ensures { IfOk result (IsFoundWhen when waits.now keeps.now (record { world = world.now; others = others.now }) ends.now) }
+    ensures { IfOk result (λ answers. AreFoundWhen when waits.now rules.now (record { world = world.now; others = others.now }) ends.now answers.items) }
 {
     match when {
         When::Each => judge_beside(
-            alloc, world, others, ends, programs, comparing, waits, keeps, budget,
+            alloc, world, others, ends, programs, comparing, waits, rules, budget,
         ),
-        When::Last => judge_waiting(alloc, world, others, ends, waits, when, keeps, budget),
+        When::Last => judge_waiting(alloc, world, others, ends, waits, when, rules, budget),
     }
 }
 
-/// The same of a rule, for which at most so many moves are made.
-fn judge_rule<O: Observer>(
+/// What is known of these rules, all of which are asked then: they are searched for in one walk, for which at most so many moves are made.
+fn judge_group<O: Observer>(
     alloc: Global,
     world: &World,
     others: &[WorldEvent],
@@ -101,26 +105,38 @@ fn judge_rule<O: Observer>(
     programs: &[Program],
     comparing: bool,
     waits: &[Wait],
-    rule: &Rule,
+    when: When,
+    rules: &[Rule],
     most: u64,
     budget: &mut Budget<O>,
-) -> Result<RuleAnswer, AllocError>
+    answers: &mut Vec<RuleAnswer>,
+) -> Result<(), AllocError>
     requires programs { AreProgramsOf programs.now world.now.runners }
     requires comparing { comparing ≡ true → IsComparing (record { world = world.now; others = others.now }) }
-    ensures rule { IfOk result (λ a. a.rule ≡ rule.now) }
-    ensures found { IfOk result (λ a. IsFoundWhen rule.now.when waits.now rule.now.program (record { world = world.now; others = others.now }) ends.now a.answer) }
+    requires when { All (λ (rule : RuleValue). rule.when ≡ when) rules.now }
+    ensures { OnOk result ((before : List RuleValue) → AreFoundFrom waits.now before (record { world = world.now; others = others.now }) ends.now answers.old.items
+        → AreFoundFrom waits.now (before ++ rules.now) (record { world = world.now; others = others.now }) ends.now answers.new.items) }
 {
-    let copy = copy_of(rule)?;
+    let asked = asked_by(alloc, rules)?;
     budget.left = most;
-    let keeps = &rule.program;
-    let when = rule.when;
-    let answer = judge_when(
-        alloc, world, others, ends, programs, comparing, waits, when, keeps, budget,
+    let found = judge_when(
+        alloc,
+        world,
+        others,
+        ends,
+        programs,
+        comparing,
+        waits,
+        when,
+        asked.as_slice(),
+        budget,
     )?;
-    Ok(RuleAnswer { rule: copy, answer })
+    push_answers(rules, when, found, answers)?;
+    Ok(())
 }
 
-/// The same of each of these rules.
+/// What is known of each of these rules. Those that stand side by side and are asked at the same places are searched for in one walk, for which as many
+/// moves may be made as `budget` has left.
 fn judge_rules<O: Observer>(
     alloc: Global,
     world: &World,
@@ -138,11 +154,29 @@ fn judge_rules<O: Observer>(
 {
     let most = budget.left;
     let mut answers = Vec::new(alloc);
-    for rule in rules {
-        let answer = judge_rule(
-            alloc, world, others, ends, programs, comparing, waits, rule, most, budget,
+    let mut done = 0;
+    for turn in 0..rules.len() {
+        if done >= rules.len() {
+            return Ok(answers);
+        }
+        let when = rules[done].when;
+        let end = end_of_group(rules, done, when);
+        let group = &rules[done..end];
+        judge_group(
+            alloc,
+            world,
+            others,
+            ends,
+            programs,
+            comparing,
+            waits,
+            when,
+            group,
+            most,
+            budget,
+            &mut answers,
         )?;
-        answers.push(answer)?;
+        done = end;
     }
     Ok(answers)
 }
@@ -238,7 +272,7 @@ fn programs_of(alloc: Global, scenario: &Scenario) -> Result<Vec<Program>, Alloc
 }
 
 /// Whether each rule is kept after every schedule of a scenario in which these runners wait.
-pub(crate) fn explore_scenario<O: Audience>(
+fn judge_scenario<O: Audience>(
     alloc: Global,
     scenario: &Scenario,
     waits: &[Wait],
@@ -252,6 +286,22 @@ pub(crate) fn explore_scenario<O: Audience>(
     let answers = explore_programs(alloc, scenario, programs.as_slice(), waits, rules, budget);
     drop(programs);
     answers
+}
+
+/// The same, and it is said why rules come to faults.
+pub(crate) fn explore_scenario<O: Audience>(
+    alloc: Global,
+    scenario: &Scenario,
+    waits: &[Wait],
+    rules: &[Rule],
+    budget: &mut Budget<O>,
+) -> Result<Vec<RuleAnswer>, AllocError>
+    requires stepless { HaveNoStep scenario.now.events }
+    ensures { IfOk result (λ answers. AreFound waits.now rules.now scenario.now answers.items) }
+{
+    let answers = judge_scenario(alloc, scenario, waits, rules, budget)?;
+    tell_faults(alloc, scenario, answers.as_slice(), &mut budget.observer);
+    Ok(answers)
 }
 
 /// What is printed of a search about a scenario in which these runners wait.

@@ -11,6 +11,7 @@ ghost use Rattle.stm_exploring.specs.Anomalies.{anomaly_parts, printed_serial, s
 use crate::audience::{Audience, tell_parts};
 use crate::lines::count_parts;
 use crate::lists::list_json;
+use crate::naming::tell_name;
 use crate::printed::{Printed, SearchAnswer};
 use crate::schedule_lines::push_scheduled;
 use crate::setup::{run_setup, setup_and_others};
@@ -131,7 +132,9 @@ fn compare_from<O: Audience>(
 {
     let ends = run_setup(alloc, world, setup)?;
     tell_parts(alloc, setup.len(), others.len(), &mut budget.observer);
-    find_anomaly(alloc, world, others, ends.as_slice(), budget)
+    let answer = find_anomaly(alloc, world, others, ends.as_slice(), budget)?;
+    tell_name(alloc, world, others, &answer, &mut budget.observer);
+    Ok(answer)
 }
 
 /// Whether the whole schedules of a scenario come to what serial orders come to.

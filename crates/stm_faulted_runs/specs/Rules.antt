@@ -55,3 +55,14 @@ left_by s = (world_after s.events (opened (setup_of s.opening))).standing.histor
 abbrev pub ExplainsRule : List ℕ → List ℕ → Outcome Scenario → List ℕ → Type 0
 ExplainsRule name text (Ok s) said = (state : List StateEntry) × IsStateOf (left_by s) state × ExplainsOver name text (state_answers state) said
 ExplainsRule name text (Err bad) said = said ≡ []
+
+-- the fault that was found and why, in words; nothing where none was
+abbrev pub IsReasonSaid : Option FoundFault → List ℕ → Type 0
+IsReasonSaid None said = said ≡ []
+IsReasonSaid (Some found) said = (reason : List ℕ) × (said ≡ fault_name found.fault ++ codes ": " ++ reason)
+
+-- what is said of a rule's program that comes to a fault on the state that a scenario leaves; nothing where there is no scenario
+abbrev pub SaysReason : ProgramTree → Outcome Scenario → List ℕ → Type 0
+SaysReason program (Ok s) said =
+    (state : List StateEntry) × IsStateOf (left_by s) state × IsReasonSaid (fault_of (state_answers state) program.statements) said
+SaysReason program (Err bad) said = said ≡ []

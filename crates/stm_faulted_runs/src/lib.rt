@@ -19,7 +19,7 @@ mod said;
 mod scripts;
 
 pub use jobs::{FaultedJob, jobs_explained};
-pub use rules::rule_explained;
+pub use rules::{rule_explained, rule_reason};
 pub use said::said_of;
 pub use scripts::{Named, faults_explained};
 pub use stm_sites::{

@@ -1,24 +1,25 @@
 //! The explanation of a rule that comes to a fault.
-ghost use Rattle.std.specs.Prelude.{◌≡◌, ◌≤◌, Ok as OkOf, IfOk, OnOk, string_bytes};
+ghost use Rattle.std.specs.Prelude.{◌≡◌, ◌≤◌, Ok as OkOf, Some as SomeOf, IfOk, OnOk, string_bytes};
 ghost use Rattle.serde_json.specs.View.{view};
 ghost use Rattle.stm_journal.specs.StateOf.{IsStateOf};
 ghost use Rattle.stm_program.specs.declared.limits.TheConstants.{MAX_NODES};
 ghost use Rattle.stm_program_json.specs.Reading.{first_statement, program_of};
+ghost use Rattle.stm_sites.specs.Found.{fault_of};
 ghost use Rattle.stm_steps.specs.States.{state_answers};
 ghost use Rattle.stm_texts.specs.Reading.{scenario_in};
 ghost use Rattle.stm_world.specs.World.{world_after};
 ghost use Rattle.stm_faulted_runs.specs.Places.{BeginsBelow};
-ghost use Rattle.stm_faulted_runs.specs.Rules.{IsRuleLine, ExplainsProgram, ExplainsOver, ExplainsRule, rule_head, left_by};
+ghost use Rattle.stm_faulted_runs.specs.Rules.{IsRuleLine, ExplainsProgram, ExplainsOver, ExplainsRule, IsReasonSaid, SaysReason, rule_head, left_by};
 
 use crate::lines::words_of;
-use crate::places::{fault_in_program, place_of_fault};
+use crate::places::{fault_in_program, place_of_fault, reason_in};
 use crate::scripts::Named;
 use serde_json::Value as Json;
 use std::alloc::{AllocError, Global};
 use stm_explain::explained_at;
 use stm_json::ReadError;
 use stm_program::Program;
-use stm_program_json::{first_statement, read_program};
+use stm_program_json::{first_statement, read_program, write_program};
 use stm_retry::{State, World, WorldEvent};
 use stm_sites::FoundFault;
 use stm_steps::Fault;
@@ -165,6 +166,59 @@ pub fn rule_explained(alloc: Global, rule: &Named<'_>, scenario: &str) -> Result
 {
     match read_scenario(alloc, scenario.as_bytes()) {
         Ok(scenario) => explained_after(alloc, rule, scenario),
+        Err(ReadError::Bad(_)) => Ok(String::new(alloc)),
+        Err(ReadError::OutOfMemory) => Err(AllocError),
+    }
+}
+
+/// What is said of a fault that was found in a program.
+fn fault_and_reason(
+    alloc: Global,
+    program: &Program,
+    found: &FoundFault,
+) -> Result<String, AllocError>
+    requires { BeginsBelow MAX_NODES found.now.site.place }
+    ensures { IfOk result (λ said. IsReasonSaid (SomeOf found.now) (string_bytes said)) }
+{
+    let json = write_program(alloc, program)?;
+    let first = first_statement(&json);
+    let reason = reason_in(alloc, &json, first, found);
+    drop(json);
+    let reason = reason?;
+    let fault = found.fault;
+    format!(in alloc; "{fault}: {reason}")
+}
+
+/// What is said of a rule's program that comes to a fault on a state.
+fn reason_on(alloc: Global, program: &Program, state: &State) -> Result<String, AllocError>
+    ensures { IfOk result (λ said. IsReasonSaid (fault_of (state_answers state.now) program.now.statements) (string_bytes said)) }
+{
+    let found = fault_in_program(alloc, program, state)?;
+    let said = match &found {
+        Some(found) => fault_and_reason(alloc, program, found),
+        None => Ok(String::new(alloc)),
+    };
+    drop(found);
+    said
+}
+
+/// What is said of a rule's program that comes to a fault on the state that a scenario leaves.
+fn reason_after(alloc: Global, program: &Program, scenario: Scenario) -> Result<String, AllocError>
+    ensures { IfOk result (λ said. SaysReason program.now (OkOf scenario) (string_bytes said)) }
+{
+    let state = state_left(alloc, scenario)?;
+    reason_on(alloc, program, &state)
+}
+
+/// The fault to which a rule's program comes on the state after the scenario that this text spells, and why: `FAULT: REASON`; nothing where it comes to
+/// none.
+///
+/// It fails where an allocation failed.
+pub fn rule_reason(alloc: Global, program: &Program, scenario: &str) -> Result<String, AllocError>
+    ensures { IfOk result (λ said. SaysReason program.now (scenario_in scenario.now) (string_bytes said)) }
+{
+    match read_scenario(alloc, scenario.as_bytes()) {
+        Ok(scenario) => reason_after(alloc, program, scenario),
         Err(ReadError::Bad(_)) => Ok(String::new(alloc)),
         Err(ReadError::OutOfMemory) => Err(AllocError),
     }

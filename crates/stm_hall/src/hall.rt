@@ -190,6 +190,13 @@ impl Hall {
         self.journal.entries()
     }
 
+    /// The store, with what was committed. It takes no memory.
+    pub fn store(&self) -> &Store
+        ensures { result.now.standing ≡ self.now.standing }
+    {
+        self.journal.store()
+    }
+
     /// The state of the store's keys, as programs run on it. It fails only where an allocation failed.
     pub fn state(&self) -> Result<State, AllocError>
         ensures { IfOk result (λ state. IsStateOf self.now.standing.history state) }

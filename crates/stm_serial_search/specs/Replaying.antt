@@ -1,5 +1,6 @@
 -- A serial run that is made in a world, step by step, and what a rule comes to by serial runs.
-use Rattle.std.specs.Prelude.{◌≡◌, true, false, List, Some}
+use Rattle.std.specs.Prelude.{◌≡◌, true, false, List, [], ◌∷◌, Some}
+use Rattle.std.specs.List.{AllZip}
 use Rattle.stm_program.specs.Syntax.{ProgramTree}
 use Rattle.stm_steps.specs.declared.run.End.{End}
 use Rattle.stm_events.specs.declared.event.WorldEvent.{WorldEvent}
@@ -10,7 +11,7 @@ use Rattle.stm_schedules.specs.Schedules.{place_after, IsSchedule}
 use Rattle.stm_schedules.specs.Keeping.{is_done, end_alone, keeps, AllKeep}
 use Rattle.stm_schedules.specs.Merges.{IsMerge}
 use Rattle.stm_serial_search.specs.declared.judging.Judged.{Judged}
-use Rattle.stm_serial_search.specs.declared.judging.Judged.TheVariants.{Always, Broken, Undecided}
+use Rattle.stm_serial_search.specs.declared.judging.Judged.TheVariants.{Always, Broken, Undecided, NotAsked}
 
 -- these moves are a schedule, which leads from a place to this world with these events of the others left
 pub record LeadsTo (p : Place) (made : List Move) (w : World) (others : List WorldEvent) : Type 0 where
@@ -46,3 +47,20 @@ IsJudged rule p Always =
     AllKeep (keeps rule) p × ((events : List WorldEvent) → IsMerge events p.others → keeps rule (world_after events p.world) ≡ true)
 IsJudged rule p (Broken found) = IsBreak rule p found.moves found.end
 IsJudged rule p Undecided = Unit {0}
+IsJudged rule p NotAsked = Unit {0}
+
+-- so it is of each of these rules
+abbrev pub AreJudged : List ProgramTree → Place → List Judged → Type 0
+AreJudged rules p judged = AllZip (λ rule. IsJudged rule p) rules judged
+
+-- those of these rules that are not decided
+abbrev pub undecided : List ProgramTree → List Judged → List ProgramTree
+undecided [] judged = []
+undecided (rule ∷ rules) [] = []
+undecided (rule ∷ rules) (Undecided ∷ judged) = rule ∷ undecided rules judged
+undecided (rule ∷ rules) (decided ∷ judged) = undecided rules judged
+
+-- a rule that is not decided is kept
+abbrev pub or_always : Judged → Judged
+or_always Undecided = Always
+or_always decided = decided

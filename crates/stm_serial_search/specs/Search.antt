@@ -1,5 +1,6 @@
 -- What a search through serial runs looks at.
 use Rattle.std.specs.Prelude.{◌≡◌, ℕ, ◌-◌, nat_eq, Bool, true, false, if◌then◌else◌, List, [], ◌∷◌, ◌++◌, Option, Some, option_map, slice_get}
+use Rattle.std.specs.List.{list_all}
 use Rattle.stm_program.specs.Syntax.{ProgramTree}
 use Rattle.stm_steps.specs.declared.run.Run.{Run}
 use Rattle.stm_steps.specs.declared.run.Answered.TheVariants.{Ended}
@@ -17,6 +18,14 @@ use Rattle.stm_serial.specs.Serial.{alone, Point, point_of, serial_moved, serial
 -- the rule that a program is, of a store
 abbrev pub keeps_store : ProgramTree → Standing → Bool
 keeps_store rule s = is_done (end_of (run_over (state_now s.history) rule.statements))
+
+-- each of these is kept
+abbrev pub keeps_all : List ProgramTree → Standing → Bool
+keeps_all rules s = list_all (λ (rule : ProgramTree). keeps_store rule s) rules
+
+-- the same of a world
+abbrev pub keep_all : List ProgramTree → World → Bool
+keep_all rules w = keeps_all rules w.standing
 
 abbrev pub is_done_run : Run → Bool
 is_done_run run = is_done (Some run.end)
@@ -72,7 +81,7 @@ abbrev pub AreNone : List Bool → Type 0
 AreNone [] = Unit {0}
 AreNone (b ∷ taken) = (b ≡ false) × AreNone taken
 
--- a serial run after which the rule is not kept
-pub record IsBadRun (rule : ProgramTree) (p : Place) (run : List Move) : Type 0 where
+-- a serial run after which one of these rules is not kept
+pub record IsBadRun (rules : List ProgramTree) (p : Place) (run : List Move) : Type 0 where
   pub is_serial : IsSerial run (point_of p)
-  pub is_bad : keeps_store rule (serial_after run (point_of p)).standing ≡ false
+  pub is_bad : keeps_all rules (serial_after run (point_of p)).standing ≡ false

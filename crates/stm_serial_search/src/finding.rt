@@ -1,8 +1,8 @@
-//! Whether a rule is kept after every schedule, by the serial runs alone.
+//! Whether rules are kept after every schedule, by the serial runs alone.
 ghost use Rattle.std.specs.Prelude.{◌≡◌, None, length, IfOk, IfSome};
-ghost use Rattle.stm_schedules.specs.Keeping.{keeps, AllKeep};
+ghost use Rattle.stm_schedules.specs.Keeping.{AllKeep};
 ghost use Rattle.stm_serial.specs.Serial.{AreForeign, IsComparing};
-ghost use Rattle.stm_serial_search.specs.Search.{AreNone, AreProgramsOf, IsBadRun};
+ghost use Rattle.stm_serial_search.specs.Search.{AreNone, AreProgramsOf, IsBadRun, keep_all};
 
 use crate::following::{Follower, Halt};
 use crate::looking::look;
@@ -25,30 +25,31 @@ fn none_taken(alloc: Global, count: usize) -> Result<Vec<bool>, AllocError>
     Ok(taken)
 }
 
-/// The first serial run after which the rule is not kept: of the programs of this world's runners, and of others that have these events yet to bring.
+/// The first serial run after which one of these rules is not kept: of the programs of this world's runners, and of others that have these events yet
+/// to bring.
 ///
-/// Where none is found, and serial runs are enough, the rule is kept after every schedule, however long it is. The follower is asked before each
+/// Where none is found, and serial runs are enough, each is kept after every schedule, however long it is. The follower is asked before each
 /// move.
 pub(crate) fn find_bad_order<F: Follower>(
     alloc: Global,
     world: &World,
     others: &[WorldEvent],
     programs: &[Program],
-    rule: &Program,
+    rules: &[Program],
     follower: &mut F,
 ) -> Result<Option<Sequence<Move>>, Halt>
     requires programs { AreProgramsOf programs.now world.now.runners }
     requires foreign { AreForeign others.now }
     ensures none { IfOk result (λ found. found ≡ None → IsComparing (record { world = world.now; others = others.now })
-        → AllKeep (keeps rule.now) (record { world = world.now; others = others.now })) }
-    ensures some { IfOk result (λ found. IfSome found (λ run. IsBadRun rule.now (record { world = world.now; others = others.now }) run)) }
+        → AllKeep (keep_all rules.now) (record { world = world.now; others = others.now })) }
+    ensures some { IfOk result (λ found. IfSome found (λ run. IsBadRun rules.now (record { world = world.now; others = others.now }) run)) }
 {
     let count = world.runner_count();
     let taken = none_taken(alloc, count)?;
     let depth = count as u64 + others.len() as u64;
     let found = look(
         alloc,
-        rule,
+        rules,
         programs,
         world,
         taken.as_slice(),

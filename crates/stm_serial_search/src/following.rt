@@ -10,6 +10,9 @@ pub trait Follower {
     /// Whether one move more may be made. Where it may not, the search is stopped.
     fn may_move(&mut self) -> bool;
 
+    /// A walk through the serial orders begins.
+    fn begins(&mut self) {}
+
     /// A runner's program was run alone: this is its run. Where it came to its last statement, its writes were applied.
     fn ran(&mut self, runner: u64, run: &Run);
 

@@ -4,11 +4,11 @@
 ghost use Rattle.std.specs.Prelude.{◌≡◌, ◌∷◌, ◌-◌, ◌<◌, ◌≤◌, Some, length, slice_get, drop, IfOk, OnOk, Contains};
 ghost use Rattle.stm_schedules.specs.declared.moves.Move.TheVariants.{Step as StepOf, Other};
 ghost use Rattle.stm_serial.specs.Serial.{AreForeign, choices, first_bad_serial, serial_moved};
-ghost use Rattle.stm_serial_search.specs.Search.{keeps_store, point, found_after, in_front, AreProgramsOf, LeavesFirst};
+ghost use Rattle.stm_serial_search.specs.Search.{keeps_all, point, found_after, in_front, AreProgramsOf, LeavesFirst};
 
 use crate::choices::{choices_at, with_taken};
 use crate::following::{Follower, Halt, ask};
-use crate::whole::{is_kept, run_whole, take_foreign};
+use crate::whole::{are_kept, run_whole, take_foreign};
 use std::alloc::{AllocError, Global};
 use stm_history::Sequence;
 use stm_program::Program;
@@ -70,12 +70,12 @@ pub(crate) fn rest_of(others: &[WorldEvent]) -> &[WorldEvent]
     &others[1..]
 }
 
-/// The first serial run of up to `depth` moves that does not keep the rule. The world's own runners have made no step; `taken` says by number which of
+/// The first serial run of up to `depth` moves that does not keep all of these rules. The world's own runners have made no step; `taken` says by number which of
 /// them were run, and these are their programs.
 #[cycle(look)]
 pub(crate) fn look<F: Follower>(
     alloc: Global,
-    rule: &Program,
+    rules: &[Program],
     programs: &[Program],
     world: &World,
     taken: &[bool],
@@ -86,9 +86,9 @@ pub(crate) fn look<F: Follower>(
     requires sized { length taken.now ≡ length world.now.runners }
     requires programs { AreProgramsOf programs.now world.now.runners }
     requires foreign { AreForeign others.now }
-    ensures { IfOk result (λ found. found ≡ first_bad_serial (keeps_store rule.now) depth (point world.now taken.now others.now)) }
+    ensures { IfOk result (λ found. found ≡ first_bad_serial (keeps_all rules.now) depth (point world.now taken.now others.now)) }
 {
-    let kept = is_kept(alloc, rule, world)?;
+    let kept = are_kept(alloc, rules, world)?;
     if !kept {
         return Ok(Some(Sequence::new(alloc)));
     }
@@ -100,7 +100,7 @@ pub(crate) fn look<F: Follower>(
     for chosen in choices {
         match look_after(
             alloc,
-            rule,
+            rules,
             programs,
             world,
             taken,
@@ -120,7 +120,7 @@ pub(crate) fn look<F: Follower>(
 #[cycle(look)]
 fn look_after<F: Follower>(
     alloc: Global,
-    rule: &Program,
+    rules: &[Program],
     programs: &[Program],
     world: &World,
     taken: &[bool],
@@ -133,12 +133,12 @@ fn look_after<F: Follower>(
     requires programs { AreProgramsOf programs.now world.now.runners }
     requires foreign { AreForeign others.now }
     requires can { Contains (choices (point world.now taken.now others.now)) chosen }
-    ensures { IfOk result (λ found. found ≡ found_after (keeps_store rule.now) depth (point world.now taken.now others.now) chosen) }
+    ensures { IfOk result (λ found. found ≡ found_after (keeps_all rules.now) depth (point world.now taken.now others.now) chosen) }
 {
     ask(follower)?;
     let mut next = world.copy()?;
     let found = look_moved(
-        alloc, rule, programs, &mut next, taken, others, chosen, depth, follower,
+        alloc, rules, programs, &mut next, taken, others, chosen, depth, follower,
     );
     drop(next);
     let found = found?;
@@ -150,7 +150,7 @@ fn look_after<F: Follower>(
 #[cycle(look)]
 fn look_moved<F: Follower>(
     alloc: Global,
-    rule: &Program,
+    rules: &[Program],
     programs: &[Program],
     world: &mut World,
     taken: &[bool],
@@ -163,15 +163,17 @@ fn look_moved<F: Follower>(
     requires programs { AreProgramsOf programs.now world.old.runners }
     requires foreign { AreForeign others.now }
     requires can { Contains (choices (point world.old taken.now others.now)) chosen }
-    ensures { IfOk result (λ found. found ≡ first_bad_serial (keeps_store rule.now) depth (serial_moved chosen (point world.old taken.now others.now))) }
+    ensures { IfOk result (λ found. found ≡ first_bad_serial (keeps_all rules.now) depth (serial_moved chosen (point world.old taken.now others.now))) }
 {
     match chosen {
         Move::Step { runner } => {
             look_step(
-                alloc, rule, programs, world, taken, others, runner, depth, follower,
+                alloc, rules, programs, world, taken, others, runner, depth, follower,
             )
         }
-        Move::Other => look_other(alloc, rule, programs, world, taken, others, depth, follower),
+        Move::Other => look_other(
+            alloc, rules, programs, world, taken, others, depth, follower,
+        ),
     }
 }
 
@@ -179,7 +181,7 @@ fn look_moved<F: Follower>(
 #[cycle(look)]
 fn look_step<F: Follower>(
     alloc: Global,
-    rule: &Program,
+    rules: &[Program],
     programs: &[Program],
     world: &mut World,
     taken: &[bool],
@@ -192,14 +194,14 @@ fn look_step<F: Follower>(
     requires programs { AreProgramsOf programs.now world.old.runners }
     requires foreign { AreForeign others.now }
     requires can { Contains (choices (point world.old taken.now others.now)) (StepOf runner) }
-    ensures { IfOk result (λ found. found ≡ first_bad_serial (keeps_store rule.now) depth (serial_moved (StepOf runner) (point world.old taken.now others.now))) }
+    ensures { IfOk result (λ found. found ≡ first_bad_serial (keeps_all rules.now) depth (serial_moved (StepOf runner) (point world.old taken.now others.now))) }
 {
     let program = program_of(programs, runner);
     run_whole(alloc, runner, program, world, follower)?;
     let more = with_taken(alloc, taken, runner)?;
     let found = look(
         alloc,
-        rule,
+        rules,
         programs,
         world,
         more.as_slice(),
@@ -215,7 +217,7 @@ fn look_step<F: Follower>(
 #[cycle(look)]
 fn look_other<F: Follower>(
     alloc: Global,
-    rule: &Program,
+    rules: &[Program],
     programs: &[Program],
     world: &mut World,
     taken: &[bool],
@@ -227,10 +229,10 @@ fn look_other<F: Follower>(
     requires programs { AreProgramsOf programs.now world.old.runners }
     requires foreign { AreForeign others.now }
     requires can { Contains (choices (point world.old taken.now others.now)) Other }
-    ensures { IfOk result (λ found. found ≡ first_bad_serial (keeps_store rule.now) depth (serial_moved Other (point world.old taken.now others.now))) }
+    ensures { IfOk result (λ found. found ≡ first_bad_serial (keeps_all rules.now) depth (serial_moved Other (point world.old taken.now others.now))) }
 {
     take_first(world, others)?;
     let left = rest_of(others);
-    let found = look(alloc, rule, programs, world, taken, left, depth, follower)?;
+    let found = look(alloc, rules, programs, world, taken, left, depth, follower)?;
     Ok(found)
 }

@@ -10,7 +10,7 @@ ghost use Rattle.stm_events.specs.declared.event.WorldEvent.TheVariants.{Txn as 
 ghost use Rattle.stm_world.specs.World.{step};
 ghost use Rattle.stm_schedules.specs.Keeping.{end_alone};
 ghost use Rattle.stm_serial.specs.Serial.{alone, after_foreign, is_foreign};
-ghost use Rattle.stm_serial_search.specs.Search.{keeps_store, is_done_run, IsLeftBy};
+ghost use Rattle.stm_serial_search.specs.Search.{keeps_store, keeps_all, is_done_run, IsLeftBy};
 
 use crate::following::Follower;
 use std::alloc::{AllocError, Global};
@@ -47,11 +47,24 @@ fn is_done(run: &Run) -> bool
 }
 
 /// Whether a rule is kept: its program, run alone on the state of a world, comes to its last statement.
-pub(crate) fn is_kept(alloc: Global, rule: &Program, world: &World) -> Result<bool, AllocError>
+fn is_kept(alloc: Global, rule: &Program, world: &World) -> Result<bool, AllocError>
     ensures { IfOk result (λ kept. kept ≡ keeps_store rule.now world.now.standing) }
 {
     let run = run_in(alloc, rule, world)?;
     Ok(is_done(&run))
+}
+
+/// Whether each of these rules is kept.
+pub(crate) fn are_kept(alloc: Global, rules: &[Program], world: &World) -> Result<bool, AllocError>
+    ensures { IfOk result (λ kept. kept ≡ keeps_all rules.now world.now.standing) }
+{
+    for rule in rules {
+        let kept = is_kept(alloc, rule, world)?;
+        if !kept {
+            return Ok(false);
+        }
+    }
+    Ok(true)
 }
 
 /// The writes of a run as one transaction, which compares nothing.

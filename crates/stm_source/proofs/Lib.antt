@@ -1,3 +1,4 @@
 pub mod BlockLemmas
 pub mod SourceLemmas
 pub mod StepLemmas
+pub mod WantedLemmas

@@ -21,6 +21,8 @@ use Rattle.stm_source.specs.Events.{copies, is_turn, turn_at, turns_from, new_na
 use Rattle.stm_terms.specs.Outcome.{Outcome, Read, ReturnsFault}
 use Rattle.stm_terms.specs.Literals.{argument_at, given_as}
 use Rattle.stm_source.specs.Definitions.{arguments_from, free_name_at, ReadParameters, parameters_end, parameters_from, open_given}
+use Rattle.stm_source.specs.Constants as constants
+use Rattle.stm_source.specs.Constants.{parameter_at}
 use Rattle.stm_source.specs.Programs.{key_at, with_key, keys_from}
 use Rattle.stm_source.specs.Sources.{at_end, item_at, items_from}
 use Rattle.stm_source.specs.Txns.{compare_at, compares_from, operation_at, operations_from}
@@ -163,6 +165,50 @@ parameters_unclosed e cs n i xs x tokens behind total less is ends unclosed so_f
     fault_of e (parameters_end behind) total
     (λ f bad. let one : parameters_from cs (n - i) xs tokens ≡ Err f = rw (k, is, ends, bad) refl in sym so_far ∙ one) unclosed
 
+-- ---- parameters of what is defined
+
+pub given_fault : (e : SourceError) (n i : ℕ) (outer : Scope) (tokens : List Token) (total : Read Scope) → i < n
+    → ReturnsFault e (parameter_at outer tokens) → constants.parameters_from (n - i) outer tokens ≡ total → ReturnsFault e total
+unfolding constants.parameters_from
+given_fault e n i outer tokens total less is so_far =
+    let k : n - i ≡ suc (n - (i + 1)) = omega arith in
+    fault_of e (parameter_at outer tokens) total (λ f bad. let one : constants.parameters_from (n - i) outer tokens ≡ Err f = rw (k, bad) refl in sym so_far ∙ one) is
+
+pub given_more : (n i : ℕ) (outer inner : Scope) (tokens behind next : List Token) (total : Read Scope) → i < n
+    → parameter_at outer tokens ≡ Ok (inner, behind) → after_symbol Comma behind ≡ Some next → constants.parameters_from (n - i) outer tokens ≡ total
+    → constants.parameters_from (n - (i + 1)) inner next ≡ total
+unfolding constants.parameters_from
+given_more n i outer inner tokens behind next total less is follows so_far =
+    let k : n - i ≡ suc (n - (i + 1)) = omega arith in
+    let one : constants.parameters_from (n - i) outer tokens ≡ constants.parameters_from (n - (i + 1)) inner next = rw (k, is, follows) refl in
+    sym one ∙ so_far
+
+pub given_over : (e : SourceError) (n i : ℕ) (outer : Scope) (tokens : List Token) (total : Read Scope) → n ≤ i
+    → e ≡ Bad (unexpected tokens) → constants.parameters_from (n - i) outer tokens ≡ total → ReturnsFault e total
+unfolding constants.parameters_from
+given_over e n i outer tokens total over is so_far =
+    let k : n - i ≡ 0 = omega arith in
+    let one : constants.parameters_from (n - i) outer tokens ≡ Err (unexpected tokens) = rw k refl in
+    rw is (sym so_far ∙ one)
+
+pub given_last : (n i : ℕ) (outer inner : Scope) (tokens behind rest : List Token) (total : Read Scope) → i < n
+    → parameter_at outer tokens ≡ Ok (inner, behind) → after_symbol Comma behind ≡ None → expect_symbol RightParenthesis behind ≡ Ok rest
+    → constants.parameters_from (n - i) outer tokens ≡ total → total ≡ Ok (inner, rest)
+unfolding constants.parameters_from
+given_last n i outer inner tokens behind rest total less is ends closed so_far =
+    let k : n - i ≡ suc (n - (i + 1)) = omega arith in
+    let one : constants.parameters_from (n - i) outer tokens ≡ Ok (inner, rest) = rw (k, is, ends, closed) refl in
+    sym so_far ∙ one
+
+pub given_unclosed : (e : SourceError) (n i : ℕ) (outer inner : Scope) (tokens behind : List Token) (total : Read Scope) → i < n
+    → parameter_at outer tokens ≡ Ok (inner, behind) → after_symbol Comma behind ≡ None → ReturnsFault e (expect_symbol RightParenthesis behind)
+    → constants.parameters_from (n - i) outer tokens ≡ total → ReturnsFault e total
+unfolding constants.parameters_from
+given_unclosed e n i outer inner tokens behind total less is ends unclosed so_far =
+    let k : n - i ≡ suc (n - (i + 1)) = omega arith in
+    fault_of e (expect_symbol RightParenthesis behind) total
+    (λ f bad. let one : constants.parameters_from (n - i) outer tokens ≡ Err f = rw (k, is, ends, bad) refl in sym so_far ∙ one) unclosed
+
 -- ---- compares
 
 pub compares_fault : (e : SourceError) (cs : Constants) (n i : ℕ) (xs : List Compare) (tokens : List Token) (total : Read (List Compare)) → i < n → ReturnsFault e (compare_at cs tokens)
@@ -302,15 +348,15 @@ turns_over n i story tokens total over so_far =
 
 -- ---- items
 
-pub items_end : (all : List Token) (n i : ℕ) (d : Definitions) (story : Story) (tokens : List Token) (total : Outcome Story) → i < n → at_end tokens ≡ true
-    → items_from all (n - i) d story tokens ≡ total → total ≡ Ok story
+pub items_end : (all : List Token) (n i : ℕ) (d : Definitions) (story : Story) (tokens : List Token) (total : Outcome (Definitions × Story)) → i < n → at_end tokens ≡ true
+    → items_from all (n - i) d story tokens ≡ total → total ≡ Ok (d, story)
 unfolding items_from
 items_end all n i d story tokens total less ended so_far =
     let k : n - i ≡ suc (n - (i + 1)) = omega arith in
-    let one : items_from all (n - i) d story tokens ≡ Ok story = rw (k, ended) refl in
+    let one : items_from all (n - i) d story tokens ≡ Ok (d, story) = rw (k, ended) refl in
     sym so_far ∙ one
 
-pub items_fault : (e : SourceError) (all : List Token) (n i : ℕ) (d : Definitions) (story : Story) (tokens : List Token) (total : Outcome Story) → i < n
+pub items_fault : (e : SourceError) (all : List Token) (n i : ℕ) (d : Definitions) (story : Story) (tokens : List Token) (total : Outcome (Definitions × Story)) → i < n
     → at_end tokens ≡ false → ReturnsFault e (item_at all d story tokens) → items_from all (n - i) d story tokens ≡ total → ReturnsFault e total
 unfolding items_from
 items_fault e all n i d story tokens total less goes is so_far =
@@ -318,7 +364,7 @@ items_fault e all n i d story tokens total less goes is so_far =
     fault_of e (item_at all d story tokens) total
     (λ f bad. let one : items_from all (n - i) d story tokens ≡ Err f = rw (k, goes, bad) refl in sym so_far ∙ one) is
 
-pub items_more : (all : List Token) (n i : ℕ) (d f : Definitions) (story after : Story) (tokens behind : List Token) (total : Outcome Story) → i < n
+pub items_more : (all : List Token) (n i : ℕ) (d f : Definitions) (story after : Story) (tokens behind : List Token) (total : Outcome (Definitions × Story)) → i < n
     → at_end tokens ≡ false → item_at all d story tokens ≡ Ok (f, after, behind) → items_from all (n - i) d story tokens ≡ total
     → items_from all (n - (i + 1)) f after behind ≡ total
 unfolding items_from
@@ -327,7 +373,7 @@ items_more all n i d f story after tokens behind total less goes is so_far =
     let one : items_from all (n - i) d story tokens ≡ items_from all (n - (i + 1)) f after behind = rw (k, goes, is) refl in
     sym one ∙ so_far
 
-pub items_over : (e : SourceError) (all : List Token) (n i : ℕ) (d : Definitions) (story : Story) (tokens : List Token) (total : Outcome Story) → n ≤ i
+pub items_over : (e : SourceError) (all : List Token) (n i : ℕ) (d : Definitions) (story : Story) (tokens : List Token) (total : Outcome (Definitions × Story)) → n ≤ i
     → e ≡ Bad (unexpected tokens) → items_from all (n - i) d story tokens ≡ total → ReturnsFault e total
 unfolding items_from
 items_over e all n i d story tokens total over is so_far =

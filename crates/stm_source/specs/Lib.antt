@@ -3,6 +3,7 @@ pub mod Constants
 pub mod Definitions
 pub mod Events
 pub mod Kept
+pub mod Leaving
 pub mod Loops
 pub mod Programs
 pub mod Rules
@@ -10,6 +11,7 @@ pub mod Runners
 pub mod Sources
 pub mod Statements
 pub mod Txns
+pub mod Wanted
 pub mod Words
 pub use Rattle.stm_terms.specs.CauseNames
 pub use Rattle.stm_terms.specs.Outcome

@@ -60,11 +60,11 @@ item_at all definitions story tokens =
     item_by all definitions story tokens (after_word word.Let tokens) (after_word word.Program tokens) (after_word word.Rule tokens)
     (after_word word.Finally tokens)
 
--- the items that are left, at most so many
-unfoldable pub items_from : List Token → ℕ → Definitions → Story → List Token → Outcome Story
+-- what the items that are left define and add, at most so many
+unfoldable pub items_from : List Token → ℕ → Definitions → Story → List Token → Outcome (Definitions × Story)
 items_from all zero definitions story tokens = Err (unexpected tokens)
 items_from all (suc more) definitions story tokens =
-    if at_end tokens then Ok story else (item_at all definitions story tokens >>= λ x. items_from all more x.0 x.1 x.2)
+    if at_end tokens then Ok (definitions, story) else (item_at all definitions story tokens >>= λ x. items_from all more x.0 x.1 x.2)
 
 abbrev pub no_definitions : Definitions
 no_definitions = record { names = []; meanings = []; constants = no_constants }
@@ -93,7 +93,7 @@ as_source story = record {
 
 -- what tokens spell
 unfoldable pub source_at : List Token → Outcome Source
-source_at tokens = items_from tokens (length tokens) no_definitions empty_story tokens >>= λ story. Ok (as_source story)
+source_at tokens = items_from tokens (length tokens) no_definitions empty_story tokens >>= λ x. Ok (as_source x.1)
 
 -- what bytes spell
 unfoldable pub source_in : List ℕ → Outcome Source

@@ -1,22 +1,27 @@
-//! Reading constants and lists.
-ghost use Rattle.std.specs.Prelude.{◌≡◌, bytes_eq, false, IfOk, OnOk};
+//! Reading constants, lists and other values that are defined.
+ghost use Rattle.std.specs.Prelude.{◌≡◌, length, bytes_eq, false, IfOk, OnOk};
 ghost use Rattle.std.specs.List.{list_any};
 ghost use Rattle.stm_terms.specs.Constants.{with_constant};
+ghost use Rattle.stm_terms.specs.Cursor as cursor;
 ghost use Rattle.stm_terms.specs.Outcome.{Returns};
+ghost use Rattle.stm_tokens.specs.declared.token.Symbol.TheVariants.{LeftParenthesis};
 ghost use Rattle.stm_source.specs.Constants as spec;
 
 use crate::definitions::{Definitions, free_name, no_arguments};
 use std::alloc::{AllocError, Global};
 use std::mem;
 use stm_history::Sequence;
+use stm_program::{Expr, ExprNode};
 use stm_terms::{
-    Argument, Constant, Constants, Item, Scope, Shared, SourceError, expect_symbol, list_of_items,
+    Argument, Constant, Constants, Defined, Kind, MOST_BRACKETS, Scope, Shared, SourceCause,
+    SourceError, Valued, after_symbol, else_within, expect_symbol, fault, has_room, list_of_items,
+    next_name, place, unexpected, value,
 };
 use stm_tokens::{Symbol, Token};
 
-/// What is in sight outside of programs: what was defined so far.
-fn outside(alloc: Global, constants: &Shared<Constants>) -> Result<Scope, AllocError>
-    ensures { IfOk result (λ scope. scope ≡ spec.outside constants.now) }
+/// What is in sight outside of programs, in a definition whose name begins at a byte: what was defined so far.
+fn outside(alloc: Global, constants: &Shared<Constants>, at: usize) -> Result<Scope, AllocError>
+    ensures { IfOk result (λ scope. scope ≡ spec.outside constants.now at) }
 {
     let arguments = no_arguments(alloc)?;
     let constants = constants.clone()?;
@@ -26,7 +31,7 @@ fn outside(alloc: Global, constants: &Shared<Constants>) -> Result<Scope, AllocE
         kinds: Sequence::new(alloc),
         looks_at_kinds: true,
         kinds_at: None,
-        program: 0,
+        program: at,
         items: Sequence::new(alloc),
         arguments,
         constants,
@@ -34,27 +39,140 @@ fn outside(alloc: Global, constants: &Shared<Constants>) -> Result<Scope, AllocE
     })
 }
 
-/// The only one of items.
-fn sole(items: &[Item]) -> Result<Option<Shared<Argument>>, AllocError>
-    ensures { IfOk result (λ a. a ≡ spec.sole items.now) }
+/// A parameter of a definition: one more variable of what is in sight in it.
+fn parameter<'a>(
+    alloc: Global,
+    scope: Scope,
+    tokens: &'a [Token],
+) -> Result<(Scope, &'a [Token]), SourceError>
+    ensures { Returns (λ x. (x.0, x.1.now)) result (spec.parameter_at scope tokens.now) }
 {
-    match items {
-        [only] => {
-            let argument = only.argument.clone()?;
-            Ok(Some(argument))
+    let Some((name, rest)) = next_name(tokens) else {
+        return Err(unexpected(tokens));
+    };
+    if !scope.may_give(name) {
+        return Err(fault(place(tokens), SourceCause::Name));
+    }
+    if scope.next_variable().is_none() {
+        return Err(fault(place(tokens), SourceCause::TooMany));
+    }
+    let mut inner = scope;
+    inner.give(alloc, name, Kind::Either)?;
+    Ok((inner, rest))
+}
+
+/// Parameters up to the bracket that closes them, one at least.
+fn some_parameters<'a>(
+    alloc: Global,
+    scope: Scope,
+    tokens: &'a [Token],
+) -> Result<(Scope, &'a [Token]), SourceError>
+    ensures { Returns (λ x. (x.0, x.1.now)) result (spec.parameters_from (length tokens.now) scope tokens.now) }
+{
+    let mut outer = scope;
+    let mut rest = tokens;
+    for _turn in 0..tokens.len() {
+        let (inner, behind) = parameter(alloc, outer, rest)?;
+        let Some(next) = after_symbol(behind, Symbol::Comma) else {
+            let rest = expect_symbol(behind, Symbol::RightParenthesis)?;
+            return Ok((inner, rest));
+        };
+        outer = inner;
+        rest = next;
+    }
+    drop(outer);
+    Err(unexpected(rest))
+}
+
+/// The parameters of a definition, in their brackets: none, where no bracket opens.
+fn parameters<'a>(
+    alloc: Global,
+    scope: Scope,
+    tokens: &'a [Token],
+) -> Result<(Scope, &'a [Token]), SourceError>
+    ensures { Returns (λ x. (x.0, x.1.now)) result (spec.parameters_by scope tokens.now (cursor.after_symbol LeftParenthesis tokens.now)) }
+{
+    match after_symbol(tokens, Symbol::LeftParenthesis) {
+        Some(inner) => some_parameters(alloc, scope, inner),
+        None => Ok((scope, tokens)),
+    }
+}
+
+/// A value that is a text or a number alone.
+fn alone(value: &Expr) -> Result<Option<Argument>, AllocError>
+    ensures { IfOk result (λ a. a ≡ spec.alone value.now) }
+{
+    match &value.node {
+        ExprNode::Text(text) => {
+            let text = text.clone()?;
+            Ok(Some(Argument::Text(text)))
         }
+        ExprNode::Number(number) => Ok(Some(Argument::Number(*number))),
         _ => Ok(None),
     }
 }
 
-/// What items define: one alone a constant, more a list.
-fn constant_of(items: Sequence<Item>) -> Result<Constant, AllocError>
-    ensures { IfOk result (λ c. c ≡ spec.constant_of items) }
+/// What is neither a text nor a number alone, in which this is in sight.
+fn value_defined(scope: &Scope, value: Valued) -> Result<Constant, SourceError>
+    ensures { Returns (λ c. c) result (spec.value_defined scope.now value) }
 {
-    match sole(items.as_slice())? {
-        Some(argument) => Ok(Constant::Alone(argument)),
-        None => Ok(Constant::List(items)),
+    if let Some(at) = else_within(value.look_ups.as_slice()) {
+        return Err(fault(at, SourceCause::Syntax));
     }
+    has_room(scope, &value.expression)?;
+    let parameters = scope.names.len();
+    Ok(Constant::Value(Defined { parameters, value }))
+}
+
+/// What a value defines.
+fn constant_of(alloc: Global, scope: &Scope, value: Valued) -> Result<Constant, SourceError>
+    ensures { Returns (λ c. c) result (spec.constant_of scope.now value) }
+{
+    if scope.names.len() > 0 {
+        return value_defined(scope, value);
+    }
+    match alone(&value.expression)? {
+        Some(argument) => {
+            let argument = Shared::new(alloc, argument)?;
+            Ok(Constant::Alone(argument))
+        }
+        None => value_defined(scope, value),
+    }
+}
+
+/// A list, of which these are the tokens, and the first item is a value behind which a comma stands.
+fn list<'a>(
+    alloc: Global,
+    scope: &Scope,
+    value: Valued,
+    tokens: &'a [Token],
+    comma: &'a [Token],
+) -> Result<(Constant, &'a [Token]), SourceError>
+    ensures { Returns (λ x. (x.0, x.1.now)) result (spec.list_at scope.now value tokens.now comma.now) }
+{
+    let first = alone(&value.expression)?;
+    drop(value);
+    if first.is_none() {
+        return Err(unexpected(comma));
+    }
+    let (items, rest) = list_of_items(alloc, scope, false, tokens)?;
+    Ok((Constant::List(items), rest))
+}
+
+/// What is defined behind its `=`.
+fn defined<'a>(
+    alloc: Global,
+    scope: &Scope,
+    tokens: &'a [Token],
+) -> Result<(Constant, &'a [Token]), SourceError>
+    ensures { Returns (λ x. (x.0, x.1.now)) result (spec.defined_at scope.now tokens.now) }
+{
+    let (value, rest) = value(alloc, scope, MOST_BRACKETS, tokens)?;
+    if scope.names.len() == 0 && after_symbol(rest, Symbol::Comma).is_some() {
+        return list(alloc, scope, value, tokens, rest);
+    }
+    let constant = constant_of(alloc, scope, value)?;
+    Ok((constant, rest))
 }
 
 /// Adds a constant whose name is none of these. It fails only when out of memory: no scope outlives its program, so nothing else owns these.
@@ -74,7 +192,7 @@ fn add(
     Ok(())
 }
 
-/// Adds the constant or the list that is defined behind its word.
+/// Adds what is defined behind its word: a constant, a list, or another value, maybe with parameters.
 pub(crate) fn define_constant<'a>(
     alloc: Global,
     definitions: &mut Definitions,
@@ -83,11 +201,11 @@ pub(crate) fn define_constant<'a>(
     ensures { Returns (λ rest. (definitions.new, rest.now)) result (spec.define_constant_at definitions.old tokens.now) }
 {
     let (name, rest) = free_name(&definitions.names, definitions.constants.get(), tokens)?;
+    let scope = outside(alloc, &definitions.constants, place(tokens))?;
+    let (scope, rest) = parameters(alloc, scope, rest)?;
     let rest = expect_symbol(rest, Symbol::Assign)?;
-    let scope = outside(alloc, &definitions.constants)?;
-    let (items, rest) = list_of_items(alloc, &scope, false, rest)?;
+    let (constant, rest) = defined(alloc, &scope, rest)?;
     drop(scope);
-    let constant = constant_of(items)?;
     add(alloc, &mut definitions.constants, name, constant)?;
     Ok(rest)
 }

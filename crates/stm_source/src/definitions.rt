@@ -66,7 +66,7 @@ impl Definitions {
     }
 
     /// The program of a name.
-    fn named(&self, name: &str) -> Option<&Definition>
+    pub(crate) fn named(&self, name: &str) -> Option<&Definition>
         ensures { option_copied result ≡ spec.definition_named self.now name.now }
     {
         match self.meaning_of(name) {
@@ -150,7 +150,7 @@ fn parameters<'a>(
 
 /// So many parameters of which each may be either.
 #[tactic(auto, using(crate::proofs::StepLemmas::open_more, crate::proofs::StepLemmas::open_out))]
-fn open_arguments(alloc: Global, times: usize) -> Result<Sequence<Given>, AllocError>
+pub(crate) fn open_arguments(alloc: Global, times: usize) -> Result<Sequence<Given>, AllocError>
     ensures { IfOk result (λ given. given ≡ spec.open_given times) }
 {
     let mut given = Sequence::new(alloc);
@@ -202,7 +202,7 @@ pub(crate) fn program_in_place<'a>(
 }
 
 /// How many parameters stand for one argument each.
-fn alone(parameters: &Names, takes_list: bool) -> usize
+pub(crate) fn alone(parameters: &Names, takes_list: bool) -> usize
     ensures { result ≡ spec.alone parameters.now takes_list }
 {
     if takes_list {

@@ -139,13 +139,13 @@ fn at_end(tokens: &[Token]) -> bool
 }
 
 /// Adds all that a source has.
-fn items(
+pub(crate) fn items(
     alloc: Global,
     definitions: &mut Definitions,
     story: &mut Story,
     tokens: &[Token],
 ) -> Result<(), SourceError>
-    ensures { Returns (λ _. story.new) result (spec.items_from tokens.now (length tokens.now) definitions.old story.old tokens.now) }
+    ensures { Returns (λ _. (definitions.new, story.new)) result (spec.items_from tokens.now (length tokens.now) definitions.old story.old tokens.now) }
 {
     let mut rest = tokens;
     for _turn in 0..tokens.len() {
@@ -159,7 +159,7 @@ fn items(
 }
 
 /// What a source is while nothing of it was read.
-fn empty_story(alloc: Global) -> Story
+pub(crate) fn empty_story(alloc: Global) -> Story
     ensures { result ≡ spec.empty_story }
 {
     Story {

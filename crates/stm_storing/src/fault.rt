@@ -28,6 +28,12 @@ pub enum StoreFault {
     Compacted,
     /// The report could not be written.
     Output,
+    /// A thread could not be started.
+    NoThread,
+    /// The end of this job is not what the hall says.
+    Audit(u64),
+    /// The transactions that were made of what jobs have changed do not change the same. Nothing was kept.
+    Disagrees,
 }
 
 impl StoreFault {
@@ -94,6 +100,9 @@ impl fmt::Display for StoreFault {
             StoreFault::FutureRevision => f.write_str("the store has not come to that revision"),
             StoreFault::Compacted => f.write_str("that revision is compacted"),
             StoreFault::Output => f.write_str("the report could not be written"),
+            StoreFault::NoThread => f.write_str("no thread"),
+            StoreFault::Audit(job) => write!(f, "audit {job}"),
+            StoreFault::Disagrees => f.write_str("what the jobs have changed could not be kept"),
         }
     }
 }

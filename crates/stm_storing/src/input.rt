@@ -31,7 +31,7 @@ fn unread(fault: ReadFault) -> InputFault {
 }
 
 /// Why a text was not read.
-fn unspelled(error: ReadError) -> InputFault {
+pub(crate) fn unspelled(error: ReadError) -> InputFault {
     match error {
         ReadError::OutOfMemory => InputFault::OutOfMemory,
         ReadError::Bad(bad) => InputFault::Bad(bad),

@@ -54,7 +54,11 @@ pub(crate) fn opened<D: Disk>(
 
 /// The world that a scenario is to go on with: that of the file, or an empty one where the file has no records. `OpenAlready`: the scenario says what its
 /// store opens with, and the file has a store.
-fn ready_world(alloc: Global, kept: Kept, scenario: &Scenario) -> Result<World, StoreFault>
+pub(crate) fn ready_world(
+    alloc: Global,
+    kept: Kept,
+    scenario: &Scenario,
+) -> Result<World, StoreFault>
     requires { IsOpening scenario.now.opening }
     ensures new { kept.end ≡ 0 → IfOk result (λ w. w ≡ opened_world (setup_of scenario.now.opening)) }
     ensures old { (kept.end ≡ 0 → ⊥) → IfOk result (λ w. w ≡ kept.world) }
@@ -70,7 +74,7 @@ fn ready_world(alloc: Global, kept: Kept, scenario: &Scenario) -> Result<World, 
 }
 
 /// Goes on with the scenario that a text spells, over a world that is ready for it. It is answered once it lasts.
-fn go_on_over<D: Disk>(
+pub(crate) fn go_on_over<D: Disk>(
     records: &mut RecordFile<D>,
     mut world: World,
     text: &[u8],

@@ -8,6 +8,7 @@ use Rattle.stm_terms.specs.declared.constants.Constant.{Constant}
 use Rattle.stm_terms.specs.declared.constants.Constant.TheVariants as constant
 use Rattle.stm_terms.specs.declared.constants.Constants.{Constants}
 use Rattle.stm_terms.specs.declared.constants.Item.{Item}
+use Rattle.stm_terms.specs.declared.uses.Defined.{Defined}
 use Rattle.stm_terms.specs.declared.faults.SourceCause.TheVariants as cause
 use Rattle.stm_terms.specs.Outcome.{Read, bad}
 use Rattle.stm_terms.specs.Cursor.{place, unexpected, next_number, next_name, next_text}
@@ -28,12 +29,21 @@ abbrev pub alone : Option Constant → Option Argument
 alone None = None
 alone (Some (constant.Alone a)) = Some a
 alone (Some (constant.List items)) = None
+alone (Some (constant.Value d)) = None
 
 -- the list that it is
 abbrev pub listed : Option Constant → Option (List Item)
 listed None = None
 listed (Some (constant.Alone a)) = None
 listed (Some (constant.List items)) = Some items
+listed (Some (constant.Value d)) = None
+
+-- the value that it is, where that is neither a text nor a number alone
+abbrev pub defined_value : Option Constant → Option Defined
+defined_value None = None
+defined_value (Some (constant.Alone a)) = None
+defined_value (Some (constant.List items)) = None
+defined_value (Some (constant.Value d)) = Some d
 
 abbrev pub with_constant : Constants → List ℕ → Constant → Constants
 with_constant constants name c = record { names = constants.names ++ name ∷ []; values = constants.values ++ c ∷ [] }

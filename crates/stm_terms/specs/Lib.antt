@@ -12,4 +12,5 @@ pub mod LookUps
 pub mod Outcome
 pub mod Room
 pub mod Scope
+pub mod Uses
 pub mod Values

@@ -22,15 +22,17 @@ use Rattle.stm_terms.specs.declared.values.Call.{Call}
 use Rattle.stm_terms.specs.declared.values.Call.TheVariants as call
 use Rattle.stm_terms.specs.declared.values.Join.{Join}
 use Rattle.stm_terms.specs.declared.values.Join.TheVariants as join
-use Rattle.stm_terms.specs.Outcome.{Read, bad, ◌>>=◌}
-use Rattle.stm_terms.specs.Cursor.{place, unexpected, after_word, expect_symbol, next_number}
+use Rattle.stm_terms.specs.Outcome.{Outcome, Read, bad, ◌>>=◌}
+use Rattle.stm_terms.specs.Cursor.{place, unexpected, after_symbol, after_word, expect_symbol, next_number}
 use Rattle.stm_terms.specs.declared.look_ups.LookUp.{LookUp}
-use Rattle.stm_terms.specs.declared.look_ups.Other.{Other}
-use Rattle.stm_terms.specs.LookUps.{look_up_as, other_as}
+use Rattle.stm_terms.specs.LookUps.{with_look_up, with_else}
 use Rattle.stm_terms.specs.declared.arguments.Argument.{Argument}
 use Rattle.stm_terms.specs.declared.arguments.Argument.TheVariants as argument
+use Rattle.stm_terms.specs.declared.uses.Defined.{Defined}
+use Rattle.stm_terms.specs.Constants.{constant_named, defined_value}
 use Rattle.stm_terms.specs.Scope.{argument_named, blame, variable_of}
-use Rattle.stm_terms.specs.declared.limits.TheConstants.{MOST_JOINS}
+use Rattle.stm_terms.specs.Uses.{copied_in}
+use Rattle.stm_terms.specs.declared.limits.TheConstants.{MOST_BRACKETS, MOST_JOINS}
 
 -- ---- operands
 
@@ -91,47 +93,64 @@ call_kind call.Rev = value_kind.Number
 call_kind call.NumOf = value_kind.Number
 call_kind call.TextOf = value_kind.Text
 
+-- values in brackets, with commas between them
+abbrev pub Uses : Type 0
+Uses = List Token → Read (List Valued)
+
+-- the arguments of what is defined: none, where no bracket opens
+abbrev pub arguments_by : Uses → List Token → Option (List Token) → Read (List Valued)
+arguments_by uses tokens None = Ok ([], tokens)
+arguments_by uses tokens (Some inner) = uses tokens
+
+abbrev pub counted_in : Scope → ℕ → Defined → List Valued → Outcome Valued
+counted_in scope at d arguments =
+    if not (nat_eq (length arguments) d.parameters) then bad at cause.Arguments else copied_in scope at d.value arguments
+
+-- what is defined, behind its name, which begins at a byte
+abbrev pub used_at : Uses → Scope → ℕ → Defined → List Token → Read Valued
+used_at uses scope at d tokens =
+    arguments_by uses tokens (after_symbol symbol.LeftParenthesis tokens) >>= λ x. counted_in scope at d x.0 >>= λ v. Ok (v, x.1)
+
+abbrev pub meant_by : Uses → Scope → ℕ → List ℕ → List Token → Option Defined → Read Valued
+meant_by uses scope at n rest None = named_at scope at n rest
+meant_by uses scope at n rest (Some d) = used_at uses scope at d rest
+
+-- a name is that of a variable, stands for a text or a number, or for a value that is defined
+abbrev pub meant_at : Uses → Scope → ℕ → List ℕ → List Token → Read Valued
+meant_at uses scope at n rest = meant_by uses scope at n rest (defined_value (constant_named scope.constants n))
+
 -- a value of a kind in brackets
 abbrev pub Bracketed : Type 0
 Bracketed = Kind → List Token → Read Valued
 
--- the value behind an `else`: a text, or a name
-abbrev pub other_kind : Scope → TokenKind → List Token → List Token → Read Valued
-other_kind scope (kind.Text s) tokens rest = literal scope (place tokens) s rest
-other_kind scope (kind.Number n) tokens rest = positive scope (place tokens) n rest
-other_kind scope (kind.Name n) tokens rest = named_at scope (place tokens) n rest
-other_kind scope (kind.Word w) tokens rest = Err (unexpected tokens)
-other_kind scope (kind.Symbol s) tokens rest = Err (unexpected tokens)
-other_kind scope kind.Wrong tokens rest = Err (unexpected tokens)
-other_kind scope kind.End tokens rest = Err (unexpected tokens)
-
-unfoldable pub other_value : Scope → List Token → Read Valued
-other_value scope [] = Err (unexpected [])
-other_value scope (t ∷ ts) = other_kind scope t.kind (t ∷ ts) ts
+-- what stands behind an `else`
+abbrev pub Others : Type 0
+Others = List Token → Read Valued
 
 -- behind an `else`, which begins at a byte. Where variables are called by their numbers, none is free for it
-abbrev pub other_behind : Scope → List Token → List Token → Read (Option Other)
-other_behind scope tokens behind =
+abbrev pub else_behind : Others → Scope → ℕ → List LookUp → List Token → List Token → Read (List LookUp)
+else_behind others scope at ls tokens behind =
     if scope.numbered then Err (unexpected tokens)
-    else (other_value scope behind >>= λ x.
-    want scope value_kind.Text x.0.kind (place behind) >>= λ u. Ok (Some (other_as (place tokens) x.0.expression), x.1))
+    else (others behind >>= λ x.
+    want scope value_kind.Text x.0.kind (place behind) >>= λ u. Ok (with_else ls at (place tokens) x.0, x.1))
 
-abbrev pub other_by : Scope → List Token → Option (List Token) → Read (Option Other)
-other_by scope tokens None = Ok (None, tokens)
-other_by scope tokens (Some behind) = other_behind scope tokens behind
+-- the look-ups of a `get`, which begins at a byte, of a key with these
+abbrev pub else_by : Others → Scope → ℕ → List LookUp → List Token → Option (List Token) → Read (List LookUp)
+else_by others scope at ls tokens None = Ok (with_look_up ls at, tokens)
+else_by others scope at ls tokens (Some behind) = else_behind others scope at ls tokens behind
 
--- the look-ups of something computed, which begins at a byte, of a value with these
-abbrev pub call_look_ups : Scope → Call → ℕ → List LookUp → List Token → Read (List LookUp)
-call_look_ups scope call.Get at ls tokens = other_by scope tokens (after_word word.Else tokens) >>= λ o. Ok (ls ++ look_up_as at o.0 ∷ [], o.1)
-call_look_ups scope call.Rev at ls tokens = Ok (ls ++ look_up_as at None ∷ [], tokens)
-call_look_ups scope call.NumOf at ls tokens = Ok (ls, tokens)
-call_look_ups scope call.TextOf at ls tokens = Ok (ls, tokens)
+-- the look-ups of something computed
+abbrev pub call_look_ups : Others → Scope → Call → ℕ → List LookUp → List Token → Read (List LookUp)
+call_look_ups others scope call.Get at ls tokens = else_by others scope at ls tokens (after_word word.Else tokens)
+call_look_ups others scope call.Rev at ls tokens = Ok (with_look_up ls at, tokens)
+call_look_ups others scope call.NumOf at ls tokens = Ok (ls, tokens)
+call_look_ups others scope call.TextOf at ls tokens = Ok (ls, tokens)
 
-abbrev pub call_by : Bracketed → Scope → List Token → List Token → Option Call → Read Valued
-call_by bracketed scope tokens rest None = Err (unexpected tokens)
-call_by bracketed scope tokens rest (Some c) =
+abbrev pub call_by : Bracketed → Others → Scope → List Token → List Token → Option Call → Read Valued
+call_by bracketed others scope tokens rest None = Err (unexpected tokens)
+call_by bracketed others scope tokens rest (Some c) =
     bracketed (argument_kind c) rest >>= λ x.
-    call_look_ups scope c (place tokens) x.0.look_ups x.1 >>= λ ls. Ok (valued scope (called c x.0.expression) (call_kind c) ls.0, ls.1)
+    call_look_ups others scope c (place tokens) x.0.look_ups x.1 >>= λ ls. Ok (valued scope (called c x.0.expression) (call_kind c) ls.0, ls.1)
 
 -- a value in brackets, a number below 0; a condition has no place here
 abbrev pub signed : Bracketed → Scope → Symbol → List Token → List Token → Read Valued
@@ -141,19 +160,25 @@ signed bracketed scope s tokens rest =
     else (if same_symbol s symbol.Not then bad (place tokens) cause.Sort
     else Err (unexpected tokens)))
 
-abbrev pub operand_kind : ℕ → Bracketed → Scope → TokenKind → List Token → List Token → Read Valued
-operand_kind levels bracketed scope (kind.Text s) tokens rest = literal scope (place tokens) s rest
-operand_kind levels bracketed scope (kind.Number n) tokens rest = positive scope (place tokens) n rest
-operand_kind levels bracketed scope (kind.Name n) tokens rest =
-    asked_of levels scope (place tokens) n (named_at scope (place tokens) n rest) rest scope.runners
-operand_kind levels bracketed scope (kind.Word w) tokens rest = call_by bracketed scope tokens rest (call_of w)
-operand_kind levels bracketed scope (kind.Symbol s) tokens rest = signed bracketed scope s tokens rest
-operand_kind levels bracketed scope kind.Wrong tokens rest = Err (unexpected tokens)
-operand_kind levels bracketed scope kind.End tokens rest = Err (unexpected tokens)
+abbrev pub operand_kind : ℕ → Bracketed → Uses → Others → Scope → TokenKind → List Token → List Token → Read Valued
+operand_kind levels bracketed uses others scope (kind.Text s) tokens rest = literal scope (place tokens) s rest
+operand_kind levels bracketed uses others scope (kind.Number n) tokens rest = positive scope (place tokens) n rest
+operand_kind levels bracketed uses others scope (kind.Name n) tokens rest =
+    asked_of levels scope (place tokens) n (meant_at uses scope (place tokens) n rest) rest scope.runners
+operand_kind levels bracketed uses others scope (kind.Word w) tokens rest = call_by bracketed others scope tokens rest (call_of w)
+operand_kind levels bracketed uses others scope (kind.Symbol s) tokens rest = signed bracketed scope s tokens rest
+operand_kind levels bracketed uses others scope kind.Wrong tokens rest = Err (unexpected tokens)
+operand_kind levels bracketed uses others scope kind.End tokens rest = Err (unexpected tokens)
 
-unfoldable pub operand_by : ℕ → Bracketed → Scope → List Token → Read Valued
-operand_by levels bracketed scope [] = Err (unexpected [])
-operand_by levels bracketed scope (t ∷ ts) = operand_kind levels bracketed scope t.kind (t ∷ ts) ts
+unfoldable pub operand_by : ℕ → Bracketed → Uses → Others → Scope → List Token → Read Valued
+operand_by levels bracketed uses others scope [] = Err (unexpected [])
+operand_by levels bracketed uses others scope (t ∷ ts) = operand_kind levels bracketed uses others scope t.kind (t ∷ ts) ts
+
+-- in which so many may be behind an `else` within one another: one more is too deep, whatever it is
+unfoldable pub operand_within : ℕ → Bracketed → Uses → Scope → ℕ → List Token → Read Valued
+operand_within levels bracketed uses scope zero tokens = bad scope.program cause.TooDeep
+operand_within levels bracketed uses scope (suc more) tokens =
+    operand_by levels bracketed uses (operand_within levels bracketed uses scope more) scope tokens
 
 -- ---- operators, the strongest of tier 1
 
@@ -246,13 +271,34 @@ bracketed_by scope value wanted tokens =
     want scope wanted x.0.kind (place inner) >>= λ u.
     expect_symbol symbol.RightParenthesis x.1 >>= λ rest. Ok (x.0, rest)
 
--- where so many brackets may still be opened
-unfoldable pub bracketed_at : ℕ → Scope → Kind → List Token → Read Valued
-bracketed_at zero scope wanted tokens = Err (unexpected tokens)
-bracketed_at (suc levels) scope wanted tokens = bracketed_by scope (tier_by (operand_by levels (bracketed_at levels scope) scope) scope 3) wanted tokens
+abbrev pub uses_behind : (List Valued → List Token → Read (List Valued)) → List Valued → List Token → Option (List Token) → Read (List Valued)
+uses_behind more values tokens (Some rest) = more values rest
+uses_behind more values tokens None = expect_symbol symbol.RightParenthesis tokens >>= λ rest. Ok (values, rest)
+
+-- values behind these, at most so many
+unfoldable pub uses_from : (List Token → Read Valued) → ℕ → List Valued → List Token → Read (List Valued)
+uses_from value zero values tokens = Err (unexpected tokens)
+uses_from value (suc more) values tokens =
+    value tokens >>= λ x. uses_behind (uses_from value more) (values ++ x.0 ∷ []) x.1 (after_symbol symbol.Comma x.1)
+
+abbrev pub uses_by : (List Token → Read Valued) → Uses
+uses_by value tokens = expect_symbol symbol.LeftParenthesis tokens >>= λ inner. uses_from value (length inner) [] inner
+
+abbrev pub value_by : ℕ → Bracketed → Uses → Scope → List Token → Read Valued
+value_by levels bracketed uses scope = tier_by (operand_within levels bracketed uses scope MOST_BRACKETS) scope 3
+
+-- a value, and values, in brackets, of which so many may still be opened
+unfoldable mutual
+  pub bracketed_at : ℕ → Scope → Bracketed
+  bracketed_at zero scope wanted tokens = Err (unexpected tokens)
+  bracketed_at (suc levels) scope wanted tokens = bracketed_by scope (value_by levels (bracketed_at levels scope) (uses_at levels scope) scope) wanted tokens
+
+  pub uses_at : ℕ → Scope → Uses
+  uses_at zero scope tokens = Err (unexpected tokens)
+  uses_at (suc levels) scope tokens = uses_by (value_by levels (bracketed_at levels scope) (uses_at levels scope) scope) tokens
 
 abbrev pub operand_at : ℕ → Scope → List Token → Read Valued
-operand_at levels scope = operand_by levels (bracketed_at levels scope) scope
+operand_at levels scope = operand_within levels (bracketed_at levels scope) (uses_at levels scope) scope MOST_BRACKETS
 
 abbrev pub tier_at : ℕ → Scope → ℕ → List Token → Read Valued
 tier_at levels scope tier = tier_by (operand_at levels scope) scope tier

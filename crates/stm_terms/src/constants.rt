@@ -10,6 +10,7 @@ use crate::cursor::{next_name, next_number, next_text, place, unexpected};
 use crate::faults::{SourceCause, SourceError, fault};
 use crate::names::Names;
 use crate::shared::Shared;
+use crate::uses::Defined;
 use std::alloc::{AllocError, Global};
 use stm_history::{Sequence, Text};
 use stm_tokens::Token;
@@ -30,6 +31,8 @@ pub enum Constant {
     Alone(Shared<Argument>),
     /// A list of them.
     List(Sequence<Item>),
+    /// Another value, maybe with parameters.
+    Value(Defined),
 }
 
 /// The names that a source defines so far, each with what it stands for.
@@ -121,6 +124,16 @@ impl Constants {
     {
         match self.named(name) {
             Some(Constant::List(items)) => Some(items),
+            _ => None,
+        }
+    }
+
+    /// The value that a name stands for which is neither a text nor a number alone.
+    pub(crate) fn value_of(&self, name: &str) -> Option<&Defined>
+        ensures { option_copied result ≡ spec.defined_value (spec.constant_named self.now name.now) }
+    {
+        match self.named(name) {
+            Some(Constant::Value(defined)) => Some(defined),
             _ => None,
         }
     }

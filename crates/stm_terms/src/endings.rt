@@ -10,7 +10,7 @@ ghost use Rattle.stm_terms.specs.Outcome.{Returns};
 use crate::cursor::{expect_symbol, next_name, next_number, open_bracket, place, unexpected};
 use crate::faults::{SourceCause, SourceError, fault};
 use crate::kinds::{Kind, Valued};
-use crate::look_ups::one_more;
+use crate::look_ups::with_look_up;
 use crate::names::Names;
 use crate::scope::Scope;
 use std::alloc::{AllocError, Global};
@@ -135,8 +135,7 @@ fn key_of<'a>(
 fn look_up(alloc: Global, scope: &Scope, at: usize, key: String) -> Result<Valued, AllocError>
     ensures { IfOk result (λ x. x ≡ valued scope.now (tree.Get (tree.Text (string_bytes key))) kinds.Text (look_up_as at None ∷ [])) }
 {
-    let mut look_ups = Sequence::new(alloc);
-    one_more(&mut look_ups, at, None)?;
+    let look_ups = with_look_up(Sequence::new(alloc), at)?;
     let node = ExprNode::Text(Text::new(key));
     let key = Arc::new(alloc, Expr { node })?;
     let node = ExprNode::Get(key);

@@ -20,6 +20,7 @@ mod names;
 mod room;
 mod scope;
 mod shared;
+mod uses;
 mod values;
 
 pub use arguments::{Argument, Arguments, Given, GivenText, argument_number};
@@ -44,4 +45,5 @@ pub use stm_history::{Sequence, Text};
 pub use stm_keys::SharedText;
 pub use stm_program::{Cond, Expr, Stmt, Variable};
 pub use stm_tokens::{Symbol, Token, TokenKind, Word};
+pub use uses::{Defined, else_within, has_room};
 pub use values::{Join, bracketed, join_kind, join_node, value, value_of};

@@ -1,5 +1,5 @@
 //! What a value looks up, and what is set in front of its statement where a look-up has an `else`.
-ghost use Rattle.std.specs.Prelude.{◌≡◌, ◌<◌, ◌∷◌, ◌++◌, [], length, IfOk, IfSome, OnOk, slice_get, option_copied};
+ghost use Rattle.std.specs.Prelude.{◌≡◌, ◌<◌, ◌∷◌, ◌++◌, [], length, take, drop, IfOk, IfSome, OnOk, slice_get, option_copied};
 ghost use Rattle.stm_program.specs.BlockView.{block_of};
 ghost use Rattle.stm_program.specs.Syntax as tree;
 ghost use Rattle.stm_terms.specs.LookUps as spec;
@@ -7,6 +7,7 @@ ghost use Rattle.stm_terms.specs.Outcome.{Returns};
 
 use crate::faults::{SourceCause, SourceError, fault};
 use crate::kinds::Valued;
+use crate::limits::MOST_PLANS;
 use crate::scope::Scope;
 use std::alloc::{AllocError, Global};
 use std::sync::Arc;
@@ -20,6 +21,8 @@ pub struct Other {
     pub at: usize,
     /// The value.
     pub value: Expr,
+    /// How many of the look-ups that follow in a list are those of this value.
+    pub own: usize,
 }
 
 /// A look-up of a value.
@@ -36,8 +39,8 @@ pub struct LookUp {
 pub(crate) struct Lift {
     /// The variable that it is set to.
     pub variable: Variable,
-    /// What stands for it where the key is absent or its value is empty.
-    pub other: Option<Expr>,
+    /// What sets it to another value where the key is absent or its value is empty.
+    pub other: Option<Block>,
 }
 
 /// What is set in front of a statement.
@@ -72,7 +75,7 @@ pub struct FrontedPair {
 }
 
 /// Where the first `else` of look-ups stands.
-fn first_else(look_ups: &[LookUp]) -> Option<usize>
+pub(crate) fn first_else(look_ups: &[LookUp]) -> Option<usize>
     ensures { result ≡ spec.first_else look_ups.now }
 {
     for look_up in look_ups {
@@ -84,7 +87,7 @@ fn first_else(look_ups: &[LookUp]) -> Option<usize>
 }
 
 /// Whether one of the look-ups has an `else`.
-fn has_else(look_ups: &[LookUp]) -> bool
+pub(crate) fn has_else(look_ups: &[LookUp]) -> bool
     ensures { result ≡ spec.has_else look_ups.now }
 {
     first_else(look_ups).is_some()
@@ -104,56 +107,47 @@ pub(crate) fn both(
 }
 
 /// One more look-up, which begins at a byte. It fails only when out of memory.
-pub(crate) fn one_more(
-    look_ups: &mut Sequence<LookUp>,
+pub(crate) fn with_look_up(
+    look_ups: Sequence<LookUp>,
     at: usize,
-    other: Option<Other>,
-) -> Result<(), AllocError>
-    ensures { OnOk result (look_ups.new ≡ look_ups.old ++ spec.look_up_as at other ∷ []) }
+) -> Result<Sequence<LookUp>, AllocError>
+    ensures { IfOk result (λ all. all ≡ spec.with_look_up look_ups at) }
 {
-    look_ups.push(LookUp { at, other })?;
-    Ok(())
+    let mut all = look_ups;
+    let other = None;
+    all.push(LookUp { at, other })?;
+    Ok(all)
 }
 
-/// The value behind an `else`, if there is one.
-fn value_in(other: &Option<Other>) -> Result<Option<Expr>, AllocError>
-    ensures { IfOk result (λ value. value ≡ spec.value_in other.now) }
+/// One more look-up, which begins at a byte, and behind it those of the value that its `else` gives, which stands at another byte, where one of these has
+/// an `else`, too. It fails only when out of memory.
+pub(crate) fn with_else(
+    alloc: Global,
+    look_ups: Sequence<LookUp>,
+    at: usize,
+    else_at: usize,
+    value: Valued,
+) -> Result<Sequence<LookUp>, AllocError>
+    ensures { IfOk result (λ all. all ≡ spec.with_else look_ups at else_at value) }
 {
-    match other {
-        Some(other) => {
-            let value = other.value.clone()?;
-            Ok(Some(value))
-        }
-        None => Ok(None),
-    }
-}
-
-/// How a look-up is set in front, to a variable.
-fn lift_of(variable: Variable, look_up: &LookUp) -> Result<Lift, AllocError>
-    ensures { IfOk result (λ l. l ≡ spec.lift_of variable look_up.now) }
-{
-    let other = value_in(&look_up.other)?;
-    Ok(Lift { variable, other })
-}
-
-/// Plans which look-ups are set in front, behind those that were planned, from a variable on.
-fn plan(variable: u64, look_ups: &[LookUp], planned: &mut Sequence<Lift>) -> Result<(), SourceError>
-    ensures { Returns (λ u. planned.new) result (spec.planned planned.old variable look_ups.now) }
-{
-    match look_ups {
-        [] => Ok(()),
-        [first, rest @ ..] => {
-            if !has_else(look_ups) {
-                return Ok(());
-            }
-            if variable > MAX_VARIABLE {
-                return Err(fault(first.at, SourceCause::TooMany));
-            }
-            let lift = lift_of(Variable::new(variable as u8), first)?;
-            planned.push(lift)?;
-            plan(variable + 1, rest, planned)
-        }
-    }
+    let Valued {
+        expression: value,
+        look_ups: more,
+        ..
+    } = value;
+    let more = if has_else(more.as_slice()) {
+        more
+    } else {
+        Sequence::new(alloc)
+    };
+    let other = Some(Other {
+        at: else_at,
+        value,
+        own: more.len(),
+    });
+    let mut all = look_ups;
+    all.push(LookUp { at, other })?;
+    both(all, more)
 }
 
 /// That a variable becomes a value.
@@ -188,16 +182,13 @@ fn block(alloc: Global, statements: Vec<Stmt>) -> Result<Block, AllocError>
     Ok(Block { statements })
 }
 
-/// That a variable becomes another value where it is the empty text.
-fn or_else(alloc: Global, variable: Variable, value: &Expr) -> Result<Stmt, AllocError>
-    ensures { IfOk result (λ s. s ≡ tree.If (tree.Equal (tree.Variable variable) (tree.Text [])) (tree.Then (tree.Set variable value.now) tree.End) tree.End) }
+/// That something else runs where a variable is the empty text.
+fn or_else(alloc: Global, variable: Variable, other: &Block) -> Result<Stmt, AllocError>
+    ensures { IfOk result (λ s. s ≡ tree.If (tree.Equal (tree.Variable variable) (tree.Text [])) other.now tree.End) }
 {
     let condition = Arc::new(alloc, is_empty(alloc, variable)?)?;
-    let mut yes = Vec::new(alloc);
-    yes.push(set(alloc, variable, value.clone()?)?)?;
-    let yes = block(alloc, yes)?;
     let no = block(alloc, Vec::new(alloc))?;
-    let node = StmtNode::If(condition, yes, no);
+    let node = StmtNode::If(condition, other.clone()?, no);
     Ok(Stmt { node })
 }
 
@@ -205,8 +196,8 @@ fn or_else(alloc: Global, variable: Variable, value: &Expr) -> Result<Stmt, Allo
 fn push_else(alloc: Global, lift: &Lift, statements: &mut Sequence<Stmt>) -> Result<(), AllocError>
     ensures { OnOk result (statements.new ≡ statements.old ++ spec.else_front lift.now.variable lift.now.other) }
 {
-    if let Some(value) = &lift.other {
-        let statement = or_else(alloc, lift.variable, value)?;
+    if let Some(other) = &lift.other {
+        let statement = or_else(alloc, lift.variable, other)?;
         statements.push(statement)?;
     }
     Ok(())
@@ -351,27 +342,170 @@ fn paired(
     })
 }
 
+/// A value as it stands.
+fn as_it_stands(alloc: Global, value: &Expr) -> Result<Fronted, AllocError>
+    ensures { IfOk result (λ x. x ≡ spec.as_it_stands value.now) }
+{
+    let expression = value.clone()?;
+    Ok(Fronted {
+        front: Sequence::new(alloc),
+        expression,
+    })
+}
+
+/// The block that sets a variable to a value, behind what is set in front of that.
+fn set_behind(alloc: Global, variable: Variable, value: Fronted) -> Result<Block, AllocError>
+    ensures { IfOk result (λ b. b ≡ spec.set_behind variable value) }
+{
+    let Fronted { front, expression } = value;
+    let mut statements = front;
+    statements.push(set(alloc, variable, expression)?)?;
+    block(alloc, statements.into_vec())
+}
+
+/// How many of the look-ups behind one are those of the value behind its `else`.
+fn own_of(other: &Option<Other>) -> usize
+    ensures { result ≡ spec.own_in other.now }
+{
+    match other {
+        Some(other) => other.own,
+        None => 0,
+    }
+}
+
+/// So many first ones of look-ups, and the others.
+fn split_own(own: usize, rest: &[LookUp]) -> (&[LookUp], &[LookUp])
+    ensures own { result.0.now ≡ take own rest.now }
+    ensures others { result.1.now ≡ drop own rest.now }
+{
+    if own <= rest.len() {
+        rest.split_at(own)
+    } else {
+        rest.split_at(rest.len())
+    }
+}
+
+/// Plans which look-ups are set in front, behind those that were planned, from a variable on, at most so many.
+#[cycle(plan)]
+fn plan(
+    alloc: Global,
+    most: usize,
+    variable: u64,
+    look_ups: &[LookUp],
+    planned: &mut Sequence<Lift>,
+) -> Result<(), SourceError>
+    ensures { Returns (λ u. planned.new) result (spec.planned most planned.old variable look_ups.now) }
+{
+    if most == 0 {
+        return Ok(());
+    }
+    plan_some(alloc, most - 1, variable, look_ups, planned)
+}
+
+/// The same, at most one more.
+#[cycle(plan)]
+fn plan_some(
+    alloc: Global,
+    most: usize,
+    variable: u64,
+    look_ups: &[LookUp],
+    planned: &mut Sequence<Lift>,
+) -> Result<(), SourceError>
+    ensures { Returns (λ u. planned.new) result (spec.plan_by (spec.planned most) planned.old variable look_ups.now) }
+{
+    match look_ups {
+        [] => Ok(()),
+        [first, rest @ ..] => {
+            if !has_else(look_ups) {
+                return Ok(());
+            }
+            plan_first(alloc, most, variable, first, rest, planned)
+        }
+    }
+}
+
+/// Plans that a look-up is set in front, and then those behind it.
+#[cycle(plan)]
+fn plan_first(
+    alloc: Global,
+    most: usize,
+    variable: u64,
+    first: &LookUp,
+    rest: &[LookUp],
+    planned: &mut Sequence<Lift>,
+) -> Result<(), SourceError>
+    ensures { Returns (λ u. planned.new) result (spec.plan_first (spec.planned most) planned.old variable first.now rest.now) }
+{
+    if variable > MAX_VARIABLE {
+        return Err(fault(first.at, SourceCause::TooMany));
+    }
+    let (own, others) = split_own(own_of(&first.other), rest);
+    let number = Variable::new(variable as u8);
+    let other = else_block(alloc, most, number, &first.other, own)?;
+    planned.push(Lift {
+        variable: number,
+        other,
+    })?;
+    plan(alloc, most, variable + 1, others, planned)
+}
+
+/// What sets a variable to the value behind an `else`, which has these look-ups, if there is one.
+#[cycle(plan)]
+fn else_block(
+    alloc: Global,
+    most: usize,
+    variable: Variable,
+    other: &Option<Other>,
+    own: &[LookUp],
+) -> Result<Option<Block>, SourceError>
+    ensures { Returns (λ b. b) result (spec.else_block (spec.planned most) variable other.now own.now) }
+{
+    match other {
+        Some(other) => {
+            let next = variable.number() as u64 + 1;
+            let value = fronted(alloc, most, next, &other.value, own)?;
+            let block = set_behind(alloc, variable, value)?;
+            Ok(Some(block))
+        }
+        None => Ok(None),
+    }
+}
+
+/// A value, behind what is set in front of it, from a variable on.
+#[cycle(plan)]
+fn fronted(
+    alloc: Global,
+    most: usize,
+    variable: u64,
+    value: &Expr,
+    look_ups: &[LookUp],
+) -> Result<Fronted, SourceError>
+    ensures { Returns (λ x. x) result (spec.fronted (spec.planned most) variable value.now look_ups.now) }
+{
+    if !has_else(look_ups) {
+        let value = as_it_stands(alloc, value)?;
+        return Ok(value);
+    }
+    let mut planned = Sequence::new(alloc);
+    plan(alloc, most, variable, look_ups, &mut planned)?;
+    let found = fronted_by(alloc, planned.as_slice(), value)?;
+    Ok(found)
+}
+
 /// The value of a statement, before which these names are in sight: where a look-up of it has an `else`, that and those before it are set in front.
 ///
 /// Where these want a seventeenth variable, the fault is `TooMany` at the look-up.
 pub fn with_front(alloc: Global, scope: &Scope, value: Valued) -> Result<Fronted, SourceError>
     ensures { Returns (λ x. x) result (spec.with_front scope.now value) }
 {
-    let Valued {
-        expression,
-        look_ups,
-        ..
-    } = value;
-    if !has_else(look_ups.as_slice()) {
-        return Ok(Fronted {
-            front: Sequence::new(alloc),
-            expression,
-        });
-    }
-    let mut planned = Sequence::new(alloc);
-    plan(scope.names.len() as u64, look_ups.as_slice(), &mut planned)?;
-    let found = fronted_by(alloc, planned.as_slice(), &expression)?;
-    Ok(found)
+    let variable = scope.names.len() as u64;
+    fronted(
+        alloc,
+        MOST_PLANS,
+        variable,
+        &value.expression,
+        value.look_ups.as_slice(),
+    )
 }
 
 /// The two values of a statement, in the same way.
@@ -404,7 +538,14 @@ pub fn pair_with_front(
         });
     }
     let mut planned = Sequence::new(alloc);
-    plan(scope.names.len() as u64, look_ups.as_slice(), &mut planned)?;
+    let variable = scope.names.len() as u64;
+    plan(
+        alloc,
+        MOST_PLANS,
+        variable,
+        look_ups.as_slice(),
+        &mut planned,
+    )?;
     let pair = paired(alloc, else_at, planned.as_slice(), &left, &right)?;
     Ok(pair)
 }

@@ -14,7 +14,11 @@ use stm_program::{
 // than `room` nodes. It looks at no more than `room` nodes.
 
 #[tactic(auto, using(crate::proofs::RoomLemmas::expression_deep, crate::proofs::RoomLemmas::expression_full))]
-fn expression_room(expression: &Expr, levels: usize, room: usize) -> Result<usize, SourceCause>
+pub(crate) fn expression_room(
+    expression: &Expr,
+    levels: usize,
+    room: usize,
+) -> Result<usize, SourceCause>
     ensures is { result ≡ spec.expression_room levels room expression.now }
     ensures fits { IfOk result (λ left. ExpressionFits levels room expression.now × (left ≡ room - expression_nodes expression.now)) }
 {

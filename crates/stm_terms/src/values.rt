@@ -1,6 +1,7 @@
 //! Reading values.
 ghost use Rattle.std.specs.Prelude.{◌≡◌, ◌≤◌, ◌+◌, [], length, option_map, IfOk};
 ghost use Rattle.stm_program.specs.Syntax as tree;
+ghost use Rattle.stm_tokens.specs.declared.token.Symbol.TheVariants.{LeftParenthesis};
 ghost use Rattle.stm_tokens.specs.declared.token.Word.TheVariants.{Else};
 ghost use Rattle.stm_terms.specs.Endings.{asked_of};
 ghost use Rattle.stm_terms.specs.Kinds.{valued};
@@ -15,9 +16,10 @@ use crate::cursor::{after_symbol, after_word, expect_symbol, next_number, place,
 use crate::endings::{ending_at, ending_of};
 use crate::faults::{SourceCause, SourceError, fault};
 use crate::kinds::{Kind, Valued};
-use crate::limits::MOST_JOINS;
-use crate::look_ups::{LookUp, Other, both, one_more};
+use crate::limits::{MOST_BRACKETS, MOST_JOINS};
+use crate::look_ups::{LookUp, both, with_else, with_look_up};
 use crate::scope::Scope;
+use crate::uses::{Defined, copied_in};
 use std::alloc::{AllocError, Global};
 use std::sync::Arc;
 use stm_history::{Sequence, Text};
@@ -172,30 +174,6 @@ fn named<'a>(
     }
 }
 
-/// What a name stands for, or asks of the end of a runner.
-fn named_operand<'a>(
-    alloc: Global,
-    scope: &Scope,
-    levels: usize,
-    at: usize,
-    name: &str,
-    rest: &'a [Token],
-) -> Result<(Valued, &'a [Token]), SourceError>
-    ensures { Returns (λ x. (x.0, x.1.now)) result
-        (asked_of levels scope.now at name.now (spec.named_at scope.now at name.now rest.now) rest.now scope.now.runners) }
-{
-    let Some(runners) = &scope.runners else {
-        return named(alloc, scope, at, name, rest);
-    };
-    let Some(asked) = ending_of(name) else {
-        return named(alloc, scope, at, name, rest);
-    };
-    match after_symbol(rest, Symbol::LeftParenthesis) {
-        Some(_) => ending_at(alloc, scope, levels, at, runners.get(), asked, rest),
-        None => named(alloc, scope, at, name, rest),
-    }
-}
-
 /// What a word computes of one value.
 fn call_of(word: Word) -> Option<Call>
     ensures { result ≡ spec.call_of word }
@@ -230,92 +208,6 @@ fn call_kind(call: Call) -> Kind
     match call {
         Call::Get | Call::TextOf => Kind::Text,
         Call::Rev | Call::NumOf => Kind::Number,
-    }
-}
-
-/// The value behind an `else`: a text, or a name.
-#[tactic(auto, unfolding(crate::specs::Values::other_value))]
-fn other_value<'a>(
-    alloc: Global,
-    scope: &Scope,
-    tokens: &'a [Token],
-) -> Result<(Valued, &'a [Token]), SourceError>
-    ensures { Returns (λ x. (x.0, x.1.now)) result (spec.other_value scope.now tokens.now) }
-{
-    let Some((first, rest)) = tokens.split_first() else {
-        return Err(unexpected(tokens));
-    };
-    match &first.kind {
-        TokenKind::Text(text) => literal(alloc, scope, first.at, text.as_str(), rest),
-        TokenKind::Number(number) => positive(alloc, scope, first.at, *number, rest),
-        TokenKind::Name(name) => named(alloc, scope, first.at, name.as_str(), rest),
-        TokenKind::Word(_) => Err(unexpected(tokens)),
-        TokenKind::Symbol(_) => Err(unexpected(tokens)),
-        TokenKind::Wrong => Err(unexpected(tokens)),
-        TokenKind::End => Err(unexpected(tokens)),
-    }
-}
-
-/// What stands for a look-up, behind the `else` that begins these tokens.
-fn other_behind<'a>(
-    alloc: Global,
-    scope: &Scope,
-    tokens: &[Token],
-    behind: &'a [Token],
-) -> Result<(Option<Other>, &'a [Token]), SourceError>
-    ensures { Returns (λ x. (x.0, x.1.now)) result (spec.other_behind scope.now tokens.now behind.now) }
-{
-    if scope.numbered {
-        return Err(unexpected(tokens));
-    }
-    let (value, rest) = other_value(alloc, scope, behind)?;
-    let Valued {
-        expression: value,
-        kind,
-        ..
-    } = value;
-    scope.want(Kind::Text, kind, place(behind))?;
-    let at = place(tokens);
-    Ok((Some(Other { at, value }), rest))
-}
-
-/// What stands for a look-up, if an `else` follows it.
-fn other_of<'a>(
-    alloc: Global,
-    scope: &Scope,
-    tokens: &'a [Token],
-) -> Result<(Option<Other>, &'a [Token]), SourceError>
-    ensures { Returns (λ x. (x.0, x.1.now)) result (spec.other_by scope.now tokens.now (cursor.after_word Else tokens.now)) }
-{
-    match after_word(tokens, Word::Else) {
-        Some(behind) => other_behind(alloc, scope, tokens, behind),
-        None => Ok((None, tokens)),
-    }
-}
-
-/// The look-ups of what is computed, which begins at a byte, of a value with these.
-fn call_look_ups<'a>(
-    alloc: Global,
-    scope: &Scope,
-    call: Call,
-    at: usize,
-    look_ups: Sequence<LookUp>,
-    tokens: &'a [Token],
-) -> Result<(Sequence<LookUp>, &'a [Token]), SourceError>
-    ensures { Returns (λ x. (x.0, x.1.now)) result (spec.call_look_ups scope.now call at look_ups tokens.now) }
-{
-    let mut look_ups = look_ups;
-    match call {
-        Call::Get => {
-            let (other, rest) = other_of(alloc, scope, tokens)?;
-            one_more(&mut look_ups, at, other)?;
-            Ok((look_ups, rest))
-        }
-        Call::Rev => {
-            one_more(&mut look_ups, at, None)?;
-            Ok((look_ups, tokens))
-        }
-        Call::NumOf | Call::TextOf => Ok((look_ups, tokens)),
     }
 }
 
@@ -445,16 +337,171 @@ fn next_join(tier: usize, tokens: &[Token]) -> Option<(Join, &[Token])>
     }
 }
 
-/// An operand.
+/// What a name stands for, or asks of the end of a runner.
+#[cycle(read_values)]
+fn named_operand<'a>(
+    alloc: Global,
+    scope: &Scope,
+    levels: usize,
+    at: usize,
+    name: &str,
+    rest: &'a [Token],
+) -> Result<(Valued, &'a [Token]), SourceError>
+    ensures { Returns (λ x. (x.0, x.1.now)) result
+        (asked_of levels scope.now at name.now (spec.meant_at (spec.uses_at levels scope.now) scope.now at name.now rest.now) rest.now scope.now.runners) }
+{
+    let Some(runners) = &scope.runners else {
+        return meant(alloc, scope, levels, at, name, rest);
+    };
+    let Some(asked) = ending_of(name) else {
+        return meant(alloc, scope, levels, at, name, rest);
+    };
+    match after_symbol(rest, Symbol::LeftParenthesis) {
+        Some(_) => ending_at(alloc, scope, levels, at, runners.get(), asked, rest),
+        None => meant(alloc, scope, levels, at, name, rest),
+    }
+}
+
+/// What a name stands for.
+#[cycle(read_values)]
+fn meant<'a>(
+    alloc: Global,
+    scope: &Scope,
+    levels: usize,
+    at: usize,
+    name: &str,
+    rest: &'a [Token],
+) -> Result<(Valued, &'a [Token]), SourceError>
+    ensures { Returns (λ x. (x.0, x.1.now)) result (spec.meant_at (spec.uses_at levels scope.now) scope.now at name.now rest.now) }
+{
+    match scope.constants.get().value_of(name) {
+        Some(defined) => used(alloc, scope, levels, at, defined, rest),
+        None => named(alloc, scope, at, name, rest),
+    }
+}
+
+/// A value that is defined, behind its name, which begins at a byte.
+#[cycle(read_values)]
+fn used<'a>(
+    alloc: Global,
+    scope: &Scope,
+    levels: usize,
+    at: usize,
+    defined: &Defined,
+    tokens: &'a [Token],
+) -> Result<(Valued, &'a [Token]), SourceError>
+    ensures { Returns (λ x. (x.0, x.1.now)) result (spec.used_at (spec.uses_at levels scope.now) scope.now at defined.now tokens.now) }
+{
+    let (arguments, rest) = use_arguments(alloc, scope, levels, tokens)?;
+    if arguments.len() != defined.parameters {
+        return Err(fault(at, SourceCause::Arguments));
+    }
+    let value = copied_in(alloc, scope, at, &defined.value, arguments.as_slice())?;
+    Ok((value, rest))
+}
+
+/// The arguments of what is defined: none, where no bracket opens.
+#[cycle(read_values)]
+fn use_arguments<'a>(
+    alloc: Global,
+    scope: &Scope,
+    levels: usize,
+    tokens: &'a [Token],
+) -> Result<(Sequence<Valued>, &'a [Token]), SourceError>
+    ensures { Returns (λ x. (x.0, x.1.now)) result
+        (spec.arguments_by (spec.uses_at levels scope.now) tokens.now (cursor.after_symbol LeftParenthesis tokens.now)) }
+{
+    match after_symbol(tokens, Symbol::LeftParenthesis) {
+        Some(_) => uses(alloc, scope, levels, tokens),
+        None => Ok((Sequence::new(alloc), tokens)),
+    }
+}
+
+/// Values in brackets, with commas between them, where so many brackets may still be opened.
+#[cycle(read_values)]
+fn uses<'a>(
+    alloc: Global,
+    scope: &Scope,
+    levels: usize,
+    tokens: &'a [Token],
+) -> Result<(Sequence<Valued>, &'a [Token]), SourceError>
+    ensures { Returns (λ x. (x.0, x.1.now)) result (spec.uses_at levels scope.now tokens.now) }
+{
+    if levels == 0 {
+        return Err(unexpected(tokens));
+    }
+    uses_between(alloc, scope, levels - 1, tokens)
+}
+
+/// Values between brackets, within which so many may still be opened.
+#[cycle(read_values)]
+fn uses_between<'a>(
+    alloc: Global,
+    scope: &Scope,
+    levels: usize,
+    tokens: &'a [Token],
+) -> Result<(Sequence<Valued>, &'a [Token]), SourceError>
+    ensures { Returns (λ x. (x.0, x.1.now)) result (spec.uses_by (spec.tier_at levels scope.now 3) tokens.now) }
+{
+    let inner = expect_symbol(tokens, Symbol::LeftParenthesis)?;
+    some_uses(alloc, scope, levels, inner)
+}
+
+/// Values up to the bracket that closes them, one at least.
+#[cycle(read_values)]
+fn some_uses<'a>(
+    alloc: Global,
+    scope: &Scope,
+    levels: usize,
+    tokens: &'a [Token],
+) -> Result<(Sequence<Valued>, &'a [Token]), SourceError>
+    ensures { Returns (λ x. (x.0, x.1.now)) result (spec.uses_from (spec.tier_at levels scope.now 3) (length tokens.now) [] tokens.now) }
+{
+    let mut values = Sequence::new(alloc);
+    let mut rest = tokens;
+    for _turn in 0..tokens.len() {
+        let (value, behind) = operands(alloc, scope, levels, 3, rest)?;
+        values.push(value)?;
+        let Some(next) = after_symbol(behind, Symbol::Comma) else {
+            let rest = expect_symbol(behind, Symbol::RightParenthesis)?;
+            return Ok((values, rest));
+        };
+        rest = next;
+    }
+    Err(unexpected(rest))
+}
+
+/// An operand, in which so many may be behind an `else` within one another: one more is too deep, whatever it is.
+#[cycle(read_values)]
+fn operand_within<'a>(
+    alloc: Global,
+    scope: &Scope,
+    levels: usize,
+    more: usize,
+    tokens: &'a [Token],
+) -> Result<(Valued, &'a [Token]), SourceError>
+    requires { more ≤ 127 }
+    ensures { Returns (λ x. (x.0, x.1.now)) result (spec.operand_within levels (spec.bracketed_at levels scope.now) (spec.uses_at levels scope.now) scope.now more tokens.now) }
+{
+    if more == 0 {
+        return Err(fault(scope.program, SourceCause::TooDeep));
+    }
+    operand(alloc, scope, levels, more - 1, tokens)
+}
+
+/// An operand, behind an `else` of which so many may be.
 #[cycle(read_values)]
 #[tactic(auto, unfolding(crate::specs::Values::operand_by))]
 fn operand<'a>(
     alloc: Global,
     scope: &Scope,
     levels: usize,
+    more: usize,
     tokens: &'a [Token],
 ) -> Result<(Valued, &'a [Token]), SourceError>
-    ensures { Returns (λ x. (x.0, x.1.now)) result (spec.operand_at levels scope.now tokens.now) }
+    requires { more ≤ 127 }
+    ensures { Returns (λ x. (x.0, x.1.now)) result
+        (spec.operand_by levels (spec.bracketed_at levels scope.now) (spec.uses_at levels scope.now) (spec.operand_within levels (spec.bracketed_at levels scope.now) (spec.uses_at levels scope.now) scope.now more) scope.now tokens.now) }
 {
     let Some((first, rest)) = tokens.split_first() else {
         return Err(unexpected(tokens));
@@ -465,7 +512,7 @@ fn operand<'a>(
         TokenKind::Name(name) => {
             named_operand(alloc, scope, levels, first.at, name.as_str(), rest)
         }
-        TokenKind::Word(word) => computed(alloc, scope, levels, *word, tokens, rest),
+        TokenKind::Word(word) => computed(alloc, scope, levels, more, *word, tokens, rest),
         TokenKind::Symbol(symbol) => signed(alloc, scope, levels, *symbol, tokens, rest),
         TokenKind::Wrong => Err(unexpected(tokens)),
         TokenKind::End => Err(unexpected(tokens)),
@@ -478,11 +525,14 @@ fn computed<'a>(
     alloc: Global,
     scope: &Scope,
     levels: usize,
+    more: usize,
     word: Word,
     tokens: &'a [Token],
     rest: &'a [Token],
 ) -> Result<(Valued, &'a [Token]), SourceError>
-    ensures { Returns (λ x. (x.0, x.1.now)) result (spec.call_by (spec.bracketed_at levels scope.now) scope.now tokens.now rest.now (spec.call_of word)) }
+    requires { more ≤ 127 }
+    ensures { Returns (λ x. (x.0, x.1.now)) result
+        (spec.call_by (spec.bracketed_at levels scope.now) (spec.operand_within levels (spec.bracketed_at levels scope.now) (spec.uses_at levels scope.now) scope.now more) scope.now tokens.now rest.now (spec.call_of word)) }
 {
     let Some(call) = call_of(word) else {
         return Err(unexpected(tokens));
@@ -493,12 +543,88 @@ fn computed<'a>(
         look_ups,
         ..
     } = part;
-    let (look_ups, rest) = call_look_ups(alloc, scope, call, place(tokens), look_ups, rest)?;
+    let at = place(tokens);
+    let (look_ups, rest) = call_look_ups(alloc, scope, levels, more, call, at, look_ups, rest)?;
     let part = Arc::new(alloc, part)?;
     Ok((
         scope.valued_with(call_node(call, part), call_kind(call), look_ups),
         rest,
     ))
+}
+
+/// The value behind the `else` that begins these tokens: the look-up that it stands for begins at a byte.
+#[cycle(read_values)]
+fn else_behind<'a>(
+    alloc: Global,
+    scope: &Scope,
+    levels: usize,
+    more: usize,
+    at: usize,
+    look_ups: Sequence<LookUp>,
+    tokens: &[Token],
+    behind: &'a [Token],
+) -> Result<(Sequence<LookUp>, &'a [Token]), SourceError>
+    requires { more ≤ 127 }
+    ensures { Returns (λ x. (x.0, x.1.now)) result
+        (spec.else_behind (spec.operand_within levels (spec.bracketed_at levels scope.now) (spec.uses_at levels scope.now) scope.now more) scope.now at look_ups tokens.now behind.now) }
+{
+    if scope.numbered {
+        return Err(unexpected(tokens));
+    }
+    let (value, rest) = operand_within(alloc, scope, levels, more, behind)?;
+    scope.want(Kind::Text, value.kind, place(behind))?;
+    let look_ups = with_else(alloc, look_ups, at, place(tokens), value)?;
+    Ok((look_ups, rest))
+}
+
+/// The look-ups of a `get`, which begins at a byte, of a key with these.
+#[cycle(read_values)]
+fn get_look_ups<'a>(
+    alloc: Global,
+    scope: &Scope,
+    levels: usize,
+    more: usize,
+    at: usize,
+    look_ups: Sequence<LookUp>,
+    tokens: &'a [Token],
+) -> Result<(Sequence<LookUp>, &'a [Token]), SourceError>
+    requires { more ≤ 127 }
+    ensures { Returns (λ x. (x.0, x.1.now)) result
+        (spec.else_by (spec.operand_within levels (spec.bracketed_at levels scope.now) (spec.uses_at levels scope.now) scope.now more) scope.now at look_ups tokens.now (cursor.after_word Else tokens.now)) }
+{
+    match after_word(tokens, Word::Else) {
+        Some(behind) => else_behind(alloc, scope, levels, more, at, look_ups, tokens, behind),
+        None => {
+            let look_ups = with_look_up(look_ups, at)?;
+            Ok((look_ups, tokens))
+        }
+    }
+}
+
+/// The look-ups of what is computed, which begins at a byte, of a value with these.
+#[cycle(read_values)]
+fn call_look_ups<'a>(
+    alloc: Global,
+    scope: &Scope,
+    levels: usize,
+    more: usize,
+    call: Call,
+    at: usize,
+    look_ups: Sequence<LookUp>,
+    tokens: &'a [Token],
+) -> Result<(Sequence<LookUp>, &'a [Token]), SourceError>
+    requires { more ≤ 127 }
+    ensures { Returns (λ x. (x.0, x.1.now)) result
+        (spec.call_look_ups (spec.operand_within levels (spec.bracketed_at levels scope.now) (spec.uses_at levels scope.now) scope.now more) scope.now call at look_ups tokens.now) }
+{
+    match call {
+        Call::Get => get_look_ups(alloc, scope, levels, more, at, look_ups, tokens),
+        Call::Rev => {
+            let look_ups = with_look_up(look_ups, at)?;
+            Ok((look_ups, tokens))
+        }
+        Call::NumOf | Call::TextOf => Ok((look_ups, tokens)),
+    }
 }
 
 /// What begins with a symbol.
@@ -588,7 +714,7 @@ fn operands<'a>(
     requires { tier ≤ 3 }
     ensures { Returns (λ x. (x.0, x.1.now)) result (spec.tier_at levels scope.now tier tokens.now) }
 {
-    let (first, rest) = operand(alloc, scope, levels, tokens)?;
+    let (first, rest) = operand_within(alloc, scope, levels, MOST_BRACKETS, tokens)?;
     joined_behind(alloc, scope, levels, tier, place(tokens), first, rest)
 }
 
@@ -708,7 +834,7 @@ pub(crate) fn first_operand<'a>(
 ) -> Result<(Valued, &'a [Token]), SourceError>
     ensures { Returns (λ x. (x.0, x.1.now)) result (spec.operand_at levels scope.now tokens.now) }
 {
-    operand(alloc, scope, levels, tokens)
+    operand_within(alloc, scope, levels, MOST_BRACKETS, tokens)
 }
 
 /// The rest of a value behind its first operand, which begins at a byte.

@@ -78,8 +78,9 @@ fn report_jobs<S, E: Sink>(
     0
 }
 
-/// The same, where jobs are to be explained; else nothing is said.
-pub(crate) fn report_ends<S, E: Sink>(
+/// Explains on `err` the jobs of an input that came to a fault, of those that ended so, where they are to be explained, a line each; else nothing is said. Gives
+/// the status of a good end, also where `err` fails. `err` has not failed before.
+pub fn report_ends<S, E: Sink>(
     alloc: Global,
     explain: bool,
     input: &KeptSource<'_, S>,

@@ -7,6 +7,7 @@ mod running;
 mod shown;
 mod threading;
 
+pub use faults::report_ends;
 pub use running::{JobsFault, run_jobs};
 pub use shown::Printing;
 pub use stm_devices::{DeviceFault, Sink, Source, Std};

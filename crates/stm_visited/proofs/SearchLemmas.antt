@@ -1,17 +1,19 @@
 -- What each step of the search shows.
-use Rattle.std.proofs.Common.{◌≡◌, ℕ, zero, suc, ◌+◌, ◌<◌, ◌≤◌, Bool, true, false, ◌||◌, cond, List, [], ◌∷◌, ◌++◌, length, get_or, take, drop, Contains, Option, Some, None}
+use Rattle.std.proofs.Common.{◌≡◌, ℕ, zero, suc, ◌+◌, ◌<◌, ◌≤◌, Bool, true, false, ◌||◌, cond, List, [], ◌∷◌, ◌++◌, length, get_or, map, take, drop, Contains, Option, Some, None, is_some, inl, inr, ◌⊎◌}
 use Rattle.std.proofs.Common.{option_map, flat_map, refl, sym, ◌∙◌, ap, subst, arith, append_assoc}
 use Rattle.std.proofs.Math.Seq.{take-suc, drop-cons}
+use Rattle.std.proofs.lemmas.List.{get_or_default}
 use Rattle.std.specs.Prelude.{not, ◌==◌}
 use Rattle.std.specs.Cmp.{unsigned_Decides}
-use Rattle.std.specs.List.{list_any}
+use Rattle.std.specs.List.{list_any, list_all}
 use Rattle.std.specs.Option.{option_or}
 use Rattle.stm_visited.specs.declared.visited.Visited.{Visited}
 use Rattle.stm_visited.specs.declared.visited.Visited.TheVariants.{Always, Broken}
 use Rattle.stm_visited.specs.Search.{Steps, first_of, bad_at, first_bad, goes_on, total, count_at, count_up_to}
 use Rattle.stm_visited.specs.Alike.{Respects}
 use Rattle.stm_visited.specs.Layers.{Reached, bad_among, on_among, count_among, StandFor, AreEnough, reached_by_each, moved_from, moved_from_each, IsLayer}
-use Rattle.stm_visited.specs.Answers.{IsVisited}
+use Rattle.stm_visited.specs.declared.breaks.Ending.TheVariants as ending
+use Rattle.stm_visited.specs.Answers.{IsVisited, OpenIsSpent, OpenIsFar, EachIs, answer_of}
 use Rattle.stm_visited.proofs.Founds.{total_append, total_ones}
 use Rattle.stm_visited.proofs.LayerLemmas.{joined, layers_go_on}
 
@@ -29,6 +31,21 @@ alike_to_itself s = record {
   keeps = λ p q same. ap s.keeps same;
   shows = λ p q same. ap s.shows same;
 }
+
+-- ---- each of several with its number
+
+pub each_map : {A B : Type 0} (f : A → B) (Q : ℕ → A → Type 0) (R : ℕ → B → Type 0) (xs : List A) → ((n : ℕ) (x : A) → Q n x → R n (f x)) → EachIs Q xs → EachIs R (map f xs)
+each_map f Q R [] step each n d within = absurd (omega (arith, within))
+each_map f Q R (x ∷ xs) step each zero d within = step 0 x (each 0 x (omega arith))
+each_map f Q R (x ∷ xs) step each (suc n) d within =
+    each_map f (λ k. Q (suc k)) (λ k. R (suc k)) xs (λ k. step (suc k)) (λ k e w. each (suc k) e (omega (arith, w))) n d (omega (arith, within))
+
+pub each_push : {A : Type 0} (Q : ℕ → A → Type 0) (xs : List A) (x : A) → EachIs Q xs → Q (length xs) x → EachIs Q (xs ++ x ∷ [])
+each_push Q [] x each more zero d within = more
+each_push Q [] x each more (suc n) d within = absurd (omega (arith, within))
+each_push Q (y ∷ ys) x each more zero d within = each 0 y (omega arith)
+each_push Q (y ∷ ys) x each more (suc n) d within =
+    each_push (λ k. Q (suc k)) ys x (λ k e w. each (suc k) e (omega (arith, w))) more n d (omega (arith, within))
 
 -- ---- one place more
 
@@ -117,10 +134,9 @@ off_here {P} {M} {O} s rs i r p within is same none on =
     let more : suc i ≡ i + 1 = omega arith in
     on ∙ ap (on_among s 1) e ∙ ap (λ b. b || on_among s 1 (drop (suc i) rs)) here ∙ ap (λ j. on_among s 1 (drop j rs)) more
 
--- a layer of which every place keeps the rule, as all places before it do, and from which a move can be made
+-- a layer from which a move can be made
 pub record HasCome (P M O : Type 0) (s : Steps P M O) (start : P) (k : ℕ) (rs : List (Reached P M)) : Type 0 where
   pub layer : IsLayer P M O s start k rs
-  pub none : first_bad s k start ≡ None
   pub on : goes_on s (suc k) start ≡ true
 
 -- whether a move can be made from a layer
@@ -132,55 +148,178 @@ on_from s start k rs layer = layer.on 1 ∙ (let e : k + 1 ≡ suc k = omega ari
 opened : {P M O : Type 0} (s : Steps P M O) (start : P) → IsLayer P M O s start 0 (record { place = start; path = [] } ∷ [])
 opened s start = (layers_go_on s (λ p q. p ≡ q) (alike_to_itself s)).opens start
 
-none_at_once : {P M O : Type 0} (s : Steps P M O) (start : P) → bad_among s 0 (record { place = start; path = [] } ∷ []) ≡ None → first_bad s 0 start ≡ None
-none_at_once s start none = sym (bad_of s start 0 _ (opened s start)) ∙ none
+-- what is known of a rule after the schedules of up to k moves, by the one that was found to break it
+abbrev pub IsKnown : {P M O : Type 0} → Steps P M O → P → ℕ → Option (List M) → Type 0
+IsKnown s start k None = first_bad s k start ≡ None
+IsKnown s start k (Some ms) = IsVisited s start (Broken ms)
 
-pub broken_at_once : {P M O : Type 0} (s : Steps P M O) (start : P) (layer : List (Reached P M)) (ms : List M) → layer ≡ record { place = start; path = [] } ∷ [] →
-    bad_among s 0 layer ≡ Some ms → IsVisited s start (Broken ms)
-broken_at_once {P} {M} {O} s start layer ms is found =
-    let at : bad_at s 0 start ≡ Some ms = sym (bad_of s start 0 _ (opened s start)) ∙ ap (bad_among s 0) (sym is) ∙ found in
+broken_at_once : {P M O : Type 0} (s : Steps P M O) (start : P) (ms : List M) → bad_at s 0 start ≡ Some ms → IsVisited s start (Broken ms)
+broken_at_once {P} {M} {O} s start ms at =
     let e : length ms ≡ 0 = long s 0 start ms at in
     subst (λ n. first_bad s n start ≡ Some ms) (sym e) at
 
-pub always_at_once : {P M O : Type 0} (s : Steps P M O) (start : P) (layer : List (Reached P M)) → layer ≡ record { place = start; path = [] } ∷ [] →
-    bad_among s 0 layer ≡ None → on_among s 1 layer ≡ false → IsVisited s start (let answer : Visited M = Always 0 in answer)
-always_at_once s start layer is none end = (
-  none_at_once s start (ap (bad_among s 0) (sym is) ∙ none),
-  refl,
-  sym (on_from s start 0 _ (opened s start)) ∙ ap (on_among s 1) (sym is) ∙ end,
-)
+known_at_once : {P M O : Type 0} (s : Steps P M O) (start : P) (o : Option (List M)) → bad_at s 0 start ≡ o → IsKnown s start 0 o
+known_at_once s start None is = is
+known_at_once s start (Some ms) is = broken_at_once s start ms is
 
-pub come_to_start : {P M O : Type 0} (s : Steps P M O) (start : P) (layer : List (Reached P M)) → layer ≡ record { place = start; path = [] } ∷ [] →
-    bad_among s 0 layer ≡ None → on_among s 1 layer ≡ true → HasCome P M O s start 0 layer
-come_to_start {P} {M} {O} s start layer is none on =
-    subst (λ (rs : List (Reached P M)). HasCome P M O s start 0 rs) (sym is) (record {
-      layer = opened s start;
-      none = none_at_once s start (ap (bad_among s 0) (sym is) ∙ none);
-      on = sym (on_from s start 0 _ (opened s start)) ∙ ap (on_among s 1) (sym is) ∙ on;
-    })
+known_there : {P M O : Type 0} (s : Steps P M O) (start : P) (k : ℕ) (next : List (Reached P M)) (o : Option (List M)) → IsLayer P M O s start (suc k) next →
+    first_bad s k start ≡ None → bad_among s 0 next ≡ o → IsKnown s start (k + 1) o
+known_there {P} {M} {O} s start k next None layer none is =
+    let e : suc k ≡ k + 1 = omega arith in subst (λ j. first_bad s j start ≡ None) e (none_at s start k next layer none is)
+known_there s start k next (Some ms) layer none is = broken_at s start k next ms layer none is
 
--- ---- one layer more
+known_further : {P M O : Type 0} (s : Steps P M O) (start : P) (k : ℕ) (next : List (Reached P M)) (before : Option (List M)) → IsLayer P M O s start (suc k) next →
+    IsKnown s start k before → IsKnown s start (k + 1) (option_or before (bad_among s 0 next))
+known_further s start k next None layer known = known_there s start k next (bad_among s 0 next) layer known refl
+known_further s start k next (Some ms) layer known = known
 
-pub went_on : {P M O : Type 0} (s : Steps P M O) (start : P) (k : ℕ) (rs next : List (Reached P M)) → HasCome P M O s start k rs →
-    StandFor P M O s next (moved_from_each s rs) → bad_among s 0 next ≡ None → on_among s 1 next ≡ true → HasCome P M O s start (k + 1) next
-went_on {P} {M} {O} s start k rs next come stand kept on =
-    let later : IsLayer P M O s start (suc k) next = next_at s start k rs next come.layer stand in
-    let e : suc k ≡ k + 1 = omega arith in
-    subst (λ j. HasCome P M O s start j next) e
-    (record { layer = later; none = none_at s start k next later come.none kept; on = sym (on_from s start (suc k) next later) ∙ on })
+-- one rule more of those that are asked at a layer
+pub founds_more : {P M O : Type 0} (s : ℕ → Steps P M O) (layer : List (Reached P M)) (before founds : List (Option (List M))) (rule : ℕ) (old found : Option (List M)) →
+    length founds ≡ rule → rule < length before → old ≡ get_or before rule old → found ≡ option_or old (bad_among (s rule) 0 layer) →
+    EachIs (λ n it. it ≡ option_or (get_or before n None) (bad_among (s n) 0 layer)) founds →
+    EachIs (λ n it. it ≡ option_or (get_or before n None) (bad_among (s n) 0 layer)) (founds ++ found ∷ [])
+founds_more {P} {M} {O} s layer before founds rule old found long within at is each =
+    each_push (λ n it. it ≡ option_or (get_or before n None) (bad_among (s n) 0 layer)) founds found each
+    (subst (λ n. found ≡ option_or (get_or before n None) (bad_among (s n) 0 layer)) (sym long)
+    (is ∙ ap (λ (o : Option (List M)). option_or o (bad_among (s rule) 0 layer)) (at ∙ get_or_default before rule old None within)))
 
-pub broke : {P M O : Type 0} (s : Steps P M O) (start : P) (k : ℕ) (rs next : List (Reached P M)) (ms : List M) → HasCome P M O s start k rs →
-    StandFor P M O s next (moved_from_each s rs) → bad_among s 0 next ≡ Some ms → IsVisited s start (Broken ms)
-broke s start k rs next ms come stand found = broken_at s start k next ms (next_at s start k rs next come.layer stand) come.none found
+-- of none there is one before
+pub founds_begin : {P M O : Type 0} (s : ℕ → Steps P M O) (layer : List (Reached P M)) (none founds : List (Option (List M))) → length founds ≡ length none →
+    EachIs (λ n it. it ≡ None) none → EachIs (λ n it. it ≡ option_or (get_or none n None) (bad_among (s n) 0 layer)) founds →
+    EachIs (λ n it. it ≡ bad_among (s n) 0 layer) founds
+founds_begin {P} {M} {O} s layer none founds long empty each n d within =
+    each n d within ∙ ap (λ (o : Option (List M)). option_or o (bad_among (s n) 0 layer)) (empty n None (omega (arith, within, long)))
 
-pub ended : {P M O : Type 0} (s : Steps P M O) (start : P) (k : ℕ) (rs next : List (Reached P M)) → HasCome P M O s start k rs →
-    StandFor P M O s next (moved_from_each s rs) → bad_among s 0 next ≡ None → on_among s 1 next ≡ false →
-    IsVisited s start (let answer : Visited M = Always (k + 1) in answer)
-ended {P} {M} {O} s start k rs next come stand kept end =
-    let later : IsLayer P M O s start (suc k) next = next_at s start k rs next come.layer stand in
-    let e : suc k ≡ k + 1 = omega arith in
-    subst (λ j. IsVisited s start (let answer : Visited M = Always j in answer)) e
-    (none_at s start k next later come.none kept, come.on, sym (on_from s start (suc k) next later) ∙ end)
+-- what is known of each rule
+module _ {P M O : Type 0} (s : ℕ → Steps P M O) (start : P) where
+  abbrev pub AreKnown : ℕ → List (Option (List M)) → Type 0
+  AreKnown k founds = EachIs (λ n. IsKnown (s n) start k) founds
+
+  abbrev pub HaveCome : ℕ → List (Reached P M) → Type 0
+  HaveCome k rs = (n : ℕ) → HasCome P M O (s n) start k rs
+
+  pub known_at_start : (layer : List (Reached P M)) (founds : List (Option (List M))) → layer ≡ record { place = start; path = [] } ∷ [] →
+      EachIs (λ n found. found ≡ bad_among (s n) 0 layer) founds → AreKnown 0 founds
+  known_at_start layer founds is each n d within =
+      known_at_once (s n) start (get_or founds n d)
+      (sym (bad_of (s n) start 0 _ (opened (s n) start)) ∙ ap (bad_among (s n) 0) (sym is) ∙ sym (each n d within))
+
+  pub known_next : (k : ℕ) (rs next : List (Reached P M)) (before founds : List (Option (List M))) → length founds ≡ length before → HaveCome k rs →
+      ((n : ℕ) → StandFor P M O (s n) next (moved_from_each (s n) rs)) → AreKnown k before →
+      EachIs (λ n found. found ≡ option_or (get_or before n None) (bad_among (s n) 0 next)) founds → AreKnown (k + 1) founds
+  known_next k rs next before founds as_long come stand known each n d within =
+      subst (λ (o : Option (List M)). IsKnown (s n) start (k + 1) o) (sym (each n d within))
+      (known_further (s n) start k next (get_or before n None) (next_at (s n) start k rs next (come n).layer (stand n))
+      (known n None (omega (arith, within, as_long))))
+
+  pub come_to_start : (layer : List (Reached P M)) → layer ≡ record { place = start; path = [] } ∷ [] → ((n : ℕ) → on_among (s n) 1 layer ≡ true) → HaveCome 0 layer
+  come_to_start layer is on n =
+      subst (λ (rs : List (Reached P M)). HasCome P M O (s n) start 0 rs) (sym is) (record {
+        layer = opened (s n) start;
+        on = sym (on_from (s n) start 0 _ (opened (s n) start)) ∙ ap (on_among (s n) 1) (sym is) ∙ on n;
+      })
+
+  pub went_on : (k : ℕ) (rs next : List (Reached P M)) → HaveCome k rs → ((n : ℕ) → StandFor P M O (s n) next (moved_from_each (s n) rs)) →
+      ((n : ℕ) → on_among (s n) 1 next ≡ true) → HaveCome (k + 1) next
+  went_on k rs next come stand on n =
+      let later : IsLayer P M O (s n) start (suc k) next = next_at (s n) start k rs next (come n).layer (stand n) in
+      let e : suc k ≡ k + 1 = omega arith in
+      subst (λ j. HasCome P M O (s n) start j next) e (record { layer = later; on = sym (on_from (s n) start (suc k) next later) ∙ on n })
+
+  -- ---- the answers
+
+  -- the search has ended: there is a schedule for each rule, or none is longer
+  abbrev pub IsOver : ℕ → List (Option (List M)) → Type 0
+  IsOver k founds = (list_all is_some founds ≡ true) ⊎ ((n : ℕ) → goes_on (s n) (suc k) start ≡ false)
+
+  all_some : (founds : List (Option (List M))) (n : ℕ) (d : Option (List M)) → list_all is_some founds ≡ true → n < length founds → get_or founds n d ≡ None → ⊥
+  all_some [] n d all within none = omega (arith, within)
+  all_some (None ∷ founds) n d all within none = absurd (cc)
+  all_some (Some ms ∷ founds) zero d all within none = absurd (cc)
+  all_some (Some ms ∷ founds) (suc n) d all within none = all_some founds n d all (omega (arith, within)) none
+
+  no_longer : (k : ℕ) (founds : List (Option (List M))) (n : ℕ) (d : Option (List M)) → IsOver k founds → n < length founds → get_or founds n d ≡ None →
+      goes_on (s n) (suc k) start ≡ false
+  no_longer k founds n d (inl all) within none = absurd (all_some founds n d all within none)
+  no_longer k founds n d (inr none_on) within none = none_on n
+
+  always_one : (n k : ℕ) (found : Option (List M)) → IsKnown (s n) start k found → goes_on (s n) k start ≡ true →
+      (found ≡ None → goes_on (s n) (suc k) start ≡ false) → IsVisited (s n) start (answer_of (ending.Always k) found)
+  always_one n k None known as_long over = (known, as_long, over refl)
+  always_one n k (Some ms) known as_long over = known
+
+  pub always_kept : (k : ℕ) (founds : List (Option (List M))) → AreKnown k founds → ((n : ℕ) → goes_on (s n) k start ≡ true) → IsOver k founds →
+      EachIs (λ n. IsVisited (s n) start) (map (answer_of (ending.Always k)) founds)
+  always_kept k founds known as_long over =
+      each_map (answer_of (ending.Always k))
+      (λ n found. IsKnown (s n) start k found × (found ≡ None → goes_on (s n) (suc k) start ≡ false)) (λ n. IsVisited (s n) start) founds
+      (λ n found is. always_one n k found is.0 (as_long n) is.1)
+      (λ n d within. (known n d within, no_longer k founds n d over within))
+
+  open_one : (n k : ℕ) (found : Option (List M)) → IsKnown (s n) start k found → goes_on (s n) (suc k) start ≡ true →
+      IsVisited (s n) start (answer_of (ending.Open k) found)
+  open_one n k None known on = (known, on)
+  open_one n k (Some ms) known on = known
+
+  pub open_at : (k : ℕ) (rs : List (Reached P M)) (founds : List (Option (List M))) → AreKnown k founds → HaveCome k rs →
+      EachIs (λ n. IsVisited (s n) start) (map (answer_of (ending.Open k)) founds)
+  open_at k rs founds known come =
+      each_map (answer_of (ending.Open k)) (λ n. IsKnown (s n) start k) (λ n. IsVisited (s n) start) founds
+      (λ n found is. open_one n k found is (come n).on) known
+
+  -- where the first layer is the last one
+  pub over_at_start : (layer : List (Reached P M)) (founds : List (Option (List M))) → layer ≡ record { place = start; path = [] } ∷ [] →
+      (list_all is_some founds ≡ true) ⊎ ((n : ℕ) → on_among (s n) 1 layer ≡ false) → IsOver 0 founds
+  over_at_start layer founds is (inl all) = inl all
+  over_at_start layer founds is (inr none_on) =
+      inr (λ n. sym (on_from (s n) start 0 _ (opened (s n) start)) ∙ ap (on_among (s n) 1) (sym is) ∙ none_on n)
+
+  pub over_next : (k : ℕ) (rs next : List (Reached P M)) (founds : List (Option (List M))) → HaveCome k rs →
+      ((n : ℕ) → StandFor P M O (s n) next (moved_from_each (s n) rs)) → (list_all is_some founds ≡ true) ⊎ ((n : ℕ) → on_among (s n) 1 next ≡ false) →
+      IsOver (k + 1) founds
+  over_next k rs next founds come stand (inl all) = inl all
+  over_next k rs next founds come stand (inr none_on) = inr (λ n.
+      let later : IsLayer P M O (s n) start (suc k) next = next_at (s n) start k rs next (come n).layer (stand n) in
+      let e : suc k ≡ k + 1 = omega arith in
+      subst (λ j. goes_on (s n) (suc j) start ≡ false) e (sym (on_from (s n) start (suc k) next later) ∙ none_on n))
+
+  pub longest_next : (k : ℕ) (rs : List (Reached P M)) → HaveCome k rs → (n : ℕ) → goes_on (s n) (k + 1) start ≡ true
+  longest_next k rs come n = let e : suc k ≡ k + 1 = omega arith in subst (λ j. goes_on (s n) j start ≡ true) e (come n).on
+
+-- an answer that is not open says nothing of the budget
+pub always_spent : {M : Type 0} (left k : ℕ) (founds : List (Option (List M))) → EachIs (λ n. OpenIsSpent left) (map (answer_of (ending.Always k)) founds)
+always_spent {M} left k founds =
+    each_map (answer_of (ending.Always k)) (λ n found. Unit {0}) (λ n. OpenIsSpent left) founds (λ n found is. one found) (λ n d within. tt)
+  where
+    one : (found : Option (List M)) → OpenIsSpent left (answer_of (ending.Always k) found)
+    one None = tt
+    one (Some ms) = tt
+
+pub open_spent : {M : Type 0} (left k : ℕ) (founds : List (Option (List M))) → left ≡ 0 → EachIs (λ n. OpenIsSpent left) (map (answer_of (ending.Open k)) founds)
+open_spent {M} left k founds none =
+    each_map (answer_of (ending.Open k)) (λ n found. Unit {0}) (λ n. OpenIsSpent left) founds (λ n found is. one found) (λ n d within. tt)
+  where
+    one : (found : Option (List M)) → OpenIsSpent left (answer_of (ending.Open k) found)
+    one None = none
+    one (Some ms) = tt
+
+pub always_far : {P M O : Type 0} (s : ℕ → Steps P M O) (start : P) (made k : ℕ) (founds : List (Option (List M))) →
+    EachIs (λ n. OpenIsFar (s n) start made) (map (answer_of (ending.Always k)) founds)
+always_far {P} {M} {O} s start made k founds =
+    each_map (answer_of (ending.Always k)) (λ n found. Unit {0}) (λ n. OpenIsFar (s n) start made) founds (λ n found is. one n found) (λ n d within. tt)
+  where
+    one : (n : ℕ) (found : Option (List M)) → OpenIsFar (s n) start made (answer_of (ending.Always k) found)
+    one n None = tt
+    one n (Some ms) = tt
+
+pub open_far : {P M O : Type 0} (s : ℕ → Steps P M O) (start : P) (made k : ℕ) (founds : List (Option (List M))) → ((n : ℕ) → made ≤ count_up_to (s n) (suc k) start) →
+    EachIs (λ n. OpenIsFar (s n) start made) (map (answer_of (ending.Open k)) founds)
+open_far {P} {M} {O} s start made k founds far =
+    each_map (answer_of (ending.Open k)) (λ n found. Unit {0}) (λ n. OpenIsFar (s n) start made) founds (λ n found is. one n found) (λ n d within. tt)
+  where
+    one : (n : ℕ) (found : Option (List M)) → OpenIsFar (s n) start made (answer_of (ending.Open k) found)
+    one n None = far n
+    one n (Some ms) = tt
 
 -- ---- how many moves are made
 

@@ -1,5 +1,7 @@
 -- What a search answers.
-use Rattle.std.specs.Prelude.{◌≡◌, ◌≤◌, ℕ, suc, true, false, length, None, Some}
+use Rattle.std.specs.Prelude.{◌≡◌, ◌<◌, ◌≤◌, ℕ, suc, true, false, List, length, get_or, Option, None, Some}
+use Rattle.stm_visited.specs.declared.breaks.Ending.{Ending}
+use Rattle.stm_visited.specs.declared.breaks.Ending.TheVariants as ending
 use Rattle.stm_visited.specs.declared.visited.Visited.{Visited}
 use Rattle.stm_visited.specs.declared.visited.Visited.TheVariants.{Always, Broken, Open}
 use Rattle.stm_visited.specs.Search.{Steps, first_bad, goes_on, count_up_to}
@@ -23,3 +25,15 @@ abbrev pub OpenIsFar : {P M O : Type 0} → Steps P M O → P → ℕ → Visite
 OpenIsFar s p made (Always longest) = Unit {0}
 OpenIsFar s p made (Broken moves) = Unit {0}
 OpenIsFar s p made (Open kept) = made ≤ count_up_to s (suc kept) p
+
+-- ---- several rules
+
+-- so is each of these with its number
+abbrev pub EachIs : {A : Type 0} → (ℕ → A → Type 0) → List A → Type 0
+EachIs {A} Q xs = (n : ℕ) (d : A) → n < length xs → Q n (get_or xs n d)
+
+-- the answer about a rule at the end of a search, by the schedule that was found to break it
+abbrev pub answer_of : {M : Type 0} → Ending → Option (List M) → Visited M
+answer_of end (Some moves) = Broken moves
+answer_of (ending.Always longest) None = Always longest
+answer_of (ending.Open kept) None = Open kept

@@ -1,5 +1,5 @@
 //! From one layer to the next.
-ghost use Rattle.std.specs.Prelude.{◌≡◌, ◌⊎◌, ◌++◌, ◌∷◌, [], ◌<◌, ◌+◌, ◌≤◌, List, true, Contains, IfOk, OnOk, IsErrOf};
+ghost use Rattle.std.specs.Prelude.{◌≡◌, ◌⊎◌, ◌++◌, ◌∷◌, [], ℕ, ◌<◌, ◌+◌, ◌≤◌, List, true, Contains, IfOk, OnOk, IsErrOf};
 ghost use Rattle.std.specs.List.{list_any};
 ghost use Rattle.stm_visited.specs.Layers.{Reached as ReachedValue, StandFor, moved_from, moved_from_each, bad_among, on_among, count_among};
 ghost use Rattle.stm_visited.specs.declared.halt.Halt.TheVariants.{Spent};
@@ -58,8 +58,8 @@ fn add<S: System>(
     next: &mut Vec<Reached<S::Place, S::Move>>,
     r: Reached<S::Place, S::Move>,
 ) -> Result<(), AllocError>
-    ensures { OnOk result ((others : List (ReachedValue S.Place S.Move)) → StandFor S.Place S.Move S.Shown (S.steps system.now) next.old.items others
-        → StandFor S.Place S.Move S.Shown (S.steps system.now) next.new.items (others ++ r ∷ [])) }
+    ensures { OnOk result ((rule : ℕ) (others : List (ReachedValue S.Place S.Move)) → StandFor S.Place S.Move S.Shown (S.steps system.now rule) next.old.items others
+        → StandFor S.Place S.Move S.Shown (S.steps system.now rule) next.new.items (others ++ r ∷ [])) }
 {
     let hint = system.hint(&r.place);
     if is_seen(system, seen, hint, next.as_slice(), &r) {
@@ -80,12 +80,12 @@ fn add_moved<S: System, O: Observer>(
     next: &mut Vec<Reached<S::Place, S::Move>>,
     budget: &mut Budget<O>,
 ) -> Result<(), Halt>
-    ensures stand { OnOk result ((others : List (ReachedValue S.Place S.Move)) → StandFor S.Place S.Move S.Shown (S.steps system.now) next.old.items others
-        → StandFor S.Place S.Move S.Shown (S.steps system.now) next.new.items (others ++ moved_from (S.steps system.now) from.now)) }
+    ensures stand { OnOk result ((rule : ℕ) (others : List (ReachedValue S.Place S.Move)) → StandFor S.Place S.Move S.Shown (S.steps system.now rule) next.old.items others
+        → StandFor S.Place S.Move S.Shown (S.steps system.now rule) next.new.items (others ++ moved_from (S.steps system.now rule) from.now)) }
     ensures taken { OnOk result ((next.new.items ≡ next.old.items) ⊎ (budget.new.left < budget.old.left)) }
     ensures spent { IsErrOf result Spent → budget.new.left ≡ 0 }
     ensures within { budget.new.left ≤ budget.old.left }
-    ensures made { budget.old.left ≤ budget.new.left + count_among (S.steps system.now) 1 (from.now ∷ []) }
+    ensures made { (rule : ℕ) → budget.old.left ≤ budget.new.left + count_among (S.steps system.now rule) 1 (from.now ∷ []) }
 {
     let few = system.enough(&from.place)?;
     let choices = few.as_slice();
@@ -120,11 +120,11 @@ pub fn next_layer<S: System, O: Observer>(
     layer: &[Reached<S::Place, S::Move>],
     budget: &mut Budget<O>,
 ) -> Result<Vec<Reached<S::Place, S::Move>>, Halt>
-    ensures stand { IfOk result (λ next. StandFor S.Place S.Move S.Shown (S.steps system.now) next.items (moved_from_each (S.steps system.now) layer.now)) }
+    ensures stand { IfOk result (λ next. (rule : ℕ) → StandFor S.Place S.Move S.Shown (S.steps system.now rule) next.items (moved_from_each (S.steps system.now rule) layer.now)) }
     ensures taken { IfOk result (λ next. (next.items ≡ []) ⊎ (budget.new.left < budget.old.left)) }
     ensures spent { IsErrOf result Spent → budget.new.left ≡ 0 }
     ensures within { budget.new.left ≤ budget.old.left }
-    ensures made { budget.old.left ≤ budget.new.left + count_among (S.steps system.now) 1 layer.now }
+    ensures made { (rule : ℕ) → budget.old.left ≤ budget.new.left + count_among (S.steps system.now rule) 1 layer.now }
 {
     let mut next = Vec::new(alloc);
     let mut seen = Seen::new(alloc);
@@ -134,16 +134,17 @@ pub fn next_layer<S: System, O: Observer>(
     Ok(next)
 }
 
-/// The path to the first of these places where the rule is not kept.
+/// The path to the first of these places where a rule is not kept.
 pub(crate) fn first_broken<S: System>(
     alloc: Global,
     system: &S,
+    rule: usize,
     layer: &[Reached<S::Place, S::Move>],
 ) -> Result<Option<Sequence<S::Move>>, AllocError>
-    ensures { IfOk result (λ path. path ≡ bad_among (S.steps system.now) 0 layer.now) }
+    ensures { IfOk result (λ path. path ≡ bad_among (S.steps system.now rule) 0 layer.now) }
 {
     for r in layer {
-        if !system.is_kept(&r.place)? {
+        if !system.is_kept(rule, &r.place)? {
             let path = r.path(alloc)?;
             return Ok(Some(path));
         }
@@ -156,7 +157,7 @@ pub fn can_go_on<S: System>(
     system: &S,
     layer: &[Reached<S::Place, S::Move>],
 ) -> Result<bool, AllocError>
-    ensures { IfOk result (λ more. more ≡ on_among (S.steps system.now) 1 layer.now) }
+    ensures { IfOk result (λ more. (rule : ℕ) → more ≡ on_among (S.steps system.now rule) 1 layer.now) }
 {
     for r in layer {
         let all = system.moves(&r.place)?;

@@ -7,6 +7,7 @@
 //! Places of different layers are not compared, and those of layers before the last two are not kept.
 #![tactic(auto)]
 
+mod breaks;
 mod budget;
 mod halt;
 pub mod laws;

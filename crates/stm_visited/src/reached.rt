@@ -1,5 +1,5 @@
 //! A place, with the moves by which it was reached.
-ghost use Rattle.std.specs.Prelude.{◌≡◌, [], ◌∷◌, ◌++◌, IfOk};
+ghost use Rattle.std.specs.Prelude.{◌≡◌, ℕ, [], ◌∷◌, ◌++◌, IfOk};
 ghost use Rattle.stm_visited.specs.Layers.{reached_by};
 
 use crate::system::System;
@@ -68,7 +68,7 @@ pub(crate) fn reach<S: System>(
     from: &Reached<S::Place, S::Move>,
     chosen: S::Move,
 ) -> Result<Reached<S::Place, S::Move>, AllocError>
-    ensures { IfOk result (λ r. r ≡ reached_by (S.steps system.now) from.now chosen) }
+    ensures { IfOk result (λ r. (rule : ℕ) → r ≡ reached_by (S.steps system.now rule) from.now chosen) }
 {
     let path = longer_path(alloc, from.path.as_slice(), chosen)?;
     let place = system.moved(&from.place, chosen)?;

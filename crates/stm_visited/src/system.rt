@@ -1,13 +1,13 @@
 //! What a search goes through.
-ghost use Rattle.std.specs.Prelude.{◌≡◌, true, IfOk};
+ghost use Rattle.std.specs.Prelude.{◌≡◌, ℕ, true, IfOk};
 ghost use Rattle.stm_visited.specs.Search.{Steps};
 ghost use Rattle.stm_visited.specs.Alike.{Respects};
 ghost use Rattle.stm_visited.specs.Layers.{AreEnough};
 
 use std::alloc::AllocError;
 
-/// Places, the moves that can be made at each, a rule, and what a place shows where no move can be made. Some places are alike: what can be
-/// seen from there on is the same.
+/// Places, the moves that can be made at each, rules, and what a place shows where no move can be made. Some places are alike: what can be
+/// seen from there on is the same. Rules have numbers, from 0 on.
 pub trait System {
     /// A place.
     type Place: Drop;
@@ -16,30 +16,30 @@ pub trait System {
     /// What a place shows.
     type Shown;
 
-    /// The moves at a place, where each leads to, whether a place keeps the rule, and what it shows.
-    ghost steps: { Self → Steps Self.Place Self.Move Self.Shown };
+    /// The moves at a place, where each leads to, whether a place keeps the rule of a number, and what it shows.
+    ghost steps: { Self → ℕ → Steps Self.Place Self.Move Self.Shown };
 
     /// Two places are alike.
     ghost Alike: { Self → Self.Place → Self.Place → Type 0 };
 
     /// The moves that can be made at a place, in their order.
     fn moves(&self, place: &Self::Place) -> Result<Vec<Self::Move>, AllocError>
-        ensures { IfOk result (λ all. all.items ≡ (steps self.now).moves place.now) };
+        ensures { IfOk result (λ all. (rule : ℕ) → all.items ≡ (steps self.now rule).moves place.now) };
 
     /// Moves that are enough to go on with from a place: all that can be made, unless a system knows that some are.
     fn enough(&self, place: &Self::Place) -> Result<Vec<Self::Move>, AllocError>
-        ensures { IfOk result (λ few. AreEnough Self.Place Self.Move Self.Shown (steps self.now) place.now few.items) }
+        ensures { IfOk result (λ few. (rule : ℕ) → AreEnough Self.Place Self.Move Self.Shown (steps self.now rule) place.now few.items) }
     {
         self.moves(place)
     }
 
     /// The place that a move leads to.
     fn moved(&self, place: &Self::Place, chosen: Self::Move) -> Result<Self::Place, AllocError>
-        ensures { IfOk result (λ next. next ≡ (steps self.now).after chosen place.now) };
+        ensures { IfOk result (λ next. (rule : ℕ) → next ≡ (steps self.now rule).after chosen place.now) };
 
-    /// Whether a place keeps the rule.
-    fn is_kept(&self, place: &Self::Place) -> Result<bool, AllocError>
-        ensures { IfOk result (λ kept. kept ≡ (steps self.now).keeps place.now) };
+    /// Whether a place keeps the rule of a number.
+    fn is_kept(&self, rule: usize, place: &Self::Place) -> Result<bool, AllocError>
+        ensures { IfOk result (λ kept. kept ≡ (steps self.now rule).keeps place.now) };
 
     /// Whether two places are alike. It may say no of places that are.
     fn is_alike(&self, one: &Self::Place, other: &Self::Place) -> bool
@@ -49,5 +49,5 @@ pub trait System {
     /// have different numbers, each is gone on from.
     fn hint(&self, place: &Self::Place) -> u64;
 
-    ghost respects: { (s : Self) → Respects Self.Place Self.Move Self.Shown (steps s) (Alike s) };
+    ghost respects: { (s : Self) (rule : ℕ) → Respects Self.Place Self.Move Self.Shown (steps s rule) (Alike s) };
 }

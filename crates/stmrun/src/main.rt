@@ -45,7 +45,7 @@ pub use stm_commands::{
 use stm_compiling::Part;
 pub use stm_exploring::{explore_explained_to, explore_to, outcomes_explained_to, outcomes_to};
 pub use stm_threading::{threads_as_to, threads_to};
-use storing::{run_shown, run_stored_program, run_stored_script};
+use storing::{run_shown, run_stored_jobs, run_stored_program, run_stored_script};
 use terminals::is_shown;
 use threading::{printing_of, run_threads};
 
@@ -172,7 +172,7 @@ fn run_part(rt: &HostRuntime, words: &CompileWords<'_>, explain: bool) -> u8 {
     run_compile(rt, path_of(words.source), part, explain)
 }
 
-/// Runs the jobs that the words of `threads` ask for.
+/// Runs the jobs that the words of `threads` ask for, over the store that they go on from, where one is named.
 fn run_jobs<T: Threads + Wait + Sync>(
     rt: &HostRuntime,
     threads: &T,
@@ -181,6 +181,9 @@ fn run_jobs<T: Threads + Wait + Sync>(
 ) -> u8
     requires { (1 ≤ words.now.workers) × (words.now.workers ≤ MOST_WORKERS) }
 {
+    if let Some(store) = words.store {
+        return run_stored_jobs(rt, threads, store, words, explain);
+    }
     let printing = printing_of(words.ends, words.repeat);
     let path = path_of(words.scenario);
     run_threads(rt, threads, path, words.workers, printing, explain)

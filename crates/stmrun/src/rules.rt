@@ -1,9 +1,11 @@
 //! The rules that `explore` asks: those of a source, and those that words name.
 
-use crate::explaining::{kept_json, say_unread};
+use crate::explaining::{has_hidden, kept_json, say_unread};
+use crate::files::open;
 use crate::sources::{JsonFile, is_source, out_of_memory, program_at, rules_at};
 use stm_commands::Std;
-use stm_compiling::Rule as SourceRule;
+use stm_compiling::{Rule as SourceRule, unknown_in};
+use stm_devices::read_all;
 use stm_exploring::{Level, Rule, When, read_rule_explained_to, read_rule_to};
 use stm_history::{Sequence, Text};
 use stm_storing::Program;
@@ -103,12 +105,34 @@ fn named(rules: Sequence<SourceRule>, name: &str) -> Option<SourceRule> {
     None
 }
 
+/// Refuses a name that is none of the source of a path, and says which those are.
+fn refuse_unknown(rt: &HostRuntime, path: &str, name: &str) -> Result<(), u8> {
+    if has_hidden(path) || has_hidden(name) {
+        return Ok(());
+    }
+    let mut input = Std::new(open(rt, path));
+    let Ok(bytes) = read_all(rt.alloc(), &mut input) else {
+        return Ok(());
+    };
+    match unknown_in(rt.alloc(), bytes.as_slice(), name) {
+        Ok(Some(words)) => {
+            let _ = eprintln!(rt;
+                "error: invalid value '{path}:{name}' for '--keeps <PROGRAM>': no rule or program of {path} has this name: {words}"
+            );
+            Err(2)
+        }
+        Ok(None) => Ok(()),
+        Err(_) => Err(out_of_memory(rt)),
+    }
+}
+
 /// The rule of a name, of the source of a path, or its program of that name, which has no parameters.
 fn named_rule(rt: &HostRuntime, path: &str, name: &str, explain: bool) -> Result<Rule, u8> {
     let rules = rules_at(rt, path, explain)?;
     match named(rules, name) {
         Some(rule) => Ok(rule_of(rule)),
         None => {
+            refuse_unknown(rt, path, name)?;
             let file = program_at(rt, path, name, &[], explain)?;
             read_rule(rt, &file, name, explain)
         }

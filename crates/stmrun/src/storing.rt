@@ -1,23 +1,28 @@
 //! The commands over a store that is kept in a file.
-ghost use Rattle.std.specs.Prelude.{◌≡◌, List, ℕ, Ok as OkOf, IfOk, IsTrue};
+ghost use Rattle.std.specs.Prelude.{◌≡◌, ◌≤◌, List, ℕ, Ok as OkOf, IfOk, IsTrue, false};
 ghost use Rattle.stm_file_disk.specs.Event.{events_of};
 ghost use Rattle.stm_file_disk.specs.Replay.{replay};
 ghost use Rattle.stm_texts.specs.Opens.{IsOpening};
 ghost use Rattle.stm_texts.specs.Reading.{scenario_in};
+ghost use Rattle.stm_workers.specs.declared.run.TheConstants.{MOST_WORKERS};
 
 use crate::explaining::{kept_json, name_of, say_unread, say_unwritten};
 use crate::noting::Noting;
 use crate::sources::{JsonFile, is_source, out_of_memory, program_at, scenario_at};
 use std::fs;
-use stm_arguments::{RunWords, ScriptWords, Shown, StoreWords, Which};
+use std::sync::Wait;
+use std::thread::Threads;
+use stm_arguments::{RunWords, ScriptWords, Shown, StoreWords, ThreadsWords, Which};
 use stm_commands::{Format, KeptSource, Std};
+use stm_devices::Source;
 use stm_explain::Input;
 use stm_file_disk::{FileDisk, open};
 use stm_storing::{
-    HIGHEST_REVISION, InputFault, Manner, Program, RecordFile, Scenario, StoreFault, Text, Watched,
-    check_kept, read_input, read_program, run_anew, run_kept, script_kept, show_at, show_kept,
-    show_since,
+    HIGHEST_REVISION, InputFault, JobsAsked, Manner, Program, RecordFile, Scenario, StoreFault,
+    Text, Watched, check_kept, read_input, read_jobs, read_program, run_anew, run_kept,
+    script_kept, show_at, show_kept, show_since, threads_kept,
 };
+use stm_threading::report_ends;
 
 /// Says of the file of a store why a command failed, and gives the status.
 fn say_fault(rt: &HostRuntime, path: &str, fault: &StoreFault) -> u8 {
@@ -155,6 +160,64 @@ fn run_script(
     say_unwritten(rt, out.device.failure);
     match kept {
         Ok(()) => Ok(()),
+        Err(fault) => Err(say_fault(rt, store, &fault)),
+    }
+}
+
+/// The jobs and the calls of a scenario of jobs; or the status, once it was said why there are none.
+fn jobs_of<S: Source>(
+    rt: &HostRuntime,
+    input: &mut KeptSource<'_, S>,
+    explain: bool,
+) -> Result<JobsAsked, u8>
+    requires { S.failed input.old.source ≡ false }
+    ensures { IfOk result (λ asked. IsOpening asked.opening) }
+{
+    match read_jobs(rt.alloc(), input) {
+        Ok((_, asked)) => Ok(asked),
+        Err(fault) => Err(say_input(rt, "scenario", Input::Jobs, input, &fault, explain)),
+    }
+}
+
+/// Runs the jobs of the scenario of a path, or of that on standard input, over the store of a file, by several threads.
+fn run_jobs<T: Threads + Wait + Sync>(
+    rt: &HostRuntime,
+    threads: &T,
+    store: &str,
+    words: &ThreadsWords<'_>,
+    explain: bool,
+) -> Result<(), u8>
+    requires { (1 ≤ words.now.workers) × (words.now.workers ≤ MOST_WORKERS) }
+{
+    if words.repeat.is_some() {
+        let _ = rt.eprintln(
+            "error: the argument '--repeat <RUNS>' cannot be used with '--store <STORE>'",
+        );
+        return Err(2);
+    }
+    let file = scenario_at(rt, words.scenario.unwrap_or("-"), explain)?;
+    let mut input = kept_json(rt, &file);
+    let read = jobs_of(rt, &mut input, explain);
+    say_unread(rt, input.name, input.source.device.failure.take());
+    let asked = read?;
+    let (mut records, bytes) = opened(rt, store)?;
+    let mut out = Std::new(Noting::new(rt.stdout()));
+    let ran = threads_kept(
+        threads,
+        &mut records,
+        bytes,
+        &asked,
+        words.workers,
+        words.ends,
+        &mut out,
+    );
+    say_unwritten(rt, out.device.failure);
+    match ran {
+        Ok(ends) => {
+            let mut err = Std::new(rt.stderr());
+            report_ends(rt.alloc(), explain, &input, ends.as_slice(), &mut err);
+            Ok(())
+        }
         Err(fault) => Err(say_fault(rt, store, &fault)),
     }
 }
@@ -359,6 +422,19 @@ pub(crate) fn run_stored_script(
     explain: bool,
 ) -> u8 {
     status_of(run_script(rt, store, words, explain))
+}
+
+/// Runs jobs over the store of a file, and gives the status.
+pub(crate) fn run_stored_jobs<T: Threads + Wait + Sync>(
+    rt: &HostRuntime,
+    threads: &T,
+    store: &str,
+    words: &ThreadsWords<'_>,
+    explain: bool,
+) -> u8
+    requires { (1 ≤ words.now.workers) × (words.now.workers ≤ MOST_WORKERS) }
+{
+    status_of(run_jobs(rt, threads, store, words, explain))
 }
 
 /// Runs a program over the store of a file, and gives the status.

@@ -1,9 +1,10 @@
-use Rattle.std.proofs.Common.{◌≡◌, ◌++◌, map, take}
+use Rattle.std.proofs.Common.{◌≡◌, ◌++◌, map, drop}
 use Rattle.std.specs.Prelude.{string_bytes}
-use Rattle.stm_compiling.specs.Programs.{argument}
+use Rattle.stm_compiling.specs.Programs.{arguments_from}
 use Rattle.stm_compiling.proofs.program.push_arguments.Given as goal
 
--- the words so far are added
-abbrev pub invariant-loop-word : goal.invariant-loop-word
-invariant-loop-word l =
-    map string_bytes l.tokens.items ≡ map string_bytes l.fn.tokens.items ++ map argument (map string_bytes (take l.word-index l.words))
+-- what was added so far, and the words that are left
+abbrev pub invariant-loop-place : goal.invariant-loop-place
+invariant-loop-place l =
+    map string_bytes l.tokens.items ++ arguments_from l.fn.kinds l.place (map string_bytes (drop l.place l.fn.words))
+    ≡ map string_bytes l.fn.tokens.items ++ arguments_from l.fn.kinds 0 (map string_bytes l.fn.words)

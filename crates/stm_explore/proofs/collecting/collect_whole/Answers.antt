@@ -6,6 +6,7 @@ use Rattle.stm_explore.specs.Gathering.{Gathers}
 use Rattle.stm_explore.specs.Spots.{place_of, outcome_steps}
 use Rattle.stm_explore.proofs.GatherLemmas.{gathers_more}
 use Rattle.stm_explore.proofs.Walking.{whole_or_not}
+use Rattle.stm_explore.proofs.Ordering.{order_added}
 use Rattle.stm_explore.proofs.Witnessing.{witness_added}
 use Rattle.stm_explore.proofs.collecting.collect_whole.Goals as goal
 
@@ -21,4 +22,7 @@ loop-r-preserved c =
       witnesses = λ start k led has are.
           witness_added others start k c.args.layer.now r c.loop-r.r-index c.args.found.now.items c.loop-r.found.items c.collect_at.new.found.items _ _ c.loop-r-test.true
           c.r-item.is led has (λ it there. (c.loop-r.invariant.gathers.each it).1 (inl there)) c.in_ok-collect_at.ensures.added (c.loop-r.invariant.witnesses start k led has are);
+      ordered = λ k long up_to are.
+          order_added k c.args.layer.now r c.loop-r.r-index c.loop-r.found.items c.collect_at.new.found.items _ _ c.loop-r-test.true c.r-item.is long
+          c.in_ok-collect_at.ensures.added (c.loop-r.invariant.ordered k long up_to are);
     }

@@ -11,11 +11,11 @@ loop-chosen-init c = none_made c.args.judged.now.others.now c.in_ok-share.field-
 pub loop-chosen-preserved : goal.loop-chosen-preserved
 loop-chosen-preserved c =
     made_next c.args.judged.now.others.now c.args.moves.now c.loop-chosen.chosen-index _ c.loop-chosen.place c.in_ok-next.next _ (omega arith)
-    c.in_ok-next.ensures c.loop-chosen.invariant
+    (c.in_ok-next.ensures 0) c.loop-chosen.invariant
 
 pub returns : goal.returns
 returns c =
     let start : Place = record { world = c.args.start.now; others = c.args.judged.now.others.now } in
-    ap (end_alone c.args.judged.now.rule.now)
+    ap (end_alone c.args.rule.now)
     (sym (all_made c.args.judged.now.others.now c.args.moves.now c.loop-chosen.chosen-index c.loop-chosen.place (place_after c.args.moves.now start) (omega arith) c.loop-chosen.invariant))
     ∙ c.in_ok-end.ensures

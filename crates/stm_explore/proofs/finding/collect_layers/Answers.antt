@@ -6,9 +6,10 @@ use Rattle.stm_visited.specs.Layers.{Reached, StandFor, on_among, moved_from_eac
 use Rattle.stm_explore.specs.declared.places.ReportedPlace.{ReportedPlace}
 use Rattle.stm_explore.specs.Gathering.{Gathers}
 use Rattle.stm_explore.specs.Explored.{count_up_to}
-use Rattle.stm_explore.specs.Witnesses.{HaveWitnesses}
+use Rattle.stm_explore.specs.Witnesses.{AreOrdered, AreUpTo, HaveWitnesses, KeepOrder}
 use Rattle.stm_explore.specs.Spots.{place_of, outcome_steps}
 use Rattle.stm_explore.proofs.LayerOutcomes.{first_layer, first_end, next_gathered, next_end, none_on, far_gathered, far_open, far_without}
+use Rattle.stm_explore.proofs.Ordering.{order_first, order_next}
 use Rattle.stm_explore.proofs.Witnessing.{first_witnesses, next_witnesses}
 use Rattle.stm_explore.proofs.finding.collect_layers.Goals as goal
 
@@ -18,7 +19,7 @@ returns-then-not-branch-clause-collected g c =
     first_end others c.args.start c.in_ok-layer.layer.items c.args.found.now.items c.collect_whole.new.found.items c.in_ok-layer.ensures c.requires.none_found
     (subst (λ (rs : List (Reached ReportedPlace Move)). Gathers (shown_among (outcome_steps others) 0 rs) c.args.found.now.items c.collect_whole.new.found.items)
     c.as_slice.ensures.value c.in_ok-collect_whole.ensures.gathers)
-    (ap (on_among (outcome_steps others) 1) (sym c.as_slice-2.ensures.value) ∙ sym c.in_ok-can_go_on.ensures ∙ c.if-not-branch.true)
+    (ap (on_among (outcome_steps others) 1) (sym c.as_slice-2.ensures.value) ∙ sym (c.in_ok-can_go_on.ensures 0) ∙ c.if-not-branch.true)
 
 pub loop-gone_through-init : goal.loop-gone_through-init
 loop-gone_through-init g c =
@@ -27,11 +28,17 @@ loop-gone_through-init g c =
       come = first_layer others c.args.start c.in_ok-layer.layer.items c.args.found.now.items c.collect_whole.new.found.items c.in_ok-layer.ensures c.requires.none_found
           (subst (λ (rs : List (Reached ReportedPlace Move)). Gathers (shown_among (outcome_steps others) 0 rs) c.args.found.now.items c.collect_whole.new.found.items)
           c.as_slice.ensures.value c.in_ok-collect_whole.ensures.gathers)
-          (ap (on_among (outcome_steps others) 1) (sym c.as_slice-2.ensures.value) ∙ sym c.in_ok-can_go_on.ensures ∙ c.if-not-branch.false);
+          (ap (on_among (outcome_steps others) 1) (sym c.as_slice-2.ensures.value) ∙ sym (c.in_ok-can_go_on.ensures 0) ∙ c.if-not-branch.false);
       witnessed = first_witnesses others c.args.start c.in_ok-layer.layer.items c.args.found.now.items c.collect_whole.new.found.items c.args.schedules.now.items
           c.collect_whole.new.schedules.items c.in_ok-layer.ensures c.requires.none_found c.requires.no_schedules
           (subst (λ (rs : List (Reached ReportedPlace Move)). HaveWitnesses others rs c.args.found.now.items c.collect_whole.new.found.items c.args.schedules.now.items
           c.collect_whole.new.schedules.items) c.as_slice.ensures.value c.in_ok-collect_whole.ensures.witnesses);
+      up_to = (order_first others c.args.start c.in_ok-layer.layer.items c.args.schedules.now.items c.collect_whole.new.schedules.items c.in_ok-layer.ensures
+          c.requires.no_schedules (subst (λ (rs : List (Reached ReportedPlace Move)). KeepOrder rs c.args.schedules.now.items c.collect_whole.new.schedules.items)
+          c.as_slice.ensures.value c.in_ok-collect_whole.ensures.ordered)).0;
+      ordered = (order_first others c.args.start c.in_ok-layer.layer.items c.args.schedules.now.items c.collect_whole.new.schedules.items c.in_ok-layer.ensures
+          c.requires.no_schedules (subst (λ (rs : List (Reached ReportedPlace Move)). KeepOrder rs c.args.schedules.now.items c.collect_whole.new.schedules.items)
+          c.as_slice.ensures.value c.in_ok-collect_whole.ensures.ordered)).1;
       within = omega arith;
       made = omega arith;
     }
@@ -41,21 +48,26 @@ returns-then-not-branch-2-clause-collected g c =
     let others = c.args.gathered.now.others.now in
     let stand : StandFor ReportedPlace Move Outcome (outcome_steps others) c.in-Ok.next.items (moved_from_each (outcome_steps others) c.loop-gone_through.layer.items) =
     subst (λ (rs : List (Reached ReportedPlace Move)). StandFor ReportedPlace Move Outcome (outcome_steps others) c.in-Ok.next.items (moved_from_each (outcome_steps others) rs))
-    c.as_slice-in-loop-gone_through.ensures.value c.in-Ok.ensures.stand in
+    c.as_slice-in-loop-gone_through.ensures.value (c.in-Ok.ensures.stand 0) in
     next_end others c.args.start c.loop-gone_through.gone_through c.loop-gone_through.layer.items c.in-Ok.next.items c.loop-gone_through.found.items
     c.collect_whole-in-Ok.new.found.items c.loop-gone_through.invariant.come stand
     (subst (λ (rs : List (Reached ReportedPlace Move)). Gathers (shown_among (outcome_steps others) 0 rs) c.loop-gone_through.found.items c.collect_whole-in-Ok.new.found.items)
     c.as_slice-in-Ok.ensures.value c.in_ok-collect_whole-in-Ok.ensures.gathers)
-    (ap (on_among (outcome_steps others) 1) (sym c.as_slice-in-Ok-2.ensures.value) ∙ sym c.in_ok-can_go_on-in-Ok.ensures ∙ c.if-not-branch-2.true)
+    (ap (on_among (outcome_steps others) 1) (sym c.as_slice-in-Ok-2.ensures.value) ∙ sym (c.in_ok-can_go_on-in-Ok.ensures 0) ∙ c.if-not-branch-2.true)
 
 pub loop-gone_through-preserved : goal.loop-gone_through-preserved
 loop-gone_through-preserved g c =
     let others = c.args.gathered.now.others.now in
     let stand : StandFor ReportedPlace Move Outcome (outcome_steps others) c.in-Ok.next.items (moved_from_each (outcome_steps others) c.loop-gone_through.layer.items) =
     subst (λ (rs : List (Reached ReportedPlace Move)). StandFor ReportedPlace Move Outcome (outcome_steps others) c.in-Ok.next.items (moved_from_each (outcome_steps others) rs))
-    c.as_slice-in-loop-gone_through.ensures.value c.in-Ok.ensures.stand in
+    c.as_slice-in-loop-gone_through.ensures.value (c.in-Ok.ensures.stand 0) in
     let on : on_among (outcome_steps others) 1 c.in-Ok.next.items ≡ true =
-    ap (on_among (outcome_steps others) 1) (sym c.as_slice-in-Ok-2.ensures.value) ∙ sym c.in_ok-can_go_on-in-Ok.ensures ∙ c.if-not-branch-2.false in
+    ap (on_among (outcome_steps others) 1) (sym c.as_slice-in-Ok-2.ensures.value) ∙ sym (c.in_ok-can_go_on-in-Ok.ensures 0) ∙ c.if-not-branch-2.false in
+    let after : AreUpTo (c.loop-gone_through.gone_through + 1) c.collect_whole-in-Ok.new.schedules.items × AreOrdered c.collect_whole-in-Ok.new.schedules.items =
+    order_next others c.args.start c.loop-gone_through.gone_through c.loop-gone_through.layer.items c.in-Ok.next.items c.loop-gone_through.found.items
+    c.loop-gone_through.schedules.items c.collect_whole-in-Ok.new.schedules.items c.loop-gone_through.invariant.come stand
+    (subst (λ (rs : List (Reached ReportedPlace Move)). KeepOrder rs c.loop-gone_through.schedules.items c.collect_whole-in-Ok.new.schedules.items)
+    c.as_slice-in-Ok.ensures.value c.in_ok-collect_whole-in-Ok.ensures.ordered) c.loop-gone_through.invariant.up_to c.loop-gone_through.invariant.ordered in
     record {
       come = next_gathered others c.args.start c.loop-gone_through.gone_through c.loop-gone_through.layer.items c.in-Ok.next.items c.loop-gone_through.found.items
           c.collect_whole-in-Ok.new.found.items c.loop-gone_through.invariant.come stand
@@ -66,6 +78,8 @@ loop-gone_through-preserved g c =
           (subst (λ (rs : List (Reached ReportedPlace Move)). HaveWitnesses others rs c.loop-gone_through.found.items c.collect_whole-in-Ok.new.found.items
           c.loop-gone_through.schedules.items c.collect_whole-in-Ok.new.schedules.items) c.as_slice-in-Ok.ensures.value c.in_ok-collect_whole-in-Ok.ensures.witnesses)
           c.loop-gone_through.invariant.witnessed;
+      up_to = after.0;
+      ordered = after.1;
       within = elim c.in-Ok.ensures.taken [
         | inl nothing ↦ absurd (let none = none_on others c.in-Ok.next.items nothing in cc)
         | inr less ↦ omega (arith, c.loop-gone_through.invariant.within)
@@ -73,7 +87,7 @@ loop-gone_through-preserved g c =
       made = far_gathered others c.args.start c.loop-gone_through.gone_through c.loop-gone_through.layer.items
           c.loop-gone_through.found.items _ _ _ c.loop-gone_through.invariant.come c.loop-gone_through.invariant.made
           (subst (λ (rs : List (Reached ReportedPlace Move)). c.loop-gone_through.budget.left ≤ c.next_layer.new.budget.left + count_among (outcome_steps others) 1 rs)
-          c.as_slice-in-loop-gone_through.ensures.value c.next_layer.ensures.made);
+          c.as_slice-in-loop-gone_through.ensures.value (c.next_layer.ensures.made 0));
     }
 
 pub returns-in-Err-Spent-clause-collected : goal.returns-in-Err-Spent-clause-collected
@@ -98,7 +112,7 @@ returns-in-Err-Spent-clause-far g c =
     far_open others c.args.start c.loop-gone_through.gone_through c.loop-gone_through.layer.items c.loop-gone_through.found.items _ _ _
     c.loop-gone_through.invariant.come c.loop-gone_through.invariant.made
     (subst (λ (rs : List (Reached ReportedPlace Move)). c.loop-gone_through.budget.left ≤ c.next_layer.new.budget.left + count_among (outcome_steps others) 1 rs)
-    c.as_slice-in-loop-gone_through.ensures.value c.next_layer.ensures.made)
+    c.as_slice-in-loop-gone_through.ensures.value (c.next_layer.ensures.made 0))
     (c.in-Err-Spent.ensures.spent (cc))
 
 pub returns-clause-far : goal.returns-clause-far
@@ -123,9 +137,35 @@ returns-then-not-branch-2-clause-witnessed g c =
     let others = c.args.gathered.now.others.now in
     let stand : StandFor ReportedPlace Move Outcome (outcome_steps others) c.in-Ok.next.items (moved_from_each (outcome_steps others) c.loop-gone_through.layer.items) =
     subst (λ (rs : List (Reached ReportedPlace Move)). StandFor ReportedPlace Move Outcome (outcome_steps others) c.in-Ok.next.items (moved_from_each (outcome_steps others) rs))
-    c.as_slice-in-loop-gone_through.ensures.value c.in-Ok.ensures.stand in
+    c.as_slice-in-loop-gone_through.ensures.value (c.in-Ok.ensures.stand 0) in
     next_witnesses others c.args.start c.loop-gone_through.gone_through c.loop-gone_through.layer.items c.in-Ok.next.items c.loop-gone_through.found.items
     c.collect_whole-in-Ok.new.found.items c.loop-gone_through.schedules.items c.collect_whole-in-Ok.new.schedules.items c.loop-gone_through.invariant.come stand
     (subst (λ (rs : List (Reached ReportedPlace Move)). HaveWitnesses others rs c.loop-gone_through.found.items c.collect_whole-in-Ok.new.found.items
     c.loop-gone_through.schedules.items c.collect_whole-in-Ok.new.schedules.items) c.as_slice-in-Ok.ensures.value c.in_ok-collect_whole-in-Ok.ensures.witnesses)
     c.loop-gone_through.invariant.witnessed
+
+-- ---- the order of the schedules
+
+pub returns-then-not-branch-clause-ordered : goal.returns-then-not-branch-clause-ordered
+returns-then-not-branch-clause-ordered g c =
+    let others = c.args.gathered.now.others.now in
+    (order_first others c.args.start c.in_ok-layer.layer.items c.args.schedules.now.items c.collect_whole.new.schedules.items c.in_ok-layer.ensures c.requires.no_schedules
+    (subst (λ (rs : List (Reached ReportedPlace Move)). KeepOrder rs c.args.schedules.now.items c.collect_whole.new.schedules.items) c.as_slice.ensures.value
+    c.in_ok-collect_whole.ensures.ordered)).1
+
+pub returns-then-not-branch-2-clause-ordered : goal.returns-then-not-branch-2-clause-ordered
+returns-then-not-branch-2-clause-ordered g c =
+    let others = c.args.gathered.now.others.now in
+    let stand : StandFor ReportedPlace Move Outcome (outcome_steps others) c.in-Ok.next.items (moved_from_each (outcome_steps others) c.loop-gone_through.layer.items) =
+    subst (λ (rs : List (Reached ReportedPlace Move)). StandFor ReportedPlace Move Outcome (outcome_steps others) c.in-Ok.next.items (moved_from_each (outcome_steps others) rs))
+    c.as_slice-in-loop-gone_through.ensures.value c.in-Ok.ensures.stand in
+    (order_next others c.args.start c.loop-gone_through.gone_through c.loop-gone_through.layer.items c.in-Ok.next.items c.loop-gone_through.found.items
+    c.loop-gone_through.schedules.items c.collect_whole-in-Ok.new.schedules.items c.loop-gone_through.invariant.come stand
+    (subst (λ (rs : List (Reached ReportedPlace Move)). KeepOrder rs c.loop-gone_through.schedules.items c.collect_whole-in-Ok.new.schedules.items)
+    c.as_slice-in-Ok.ensures.value c.in_ok-collect_whole-in-Ok.ensures.ordered) c.loop-gone_through.invariant.up_to c.loop-gone_through.invariant.ordered).1
+
+pub returns-in-Err-Spent-clause-ordered : goal.returns-in-Err-Spent-clause-ordered
+returns-in-Err-Spent-clause-ordered g c = c.loop-gone_through.invariant.ordered
+
+pub returns-clause-ordered : goal.returns-clause-ordered
+returns-clause-ordered g c = c.loop-gone_through.invariant.ordered

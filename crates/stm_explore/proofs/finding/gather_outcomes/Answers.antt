@@ -3,7 +3,7 @@ use Rattle.stm_schedules.specs.declared.moves.Move.{Move}
 use Rattle.stm_schedules.specs.declared.outcome.Outcome.{Outcome}
 use Rattle.stm_schedules.specs.Places.{Place}
 use Rattle.stm_explore.specs.Explored.{IsCollected, AreAllOutcomes}
-use Rattle.stm_explore.specs.Witnesses.{AreWitnesses}
+use Rattle.stm_explore.specs.Witnesses.{AreOrdered, AreWitnesses}
 use Rattle.stm_explore.proofs.finding.gather_outcomes.Goals as goal
 
 pub returns-in-None-clause-outcomes : goal.returns-in-None-clause-outcomes
@@ -15,7 +15,9 @@ returns-in-None-clause-outcomes g c =
 
 pub returns-in-None-clause-witnessed : goal.returns-in-None-clause-witnessed
 returns-in-None-clause-witnessed g c =
-    let p : Place = record { world = c.args.world.now; others = c.args.others.now } in
-    subst (λ (outcomes : List Outcome). AreWitnesses p c.args.ends.now outcomes c.of-in-None.result) (sym c.of.ensures)
-    (subst (λ (schedules : List (List Move)). AreWitnesses p c.args.ends.now c.collect_all.new.found.items schedules) (sym c.of-in-None.ensures)
-    c.in_ok-stopped.ensures.witnessed)
+    let p : Place = record { world = c.args.world.now; others = c.args.others.now } in (
+      subst (λ (outcomes : List Outcome). AreWitnesses p c.args.ends.now outcomes c.of-in-None.result) (sym c.of.ensures)
+          (subst (λ (schedules : List (List Move)). AreWitnesses p c.args.ends.now c.collect_all.new.found.items schedules) (sym c.of-in-None.ensures)
+          c.in_ok-stopped.ensures.witnessed),
+      subst AreOrdered (sym c.of-in-None.ensures) c.in_ok-stopped.ensures.ordered,
+    )

@@ -6,7 +6,7 @@ pub loop-chosen-preserved : goal.loop-chosen-preserved
 loop-chosen-preserved c =
     let others = c.args.waiting.now.gathered.others.now in (
       place_next others c.args.moves.now c.loop-chosen.chosen-index _ c.loop-chosen.place c.in_ok-next.next _ (omega (arith, c.loop-chosen-test.true))
-          c.in_ok-next.ensures c.loop-chosen.invariant.0,
+          (c.in_ok-next.ensures 0) c.loop-chosen.invariant.0,
       ends_next others c.args.moves.now c.loop-chosen.chosen-index _ c.loop-chosen.place c.in_ok-next.next _ (omega (arith, c.loop-chosen-test.true))
-          c.in_ok-next.ensures c.loop-chosen.invariant.1,
+          (c.in_ok-next.ensures 0) c.loop-chosen.invariant.1,
     )

@@ -2,7 +2,7 @@ use Rattle.std.proofs.Common.{Contains, sym, ◌+◌, ◌*◌, ◌≡◌, ◌<�
 use Rattle.std.specs.Prelude.{IfOk}
 use Rattle.stm_world.specs.World.{World}
 use Rattle.stm_serial.specs.Serial.{Point, first_bad_serial, AreForeign, choices}
-use Rattle.stm_serial_search.specs.Search.{keeps_store, point, AreProgramsOf}
+use Rattle.stm_serial_search.specs.Search.{keeps_all, point, AreProgramsOf}
 use Rattle.stm_serial_search.proofs.Made.{IsLeft, is_left, run_point, program_within, has_other, some_others, other_point}
 use Rattle.stm_serial_search.proofs.looking.+look.Goals as goal
 
@@ -17,7 +17,7 @@ look_other-rest_of-left-requires g t c =
 
 pub look_other-returns : goal.look_other-returns
 look_other-returns g t c =
-    subst (λ (q : Point). c.in_ok-found.found ≡ first_bad_serial (keeps_store c.args.rule.now) c.args.depth q)
+    subst (λ (q : Point). c.in_ok-found.found ≡ first_bad_serial (keeps_all c.args.rules.now) c.args.depth q)
     (other_point c.args.world.now c.take_first.new.world c.args.taken.now c.args.others.now c.rest_of-left.result.now c.in_ok-take_first.ensures.store
     c.in_ok-take_first.ensures.runners c.rest_of-left.ensures) c.in_ok-found.ensures
 
@@ -37,7 +37,7 @@ pub look_step-returns : goal.look_step-returns
 look_step-returns g t c =
     let left : IsLeft c.args.programs.now c.args.world.now c.args.taken.now c.args.runner =
     is_left c.args.programs.now c.args.world.now c.args.taken.now c.args.others.now c.args.runner c.requires.sized c.requires.programs c.requires.can in
-    subst (λ (q : Point). IfOk c.look-found.result (λ found. found ≡ first_bad_serial (keeps_store c.args.rule.now) c.args.depth q))
+    subst (λ (q : Point). IfOk c.look-found.result (λ found. found ≡ first_bad_serial (keeps_all c.args.rules.now) c.args.depth q))
     (run_point c.args.programs.now c.args.world.now c.run_whole.new.world c.args.taken.now c.as_slice.result.now c.args.others.now c.args.runner
     c.program_of-program.result.now left c.program_of-program.ensures c.in_ok-run_whole.ensures.store c.in_ok-run_whole.ensures.runners
     (c.as_slice.ensures.value ∙ c.in_ok-more.ensures)) c.look-found.ensures

@@ -1,5 +1,5 @@
 use Rattle.std.proofs.Common.{◌+◌, ◌*◌, drop}
-use Rattle.stm_serial_search.specs.Search.{keeps_store, point}
+use Rattle.stm_serial_search.specs.Search.{keeps_all, point}
 use Rattle.stm_serial_search.proofs.Looks.{SoFar}
 use Rattle.stm_serial_search.proofs.looking.+look.Given as goal
 
@@ -20,4 +20,4 @@ decreases-look_other g l = 4 * l.depth + 1
 
 abbrev pub invariant-look-loop-chosen : goal.invariant-look-loop-chosen
 invariant-look-loop-chosen g l =
-    SoFar (keeps_store l.rule) l.depth (point l.world l.taken l.others) (drop l.chosen-index l.choices)
+    SoFar (keeps_all l.rules) l.depth (point l.world l.taken l.others) (drop l.chosen-index l.choices)

@@ -1,0 +1,134 @@
+//! Which argument of a start is of another kind than its program wants.
+
+use crate::spots::Spot;
+use std::alloc::{AllocError, Global};
+use stm_source::{Kind, kinds_wanted};
+use stm_tokens::{Symbol, Token, TokenKind};
+
+/// An argument of another kind than is wanted.
+#[derive(Clone, Copy)]
+struct Misfit {
+    /// Its number, from 1.
+    number: usize,
+    /// Whether a number is wanted there, and not a text.
+    wants_number: bool,
+}
+
+/// Whether an argument that begins with this token is a number; nothing where none begins there.
+fn is_number(kind: &TokenKind) -> Option<bool> {
+    match kind {
+        TokenKind::Text(_) => Some(false),
+        TokenKind::Number(_) | TokenKind::Symbol(Symbol::Subtract) => Some(true),
+        _ => None,
+    }
+}
+
+/// Whether a number is wanted in a place, and not a text; nothing where either may stand there.
+fn wants_number(kinds: &[Kind], place: usize) -> Option<bool> {
+    match kinds.get(place) {
+        Some(Kind::Number) => Some(true),
+        Some(Kind::Text) => Some(false),
+        Some(Kind::Either) | None => None,
+    }
+}
+
+/// The first argument among these tokens, behind their bracket, that is of another kind than is wanted.
+fn first_misfit(tokens: &[Token], kinds: &[Kind]) -> Option<Misfit> {
+    let mut place = 0usize;
+    for token in tokens {
+        if token.kind.is_symbol(Symbol::RightParenthesis) {
+            return None;
+        }
+        if token.kind.is_symbol(Symbol::Comma) {
+            place = place.saturating_add(1);
+        }
+        if let (Some(is), Some(wanted)) = (is_number(&token.kind), wants_number(kinds, place)) {
+            if is != wanted {
+                return Some(Misfit {
+                    number: place.saturating_add(1),
+                    wants_number: wanted,
+                });
+            }
+        }
+    }
+    None
+}
+
+/// What the arguments of a program have to be that stands in a source before a byte.
+fn kinds_before(
+    alloc: Global,
+    source: &[u8],
+    at: usize,
+    name: &str,
+) -> Result<Vec<Kind>, AllocError> {
+    match source.get(..at) {
+        Some(front) => {
+            let kinds = kinds_wanted(alloc, front, name)?;
+            Ok(kinds.into_vec())
+        }
+        None => Ok(Vec::new(alloc)),
+    }
+}
+
+/// What is said of an argument that is of another kind than is wanted.
+fn misfit_words(alloc: Global, name: &str, misfit: Misfit) -> Result<Option<String>, AllocError> {
+    let number = misfit.number;
+    let words = if misfit.wants_number {
+        "a text, where the program needs a number"
+    } else {
+        "a number, where the program needs a text"
+    };
+    let said = format!(in alloc; "argument {number} of {name} is {words}")?;
+    Ok(Some(said))
+}
+
+/// What is said of the name of a program that is started, with which argument it cannot be; nothing of other names.
+fn said_of_name(
+    alloc: Global,
+    source: &[u8],
+    spot: Spot<'_>,
+) -> Result<Option<String>, AllocError> {
+    let (Some(start), Some(TokenKind::Name(name))) = (spot.before.last(), spot.kind()) else {
+        return Ok(None);
+    };
+    if !start.kind.is_named("start") {
+        return Ok(None);
+    }
+    let behind = spot.from.get(1..).unwrap_or(&[]);
+    let kinds = kinds_before(alloc, source, start.at, name.as_str())?;
+    match first_misfit(behind, kinds.as_slice()) {
+        Some(misfit) => misfit_words(alloc, name.as_str(), misfit),
+        None => Ok(None),
+    }
+}
+
+/// The program to whose start an argument belongs, and the place of the argument.
+fn start_around(spot: Spot<'_>) -> Option<(&str, usize)> {
+    let call = spot.call()?;
+    let (Some(before), TokenKind::Name(name)) = (call.before, call.word) else {
+        return None;
+    };
+    if before.is_named("start") {
+        Some((name.as_str(), call.values))
+    } else {
+        None
+    }
+}
+
+/// What is said of a start whose argument is of another kind than its program wants, at the name of the program or at the argument; nothing elsewhere.
+pub(crate) fn said_of_start(
+    alloc: Global,
+    source: &[u8],
+    spot: Spot<'_>,
+) -> Result<Option<String>, AllocError> {
+    if let (Some((name, place)), Some(kind)) = (start_around(spot), spot.kind()) {
+        let number = place.saturating_add(1);
+        let wants_number = is_number(kind) == Some(false);
+        let misfit = Misfit {
+            number,
+            wants_number,
+        };
+        return misfit_words(alloc, name, misfit);
+    }
+    said_of_name(alloc, source, spot)
+}

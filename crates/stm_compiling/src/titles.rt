@@ -1,0 +1,144 @@
+//! The names that a source gives to its programs, rules and runners.
+
+use crate::naming::is_awaited;
+use crate::spots::{Event, Place, Spot};
+use crate::wanted::allowed;
+use std::alloc::{AllocError, Global};
+use stm_tokens::{Symbol, Token, TokenKind, Word, tokens_of};
+
+/// Whether a name is that of a program, a rule or a final that stands behind this token.
+fn is_before_title(before: Option<&TokenKind>) -> bool {
+    match before {
+        Some(TokenKind::Word(word)) => {
+            matches!(word, Word::Program | Word::Rule | Word::Finally)
+        }
+        _ => false,
+    }
+}
+
+/// The names of programs, rules and finals among tokens, in their order.
+fn titles_of(alloc: Global, tokens: &[Token]) -> Result<Vec<&str>, AllocError> {
+    let mut titles = Vec::new(alloc);
+    let mut before = None;
+    for token in tokens {
+        if let TokenKind::Name(name) = &token.kind {
+            if is_before_title(before) {
+                titles.push(name.as_str())?;
+            }
+        }
+        before = Some(&token.kind);
+    }
+    Ok(titles)
+}
+
+/// The names of programs among tokens, in their order.
+fn programs_of(alloc: Global, tokens: &[Token]) -> Result<Vec<&str>, AllocError> {
+    let mut programs = Vec::new(alloc);
+    let mut is_program = false;
+    for token in tokens {
+        if let (true, TokenKind::Name(name)) = (is_program, &token.kind) {
+            programs.push(name.as_str())?;
+        }
+        is_program = token.kind.is_word(Word::Program);
+    }
+    Ok(programs)
+}
+
+/// The names of runners among tokens, in their order.
+fn runners_of(alloc: Global, tokens: &[Token]) -> Result<Vec<&str>, AllocError> {
+    let mut runners = Vec::new(alloc);
+    let mut is_named = false;
+    let mut is_behind = false;
+    for token in tokens {
+        if let (true, TokenKind::Name(name)) = (is_named, &token.kind) {
+            runners.push(name.as_str())?;
+            is_named = false;
+            is_behind = true;
+        } else {
+            let goes_on = is_behind && token.kind.is_symbol(Symbol::Comma);
+            is_named = goes_on || token.kind.is_named("as");
+            is_behind = false;
+        }
+    }
+    Ok(runners)
+}
+
+/// Whether a name is among these.
+fn is_among(names: &[&str], name: &str) -> bool {
+    for known in names {
+        if *known == name {
+            return true;
+        }
+    }
+    false
+}
+
+/// Which these names are; nothing, where there are none, or a name is one of them.
+fn others_of(alloc: Global, names: &[&str], name: &str) -> Result<Option<String>, AllocError> {
+    if names.is_empty() || is_among(names, name) {
+        return Ok(None);
+    }
+    let words = allowed(alloc, names, "", name)?;
+    Ok(Some(words))
+}
+
+/// What is said of a name that is none of a source's programs, rules and finals: which those are; nothing, where it is one of them. It fails only when out
+/// of memory.
+pub fn unknown_in(alloc: Global, source: &[u8], name: &str) -> Result<Option<String>, AllocError> {
+    let tokens = tokens_of(alloc, source)?;
+    let titles = titles_of(alloc, tokens.as_slice())?;
+    let words = others_of(alloc, titles.as_slice(), name)?;
+    Ok(words)
+}
+
+/// Whether a place is that of a runner whose end is asked.
+fn is_asked(spot: Spot<'_>) -> bool {
+    match spot.call() {
+        Some(call) => {
+            call.word.is_named("end") || call.word.is_named("why") || call.word.is_named("out")
+        }
+        None => false,
+    }
+}
+
+/// Whether a place is that of a runner.
+fn is_of_a_runner(spot: Spot<'_>) -> bool {
+    match spot.place() {
+        Place::Events => spot.event() == Some(Event::Step) || is_awaited(spot),
+        _ => is_asked(spot),
+    }
+}
+
+/// What is said of a name that is none of these: which those are; nothing where there are none.
+fn said_of_others(
+    alloc: Global,
+    found: &str,
+    name: &str,
+    what: &str,
+    names: &[&str],
+) -> Result<Option<String>, AllocError> {
+    if names.is_empty() {
+        return Ok(None);
+    }
+    let words = allowed(alloc, names, "", name)?;
+    let said = format!(in alloc; "{found} is no {what} above: {words}")?;
+    Ok(Some(said))
+}
+
+/// What is said of a name in the place of a program or a runner: which there are above it; nothing elsewhere, or where there are none.
+pub(crate) fn said_of_names(
+    alloc: Global,
+    found: &str,
+    name: &str,
+    spot: Spot<'_>,
+) -> Result<Option<String>, AllocError> {
+    if spot.place() == Place::Events && spot.is_behind(0, "start") {
+        let names = programs_of(alloc, spot.before)?;
+        return said_of_others(alloc, found, name, "program", names.as_slice());
+    }
+    if is_of_a_runner(spot) {
+        let names = runners_of(alloc, spot.before)?;
+        return said_of_others(alloc, found, name, "runner", names.as_slice());
+    }
+    Ok(None)
+}

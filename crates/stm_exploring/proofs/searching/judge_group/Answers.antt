@@ -1,0 +1,24 @@
+use Rattle.std.proofs.Common.{List, length, map, ap, ◌∙◌, subst}
+use Rattle.std.proofs.lemmas.List.{length-map}
+use Rattle.stm_program.specs.Syntax.{ProgramTree}
+use Rattle.stm_exploring.specs.declared.rules.Rule.{Rule}
+use Rattle.stm_exploring.specs.Judging.{AreFoundWhen, IsFoundWhen}
+use Rattle.stm_exploring.proofs.AnswerLemmas.{as_many}
+use Rattle.stm_exploring.proofs.searching.judge_group.Goals as goal
+
+-- (not checked yet: the names of goals and steps are guesses)
+pub push_answers-requires : goal.push_answers-requires
+push_answers-requires g c =
+    let p = record { world = c.args.world.now; others = c.args.others.now } in
+    record {
+      when = c.requires.when;
+      each = as_many (λ rule. IsFoundWhen c.args.when c.args.waits.now rule p c.args.ends.now) c.as_slice.result.now c.in_ok-found.found.items c.in_ok-found.ensures
+          ∙ ap length (c.as_slice.ensures.value ∙ c.in_ok-asked.ensures) ∙ length-map c.args.rules.now (λ (rule : Rule). rule.program);
+    }
+
+pub returns : goal.returns
+returns g c = λ before so_far.
+    let p = record { world = c.args.world.now; others = c.args.others.now } in
+    c.in_ok-push_answers.ensures c.args.waits.now p c.args.ends.now before
+    (subst (λ (programs : List ProgramTree). AreFoundWhen c.args.when c.args.waits.now programs p c.args.ends.now c.in_ok-found.found.items)
+    (c.as_slice.ensures.value ∙ c.in_ok-asked.ensures) c.in_ok-found.ensures) so_far

@@ -8,7 +8,7 @@ use crate::sources::{JsonFile, SourceText, say_unasked, source_at, text_at};
 use crate::terminals::{Told, close, shown_budget};
 use crate::waits::{read_waits, refuse_without_rule};
 use std::slice;
-use stm_arguments::Levels;
+use stm_arguments::{ExploreWords, Levels};
 use stm_commands::Std;
 use stm_compiling::{Beside, Rule as SourceRule, Wait as SourceWait};
 use stm_exploring::{Level, Rule, Wait, explore_to, outcomes_to};
@@ -223,24 +223,39 @@ fn has_one_input(path: &str, words: &[&str]) -> bool {
 
 /// Looks through the interleavings of a path's scenario for one that breaks a rule, one that words name, or where there are none one of its source, or
 /// where that has none for what they come to. Only one of the scenario and the rules can be standard input.
-pub(crate) fn run_search(rt: &HostRuntime, search: &Search<'_>) -> Result<u8, u8> {
-    if !has_one_input(search.path, search.keeps) {
+pub(crate) fn run_search(
+    rt: &HostRuntime,
+    words: &ExploreWords<'_>,
+    explain: bool,
+) -> Result<u8, u8> {
+    if !has_one_input(words.scenario, words.keeps.as_slice()) {
         let _ = rt.eprintln("stmrun: standard input can be only one of SCENARIO and PROGRAM");
         return Err(2);
     }
-    let (scenario, beside) = source_at(rt, search.path, search.explain)?;
+    let (scenario, beside) = source_at(rt, words.scenario, explain)?;
     let text = match scenario {
-        JsonFile::Compiled(_, _) => text_at(rt, search.path, &beside),
+        JsonFile::Compiled(_, _) => text_at(rt, words.scenario, &beside),
         JsonFile::Json(_) => None,
     };
-    let mut named = *search;
-    named.source = text.as_ref();
-    if let Some(text) = &text {
-        named.told.runners = text.runners.as_slice();
-    }
+    let runners = match &text {
+        Some(text) => text.runners.as_slice(),
+        None => &[],
+    };
+    let search = Search {
+        path: words.scenario,
+        keeps: words.keeps.as_slice(),
+        after: words.after,
+        levels: words.levels,
+        told: Told {
+            events: words.budget,
+            runners,
+        },
+        explain,
+        source: text.as_ref(),
+    };
     if search.keeps.is_empty() {
-        search_own(rt, &named, &scenario, beside)
+        search_own(rt, &search, &scenario, beside)
     } else {
-        search_named(rt, &named, &scenario, &beside)
+        search_named(rt, &search, &scenario, &beside)
     }
 }

@@ -24,7 +24,7 @@ mod waits;
 
 use auditing::run_audit;
 use explaining::{name_of, say_unread, say_unwritten};
-use exploring::{Search, run_search};
+use exploring::run_search;
 use files::open;
 use noting::Noting;
 use sources::{JsonFile, run_compile, scenario_at};
@@ -46,7 +46,7 @@ use stm_compiling::Part;
 pub use stm_exploring::{explore_explained_to, explore_to, outcomes_explained_to, outcomes_to};
 pub use stm_threading::{threads_as_to, threads_to};
 use storing::{run_shown, run_stored_program, run_stored_script};
-use terminals::{Told, is_shown};
+use terminals::is_shown;
 use threading::{printing_of, run_threads};
 
 /// The path of an input that may be named: that of standard input where it is not.
@@ -113,19 +113,7 @@ fn run_check(rt: &HostRuntime, words: &CheckWords<'_>, explain: bool) -> u8 {
 
 /// Looks through the interleavings of a scenario, and gives the status.
 fn run_explore(rt: &HostRuntime, words: &ExploreWords<'_>, explain: bool) -> u8 {
-    let wanted = Search {
-        path: words.scenario,
-        keeps: words.keeps.as_slice(),
-        after: words.after,
-        levels: words.levels,
-        told: Told {
-            events: words.budget,
-            runners: &[],
-        },
-        explain,
-        source: None,
-    };
-    match run_search(rt, &wanted) {
+    match run_search(rt, words, explain) {
         Ok(status) => status,
         Err(status) => status,
     }

@@ -1,7 +1,9 @@
 //! The commands over a store that is kept in a file.
-ghost use Rattle.std.specs.Prelude.{◌≡◌, List, ℕ, IfOk, IsTrue};
+ghost use Rattle.std.specs.Prelude.{◌≡◌, List, ℕ, Ok as OkOf, IfOk, IsTrue};
 ghost use Rattle.stm_file_disk.specs.Event.{events_of};
 ghost use Rattle.stm_file_disk.specs.Replay.{replay};
+ghost use Rattle.stm_texts.specs.Opens.{IsOpening};
+ghost use Rattle.stm_texts.specs.Reading.{scenario_in};
 
 use crate::explaining::{kept_json, name_of, say_unread, say_unwritten};
 use crate::noting::Noting;
@@ -109,7 +111,10 @@ fn scenario_of(
     rt: &HostRuntime,
     file: &JsonFile<'_>,
     explain: bool,
-) -> Result<(Vec<u8>, Scenario), u8> {
+) -> Result<(Vec<u8>, Scenario), u8>
+    ensures spelled { IfOk result (λ read. scenario_in read.0.items ≡ OkOf read.1) }
+    ensures opening { IfOk result (λ read. IsOpening read.1.opening) }
+{
     let mut input = kept_json(rt, file);
     let read = match read_input(rt.alloc(), &mut input) {
         Ok(read) => Ok(read),

@@ -109,7 +109,7 @@ pub(crate) fn shown_budget<'a>(
     told: Told<'a>,
     explain: bool,
 ) -> Budget<SearchLines<'a>>
-    ensures { result.left ≡ told.events }
+    ensures { result.left ≡ told.entry.events }
 {
     let Told { events, runners } = told;
     Budget {

@@ -30,6 +30,12 @@ Statements
   for i in 0..COUNT max LIMIT { .. }  COUNT turns, i counting from 0; a     for i in 0..3 { emit(i) }
                                       fault above LIMIT, 0 to 1000, which
                                       may be left out of a number
+  for NAME in ITEM, .. { .. }         the block once for each text or       for w in \"a\", \"b\" { del(w) }
+                                      number, which the name stands for
+  return                              the run ends and commits, not in a    if get(\"a\") != \"\" { return }
+                                      loop that counts
+  break, continue                     behind the loop, to its next turn;    if get(w) == \"\" { continue }
+                                      a loop that counts has no break
   emit(EXPRESSION)                    a value is added to the output        emit(get(\"a\"))
   abort(TEXT)                         the run ends and commits nothing      abort(\"no funds\")
   prefetch(KEY, ..)                   first: the keys that each attempt     prefetch(\"a\", \"b\")

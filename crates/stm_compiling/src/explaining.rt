@@ -152,6 +152,31 @@ fn is_else_of_look_up(spot: Spot<'_>) -> bool {
     }
 }
 
+/// What is said of a token behind a statement that leaves its block, where only a `}` may stand; nothing of others.
+fn said_behind_a_way_out(spot: Spot<'_>) -> &'static str {
+    let behind = if spot.is_behind_symbol(0, Symbol::Semicolon) {
+        1
+    } else {
+        0
+    };
+    let begins_a_statement = matches!(spot.kind(), Some(TokenKind::Word(_)));
+    match (spot.back(behind), begins_a_statement) {
+        (Some(TokenKind::Word(Word::Return)), true) => {
+            "nothing comes to it, since a return stands before it"
+        }
+        (Some(TokenKind::Word(Word::Return)), false) => {
+            "a return has no value, and a run that is to commit nothing ends by abort(TEXT)"
+        }
+        (Some(TokenKind::Word(Word::Break | Word::Continue)), true) => {
+            "nothing comes to it, since a break or a continue stands before it"
+        }
+        (Some(TokenKind::Word(Word::Break | Word::Continue)), false) => {
+            "a break and a continue have no label, and are of the innermost for"
+        }
+        _ => "",
+    }
+}
+
 /// What is said of a symbol or a word that has its place elsewhere; nothing of others.
 fn said_of_symbol(spot: Spot<'_>) -> &'static str {
     if is_else_of_look_up(spot) {
@@ -159,6 +184,10 @@ fn said_of_symbol(spot: Spot<'_>) -> &'static str {
     }
     if spot.is_before_a_block() {
         return "";
+    }
+    let said = said_behind_a_way_out(spot);
+    if !said.is_empty() {
+        return said;
     }
     match (spot.kind(), spot.place()) {
         (Some(TokenKind::Symbol(Symbol::Semicolon)), Place::Events) => {
@@ -176,11 +205,8 @@ fn said_of_symbol(spot: Spot<'_>) -> &'static str {
         (Some(TokenKind::Word(Word::Prefetch)), Place::Statements) => {
             "the list of keys stands before all statements"
         }
-        (Some(TokenKind::Word(Word::Return)), Place::Statements) => {
-            "what follows goes into the other branch of the if, and a run is broken off by abort(TEXT)"
-        }
         (Some(TokenKind::Word(Word::Break | Word::Continue)), Place::Statements) => {
-            "a variable says that the rest is skipped: if done == 0 { .. }"
+            "it stands in the block of a for"
         }
         _ => "",
     }

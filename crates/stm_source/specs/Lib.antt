@@ -3,6 +3,7 @@ pub mod Constants
 pub mod Definitions
 pub mod Events
 pub mod Kept
+pub mod Leaving
 pub mod Loops
 pub mod Programs
 pub mod Rules

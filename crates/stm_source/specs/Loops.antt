@@ -4,8 +4,7 @@ use Rattle.std.specs.Prelude.{nat_eq, nat_le, if◌then◌else◌, codes}
 use Rattle.stm_tokens.specs.declared.token.Token.{Token}
 use Rattle.stm_tokens.specs.declared.token.Symbol.TheVariants as symbol
 use Rattle.stm_program.specs.declared.limits.TheConstants.{MAX_DEPTH, MAX_TURNS}
-use Rattle.stm_program.specs.BlockView.{block_of}
-use Rattle.stm_program.specs.Syntax.{Expression, Number, Statement}
+use Rattle.stm_program.specs.Syntax.{Expression, Number, Block, End, Then}
 use Rattle.stm_terms.specs.declared.arguments.Argument.{Argument}
 use Rattle.stm_terms.specs.declared.arguments.Argument.TheVariants.{Either}
 use Rattle.stm_terms.specs.declared.constants.Item.{Item}
@@ -95,6 +94,6 @@ left_by (Ok left) = left
 left_by (Err c) = 0
 
 -- how many nodes may follow these statements: none, where they are too many or too deep, or where there are none, since others like them are none, too
-abbrev pub room_behind : ℕ → List Statement → ℕ
-room_behind room [] = 0
-room_behind room (s ∷ ss) = left_by (block_room MAX_DEPTH room (block_of (s ∷ ss)))
+abbrev pub room_behind : ℕ → Block → ℕ
+room_behind room End = 0
+room_behind room (Then s b) = left_by (block_room MAX_DEPTH room (Then s b))

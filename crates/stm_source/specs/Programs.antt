@@ -19,6 +19,9 @@ use Rattle.stm_terms.specs.Literals.{text_given}
 use Rattle.stm_terms.specs.Room.{block_room}
 use Rattle.stm_terms.specs.Scope.{numbered_from}
 use Rattle.stm_source.specs.declared.programs.Look.{Look}
+use Rattle.stm_leaving.specs.Source.{Sources}
+use Rattle.stm_leaving.specs.Closed.{nothing, closed}
+use Rattle.stm_source.specs.declared.leaving.Around.TheVariants.{Program}
 use Rattle.stm_source.specs.Statements.{statements_at}
 
 -- ---- the list
@@ -73,9 +76,13 @@ program_by at keys statements (Err c) = bad at c
 program_by at keys statements (Ok left) =
     if list_fits keys then Ok (record { statements = statements; prefetch = keys }) else bad at cause.Key
 
--- the program of a list and of statements, if these are not too deep and not too many; it begins at a byte
-abbrev pub program_of : ℕ → List (List ℕ) → Block → Outcome ProgramTree
-program_of at keys statements = program_by at keys statements (block_room MAX_DEPTH MAX_NODES statements)
+-- the program of a list and of its statements, if these are not too deep and not too many; it begins at a byte
+abbrev pub program_in_room : ℕ → List (List ℕ) → Block → Outcome ProgramTree
+program_in_room at keys statements = program_by at keys statements (block_room MAX_DEPTH MAX_NODES statements)
+
+-- the same of statements of a source: what follows a statement goes into the branches that come to it
+abbrev pub program_of : ℕ → List (List ℕ) → Sources → Outcome ProgramTree
+program_of at keys parts = program_in_room at keys (closed parts nothing)
 
 -- no name of a variable is in sight at its beginning
 abbrev pub first_scope : Arguments → Look → List Token → Scope
@@ -93,11 +100,11 @@ first_scope arguments look tokens = record {
 }
 
 -- the list and the statements of a program in braces, and the tokens behind it
-abbrev pub parts_at : Look → Arguments → List Token → Outcome (List (List ℕ) × Block × List Token)
+abbrev pub parts_at : Look → Arguments → List Token → Outcome (List (List ℕ) × Sources × List Token)
 parts_at look arguments tokens =
     expect_symbol symbol.LeftBrace tokens >>= λ inner.
     list_at (first_scope arguments look inner) inner >>= λ keys.
-    statements_at (MOST_BRACKETS - 1) (first_scope arguments look inner) keys.1 >>= λ b. Ok (keys.0, b.0, b.1)
+    statements_at (MOST_BRACKETS - 1) Program (first_scope arguments look inner) keys.1 >>= λ b. Ok (keys.0, b.0, b.2)
 
 -- a program in braces
 abbrev pub program_at : Look → Arguments → List Token → Read ProgramTree

@@ -1,5 +1,5 @@
 -- Statements and blocks: what tokens spell, or the first fault.
-use Rattle.std.specs.Prelude.{ℕ, zero, suc, ◌+◌, ◌-◌, List, [], ◌∷◌, ◌++◌, length, Bool, false, Option, Some, None, Ok, Err, nat_eq, nat_lt, if◌then◌else◌}
+use Rattle.std.specs.Prelude.{ℕ, zero, suc, ◌+◌, ◌-◌, List, [], ◌∷◌, ◌++◌, length, map, Bool, false, Option, Some, None, Ok, Err, nat_eq, nat_lt, if◌then◌else◌}
 use Rattle.stm_tokens.specs.declared.token.Token.{Token}
 use Rattle.stm_tokens.specs.declared.token.TokenKind.{TokenKind}
 use Rattle.stm_tokens.specs.declared.token.TokenKind.TheVariants as kind
@@ -10,15 +10,23 @@ use Rattle.stm_tokens.specs.declared.token.Word.TheVariants as word
 use Rattle.stm_tokens.specs.Same.{same_symbol, same_word}
 use Rattle.stm_program.specs.declared.limits.TheConstants.{MAX_LEASE}
 use Rattle.stm_program.specs.declared.operator.Operator.TheVariants.{Add, Sub}
-use Rattle.stm_program.specs.Syntax.{Expression, Variable, Statement, Set, Put, Del, If, For, Emit, Abort, Block, End, Then}
+use Rattle.stm_program.specs.Syntax.{Expression, Variable, Statement, Set, Put, Del, Emit, Abort}
 use Rattle.stm_terms.specs.declared.faults.SourceCause.TheVariants as cause
 use Rattle.stm_terms.specs.declared.scope.Scope.{Scope}
-use Rattle.stm_program.specs.BlockView.{block_of}
 use Rattle.stm_terms.specs.declared.look_ups.Fronted.{Fronted}
 use Rattle.stm_terms.specs.LookUps.{with_front, pair_with_front}
 use Rattle.stm_terms.specs.declared.values.Join.{Join}
 use Rattle.stm_terms.specs.declared.values.Join.TheVariants as join
 use Rattle.stm_source.specs.Loops.{counted_in, limit_at, after_zero, items_of, unknown_item, room_behind}
+use Rattle.stm_leaving.specs.Source.{Source, Sources, Plain, Choice, Items, Count, Nil, Next}
+use Rattle.stm_leaving.specs.PartsView.{sources_of}
+use Rattle.stm_leaving.specs.CopiesView.{copies_of}
+use Rattle.stm_leaving.specs.Closed.{nothing, closed}
+use Rattle.stm_source.specs.declared.leaving.Around.{Around}
+use Rattle.stm_source.specs.declared.leaving.Leave.{Leave}
+use Rattle.stm_source.specs.declared.leaving.Ending.{Ending}
+use Rattle.stm_source.specs.declared.leaving.Ending.TheVariants.{GoesOn, Leaves, Aborts}
+use Rattle.stm_source.specs.Leaving.{is_left, choice_ending, in_turns, in_items, leave_word, leaving_part}
 use Rattle.stm_source.specs.declared.statements.TheConstants.{MOST_STATEMENTS}
 use Rattle.stm_source.specs.declared.statements.Simple.{Simple}
 use Rattle.stm_source.specs.declared.statements.Simple.TheVariants as simple
@@ -48,13 +56,16 @@ simple_kind simple.Emit = value_kind.Either
 simple_kind simple.Abort = value_kind.Text
 
 -- a statement behind what is set in front of it
-abbrev pub behind_front : List Statement → Statement → List Statement
-behind_front front s = front ++ s ∷ []
+abbrev pub behind_front : List Statement → Source → List Source
+behind_front front s = map Plain front ++ s ∷ []
+
+abbrev pub plain_behind : List Statement → Statement → List Source
+plain_behind front s = behind_front front (Plain s)
 
 -- behind its word
-abbrev pub simple_at : ℕ → Scope → Simple → List Token → Read (List Statement)
+abbrev pub simple_at : ℕ → Scope → Simple → List Token → Read (List Source)
 simple_at levels scope s tokens =
-    bracketed_at levels scope (simple_kind s) tokens >>= λ x. with_front scope x.0 >>= λ f. Ok (behind_front f.front (simple_of s f.expression), x.1)
+    bracketed_at levels scope (simple_kind s) tokens >>= λ x. with_front scope x.0 >>= λ f. Ok (plain_behind f.front (simple_of s f.expression), x.1)
 
 abbrev pub lease_behind : Scope → List Token → Option (List Token) → Read ℕ
 lease_behind scope tokens None = Ok (0, tokens)
@@ -64,7 +75,7 @@ lease_behind scope tokens (Some rest) = number_given MAX_LEASE scope rest
 abbrev pub lease_at : Scope → List Token → Read ℕ
 lease_at scope tokens = lease_behind scope tokens (after_symbol symbol.Comma tokens)
 
-abbrev pub put_at : ℕ → Scope → List Token → Read (List Statement)
+abbrev pub put_at : ℕ → Scope → List Token → Read (List Source)
 put_at levels scope tokens =
     open_bracket levels tokens >>= λ inner.
     value_of (levels - 1) scope value_kind.Text inner >>= λ key.
@@ -72,7 +83,7 @@ put_at levels scope tokens =
     value_of (levels - 1) scope value_kind.Text behind >>= λ value.
     pair_with_front scope key.0 value.0 >>= λ f.
     lease_at scope value.1 >>= λ lease.
-    expect_symbol symbol.RightParenthesis lease.1 >>= λ rest. Ok (behind_front f.front (Put f.left f.right lease.0), rest)
+    expect_symbol symbol.RightParenthesis lease.1 >>= λ rest. Ok (plain_behind f.front (Put f.left f.right lease.0), rest)
 
 -- ---- assignments
 
@@ -107,141 +118,149 @@ assigned_kind None k = k
 assigned_kind (Some j) k = join_kind j
 
 -- behind its sign
-abbrev pub set_at : ℕ → Scope → ℕ → Option Join → List Token → Read (List Statement)
+abbrev pub set_at : ℕ → Scope → ℕ → Option Join → List Token → Read (List Source)
 set_at levels scope v j rest =
     value_of levels scope (assigned_kind j (kind_of scope v)) rest >>= λ x.
-    with_front scope x.0 >>= λ f. Ok (behind_front f.front (Set v (assigned j v f.expression)), x.1)
+    with_front scope x.0 >>= λ f. Ok (plain_behind f.front (Set v (assigned j v f.expression)), x.1)
 
-abbrev pub set_by : ℕ → Scope → ℕ → Option ℕ → Option Join → List Token → Read (List Statement)
+abbrev pub set_by : ℕ → Scope → ℕ → Option ℕ → Option Join → List Token → Read (List Source)
 set_by levels scope at None j rest = bad at cause.Name
 set_by levels scope at (Some v) j rest =
     want scope (assigned_kind j (kind_of scope v)) (kind_of scope v) at >>= λ u. set_at levels scope v j rest
 
 -- a name with which a statement begins is wrong itself where nothing is assigned to it
-abbrev pub assigned_by : ℕ → Scope → List ℕ → List Token → Option (Option Join × List Token) → Read (List Statement)
+abbrev pub assigned_by : ℕ → Scope → List ℕ → List Token → Option (Option Join × List Token) → Read (List Source)
 assigned_by levels scope name tokens None = Err (unexpected tokens)
 assigned_by levels scope name tokens (Some p) = set_by levels scope (place tokens) (variable_of scope name) p.0 p.1
 
-abbrev pub assignment_at : ℕ → Scope → List ℕ → List Token → List Token → Read (List Statement)
+abbrev pub assignment_at : ℕ → Scope → List ℕ → List Token → List Token → Read (List Source)
 assignment_at levels scope name tokens behind = assigned_by levels scope name tokens (next_sign behind)
 
 -- ---- new names
 
--- a statement, the names behind it, and the tokens behind it
-abbrev pub ReadStatement : Type 0
-ReadStatement = Outcome (List Statement × Scope × List Token)
+-- a new name: its statements, the names behind it, and the tokens behind it
+abbrev pub ReadNew : Type 0
+ReadNew = Outcome (List Source × Scope × List Token)
 
 abbrev pub is_variable : ℕ → Expression → Bool
 is_variable v (Variable w) = nat_eq w v
 is_variable v _ = false
 
 -- a new variable; one to which its value was set in front is not set again
-abbrev pub set_new : ℕ → Fronted → List Statement
-set_new v f = if is_variable v f.expression then f.front else behind_front f.front (Set v f.expression)
+abbrev pub set_new : ℕ → Fronted → List Source
+set_new v f = if is_variable v f.expression then map Plain f.front else plain_behind f.front (Set v f.expression)
 
 -- behind its name
-abbrev pub new_variable : ℕ → Scope → ℕ → List ℕ → List Token → ReadStatement
+abbrev pub new_variable : ℕ → Scope → ℕ → List ℕ → List Token → ReadNew
 new_variable levels scope v name tokens =
     expect_symbol symbol.Assign tokens >>= λ value.
     value_at levels scope value >>= λ x. with_front scope x.0 >>= λ f. Ok (set_new v f, with_name scope name x.0.kind, x.1)
 
-abbrev pub named_by : ℕ → Scope → ℕ → List Token → Option (List ℕ × List Token) → ReadStatement
+abbrev pub named_by : ℕ → Scope → ℕ → List Token → Option (List ℕ × List Token) → ReadNew
 named_by levels scope v tokens None = Err (unexpected tokens)
 named_by levels scope v tokens (Some p) =
     if may_give scope p.0 then new_variable levels scope v p.0 p.1 else bad (place tokens) cause.Name
 
 -- behind a `let`, which begins at a byte
-abbrev pub let_by : ℕ → Scope → ℕ → List Token → Option ℕ → ReadStatement
+abbrev pub let_by : ℕ → Scope → ℕ → List Token → Option ℕ → ReadNew
 let_by levels scope at tokens None = bad at cause.TooMany
 let_by levels scope at tokens (Some v) = named_by levels scope v tokens (next_name tokens)
 
-abbrev pub let_at : ℕ → Scope → ℕ → List Token → ReadStatement
+abbrev pub let_at : ℕ → Scope → ℕ → List Token → ReadNew
 let_at levels scope at tokens = let_by levels scope at tokens (next_of scope)
 
 -- ---- choices
 
+-- statements, how they end, and the tokens behind them
+abbrev pub ReadParts : Type 0
+ReadParts = Outcome (List Source × Ending × List Token)
+
+abbrev pub ReadBlock : Type 0
+ReadBlock = Outcome (Sources × Ending × List Token)
+
 abbrev pub Blocks : Type 0
-Blocks = Scope → List Token → Read Block
+Blocks = Scope → List Token → ReadBlock
 
 -- a block alone, or another choice
-abbrev pub otherwise_by : (List Token → Read (List Statement)) → Blocks → Scope → List Token → Option (List Token) → Read Block
-otherwise_by choice block scope tokens (Some rest) = choice rest >>= λ s. Ok (block_of s.0, s.1)
+abbrev pub otherwise_by : (List Token → ReadParts) → Blocks → Scope → List Token → Option (List Token) → ReadBlock
+otherwise_by choice block scope tokens (Some rest) = choice rest >>= λ s. Ok (sources_of s.0, s.1, s.2)
 otherwise_by choice block scope tokens None = block scope tokens
 
-abbrev pub else_by : (List Token → Read (List Statement)) → Blocks → Scope → List Token → Option (List Token) → Read Block
-else_by choice block scope tokens None = Ok (End, tokens)
+abbrev pub else_by : (List Token → ReadParts) → Blocks → Scope → List Token → Option (List Token) → ReadBlock
+else_by choice block scope tokens None = Ok (Nil, GoesOn, tokens)
 else_by choice block scope tokens (Some rest) = otherwise_by choice block scope rest (after_word word.If rest)
 
 -- condition, block and else
-abbrev pub choice_by : (List Token → Read (List Statement)) → Blocks → ℕ → Scope → List Token → Read (List Statement)
+abbrev pub choice_by : (List Token → ReadParts) → Blocks → ℕ → Scope → List Token → ReadParts
 choice_by choice block levels scope tokens =
     condition_at levels scope tokens >>= λ c.
     block scope c.1 >>= λ t.
-    else_by choice block scope t.1 (after_word word.Else t.1) >>= λ e.
-    Ok (behind_front c.0.front (If c.0.condition t.0 e.0), e.1)
+    else_by choice block scope t.2 (after_word word.Else t.2) >>= λ e.
+    Ok (behind_front c.0.front (Choice c.0.condition t.0 e.0), choice_ending t.1 e.1, e.2)
 
 -- behind an `if`, with so many choices that may follow in its else: one more is too deep, whatever it is
-unfoldable pub choice_at : Blocks → ℕ → Scope → ℕ → List Token → Read (List Statement)
+unfoldable pub choice_at : Blocks → ℕ → Scope → ℕ → List Token → ReadParts
 choice_at block levels scope zero tokens = bad scope.program cause.TooDeep
 choice_at block levels scope (suc more) tokens = choice_by (choice_at block levels scope more) block levels scope tokens
 
 -- ---- loops
 
 -- behind the counted name
-abbrev pub counted_by : Blocks → ℕ → Scope → ℕ → Scope → List Token → Read (List Statement)
+abbrev pub counted_by : Blocks → ℕ → Scope → ℕ → Scope → List Token → Read (List Source)
 counted_by block levels scope v inner tokens =
     value_of levels scope value_kind.Number tokens >>= λ count.
     with_front scope count.0 >>= λ f.
     limit_at scope f.expression tokens count.1 >>= λ limit.
-    block inner limit.1 >>= λ body. Ok (behind_front f.front (For v f.expression limit.0 body.0), body.1)
+    block inner limit.1 >>= λ body. Ok (behind_front f.front (Count v f.expression limit.0 body.0), body.2)
 
 -- behind `0 ..`; its name begins at a byte
-abbrev pub count_loop : Blocks → ℕ → Scope → ℕ → List ℕ → List Token → Read (List Statement)
+abbrev pub count_loop : Blocks → ℕ → Scope → ℕ → List ℕ → List Token → Read (List Source)
 count_loop block levels scope at name tokens =
     counted_in scope name at >>= λ counted. counted_by block levels scope counted.0 counted.1 tokens
 
-abbrev pub listed : Block → List Statement
-listed End = []
-listed (Then s b) = s ∷ listed b
-
 -- the statements of a block for one item
-abbrev pub copy_at : Blocks → Scope → List ℕ → Item → List Token → Read (List Statement)
-copy_at block scope name item tokens = block (with_item scope name item) tokens >>= λ b. Ok (listed b.0, b.1)
+abbrev pub copy_at : Blocks → Scope → List ℕ → Item → List Token → Read Sources
+copy_at block scope name item tokens = block (with_item scope name item) tokens >>= λ b. Ok (b.0, b.2)
 
--- behind these, those for each item, read of the same tokens, while there may be more nodes: behind more than a program has none is read
-abbrev pub copies_from : (Item → List Token → Read (List Statement)) → List Token → ℕ → List Statement → List Item → List Token → Read (List Statement)
+-- how many nodes may follow a copy
+abbrev pub copy_room : ℕ → Sources → ℕ
+copy_room room copy = room_behind room (closed copy nothing)
+
+-- behind these, those for each item, read of the same tokens, while there may be more nodes
+abbrev pub copies_from : (Item → List Token → Read Sources) → List Token → ℕ → List Sources → List Item → List Token → Read (List Sources)
 copies_from copy tokens room done [] rest = Ok (done, rest)
 copies_from copy tokens room done (i ∷ is) rest =
     if nat_eq room 0 then Ok (done, rest)
-    else (copy i tokens >>= λ c. copies_from copy tokens (room_behind room c.0) (done ++ c.0) is c.1)
+    else (copy i tokens >>= λ c. copies_from copy tokens (copy_room room c.0) (done ++ c.0 ∷ []) is c.1)
 
 -- where there is no item, the block is read and left out
-abbrev pub copies_at : Blocks → Scope → List ℕ → List Item → List Token → Read (List Statement)
+abbrev pub copies_at : Blocks → Scope → List ℕ → List Item → List Token → Read (List Source)
 copies_at block scope name [] tokens = copy_at block scope name unknown_item tokens >>= λ c. Ok ([], c.1)
-copies_at block scope name (i ∷ is) tokens = copies_from (copy_at block scope name) tokens MOST_STATEMENTS [] (i ∷ is) tokens
+copies_at block scope name (i ∷ is) tokens =
+    copies_from (copy_at block scope name) tokens MOST_STATEMENTS [] (i ∷ is) tokens >>= λ c. Ok (Items (copies_of c.0) ∷ [], c.1)
 
 -- behind its `in`
-abbrev pub item_loop : Blocks → ℕ → Scope → ℕ → List ℕ → List Token → Read (List Statement)
+abbrev pub item_loop : Blocks → ℕ → Scope → ℕ → List ℕ → List Token → Read (List Source)
 item_loop block levels scope at name tokens =
     items_of scope at name tokens >>= λ items. copies_at block scope name items.0 items.1
 
-abbrev pub loop_in : Blocks → ℕ → Scope → ℕ → List ℕ → List Token → Option (List Token) → Read (List Statement)
-loop_in block levels scope at name tokens (Some bound) = count_loop block levels scope at name bound
-loop_in block levels scope at name tokens None = item_loop block levels scope at name tokens
+abbrev pub loop_in : (Around → Blocks) → ℕ → Around → Scope → ℕ → List ℕ → List Token → Option (List Token) → Read (List Source)
+loop_in block levels around scope at name tokens (Some bound) = count_loop (block (in_turns around)) levels scope at name bound
+loop_in block levels around scope at name tokens None = item_loop (block (in_items around)) levels scope at name tokens
 
 -- behind its name, which begins at a byte
-abbrev pub loop_behind : Blocks → ℕ → Scope → ℕ → List ℕ → List Token → Read (List Statement)
-loop_behind block levels scope at name tokens =
-    expect_word word.In tokens >>= λ inner. loop_in block levels scope at name inner (after_zero inner)
+abbrev pub loop_behind : (Around → Blocks) → ℕ → Around → Scope → ℕ → List ℕ → List Token → Read (List Source)
+loop_behind block levels around scope at name tokens =
+    expect_word word.In tokens >>= λ inner. loop_in block levels around scope at name inner (after_zero inner)
 
-abbrev pub loop_by : Blocks → ℕ → Scope → List Token → Option (List ℕ × List Token) → Read (List Statement)
-loop_by block levels scope tokens None = Err (unexpected tokens)
-loop_by block levels scope tokens (Some p) =
-    if knows scope p.0 then bad (place tokens) cause.Name else loop_behind block levels scope (place tokens) p.0 p.1
+abbrev pub loop_by : (Around → Blocks) → ℕ → Around → Scope → List Token → Option (List ℕ × List Token) → Read (List Source)
+loop_by block levels around scope tokens None = Err (unexpected tokens)
+loop_by block levels around scope tokens (Some p) =
+    if knows scope p.0 then bad (place tokens) cause.Name else loop_behind block levels around scope (place tokens) p.0 p.1
 
 -- behind a `for`
-abbrev pub loop_at : Blocks → ℕ → Scope → List Token → Read (List Statement)
-loop_at block levels scope tokens = loop_by block levels scope tokens (next_name tokens)
+abbrev pub loop_at : (Around → Blocks) → ℕ → Around → Scope → List Token → Read (List Source)
+loop_at block levels around scope tokens = loop_by block levels around scope tokens (next_name tokens)
 
 -- ---- a statement, and blocks
 
@@ -252,59 +271,83 @@ simple_word w =
     else (if same_word w word.Abort then Some simple.Abort
     else None))
 
-abbrev pub simple_by : ℕ → Scope → List Token → List Token → Option Simple → Read (List Statement)
+-- a run is over behind an `abort`
+abbrev pub simple_ending : Simple → Ending
+simple_ending simple.Del = GoesOn
+simple_ending simple.Emit = GoesOn
+simple_ending simple.Abort = Aborts
+
+abbrev pub simple_by : ℕ → Scope → List Token → List Token → Option Simple → ReadParts
 simple_by levels scope tokens rest None = Err (unexpected tokens)
-simple_by levels scope tokens rest (Some s) = simple_at levels scope s rest
+simple_by levels scope tokens rest (Some s) = simple_at levels scope s rest >>= λ x. Ok (x.0, simple_ending s, x.1)
 
-abbrev pub plain_at : Blocks → ℕ → Scope → Word → List Token → List Token → Read (List Statement)
-plain_at block levels scope w tokens rest =
-    if same_word w word.If then choice_at block levels scope MOST_BRACKETS rest
-    else (if same_word w word.For then loop_at block levels scope rest
-    else (if same_word w word.Put then put_at levels scope rest
-    else simple_by levels scope tokens rest (simple_word w)))
+abbrev pub short_by : ℕ → Around → Scope → Word → List Token → List Token → Option Leave → ReadParts
+short_by levels around scope w tokens rest (Some leave) = leaving_part around leave (place tokens) >>= λ p. Ok (behind_front [] p, Leaves, rest)
+short_by levels around scope w tokens rest None = simple_by levels scope tokens rest (simple_word w)
 
-abbrev pub in_scope : Scope → Read (List Statement) → ReadStatement
-in_scope scope read = read >>= λ x. Ok (x.0, scope, x.1)
+-- one that leaves its block, or one of one value
+abbrev pub short_at : ℕ → Around → Scope → Word → List Token → List Token → ReadParts
+short_at levels around scope w tokens rest = short_by levels around scope w tokens rest (leave_word w)
 
-abbrev pub worded_at : Blocks → ℕ → Scope → Word → List Token → List Token → ReadStatement
-worded_at block levels scope w tokens rest =
-    if same_word w word.Let then let_at levels scope (place tokens) rest else in_scope scope (plain_at block levels scope w tokens rest)
+abbrev pub going_on : Read (List Source) → ReadParts
+going_on read = read >>= λ x. Ok (x.0, GoesOn, x.1)
 
-abbrev pub statement_kind : Blocks → ℕ → Scope → TokenKind → List Token → List Token → ReadStatement
-statement_kind block levels scope (kind.Word w) tokens rest = worded_at block levels scope w tokens rest
-statement_kind block levels scope (kind.Name n) tokens rest = in_scope scope (assignment_at levels scope n tokens rest)
-statement_kind block levels scope _ tokens rest = Err (unexpected tokens)
+abbrev pub plain_at : (Around → Blocks) → ℕ → Around → Scope → Word → List Token → List Token → ReadParts
+plain_at block levels around scope w tokens rest =
+    if same_word w word.If then choice_at (block around) levels scope MOST_BRACKETS rest
+    else (if same_word w word.For then going_on (loop_at block levels around scope rest)
+    else (if same_word w word.Put then going_on (put_at levels scope rest)
+    else short_at levels around scope w tokens rest))
 
-unfoldable pub statement_by : Blocks → ℕ → Scope → List Token → ReadStatement
-statement_by block levels scope [] = Err (unexpected [])
-statement_by block levels scope (t ∷ ts) = statement_kind block levels scope t.kind (t ∷ ts) ts
+-- a statement, how it ends, the names behind it, and the tokens behind it
+abbrev pub ReadStatement : Type 0
+ReadStatement = Outcome (List Source × Ending × Scope × List Token)
+
+abbrev pub in_scope : Scope → ReadParts → ReadStatement
+in_scope scope read = read >>= λ x. Ok (x.0, x.1, scope, x.2)
+
+abbrev pub worded_at : (Around → Blocks) → ℕ → Around → Scope → Word → List Token → List Token → ReadStatement
+worded_at block levels around scope w tokens rest =
+    if same_word w word.Let then (let_at levels scope (place tokens) rest >>= λ x. Ok (x.0, GoesOn, x.1, x.2))
+    else in_scope scope (plain_at block levels around scope w tokens rest)
+
+abbrev pub statement_kind : (Around → Blocks) → ℕ → Around → Scope → TokenKind → List Token → List Token → ReadStatement
+statement_kind block levels around scope (kind.Word w) tokens rest = worded_at block levels around scope w tokens rest
+statement_kind block levels around scope (kind.Name n) tokens rest = in_scope scope (going_on (assignment_at levels scope n tokens rest))
+statement_kind block levels around scope _ tokens rest = Err (unexpected tokens)
+
+unfoldable pub statement_by : (Around → Blocks) → ℕ → Around → Scope → List Token → ReadStatement
+statement_by block levels around scope [] = Err (unexpected [])
+statement_by block levels around scope (t ∷ ts) = statement_kind block levels around scope t.kind (t ∷ ts) ts
 
 -- a block with more statements than are kept has too many nodes, whatever they are
-abbrev pub then_all : List Statement → Block → Block
+abbrev pub then_all : List Source → Sources → Sources
 then_all [] b = b
-then_all (s ∷ ss) b = Then s (then_all ss b)
+then_all (s ∷ ss) b = Next s (then_all ss b)
 
-abbrev pub then_up : ℕ → List Statement → Block → Block
+abbrev pub then_up : ℕ → List Source → Sources → Sources
 then_up done ss b = if nat_lt done MOST_STATEMENTS then then_all ss b else b
 
-abbrev pub closed_or : ℕ → (List Token → ReadStatement) → (List Statement × Scope × List Token → Read Block) → List Token → Option (List Token) → Read Block
-closed_or done statement more tokens (Some rest) = Ok (End, rest)
-closed_or done statement more tokens None = statement tokens >>= λ s. more s >>= λ b. Ok (then_up done s.0 b.0, b.1)
+-- behind a statement that leaves in any case the block is closed
+abbrev pub closed_or : ℕ → Ending → (List Token → ReadStatement) → (List Source × Ending × Scope × List Token → ReadBlock) → List Token → Option (List Token) → ReadBlock
+closed_or done ending statement more tokens (Some rest) = Ok (Nil, ending, rest)
+closed_or done ending statement more tokens None =
+    if is_left ending then Err (unexpected tokens) else (statement tokens >>= λ s. more s >>= λ b. Ok (then_up done s.0 b.0, b.1, b.2))
 
--- the statements up to the brace that closes their block, behind so many, and at most so many more
-unfoldable pub statements_from : (Scope → List Token → ReadStatement) → ℕ → ℕ → Scope → List Token → Read Block
-statements_from statement done zero scope tokens = Err (unexpected tokens)
-statements_from statement done (suc more) scope tokens =
-    closed_or done (statement scope) (λ s. statements_from statement (done + 1) more s.1 (skip_semicolon s.2)) tokens (after_symbol symbol.RightBrace tokens)
+-- the statements up to the brace that closes their block, behind so many, the last of which ends so, and at most so many more
+unfoldable pub statements_from : (Scope → List Token → ReadStatement) → ℕ → Ending → ℕ → Scope → List Token → ReadBlock
+statements_from statement done ending zero scope tokens = Err (unexpected tokens)
+statements_from statement done ending (suc more) scope tokens =
+    closed_or done ending (statement scope) (λ s. statements_from statement (done + 1) s.1 more s.2 (skip_semicolon s.3)) tokens (after_symbol symbol.RightBrace tokens)
 
 -- statements between braces
-abbrev pub block_by : (Scope → List Token → ReadStatement) → Scope → List Token → Read Block
-block_by statement scope tokens = expect_symbol symbol.LeftBrace tokens >>= λ inner. statements_from statement 0 (length inner) scope inner
+abbrev pub block_by : (Scope → List Token → ReadStatement) → Scope → List Token → ReadBlock
+block_by statement scope tokens = expect_symbol symbol.LeftBrace tokens >>= λ inner. statements_from statement 0 GoesOn (length inner) scope inner
 
 -- where so many brackets may still be opened
-unfoldable pub block_at : ℕ → Scope → List Token → Read Block
-block_at zero scope tokens = Err (unexpected tokens)
-block_at (suc levels) scope tokens = block_by (statement_by (block_at levels) levels) scope tokens
+unfoldable pub block_at : ℕ → Around → Scope → List Token → ReadBlock
+block_at zero around scope tokens = Err (unexpected tokens)
+block_at (suc levels) around scope tokens = block_by (statement_by (block_at levels) levels around) scope tokens
 
-abbrev pub statements_at : ℕ → Scope → List Token → Read Block
-statements_at levels scope tokens = statements_from (statement_by (block_at levels) levels) 0 (length tokens) scope tokens
+abbrev pub statements_at : ℕ → Around → Scope → List Token → ReadBlock
+statements_at levels around scope tokens = statements_from (statement_by (block_at levels) levels around) 0 GoesOn (length tokens) scope tokens

@@ -3,6 +3,7 @@ ghost use Rattle.std.specs.Prelude.{◌≡◌, option_map, IfOk};
 ghost use Rattle.stm_terms.specs.Cursor as cursor;
 ghost use Rattle.stm_terms.specs.Outcome.{Returns};
 ghost use Rattle.stm_terms.specs.Scope.{argument_named, blame};
+ghost use Rattle.stm_program.specs.BlockView.{block_of};
 ghost use Rattle.stm_source.specs.Loops as spec;
 
 use std::alloc::{AllocError, Global};
@@ -165,7 +166,7 @@ pub(crate) fn items<'a>(
 /// How many nodes may follow statements, of which a program has room for so many before them: none, where they are too many or too deep, or where there
 /// are none, since others like them are none, too.
 pub(crate) fn room_behind(statements: &[Stmt], room: usize) -> usize
-    ensures { result ≡ spec.room_behind room statements.now }
+    ensures { result ≡ spec.room_behind room (block_of statements.now) }
 {
     if statements.is_empty() {
         return 0;

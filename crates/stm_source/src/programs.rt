@@ -1,12 +1,15 @@
 //! Reading programs.
 ghost use Rattle.std.specs.Prelude.{◌≡◌, ◌∷◌, ◌++◌, [], length, map, string_bytes, OnOk};
 ghost use Rattle.stm_program.specs.BlockView.{block_of};
+ghost use Rattle.stm_leaving.specs.PartsView.{sources_of};
 ghost use Rattle.stm_terms.specs.Outcome.{Returns};
 ghost use Rattle.stm_source.specs.Programs as spec;
 
+use crate::leaving::Around;
 use crate::statements::statements;
 use std::alloc::{AllocError, Global};
 use stm_history::{Sequence, Text};
+use stm_leaving::{Part, closed_statements};
 use stm_program::{
     MAX_DEPTH, MAX_NODES, MAX_PREFETCH, MAX_TEXT, Program, Stmt, is_listed, list_fits,
 };
@@ -130,14 +133,14 @@ fn list<'a>(
     Ok((keys, skip_semicolon(rest)))
 }
 
-/// The program of a list and of statements. `at` is the place of what is wrong with it. Its copies share it.
-pub(crate) fn program_of(
+/// The program of a list and of its statements. `at` is the place of what is wrong with it. Its copies share it.
+fn program_in_room(
     alloc: Global,
     at: usize,
     keys: Vec<String>,
     statements: Vec<Stmt>,
 ) -> Result<Program, SourceError>
-    ensures { Returns (λ p. p) result (spec.program_of at (map string_bytes keys.items) (block_of statements.items)) }
+    ensures { Returns (λ p. p) result (spec.program_in_room at (map string_bytes keys.items) (block_of statements.items)) }
 {
     if let Err(cause) = statements_room(statements.as_slice(), MAX_DEPTH, MAX_NODES) {
         return Err(fault(at, cause));
@@ -147,6 +150,19 @@ pub(crate) fn program_of(
     }
     let program = Program::with_list(keys, statements).share(alloc)?;
     Ok(program)
+}
+
+/// The program of a list and of statements of a source: what follows a statement goes into the branches that come to it.
+pub(crate) fn program_of(
+    alloc: Global,
+    at: usize,
+    keys: Vec<String>,
+    parts: Vec<Part>,
+) -> Result<Program, SourceError>
+    ensures { Returns (λ p. p) result (spec.program_of at (map string_bytes keys.items) (sources_of parts.items)) }
+{
+    let statements = closed_statements(alloc, parts)?;
+    program_in_room(alloc, at, keys, statements)
 }
 
 /// What is in sight where a program begins, of which these tokens are left.
@@ -180,14 +196,14 @@ pub(crate) fn parts<'a>(
     arguments: Shared<Arguments>,
     look: Look,
     tokens: &'a [Token],
-) -> Result<(Vec<String>, Vec<Stmt>, &'a [Token]), SourceError>
-    ensures { Returns (λ x. (map string_bytes x.0.items, block_of x.1.items, x.2.now)) result (spec.parts_at look arguments tokens.now) }
+) -> Result<(Vec<String>, Vec<Part>, &'a [Token]), SourceError>
+    ensures { Returns (λ x. (map string_bytes x.0.items, sources_of x.1.items, x.2.now)) result (spec.parts_at look arguments tokens.now) }
 {
     let inner = expect_symbol(tokens, Symbol::LeftBrace)?;
     let scope = first_scope(alloc, arguments, look, inner);
     let (keys, rest) = list(alloc, &scope, inner)?;
-    let (statements, rest) = statements(alloc, &scope, MOST_BRACKETS - 1, rest)?;
-    Ok((keys, statements, rest))
+    let (parts, _, rest) = statements(alloc, &scope, MOST_BRACKETS - 1, Around::Program, rest)?;
+    Ok((keys, parts, rest))
 }
 
 /// A program in braces, whose parameters stand for these arguments.

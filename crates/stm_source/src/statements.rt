@@ -1,22 +1,25 @@
 //! Reading statements and blocks.
-ghost use Rattle.std.specs.Prelude.{◌≡◌, ◌≤◌, [], option_map, Some, IfOk, OnOk};
-ghost use Rattle.stm_program.specs.BlockView.{block_of};
-ghost use Rattle.stm_program.specs.Syntax.{If, End};
+ghost use Rattle.std.specs.Prelude.{◌≡◌, ◌≤◌, [], ◌∷◌, map, option_map, Some, IfOk, OnOk};
 ghost use Rattle.stm_program.specs.declared.limits.TheConstants.{MAX_VARIABLE};
-ghost use Rattle.stm_source.specs.declared.statements.TheConstants.{MOST_STATEMENTS};
 ghost use Rattle.stm_tokens.specs.declared.token.Word.TheVariants.{Else};
 ghost use Rattle.stm_terms.specs.Cursor as cursor;
 ghost use Rattle.stm_terms.specs.Outcome.{Returns};
 ghost use Rattle.stm_source.specs.Statements as spec;
 ghost use Rattle.stm_source.specs.Kept.{pushed_up};
+ghost use Rattle.stm_source.specs.Leaving as leaving;
+ghost use Rattle.stm_source.specs.declared.statements.TheConstants.{MOST_STATEMENTS};
+ghost use Rattle.stm_leaving.specs.Source as tree;
+ghost use Rattle.stm_leaving.specs.Source.{Nil};
+ghost use Rattle.stm_leaving.specs.PartsView.{sources_of};
+ghost use Rattle.stm_leaving.specs.CopiesView.{copies_of};
 
+use crate::leaving::{Around, Ending, choice_ending, in_items, in_turns, leave_word, leaving_part};
 use crate::loops::{after_zero, counted, items, limit, room_behind, shared_name, unknown_item};
 use std::alloc::{AllocError, Global};
 use std::sync::Arc;
 use stm_history::Sequence;
-use stm_program::{
-    Block, Expr, ExprNode, MAX_LEASE, MAX_NODES, Operator, Stmt, StmtNode, Variable,
-};
+use stm_leaving::{Copies, Part, PartNode, Parts, closed_parts};
+use stm_program::{Expr, ExprNode, MAX_LEASE, MAX_NODES, Operator, Stmt, StmtNode, Variable};
 use stm_terms::{
     Fronted, FrontedPair, Item, Join, Kind, MOST_BRACKETS, Scope, SharedText, SourceCause,
     SourceError, Tested, after_symbol, after_word, bracketed, condition, expect_symbol,
@@ -49,13 +52,39 @@ fn simple_kind(simple: Simple) -> Kind
     }
 }
 
-/// A statement behind what is set in front of it. It fails only when out of memory.
-fn behind(front: Sequence<Stmt>, statement: Stmt) -> Result<Sequence<Stmt>, AllocError>
-    ensures { IfOk result (λ all. all ≡ spec.behind_front front statement) }
+/// Statements of a program, as those of a source. It fails only when out of memory.
+fn plain_parts(alloc: Global, statements: &[Stmt]) -> Result<Sequence<Part>, AllocError>
+    ensures { IfOk result (λ parts. parts ≡ map tree.Plain statements.now) }
 {
-    let mut all = front;
-    all.push(statement)?;
+    let mut parts = Sequence::new(alloc);
+    for statement in statements {
+        let copy = statement.clone()?;
+        parts.push(Part {
+            node: PartNode::Plain(copy),
+        })?;
+    }
+    Ok(parts)
+}
+
+/// A statement behind what is set in front of it. It fails only when out of memory.
+fn behind(alloc: Global, front: Sequence<Stmt>, part: Part) -> Result<Sequence<Part>, AllocError>
+    ensures { IfOk result (λ all. all ≡ spec.behind_front front part) }
+{
+    let mut all = plain_parts(alloc, front.as_slice())?;
+    all.push(part)?;
     Ok(all)
+}
+
+/// The same of a statement of a program.
+fn plain_behind(
+    alloc: Global,
+    front: Sequence<Stmt>,
+    statement: Stmt,
+) -> Result<Sequence<Part>, AllocError>
+    ensures { IfOk result (λ all. all ≡ spec.plain_behind front statement) }
+{
+    let node = PartNode::Plain(statement);
+    behind(alloc, front, Part { node })
 }
 
 fn simple_statement<'a>(
@@ -64,7 +93,7 @@ fn simple_statement<'a>(
     levels: usize,
     simple: Simple,
     tokens: &'a [Token],
-) -> Result<(Sequence<Stmt>, &'a [Token]), SourceError>
+) -> Result<(Sequence<Part>, &'a [Token]), SourceError>
     ensures { Returns (λ x. (x.0, x.1.now)) result (spec.simple_at levels scope.now simple tokens.now) }
 {
     let (value, rest) = bracketed(alloc, scope, levels, simple_kind(simple), tokens)?;
@@ -75,8 +104,18 @@ fn simple_statement<'a>(
         Simple::Emit => StmtNode::Emit(value),
         Simple::Abort => StmtNode::Abort(value),
     };
-    let all = behind(front, Stmt { node })?;
+    let all = plain_behind(alloc, front, Stmt { node })?;
     Ok((all, rest))
+}
+
+/// How a statement of one value ends.
+fn simple_ending(simple: Simple) -> Ending
+    ensures { result ≡ spec.simple_ending simple }
+{
+    match simple {
+        Simple::Abort => Ending::Aborts,
+        Simple::Del | Simple::Emit => Ending::GoesOn,
+    }
 }
 
 /// The lease of a put: 0 where it does not say one.
@@ -95,7 +134,7 @@ fn put<'a>(
     scope: &Scope,
     levels: usize,
     tokens: &'a [Token],
-) -> Result<(Sequence<Stmt>, &'a [Token]), SourceError>
+) -> Result<(Sequence<Part>, &'a [Token]), SourceError>
     ensures { Returns (λ x. (x.0, x.1.now)) result (spec.put_at levels scope.now tokens.now) }
 {
     let inner = open_bracket(levels, tokens)?;
@@ -113,7 +152,7 @@ fn put<'a>(
     let key = Arc::new(alloc, left)?;
     let value = Arc::new(alloc, right)?;
     let node = StmtNode::Put(key, value, lease);
-    let all = behind(front, Stmt { node })?;
+    let all = plain_behind(alloc, front, Stmt { node })?;
     Ok((all, rest))
 }
 
@@ -189,7 +228,7 @@ fn set_to<'a>(
     number: u64,
     join: Option<Join>,
     rest: &'a [Token],
-) -> Result<(Sequence<Stmt>, &'a [Token]), SourceError>
+) -> Result<(Sequence<Part>, &'a [Token]), SourceError>
     requires { number ≤ MAX_VARIABLE }
     ensures { Returns (λ x. (x.0, x.1.now)) result (spec.set_at levels scope.now number join rest.now) }
 {
@@ -199,7 +238,7 @@ fn set_to<'a>(
     let Fronted { front, expression } = with_front(alloc, scope, value)?;
     let value = assigned(alloc, join, variable, expression)?;
     let statement = set(alloc, variable, value)?;
-    let all = behind(front, statement)?;
+    let all = plain_behind(alloc, front, statement)?;
     Ok((all, rest))
 }
 
@@ -211,7 +250,7 @@ fn assignment<'a>(
     name: &str,
     tokens: &'a [Token],
     behind: &'a [Token],
-) -> Result<(Sequence<Stmt>, &'a [Token]), SourceError>
+) -> Result<(Sequence<Part>, &'a [Token]), SourceError>
     ensures { Returns (λ x. (x.0, x.1.now)) result (spec.assignment_at levels scope.now name.now tokens.now behind.now) }
 {
     let Some((join, rest)) = next_sign(behind) else {
@@ -236,15 +275,15 @@ fn is_variable(variable: Variable, value: &Expr) -> bool
 }
 
 /// That a new variable becomes a value: one to which it was set in front is not set again.
-fn set_new(alloc: Global, variable: Variable, value: Fronted) -> Result<Sequence<Stmt>, AllocError>
+fn set_new(alloc: Global, variable: Variable, value: Fronted) -> Result<Sequence<Part>, AllocError>
     ensures { IfOk result (λ all. all ≡ spec.set_new variable value) }
 {
     let Fronted { front, expression } = value;
     if is_variable(variable, &expression) {
-        return Ok(front);
+        return plain_parts(alloc, front.as_slice());
     }
     let statement = set(alloc, variable, expression)?;
-    behind(front, statement)
+    plain_behind(alloc, front, statement)
 }
 
 /// A new variable, behind its name.
@@ -255,7 +294,7 @@ fn new_variable<'a>(
     variable: Variable,
     name: &str,
     rest: &'a [Token],
-) -> Result<(Sequence<Stmt>, &'a [Token]), SourceError>
+) -> Result<(Sequence<Part>, &'a [Token]), SourceError>
     ensures { Returns (λ x. (x.0, scope.new, x.1.now)) result (spec.new_variable levels scope.old variable name.now rest.now) }
 {
     let rest = expect_symbol(rest, Symbol::Assign)?;
@@ -274,7 +313,7 @@ fn let_statement<'a>(
     levels: usize,
     at: usize,
     tokens: &'a [Token],
-) -> Result<(Sequence<Stmt>, &'a [Token]), SourceError>
+) -> Result<(Sequence<Part>, &'a [Token]), SourceError>
     ensures { Returns (λ x. (x.0, scope.new, x.1.now)) result (spec.let_at levels scope.old at tokens.now) }
 {
     let Some(variable) = scope.next_variable() else {
@@ -305,29 +344,29 @@ fn simple_word(word: Word) -> Option<Simple>
 }
 
 /// The block of statements.
-fn block_of_all(alloc: Global, statements: Sequence<Stmt>) -> Result<Block, AllocError>
-    ensures { IfOk result (λ b. b ≡ block_of statements) }
+fn block_of_all(alloc: Global, parts: Sequence<Part>) -> Result<Parts, AllocError>
+    ensures { IfOk result (λ b. b ≡ sources_of parts) }
 {
-    let statements = Arc::new(alloc, statements.into_vec())?;
-    Ok(Block { statements })
+    let parts = Arc::new(alloc, parts.into_vec())?;
+    Ok(Parts { parts })
 }
 
 /// The block of no statements.
-fn empty_block(alloc: Global) -> Result<Block, AllocError>
-    ensures { IfOk result (λ b. b ≡ End) }
+fn empty_block(alloc: Global) -> Result<Parts, AllocError>
+    ensures { IfOk result (λ b. b ≡ Nil) }
 {
-    let statements = Arc::new(alloc, Vec::new(alloc))?;
-    Ok(Block { statements })
+    let parts = Arc::new(alloc, Vec::new(alloc))?;
+    Ok(Parts { parts })
 }
 
 /// A choice behind what is set in front of it.
 fn chosen(
     alloc: Global,
     tested: Tested,
-    yes: Block,
-    no: Block,
-) -> Result<Sequence<Stmt>, AllocError>
-    ensures { IfOk result (λ all. all ≡ spec.behind_front tested.front (If tested.condition yes no)) }
+    yes: Parts,
+    no: Parts,
+) -> Result<Sequence<Part>, AllocError>
+    ensures { IfOk result (λ all. all ≡ spec.behind_front tested.front (tree.Choice tested.condition yes no)) }
 {
     let Tested {
         front,
@@ -335,8 +374,28 @@ fn chosen(
         ..
     } = tested;
     let condition = Arc::new(alloc, condition)?;
-    let node = StmtNode::If(condition, yes, no);
-    behind(front, Stmt { node })
+    let node = PartNode::Choice(condition, yes, no);
+    behind(alloc, front, Part { node })
+}
+
+/// How many nodes may follow a copy of a loop's block, of which there may be so many with its own.
+fn copy_room(alloc: Global, copy: &Parts, room: usize) -> Result<usize, AllocError>
+    ensures { IfOk result (λ left. left ≡ spec.copy_room room copy.now) }
+{
+    let statements = closed_parts(alloc, copy)?;
+    Ok(room_behind(statements.as_slice(), room))
+}
+
+/// A loop over items, as a statement.
+fn items_part(alloc: Global, copies: Vec<Parts>) -> Result<Sequence<Part>, AllocError>
+    ensures { IfOk result (λ all. all ≡ tree.Items (copies_of copies.items) ∷ []) }
+{
+    let copies = Arc::new(alloc, copies)?;
+    let mut all = Sequence::new(alloc);
+    all.push(Part {
+        node: PartNode::Items(Copies { copies }),
+    })?;
+    Ok(all)
 }
 
 /// What runs where the condition of a choice does not hold.
@@ -345,23 +404,24 @@ fn otherwise<'a>(
     alloc: Global,
     scope: &Scope,
     levels: usize,
+    around: Around,
     more: usize,
     tokens: &'a [Token],
-) -> Result<(Block, &'a [Token]), SourceError>
+) -> Result<(Parts, Ending, &'a [Token]), SourceError>
     requires { more ≤ 127 }
-    ensures { Returns (λ x. (x.0, x.1.now)) result (spec.else_by (spec.choice_at (spec.block_at levels) levels scope.now more) (spec.block_at levels) scope.now tokens.now (cursor.after_word Else tokens.now)) }
+    ensures { Returns (λ x. (x.0, x.1, x.2.now)) result (spec.else_by (spec.choice_at (spec.block_at levels around) levels scope.now more) (spec.block_at levels around) scope.now tokens.now (cursor.after_word Else tokens.now)) }
 {
     let Some(rest) = after_word(tokens, Word::Else) else {
         let block = empty_block(alloc)?;
-        return Ok((block, tokens));
+        return Ok((block, Ending::GoesOn, tokens));
     };
     match after_word(rest, Word::If) {
         Some(rest) => {
-            let (statements, rest) = choice(alloc, scope, levels, more, rest)?;
-            let block = block_of_all(alloc, statements)?;
-            Ok((block, rest))
+            let (parts, ending, rest) = choice(alloc, scope, levels, around, more, rest)?;
+            let block = block_of_all(alloc, parts)?;
+            Ok((block, ending, rest))
         }
-        None => block(alloc, scope, levels, rest),
+        None => block(alloc, scope, levels, around, rest),
     }
 }
 
@@ -371,16 +431,17 @@ fn choice<'a>(
     alloc: Global,
     scope: &Scope,
     levels: usize,
+    around: Around,
     more: usize,
     tokens: &'a [Token],
-) -> Result<(Sequence<Stmt>, &'a [Token]), SourceError>
+) -> Result<(Sequence<Part>, Ending, &'a [Token]), SourceError>
     requires { more ≤ 127 }
-    ensures { Returns (λ x. (x.0, x.1.now)) result (spec.choice_at (spec.block_at levels) levels scope.now more tokens.now) }
+    ensures { Returns (λ x. (x.0, x.1, x.2.now)) result (spec.choice_at (spec.block_at levels around) levels scope.now more tokens.now) }
 {
     if more == 0 {
         return Err(fault(scope.program, SourceCause::TooDeep));
     }
-    choice_between(alloc, scope, levels, more - 1, tokens)
+    choice_between(alloc, scope, levels, around, more - 1, tokens)
 }
 
 /// Condition, block and else of a choice, in which so many choices may follow.
@@ -389,17 +450,18 @@ fn choice_between<'a>(
     alloc: Global,
     scope: &Scope,
     levels: usize,
+    around: Around,
     more: usize,
     tokens: &'a [Token],
-) -> Result<(Sequence<Stmt>, &'a [Token]), SourceError>
+) -> Result<(Sequence<Part>, Ending, &'a [Token]), SourceError>
     requires { more ≤ 127 }
-    ensures { Returns (λ x. (x.0, x.1.now)) result (spec.choice_by (spec.choice_at (spec.block_at levels) levels scope.now more) (spec.block_at levels) levels scope.now tokens.now) }
+    ensures { Returns (λ x. (x.0, x.1, x.2.now)) result (spec.choice_by (spec.choice_at (spec.block_at levels around) levels scope.now more) (spec.block_at levels around) levels scope.now tokens.now) }
 {
     let (tested, rest) = condition(alloc, scope, levels, tokens)?;
-    let (yes, rest) = block(alloc, scope, levels, rest)?;
-    let (no, rest) = otherwise(alloc, scope, levels, more, rest)?;
+    let (yes, yes_ending, rest) = block(alloc, scope, levels, around, rest)?;
+    let (no, no_ending, rest) = otherwise(alloc, scope, levels, around, more, rest)?;
     let all = chosen(alloc, tested, yes, no)?;
-    Ok((all, rest))
+    Ok((all, choice_ending(yes_ending, no_ending), rest))
 }
 
 /// A counted loop, behind `0 ..`.
@@ -408,38 +470,39 @@ fn counted_loop<'a>(
     alloc: Global,
     scope: &Scope,
     levels: usize,
+    around: Around,
     variable: Variable,
     inner: &Scope,
     tokens: &'a [Token],
-) -> Result<(Sequence<Stmt>, &'a [Token]), SourceError>
-    ensures { Returns (λ x. (x.0, x.1.now)) result (spec.counted_by (spec.block_at levels) levels scope.now variable inner.now tokens.now) }
+) -> Result<(Sequence<Part>, &'a [Token]), SourceError>
+    ensures { Returns (λ x. (x.0, x.1.now)) result (spec.counted_by (spec.block_at levels (leaving.in_turns around)) levels scope.now variable inner.now tokens.now) }
 {
     let (count, rest) = value_of(alloc, scope, levels, Kind::Number, tokens)?;
     let Fronted { front, expression } = with_front(alloc, scope, count)?;
     let (limit, rest) = limit(scope, &expression, tokens, rest)?;
-    let (body, rest) = block(alloc, inner, levels, rest)?;
+    let (body, _, rest) = block(alloc, inner, levels, in_turns(around), rest)?;
     let count = Arc::new(alloc, expression)?;
-    let node = StmtNode::For(variable, count, limit, body);
-    let all = behind(front, Stmt { node })?;
+    let node = PartNode::Count(variable, count, limit, body);
+    let all = behind(alloc, front, Part { node })?;
     Ok((all, rest))
 }
 
 /// The statements of a loop's block for one item.
 #[cycle(read_statements)]
-#[tactic(auto, using(crate::proofs::BlockLemmas::listed_of))]
 fn copy<'a>(
     alloc: Global,
     scope: &Scope,
     levels: usize,
+    around: Around,
     name: &SharedText,
     item: &Item,
     tokens: &'a [Token],
-) -> Result<(Vec<Stmt>, &'a [Token]), SourceError>
-    ensures { Returns (λ x. (x.0.items, x.1.now)) result (spec.copy_at (spec.block_at levels) scope.now name.now item.now tokens.now) }
+) -> Result<(Parts, &'a [Token]), SourceError>
+    ensures { Returns (λ x. (x.0, x.1.now)) result (spec.copy_at (spec.block_at levels (leaving.in_items around)) scope.now name.now item.now tokens.now) }
 {
     let inner = scope.with_item(alloc, name, item)?;
-    let (statements, rest) = braces(alloc, &inner, levels, tokens)?;
-    Ok((statements, rest))
+    let (parts, _, rest) = block(alloc, &inner, levels, in_items(around), tokens)?;
+    Ok((parts, rest))
 }
 
 /// The statements of a loop's block for each item, one after another. Behind so many that they are refused no other is read.
@@ -448,27 +511,27 @@ fn copies<'a>(
     alloc: Global,
     scope: &Scope,
     levels: usize,
+    around: Around,
     name: &SharedText,
     items: &[Item],
     tokens: &'a [Token],
-) -> Result<(Sequence<Stmt>, &'a [Token]), SourceError>
-    ensures { Returns (λ x. (x.0, x.1.now)) result
-        (spec.copies_from (spec.copy_at (spec.block_at levels) scope.now name.now) tokens.now MOST_STATEMENTS [] items.now tokens.now) }
+) -> Result<(Vec<Parts>, &'a [Token]), SourceError>
+    ensures { Returns (λ x. (x.0.items, x.1.now)) result
+        (spec.copies_from (spec.copy_at (spec.block_at levels (leaving.in_items around)) scope.now name.now) tokens.now MOST_STATEMENTS [] items.now tokens.now) }
 {
     let mut all = Vec::new(alloc);
     let mut room = MOST_STATEMENTS;
     let mut rest = tokens;
     for item in items {
         if room == 0 {
-            return Ok((Sequence::of(all), rest));
+            return Ok((all, rest));
         }
-        let (statements, behind) = copy(alloc, scope, levels, name, item, tokens)?;
-        room = room_behind(statements.as_slice(), room);
-        let mut statements = statements;
-        all.append(&mut statements)?;
+        let (parts, behind) = copy(alloc, scope, levels, around, name, item, tokens)?;
+        room = copy_room(alloc, &parts, room)?;
+        all.push(parts)?;
         rest = behind;
     }
-    Ok((Sequence::of(all), rest))
+    Ok((all, rest))
 }
 
 /// The same, where there may be no item.
@@ -477,19 +540,22 @@ fn all_copies<'a>(
     alloc: Global,
     scope: &Scope,
     levels: usize,
+    around: Around,
     name: &SharedText,
     items: &[Item],
     tokens: &'a [Token],
-) -> Result<(Sequence<Stmt>, &'a [Token]), SourceError>
-    ensures { Returns (λ x. (x.0, x.1.now)) result (spec.copies_at (spec.block_at levels) scope.now name.now items.now tokens.now) }
+) -> Result<(Sequence<Part>, &'a [Token]), SourceError>
+    ensures { Returns (λ x. (x.0, x.1.now)) result (spec.copies_at (spec.block_at levels (leaving.in_items around)) scope.now name.now items.now tokens.now) }
 {
     if items.is_empty() {
         let item = unknown_item(alloc)?;
-        let (statements, rest) = copy(alloc, scope, levels, name, &item, tokens)?;
-        drop(statements);
+        let (parts, rest) = copy(alloc, scope, levels, around, name, &item, tokens)?;
+        drop(parts);
         return Ok((Sequence::new(alloc), rest));
     }
-    copies(alloc, scope, levels, name, items, tokens)
+    let (copies, rest) = copies(alloc, scope, levels, around, name, items, tokens)?;
+    let all = items_part(alloc, copies)?;
+    Ok((all, rest))
 }
 
 /// A loop over items, behind its `in`. Its name begins at a byte.
@@ -498,15 +564,16 @@ fn item_loop<'a>(
     alloc: Global,
     scope: &Scope,
     levels: usize,
+    around: Around,
     at: usize,
     name: &str,
     tokens: &'a [Token],
-) -> Result<(Sequence<Stmt>, &'a [Token]), SourceError>
-    ensures { Returns (λ x. (x.0, x.1.now)) result (spec.item_loop (spec.block_at levels) levels scope.now at name.now tokens.now) }
+) -> Result<(Sequence<Part>, &'a [Token]), SourceError>
+    ensures { Returns (λ x. (x.0, x.1.now)) result (spec.item_loop (spec.block_at levels (leaving.in_items around)) levels scope.now at name.now tokens.now) }
 {
     let (items, rest) = items(alloc, scope, at, name, tokens)?;
     let name = shared_name(alloc, name)?;
-    all_copies(alloc, scope, levels, &name, items.as_slice(), rest)
+    all_copies(alloc, scope, levels, around, &name, items.as_slice(), rest)
 }
 
 /// A loop that counts, behind its `0 ..`. Its name begins at a byte.
@@ -515,14 +582,15 @@ fn count_loop<'a>(
     alloc: Global,
     scope: &Scope,
     levels: usize,
+    around: Around,
     at: usize,
     name: &str,
     tokens: &'a [Token],
-) -> Result<(Sequence<Stmt>, &'a [Token]), SourceError>
-    ensures { Returns (λ x. (x.0, x.1.now)) result (spec.count_loop (spec.block_at levels) levels scope.now at name.now tokens.now) }
+) -> Result<(Sequence<Part>, &'a [Token]), SourceError>
+    ensures { Returns (λ x. (x.0, x.1.now)) result (spec.count_loop (spec.block_at levels (leaving.in_turns around)) levels scope.now at name.now tokens.now) }
 {
     let (variable, inner) = counted(alloc, scope, name, at)?;
-    counted_loop(alloc, scope, levels, variable, &inner, tokens)
+    counted_loop(alloc, scope, levels, around, variable, &inner, tokens)
 }
 
 /// A loop, behind its `for`.
@@ -531,9 +599,10 @@ fn repetition<'a>(
     alloc: Global,
     scope: &Scope,
     levels: usize,
+    around: Around,
     tokens: &'a [Token],
-) -> Result<(Sequence<Stmt>, &'a [Token]), SourceError>
-    ensures { Returns (λ x. (x.0, x.1.now)) result (spec.loop_at (spec.block_at levels) levels scope.now tokens.now) }
+) -> Result<(Sequence<Part>, &'a [Token]), SourceError>
+    ensures { Returns (λ x. (x.0, x.1.now)) result (spec.loop_at (spec.block_at levels) levels around scope.now tokens.now) }
 {
     let Some((name, rest)) = next_name(tokens) else {
         return Err(unexpected(tokens));
@@ -542,7 +611,7 @@ fn repetition<'a>(
         return Err(fault(place(tokens), SourceCause::Name));
     }
     let at = place(tokens);
-    repetition_behind(alloc, scope, levels, at, name, rest)
+    repetition_behind(alloc, scope, levels, around, at, name, rest)
 }
 
 /// A loop, behind its name, which begins at a byte.
@@ -551,17 +620,42 @@ fn repetition_behind<'a>(
     alloc: Global,
     scope: &Scope,
     levels: usize,
+    around: Around,
     at: usize,
     name: &str,
     tokens: &'a [Token],
-) -> Result<(Sequence<Stmt>, &'a [Token]), SourceError>
-    ensures { Returns (λ x. (x.0, x.1.now)) result (spec.loop_behind (spec.block_at levels) levels scope.now at name.now tokens.now) }
+) -> Result<(Sequence<Part>, &'a [Token]), SourceError>
+    ensures { Returns (λ x. (x.0, x.1.now)) result (spec.loop_behind (spec.block_at levels) levels around scope.now at name.now tokens.now) }
 {
     let rest = expect_word(tokens, Word::In)?;
     match after_zero(rest) {
-        Some(bound) => count_loop(alloc, scope, levels, at, name, bound),
-        None => item_loop(alloc, scope, levels, at, name, rest),
+        Some(bound) => count_loop(alloc, scope, levels, around, at, name, bound),
+        None => item_loop(alloc, scope, levels, around, at, name, rest),
     }
+}
+
+/// A statement that leaves its block, or one of one value, behind the word that begins it.
+fn short_statement<'a>(
+    alloc: Global,
+    scope: &Scope,
+    levels: usize,
+    around: Around,
+    word: Word,
+    tokens: &'a [Token],
+    rest: &'a [Token],
+) -> Result<(Sequence<Part>, Ending, &'a [Token]), SourceError>
+    ensures { Returns (λ x. (x.0, x.1, x.2.now)) result (spec.short_at levels around scope.now word tokens.now rest.now) }
+{
+    if let Some(leave) = leave_word(word) {
+        let part = leaving_part(around, leave, place(tokens))?;
+        let all = behind(alloc, Sequence::new(alloc), part)?;
+        return Ok((all, Ending::Leaves, rest));
+    }
+    let Some(simple) = simple_word(word) else {
+        return Err(unexpected(tokens));
+    };
+    let (all, rest) = simple_statement(alloc, scope, levels, simple, rest)?;
+    Ok((all, simple_ending(simple), rest))
 }
 
 /// A statement that gives no name, behind the word that begins it.
@@ -570,25 +664,25 @@ fn plain_statement<'a>(
     alloc: Global,
     scope: &Scope,
     levels: usize,
+    around: Around,
     word: Word,
     tokens: &'a [Token],
     rest: &'a [Token],
-) -> Result<(Sequence<Stmt>, &'a [Token]), SourceError>
-    ensures { Returns (λ x. (x.0, x.1.now)) result (spec.plain_at (spec.block_at levels) levels scope.now word tokens.now rest.now) }
+) -> Result<(Sequence<Part>, Ending, &'a [Token]), SourceError>
+    ensures { Returns (λ x. (x.0, x.1, x.2.now)) result (spec.plain_at (spec.block_at levels) levels around scope.now word tokens.now rest.now) }
 {
     if word.is(Word::If) {
-        return choice(alloc, scope, levels, MOST_BRACKETS, rest);
+        return choice(alloc, scope, levels, around, MOST_BRACKETS, rest);
     }
     if word.is(Word::For) {
-        return repetition(alloc, scope, levels, rest);
+        let (all, rest) = repetition(alloc, scope, levels, around, rest)?;
+        return Ok((all, Ending::GoesOn, rest));
     }
     if word.is(Word::Put) {
-        return put(alloc, scope, levels, rest);
+        let (all, rest) = put(alloc, scope, levels, rest)?;
+        return Ok((all, Ending::GoesOn, rest));
     }
-    match simple_word(word) {
-        Some(simple) => simple_statement(alloc, scope, levels, simple, rest),
-        None => Err(unexpected(tokens)),
-    }
+    short_statement(alloc, scope, levels, around, word, tokens, rest)
 }
 
 /// A statement that begins with a word.
@@ -597,17 +691,19 @@ fn worded_statement<'a>(
     alloc: Global,
     scope: &mut Scope,
     levels: usize,
+    around: Around,
     word: Word,
     tokens: &'a [Token],
     rest: &'a [Token],
-) -> Result<(Sequence<Stmt>, &'a [Token]), SourceError>
-    ensures { Returns (λ x. (x.0, scope.new, x.1.now)) result (spec.worded_at (spec.block_at levels) levels scope.old word tokens.now rest.now) }
+) -> Result<(Sequence<Part>, Ending, &'a [Token]), SourceError>
+    ensures { Returns (λ x. (x.0, x.1, scope.new, x.2.now)) result (spec.worded_at (spec.block_at levels) levels around scope.old word tokens.now rest.now) }
 {
     if word.is(Word::Let) {
-        return let_statement(alloc, scope, levels, place(tokens), rest);
+        let (all, rest) = let_statement(alloc, scope, levels, place(tokens), rest)?;
+        return Ok((all, Ending::GoesOn, rest));
     }
-    let (statement, rest) = plain_statement(alloc, scope, levels, word, tokens, rest)?;
-    Ok((statement, rest))
+    let (all, ending, rest) = plain_statement(alloc, scope, levels, around, word, tokens, rest)?;
+    Ok((all, ending, rest))
 }
 
 /// A statement.
@@ -617,30 +713,33 @@ fn statement<'a>(
     alloc: Global,
     scope: &mut Scope,
     levels: usize,
+    around: Around,
     tokens: &'a [Token],
-) -> Result<(Sequence<Stmt>, &'a [Token]), SourceError>
-    ensures { Returns (λ x. (x.0, scope.new, x.1.now)) result (spec.statement_by (spec.block_at levels) levels scope.old tokens.now) }
+) -> Result<(Sequence<Part>, Ending, &'a [Token]), SourceError>
+    ensures { Returns (λ x. (x.0, x.1, scope.new, x.2.now)) result (spec.statement_by (spec.block_at levels) levels around scope.old tokens.now) }
 {
     let Some((first, rest)) = tokens.split_first() else {
         return Err(unexpected(tokens));
     };
     match &first.kind {
-        TokenKind::Word(word) => { worded_statement(alloc, scope, levels, *word, tokens, rest) }
+        TokenKind::Word(word) => {
+            worded_statement(alloc, scope, levels, around, *word, tokens, rest)
+        }
         TokenKind::Name(name) => {
-            let (statement, rest) = assignment(alloc, scope, levels, name.as_str(), tokens, rest)?;
-            Ok((statement, rest))
+            let (all, rest) = assignment(alloc, scope, levels, name.as_str(), tokens, rest)?;
+            Ok((all, Ending::GoesOn, rest))
         }
         _ => Err(unexpected(tokens)),
     }
 }
 
 /// Adds a statement, and what is set in front of it, behind so many, where that many are kept.
-fn push_up(done: usize, statements: &mut Vec<Stmt>, more: Sequence<Stmt>) -> Result<(), AllocError>
-    ensures { OnOk result (statements.new.items ≡ pushed_up done statements.old.items more) }
+fn push_up(done: usize, parts: &mut Vec<Part>, more: Sequence<Part>) -> Result<(), AllocError>
+    ensures { OnOk result (parts.new.items ≡ pushed_up done parts.old.items more) }
 {
     if done < MOST_STATEMENTS {
         let mut more = more.into_vec();
-        statements.append(&mut more)?;
+        parts.append(&mut more)?;
     }
     Ok(())
 }
@@ -651,52 +750,28 @@ pub(crate) fn statements<'a>(
     alloc: Global,
     outer: &Scope,
     levels: usize,
+    around: Around,
     tokens: &'a [Token],
-) -> Result<(Vec<Stmt>, &'a [Token]), SourceError>
-    ensures { Returns (λ x. (block_of x.0.items, x.1.now)) result (spec.statements_at levels outer.now tokens.now) }
+) -> Result<(Vec<Part>, Ending, &'a [Token]), SourceError>
+    ensures { Returns (λ x. (sources_of x.0.items, x.1, x.2.now)) result (spec.statements_at levels around outer.now tokens.now) }
 {
     let mut scope = outer.copy(alloc)?;
-    let mut statements = Vec::new(alloc);
+    let mut parts = Vec::new(alloc);
+    let mut ending = Ending::GoesOn;
     let mut rest = tokens;
     for done in 0..tokens.len() {
         if let Some(behind) = after_symbol(rest, Symbol::RightBrace) {
-            return Ok((statements, behind));
+            return Ok((parts, ending, behind));
         }
-        let (statement, behind) = statement(alloc, &mut scope, levels, rest)?;
-        push_up(done, &mut statements, statement)?;
+        if ending.is_left() {
+            return Err(unexpected(rest));
+        }
+        let (statement, next, behind) = statement(alloc, &mut scope, levels, around, rest)?;
+        push_up(done, &mut parts, statement)?;
+        ending = next;
         rest = skip_semicolon(behind);
     }
     Err(unexpected(rest))
-}
-
-/// The statements of a block, where so many brackets may still be opened.
-#[cycle(read_statements)]
-fn braces<'a>(
-    alloc: Global,
-    scope: &Scope,
-    levels: usize,
-    tokens: &'a [Token],
-) -> Result<(Vec<Stmt>, &'a [Token]), SourceError>
-    ensures { Returns (λ x. (block_of x.0.items, x.1.now)) result (spec.block_at levels scope.now tokens.now) }
-{
-    if levels == 0 {
-        return Err(unexpected(tokens));
-    }
-    between_braces(alloc, scope, levels - 1, tokens)
-}
-
-/// Statements between braces, within which so many brackets may still be opened.
-#[cycle(read_statements)]
-fn between_braces<'a>(
-    alloc: Global,
-    scope: &Scope,
-    levels: usize,
-    tokens: &'a [Token],
-) -> Result<(Vec<Stmt>, &'a [Token]), SourceError>
-    ensures { Returns (λ x. (block_of x.0.items, x.1.now)) result (spec.block_by (spec.statement_by (spec.block_at levels) levels) scope.now tokens.now) }
-{
-    let inner = expect_symbol(tokens, Symbol::LeftBrace)?;
-    statements(alloc, scope, levels, inner)
 }
 
 /// A block, where so many brackets may still be opened.
@@ -705,11 +780,30 @@ fn block<'a>(
     alloc: Global,
     scope: &Scope,
     levels: usize,
+    around: Around,
     tokens: &'a [Token],
-) -> Result<(Block, &'a [Token]), SourceError>
-    ensures { Returns (λ x. (x.0, x.1.now)) result (spec.block_at levels scope.now tokens.now) }
+) -> Result<(Parts, Ending, &'a [Token]), SourceError>
+    ensures { Returns (λ x. (x.0, x.1, x.2.now)) result (spec.block_at levels around scope.now tokens.now) }
 {
-    let (statements, rest) = braces(alloc, scope, levels, tokens)?;
-    let statements = Arc::new(alloc, statements)?;
-    Ok((Block { statements }, rest))
+    if levels == 0 {
+        return Err(unexpected(tokens));
+    }
+    block_between(alloc, scope, levels - 1, around, tokens)
+}
+
+/// Statements between braces, within which so many brackets may still be opened.
+#[cycle(read_statements)]
+fn block_between<'a>(
+    alloc: Global,
+    scope: &Scope,
+    levels: usize,
+    around: Around,
+    tokens: &'a [Token],
+) -> Result<(Parts, Ending, &'a [Token]), SourceError>
+    ensures { Returns (λ x. (x.0, x.1, x.2.now)) result (spec.block_by (spec.statement_by (spec.block_at levels) levels around) scope.now tokens.now) }
+{
+    let inner = expect_symbol(tokens, Symbol::LeftBrace)?;
+    let (parts, ending, rest) = statements(alloc, scope, levels, around, inner)?;
+    let parts = Arc::new(alloc, parts)?;
+    Ok((Parts { parts }, ending, rest))
 }

@@ -1,14 +1,12 @@
 use Rattle.std.proofs.Common.{◌≡◌, ◌+◌, ◌-◌, ◌*◌, [], length, drop}
 use Rattle.stm_source.specs.declared.statements.TheConstants.{MOST_STATEMENTS}
+use Rattle.stm_source.specs.Leaving.{in_items}
 use Rattle.stm_source.specs.Statements.{copies_from, copy_at, statements_from, statement_by, statements_at, block_at}
 use Rattle.stm_source.proofs.BlockLemmas.{with_front}
 use Rattle.stm_source.proofs.statements.+read_statements.Given as goal
 
-abbrev pub decreases-braces : goal.decreases-braces
-decreases-braces l = 500 * l.levels
-
 abbrev pub decreases-block : goal.decreases-block
-decreases-block l = 500 * l.levels + 1
+decreases-block l = 500 * l.levels
 
 abbrev pub decreases-copy : goal.decreases-copy
 decreases-copy l = 500 * l.levels + 1
@@ -43,8 +41,8 @@ decreases-otherwise l = 500 * l.levels + 2 + 3 * l.more
 abbrev pub decreases-choice_between : goal.decreases-choice_between
 decreases-choice_between l = 500 * l.levels + 3 + 3 * l.more
 
-abbrev pub decreases-between_braces : goal.decreases-between_braces
-decreases-between_braces l = 500 * l.levels + 499
+abbrev pub decreases-block_between : goal.decreases-block_between
+decreases-block_between l = 500 * l.levels + 499
 
 abbrev pub decreases-plain_statement : goal.decreases-plain_statement
 decreases-plain_statement l = 500 * l.levels + 400
@@ -61,11 +59,11 @@ decreases-statements l = 500 * l.levels + 403
 -- the statements so far, and then what is read of the rest
 abbrev pub invariant-statements-loop-done : goal.invariant-statements-loop-done
 invariant-statements-loop-done l =
-    with_front l.statements.items (statements_from (statement_by (block_at l.fn.levels) l.fn.levels) l.done (length l.fn.tokens - l.done) l.scope l.rest)
-    ≡ statements_at l.fn.levels l.fn.outer l.fn.tokens
+    with_front l.parts.items (statements_from (statement_by (block_at l.fn.levels) l.fn.levels l.fn.around) l.done l.ending (length l.fn.tokens - l.done) l.scope l.rest)
+    ≡ statements_at l.fn.levels l.fn.around l.fn.outer l.fn.tokens
 
 -- the items that are left lead to all
 abbrev pub invariant-copies-loop-item : goal.invariant-copies-loop-item
 invariant-copies-loop-item l =
-    copies_from (copy_at (block_at l.fn.levels) l.fn.scope l.fn.name) l.fn.tokens l.room l.all.items (drop l.item-index l.fn.items) l.rest
-    ≡ copies_from (copy_at (block_at l.fn.levels) l.fn.scope l.fn.name) l.fn.tokens MOST_STATEMENTS [] l.fn.items l.fn.tokens
+    copies_from (copy_at (block_at l.fn.levels (in_items l.fn.around)) l.fn.scope l.fn.name) l.fn.tokens l.room l.all.items (drop l.item-index l.fn.items) l.rest
+    ≡ copies_from (copy_at (block_at l.fn.levels (in_items l.fn.around)) l.fn.scope l.fn.name) l.fn.tokens MOST_STATEMENTS [] l.fn.items l.fn.tokens

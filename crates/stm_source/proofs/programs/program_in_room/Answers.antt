@@ -4,7 +4,7 @@ use Rattle.stm_program.specs.BlockView.{block_of}
 use Rattle.stm_program.specs.Limits.{BlockFits}
 use Rattle.stm_program.specs.declared.limits.TheConstants.{MAX_DEPTH, MAX_NODES}
 use Rattle.stm_program.proofs.ListLemmas.{fits_behind}
-use Rattle.stm_source.proofs.programs.program_of.Goals as goal
+use Rattle.stm_source.proofs.programs.program_in_room.Goals as goal
 
 pub with_list-requires : goal.with_list-requires
 with_list-requires c =

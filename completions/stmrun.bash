@@ -8,7 +8,7 @@ _stmrun() {
     else
         case "${COMP_WORDS[1]} $before" in
         "script --store") compopt -o default; return ;;
-        "script --format") words="lines json text svg" ;;
+        "script --format") words="lines json text svg html" ;;
         "threads --workers") words="" ;;
         "threads --repeat") words="" ;;
         "explore --keeps") compopt -o default; return ;;
@@ -18,6 +18,7 @@ _stmrun() {
         "run --store") compopt -o default; return ;;
         "run --level") words="SerializableSnapshot Serializable RepeatableReads ReadCommitted" ;;
         "run --attempts") words="" ;;
+        "store --format") words="lines json text" ;;
         "store --at") words="" ;;
         "store --since") words="" ;;
         "store --key") words="" ;;
@@ -28,12 +29,12 @@ _stmrun() {
             check) case "$word" in -*) ;; *) compopt -o default; return ;; esac; words="--whole --explain --explain=never --help" ;;
             threads) case "$word" in -*) ;; *) compopt -o default; return ;; esac; words="--workers --ends --repeat --explain --explain=never --help" ;;
             recipe) words="transfer deposit enqueue dequeue reserve_slot release_slot --help" ;;
-            explore) case "$word" in -*) ;; *) compopt -o default; return ;; esac; words="--keeps --level --budget --after --explain --explain=never --help" ;;
+            explore) case "$word" in -*) ;; *) compopt -o default; return ;; esac; words="--keeps --level --budget --after --witness --serial --strict --explain --explain=never --help" ;;
             audit) case "$word" in -*) ;; *) compopt -o default; return ;; esac; words="--help" ;;
             show) case "$word" in -*) ;; *) compopt -o default; return ;; esac; words="--program --help" ;;
             compile) case "$word" in -*) ;; *) compopt -o default; return ;; esac; words="--explain --explain=never --help" ;;
             run) case "$word" in -*) ;; *) compopt -o default; return ;; esac; words="--store --level --attempts --explain --explain=never --help" ;;
-            store) case "$word" in -*) ;; *) compopt -o default; return ;; esac; words="--check --at --since --key --range --help" ;;
+            store) case "$word" in -*) ;; *) compopt -o default; return ;; esac; words="--check --format --at --since --key --range --help" ;;
             help) words="script check threads recipe explore audit show compile run store language stm source formats causes" ;;
             esac ;;
         esac

@@ -3,7 +3,7 @@ complete -c stmrun -f
 complete -c stmrun -n __fish_use_subcommand -a script -d 'Runs a scenario, and prints its report'
 complete -c stmrun -n '__fish_seen_subcommand_from script' -F
 complete -c stmrun -n '__fish_seen_subcommand_from script' -l store -d 'The file of a store that the scenario goes on from, which is made where it is missing' -r -F
-complete -c stmrun -n '__fish_seen_subcommand_from script' -l format -d 'The form of the report' -x -a 'lines json text svg'
+complete -c stmrun -n '__fish_seen_subcommand_from script' -l format -d 'The form of the report' -x -a 'lines json text svg html'
 complete -c stmrun -n '__fish_seen_subcommand_from script' -l explain -d 'Explains faults, of an input or of a run'
 complete -c stmrun -n '__fish_seen_subcommand_from script' -a '--explain=never'
 complete -c stmrun -n '__fish_seen_subcommand_from script' -l help -d 'Print help'
@@ -30,6 +30,9 @@ complete -c stmrun -n '__fish_seen_subcommand_from explore' -l keeps -d 'The fil
 complete -c stmrun -n '__fish_seen_subcommand_from explore' -l level -d 'The level of every start, in the place of its own' -x -a 'SerializableSnapshot Serializable RepeatableReads ReadCommitted all'
 complete -c stmrun -n '__fish_seen_subcommand_from explore' -l budget -d 'How many events are taken at most, 1500000 if not said' -x -a ''
 complete -c stmrun -n '__fish_seen_subcommand_from explore' -l after -d 'Which runners make no step before another has ended' -x -a ''
+complete -c stmrun -n '__fish_seen_subcommand_from explore' -l witness -d 'Prints the outcomes of whole schedules, and of each the scenario with a schedule that comes to it'
+complete -c stmrun -n '__fish_seen_subcommand_from explore' -l serial -d 'Looks for an outcome of a whole schedule that no serial order of the runners comes to'
+complete -c stmrun -n '__fish_seen_subcommand_from explore' -l strict -d 'Status 1 also where a rule is kept, and a runner never committed or a key is asked for that nothing puts'
 complete -c stmrun -n '__fish_seen_subcommand_from explore' -l explain -d 'Explains faults, of an input or of a run'
 complete -c stmrun -n '__fish_seen_subcommand_from explore' -a '--explain=never'
 complete -c stmrun -n '__fish_seen_subcommand_from explore' -l help -d 'Print help'
@@ -56,6 +59,7 @@ complete -c stmrun -n '__fish_seen_subcommand_from run' -l help -d 'Print help'
 complete -c stmrun -n __fish_use_subcommand -a store -d 'Prints what a store that is kept in a file has'
 complete -c stmrun -n '__fish_seen_subcommand_from store' -F
 complete -c stmrun -n '__fish_seen_subcommand_from store' -l check -d 'Whether the file is whole'
+complete -c stmrun -n '__fish_seen_subcommand_from store' -l format -d 'lines (the default), json or text' -x -a 'lines json text'
 complete -c stmrun -n '__fish_seen_subcommand_from store' -l at -d 'The keys at this revision' -x -a ''
 complete -c stmrun -n '__fish_seen_subcommand_from store' -l since -d 'The events from this revision on' -x -a ''
 complete -c stmrun -n '__fish_seen_subcommand_from store' -l key -d 'Only the events of this key' -x -a ''

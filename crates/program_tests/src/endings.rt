@@ -33,6 +33,8 @@ impl Audience for Listener {
     }
 
     fn hear(&mut self, _line: &str) {}
+
+    fn doubt(&mut self, _line: &str) {}
 }
 
 /// How often it is notified by a search for a schedule that breaks this rule.

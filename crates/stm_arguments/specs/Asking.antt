@@ -66,7 +66,8 @@ abbrev pub IsExplore : List Row → ExploreWords → Type 0
 IsExplore rows words =
     HasWord rows (codes "SCENARIO") (Some words.scenario) × (map (λ w. w.now) words.keeps.items ≡ words_at (codes "keeps") rows)
     × LevelsAt (first_of (codes "level") rows) words.levels × BudgetAt (first_of (codes "budget") rows) words.budget
-    × HasWord rows (codes "after") words.after × HasFlag rows (codes "explain") words.explain
+    × HasWord rows (codes "after") words.after × HasFlag rows (codes "witness") words.witness × HasFlag rows (codes "serial") words.serial
+    × HasFlag rows (codes "strict") words.strict × HasFlag rows (codes "explain") words.explain
 
 abbrev pub IsAudit : List Row → AuditWords → Type 0
 IsAudit rows words = HasWord rows (codes "FILE") words.trace
@@ -108,7 +109,8 @@ IsShown rows Now =
     (is_set (first_of (codes "check") rows) ≡ false) × (first_of (codes "at") rows ≡ None) × (first_of (codes "since") rows ≡ None)
 
 abbrev pub IsStore : List Row → StoreWords → Type 0
-IsStore rows words = HasWord rows (codes "FILE") (Some words.store) × IsShown rows words.shown
+IsStore rows words =
+    HasWord rows (codes "FILE") (Some words.store) × HasWord rows (codes "format") words.format × IsShown rows words.shown
 
 -- a command of this name, with what was found of it and the arguments of a program behind it, asks for this
 abbrev pub AsksAt : Text → List Row → List Text → Asked → Type 0

@@ -5,7 +5,9 @@ ghost use Rattle.stm_arguments.specs.Asking.{IsExplore};
 
 use crate::levels::{Levels, SEARCH_LEVELS, levels_at};
 use crate::numbers::budget_at;
-use crate::words::{Unasked, explain, flag_of, option, required, required_word, word_of, words_of};
+use crate::words::{
+    Unasked, explain, flag, flag_of, option, required, required_word, word_of, words_of,
+};
 use clap::builder::ValueParser;
 use clap::{ArgAction, ArgMatches, Command};
 use std::alloc::{AllocError, Global};
@@ -52,9 +54,25 @@ then stmrun explore s.json prints
   [\"outcome\",[[\"b\",\"1\"]],[[\"committed\",[]],[\"committed\",[]]]]
   [\"outcomes\",3]
 
-and of stmrun explore --level Serializable s.json none of the lines has both keys.
+and of stmrun explore --level Serializable s.json none of the lines has both keys. With --witness a line behind each outcome is
+the scenario with the steps of a schedule that comes to it, as short as there is one: stmrun script takes it.
 
-Statuses: 0 always, or all outcomes were found, 1 broken, 2 bad input or usage, 3 out of memory or a failed device,
+A rule that is always kept says little where a program never committed, or where a misspelt key is asked for: standard error
+names these, and --strict makes the status 1 then, as a check that runs by itself wants it.
+
+With --serial no rule is needed. It is looked whether each outcome is what some serial order of the runners comes to, in which
+one after another makes all its steps, among the events of others. A run that gave up, or that the store ended, has changed
+nothing, and counts as one that never began.
+
+  [\"serial\",COUNT]        each of the COUNT outcomes is
+  [\"anomaly\",LENGTH,STATE,ENDS]
+                           this one is not, and the next line is the scenario with a schedule of LENGTH moves that comes to it
+  [\"open\",LENGTH]          N events were taken before that was decided
+
+With --level all there is a line for each level, the weakest first, without the scenario, and then [\"enough\",LEVEL]. With
+--witness and --serial a source's rules are not asked.
+
+Statuses: 0 always, serial, or all outcomes were found, 1 broken or an anomaly, 2 bad input or usage, 3 out of memory or a failed device,
 4 open.";
 
 /// The words of `explore`.
@@ -70,6 +88,12 @@ pub struct ExploreWords<'a> {
     pub budget: u64,
     /// Which runners wait for which others, as it is spelled.
     pub after: Option<&'a str>,
+    /// Whether a schedule is printed of each outcome.
+    pub witness: bool,
+    /// Whether it is looked whether serial orders come to each outcome.
+    pub serial: bool,
+    /// Whether an answer that is worth little has status 1.
+    pub strict: bool,
     /// Whether a fault is explained.
     pub explain: bool,
 }
@@ -111,6 +135,21 @@ pub(crate) fn explore_command<'a>(alloc: Global) -> Result<Command<'a>, AllocErr
             ValueParser::String,
             "Which runners make no step before another has ended; RUNNER:FIRST:committed: and none at all unless that one committed",
         ))?
+        .arg(flag(
+            alloc,
+            "witness",
+            "Prints the outcomes of whole schedules, and of each the scenario with a schedule that comes to it",
+        ))?
+        .arg(flag(
+            alloc,
+            "serial",
+            "Looks for an outcome of a whole schedule that no serial order of the runners comes to; no rule is needed",
+        ))?
+        .arg(flag(
+            alloc,
+            "strict",
+            "Status 1 also where a rule is kept, and a runner never committed or a key is asked for that nothing puts",
+        ))?
         .arg(explain(alloc))
 }
 
@@ -125,6 +164,9 @@ pub(crate) fn explore_of<'a>(
     let levels = levels_at(word_of(found, "level"))?;
     let budget = budget_at(word_of(found, "budget"))?;
     let after = word_of(found, "after");
+    let witness = flag_of(found, "witness");
+    let serial = flag_of(found, "serial");
+    let strict = flag_of(found, "strict");
     let explain = flag_of(found, "explain");
     let keeps = words_of(alloc, found, "keeps")?;
     Ok(ExploreWords {
@@ -133,6 +175,9 @@ pub(crate) fn explore_of<'a>(
         levels,
         budget,
         after,
+        witness,
+        serial,
+        strict,
         explain,
     })
 }

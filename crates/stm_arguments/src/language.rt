@@ -46,11 +46,10 @@ Expressions
   a whole number of 64 bits           a number                              -7
   n                                   what a variable was set to last
   get(KEY)                            the key's value, \"\" if absent         get(\"a\")
+  get(KEY) else TEXT                  the same, and TEXT where it is \"\"     num_of(get(\"a\") else \"0\")
   rev(KEY)                            its modification revision, or 0       rev(\"a\")
   text_of(NUMBER)                     the number in decimal                 text_of(42)
   num_of(TEXT)                        the number that the text spells       num_of(get(\"a\"))
-                                      with \"0\" in front, an absent key      num_of(\"0\" ++ get(\"a\"))
-                                      counts as 0 (not for one below 0)
   TEXT ++ TEXT                        the two texts joined                  \"jobs/\" ++ text_of(n)
   NUMBER + NUMBER                     the sum; also -, *, / and %           (n + 1) * 2
 

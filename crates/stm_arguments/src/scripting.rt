@@ -21,6 +21,7 @@ prints its report, and so does stmrun script < s.json. With --format FORMAT the 
   text    a row for each event, in the column of its runner or of the store; then the keys that are present,
           and which runners are unfinished
   svg     the rows of the text as a picture
+  html    the same as a page, with the keys and the runners at each event
 
 From this scenario, which lacks the runner of its step,
 
@@ -84,7 +85,7 @@ pub(crate) fn script_command<'a>(alloc: Global) -> Result<Command<'a>, AllocErro
             "format",
             "FORMAT",
             ValueParser::String,
-            "The form of the report: lines (the default), json, text or svg",
+            "The form of the report: lines (the default), json, text, svg or html",
         ))?
         .arg(explain(alloc))
 }

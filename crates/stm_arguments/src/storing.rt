@@ -9,7 +9,8 @@ use clap::{ArgMatches, Command};
 use std::alloc::{AllocError, Global};
 
 const EXAMPLE: &str =
-    "Prints the keys that are present in the store of FILE, its live leases and its revision, as the last lines of a report.
+    "Prints the keys that are present in the store of FILE, its live leases and its revision, as the last lines of a report; with
+--format json as objects, with --format text for people to read.
 With --at its keys as they were at a revision are printed, and with --since what has happened from a revision on, an event a line:
 [\"PUT\",KEY,VALUE,CREATE,MOD,VERSION,LEASE] or [\"DELETE\",KEY,REVISION]; of one key with --key, of the keys from FIRST to
 before END, by bytes, with --range. A revision that was compacted, or is yet to come, is refused with status 2.
@@ -38,6 +39,8 @@ const RANGE: &[&str] = &["FIRST", "END"];
 pub struct StoreWords<'a> {
     /// The path of the store.
     pub store: &'a str,
+    /// The format of what it has now, by its name.
+    pub format: Option<&'a str>,
     /// What of it is printed.
     pub shown: Shown<'a>,
 }
@@ -109,10 +112,22 @@ pub(crate) fn store_command<'a>(alloc: Global) -> Result<Command<'a>, AllocError
     let check = flag(alloc, "check", "Whether the file is whole")
         .conflicts_with("at")?
         .conflicts_with("since")?;
+    let format = option(
+        alloc,
+        "format",
+        "FORMAT",
+        ValueParser::String,
+        "lines (the default), json or text",
+    );
+    let format = format
+        .conflicts_with("at")?
+        .conflicts_with("since")?
+        .conflicts_with("check")?;
     let command = Command::new(alloc, "store")
         .about("Prints what a store that is kept in a file has")
         .after_long_help(EXAMPLE)
         .arg(required(alloc, "FILE", "The file of the store"))?
+        .arg(format)?
         .arg(check)?;
     with_past(alloc, command)
 }
@@ -173,6 +188,11 @@ pub(crate) fn store_of<'a>(found: &ArgMatches<'a>) -> Result<StoreWords<'a>, Una
     ensures { IfOk result (IsStore (rows_of (found_of found.now))) }
 {
     let store = required_word(found, "FILE")?;
+    let format = word_of(found, "format");
     let shown = shown_of(found);
-    Ok(StoreWords { store, shown })
+    Ok(StoreWords {
+        store,
+        format,
+        shown,
+    })
 }

@@ -43,7 +43,7 @@ EndsAs format devices before after failed status =
 
 abbrev pub no_format : List ℕ
 no_format =
-    codes "error: no format has this name: lines, json, text and svg are allowed\n\nUsage: stmrun script [OPTIONS] [FILE]\n\nFor more information, try '--help'.\n"
+    codes "error: no format has this name: lines, json, text, svg and html are allowed\n\nUsage: stmrun script [OPTIONS] [FILE]\n\nFor more information, try '--help'.\n"
 
 -- what is said of a word that names no format, in the manner of the other usage faults
 abbrev pub SaysNoFormat : Option (List ℕ) → Option (List ℕ) → Bool → ℕ → Type 0

@@ -9,7 +9,8 @@ use stm_explain::write_text;
 use stm_report::{Format, Sink, Source, script_as};
 
 /// What is said of a word that names no format, in the manner of the other usage faults.
-pub const NO_FORMAT: &str = "error: no format has this name: lines, json, text and svg are allowed
+pub const NO_FORMAT: &str =
+    "error: no format has this name: lines, json, text, svg and html are allowed
 
 Usage: stmrun script [OPTIONS] [FILE]
 

@@ -57,7 +57,7 @@ pub record HasGathered (others : List WorldEvent) (start : ReportedPlace) (k : �
   pub gathers : Gathers (outcomes_up_to k (place_of others start.at) start.ends) [] found
   pub more : goes_on (suc k) (place_of others start.at) ≡ true
 
-opened : (others : List WorldEvent) (start : ReportedPlace) (rs : Spots) → rs ≡ record { place = start; path = [] } ∷ [] → Layer others start 0 rs
+pub opened : (others : List WorldEvent) (start : ReportedPlace) (rs : Spots) → rs ≡ record { place = start; path = [] } ∷ [] → Layer others start 0 rs
 opened others start rs is =
     subst (λ (l : Spots). Layer others start 0 l) (sym is) ((layers_go_on (outcome_steps others) (ShowTheSame others) (outcomes_respected others)).opens start)
 
@@ -82,7 +82,7 @@ first_end others start rs old found is none gathers end =
     found_all outcomes_are_those longest_is_all 0 (place_of others start.at) start.ends found (first_gathers others start rs old found is none gathers) refl
     (sym (on_here others start 0 rs (opened others start rs is)) ∙ end)
 
-later : (others : List WorldEvent) (start : ReportedPlace) (k : ℕ) (rs next : Spots) → Layer others start k rs → Stands others next (moved_from_each (outcome_steps others) rs) →
+pub later : (others : List WorldEvent) (start : ReportedPlace) (k : ℕ) (rs next : Spots) → Layer others start k rs → Stands others next (moved_from_each (outcome_steps others) rs) →
     Layer others start (suc k) next
 later others start k rs next layer stand =
     (layers_go_on (outcome_steps others) (ShowTheSame others) (outcomes_respected others)).next start k rs next layer stand

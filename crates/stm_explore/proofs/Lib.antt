@@ -5,6 +5,7 @@ pub mod Walking
 pub mod GatherLemmas
 pub mod OutcomeLemmas
 pub mod LayerOutcomes
+pub mod Witnessing
 pub mod ShownLemmas
 pub mod LeaseLog
 pub mod SameRevisions
@@ -13,3 +14,6 @@ pub mod AskedLemmas
 pub mod FirstSteps
 pub mod PatientSchedules
 pub mod WaitingPlaces
+pub mod LeadLemmas
+pub mod TurnLemmas
+pub mod OrderLemmas

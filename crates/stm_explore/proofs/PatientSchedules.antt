@@ -33,14 +33,14 @@ kept_by test x y ys false is a passes = elim a [
   | inr there ↦ there
 ]
 
-is_kept : {A : Type 0} (test : A → Bool) (x : A) (xs : List A) → IsAmong x xs → test x ≡ true → IsAmong x (filter test xs)
+pub is_kept : {A : Type 0} (test : A → Bool) (x : A) (xs : List A) → IsAmong x xs → test x ≡ true → IsAmong x (filter test xs)
 is_kept test x [] a passes = absurd a
 is_kept test x (y ∷ ys) a passes = kept_by test x y ys (test y) refl (elim a [
   | inl same ↦ inl same
   | inr there ↦ inr (is_kept test x ys there passes)
 ]) passes
 
-abbrev WasThere : {A : Type 0} → (A → Bool) → A → List A → Type 0
+abbrev pub WasThere : {A : Type 0} → (A → Bool) → A → List A → Type 0
 WasThere test x xs = IsAmong x xs × (test x ≡ true)
 
 was_there_by : {A : Type 0} (test : A → Bool) (x y : A) (ys : List A) (b : Bool) → test y ≡ b → (IsAmong x (filter test ys) → WasThere test x ys) →
@@ -51,16 +51,16 @@ was_there_by test x y ys true is rest a = elim a [
 ]
 was_there_by test x y ys false is rest a = let was = rest a in (inr was.0, was.1)
 
-was_there : {A : Type 0} (test : A → Bool) (x : A) (xs : List A) → IsAmong x (filter test xs) → WasThere test x xs
+pub was_there : {A : Type 0} (test : A → Bool) (x : A) (xs : List A) → IsAmong x (filter test xs) → WasThere test x xs
 was_there test x [] a = absurd a
 was_there test x (y ∷ ys) a = was_there_by test x y ys (test y) refl (was_there test x ys) a
 
 -- ---- the first that is found
 
-record FoundAt (A B : Type 0) (f : A → Option B) (xs : List A) (y : B) : Type 0 where
-  it : A
-  there : Contains xs it
-  gives : f it ≡ Some y
+pub record FoundAt (A B : Type 0) (f : A → Option B) (xs : List A) (y : B) : Type 0 where
+  pub it : A
+  pub there : Contains xs it
+  pub gives : f it ≡ Some y
 
 later : (A B : Type 0) (f : A → Option B) (x : A) (xs : List A) (y : B) → FoundAt A B f xs y → FoundAt A B f (x ∷ xs) y
 later A B f x xs y found =
@@ -71,7 +71,7 @@ found_by : (A B : Type 0) (f : A → Option B) (x : A) (xs : List A) (y : B) (o 
 found_by A B f x xs y None is rest found = later A B f x xs y (rest found)
 found_by A B f x xs y (Some z) is rest found = record { it = x; there = contained x (x ∷ xs) (inl refl); gives = is ∙ found }
 
-found_at : (A B : Type 0) (f : A → Option B) (xs : List A) (y : B) → first_of f xs ≡ Some y → FoundAt A B f xs y
+pub found_at : (A B : Type 0) (f : A → Option B) (xs : List A) (y : B) → first_of f xs ≡ Some y → FoundAt A B f xs y
 found_at A B f [] y found = absurd (cc)
 found_at A B f (x ∷ xs) y found = found_by A B f x xs y (f x) refl (found_at A B f xs y) found
 

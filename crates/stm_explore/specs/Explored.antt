@@ -11,6 +11,7 @@ use Rattle.stm_schedules.specs.Merges.{IsMerge}
 use Rattle.stm_visited.specs.Search.{total}
 use Rattle.stm_schedules.specs.Outcomes.{Ends, IsOutcome}
 use Rattle.stm_explore.specs.Gathering.{AreDistinct}
+use Rattle.stm_explore.specs.Witnesses.{AreWitnesses}
 use Rattle.stm_explore.specs.declared.exploring.Explored.{Explored}
 use Rattle.stm_explore.specs.declared.exploring.Explored.TheVariants.{Always, Broken, Open}
 use Rattle.stm_explore.specs.declared.finding.Outcomes.{Outcomes}
@@ -41,8 +42,13 @@ IsCollected p ends found None = AreAllOutcomes p ends found
 IsCollected p ends found (Some gone_through) = goes_on (suc gone_through) p ≡ true
 
 abbrev pub AreOutcomes : Place → Ends → Outcomes → Type 0
-AreOutcomes p ends (Found outcomes) = AreAllOutcomes p ends outcomes
+AreOutcomes p ends (Found outcomes schedules) = AreAllOutcomes p ends outcomes
 AreOutcomes p ends (OpenAt gone_through) = goes_on (suc gone_through) p ≡ true
+
+-- each outcome has its witness
+abbrev pub OutcomesAreWitnessed : Place → Ends → Outcomes → Type 0
+OutcomesAreWitnessed p ends (Found outcomes schedules) = AreWitnesses p ends outcomes schedules
+OutcomesAreWitnessed p ends (OpenAt gone_through) = Unit {0}
 
 -- ---- the budget: an answer is open only where nothing is left of it
 
@@ -52,7 +58,7 @@ OpenIsSpent left (Broken schedule end) = Unit {0}
 OpenIsSpent left (Open kept) = left ≡ 0
 
 abbrev pub OpenOutcomesAreSpent : ℕ → Outcomes → Type 0
-OpenOutcomesAreSpent left (Found outcomes) = Unit {0}
+OpenOutcomesAreSpent left (Found outcomes schedules) = Unit {0}
 OpenOutcomesAreSpent left (OpenAt gone_through) = left ≡ 0
 
 -- ---- how far an open answer is
@@ -74,5 +80,5 @@ OpenIsFar p made (Broken schedule end) = Unit {0}
 OpenIsFar p made (Open kept) = made ≤ count_up_to (suc kept) p
 
 abbrev pub OpenOutcomesAreFar : Place → ℕ → Outcomes → Type 0
-OpenOutcomesAreFar p made (Found outcomes) = Unit {0}
+OpenOutcomesAreFar p made (Found outcomes schedules) = Unit {0}
 OpenOutcomesAreFar p made (OpenAt gone_through) = made ≤ count_up_to (suc gone_through) p

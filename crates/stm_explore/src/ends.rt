@@ -16,7 +16,7 @@ fn copy_of_output(output: &Sequence<Value>) -> Result<Sequence<Value>, AllocErro
 }
 
 /// A copy of how a run ended.
-fn copy_of(end: &RunnerEnd) -> Result<RunnerEnd, AllocError>
+pub(crate) fn copy_of(end: &RunnerEnd) -> Result<RunnerEnd, AllocError>
     ensures { IfOk result (λ copy. copy ≡ end.now) }
 {
     match end {

@@ -1,6 +1,7 @@
 //! What whole schedules come to.
-ghost use Rattle.std.specs.Prelude.{◌≡◌, ◌≤◌, suc, [], IfOk, IfSome, OnSome};
-ghost use Rattle.stm_explore.specs.Explored.{IsCollected, AreOutcomes, OpenOutcomesAreSpent, OpenOutcomesAreFar, count_up_to};
+ghost use Rattle.std.specs.Prelude.{◌≡◌, ◌≤◌, suc, [], IfOk, IfSome, OnOk, OnSome};
+ghost use Rattle.stm_explore.specs.Explored.{IsCollected, AreOutcomes, OutcomesAreWitnessed, OpenOutcomesAreSpent, OpenOutcomesAreFar, count_up_to};
+ghost use Rattle.stm_explore.specs.Witnesses.{AreWitnesses};
 ghost use Rattle.stm_explore.specs.Spots.{place_of};
 
 use crate::collecting::collect_whole;
@@ -10,7 +11,7 @@ use crate::places::{ReportedPlace, WorldPlace, shared_copy};
 use std::alloc::{AllocError, Global};
 use stm_history::Sequence;
 use stm_retry::World;
-use stm_schedules::{Outcome, RunnerEnd};
+use stm_schedules::{Move, Outcome, RunnerEnd};
 use stm_visited::{Budget, Halt, Observer, can_go_on, next_layer, opening_layer};
 use stm_world::WorldEvent;
 
@@ -21,6 +22,8 @@ pub enum Outcomes {
     Found {
         /// The outcomes.
         outcomes: Sequence<Outcome>,
+        /// Of each outcome, in their order, a schedule that comes to it: none that does is shorter.
+        schedules: Sequence<Sequence<Move>>,
     },
     /// As many moves were made as may be, before all of them were found.
     Open {
@@ -39,16 +42,19 @@ fn collect_layers<O: Observer>(
     start: ReportedPlace,
     budget: &mut Budget<O>,
     found: &mut Vec<Outcome>,
+    schedules: &mut Vec<Sequence<Move>>,
 ) -> Result<Option<u64>, AllocError>
-    requires { found.old.items ≡ [] }
+    requires none_found { found.old.items ≡ [] }
+    requires no_schedules { schedules.old.items ≡ [] }
     ensures collected { IfOk result (IsCollected (place_of gathered.now.others.now start.at) start.ends found.new.items) }
+    ensures witnessed { OnOk result (AreWitnesses (place_of gathered.now.others.now start.at) start.ends found.new.items schedules.new.items) }
     ensures left { budget.new.left ≤ budget.old.left }
     ensures spent { IfOk result (λ stopped. OnSome stopped (budget.new.left ≡ 0)) }
     ensures far { IfOk result (λ stopped. IfSome stopped (λ n. budget.old.left ≤ count_up_to (suc n) (place_of gathered.now.others.now start.at))) }
 {
     let others = gathered.others;
     let mut layer = opening_layer(alloc, start)?;
-    collect_whole(alloc, others, layer.as_slice(), found)?;
+    collect_whole(alloc, others, layer.as_slice(), found, schedules)?;
     if !can_go_on(gathered, layer.as_slice())? {
         return Ok(None);
     }
@@ -57,7 +63,7 @@ fn collect_layers<O: Observer>(
         budget.observer.passed(gone_through, budget.left);
         match next_layer(alloc, gathered, layer.as_slice(), budget) {
             Ok(next) => {
-                collect_whole(alloc, others, next.as_slice(), found)?;
+                collect_whole(alloc, others, next.as_slice(), found, schedules)?;
                 if !can_go_on(gathered, next.as_slice())? {
                     return Ok(None);
                 }
@@ -78,9 +84,12 @@ fn collect_all<O: Observer>(
     ends: &[Option<RunnerEnd>],
     budget: &mut Budget<O>,
     found: &mut Vec<Outcome>,
+    schedules: &mut Vec<Sequence<Move>>,
 ) -> Result<Option<u64>, AllocError>
-    requires { found.old.items ≡ [] }
+    requires none_found { found.old.items ≡ [] }
+    requires no_schedules { schedules.old.items ≡ [] }
     ensures collected { IfOk result (IsCollected (record { world = world.now; others = others.now }) ends.now found.new.items) }
+    ensures witnessed { OnOk result (AreWitnesses (record { world = world.now; others = others.now }) ends.now found.new.items schedules.new.items) }
     ensures left { budget.new.left ≤ budget.old.left }
     ensures spent { IfOk result (λ stopped. OnSome stopped (budget.new.left ≡ 0)) }
     ensures far { IfOk result (λ stopped. IfSome stopped (λ n. budget.old.left ≤ count_up_to (suc n) (record { world = world.now; others = others.now }))) }
@@ -92,11 +101,46 @@ fn collect_all<O: Observer>(
         ends: Sequence::of(ends),
     };
     let gathered = Gathered { alloc, others };
-    let stopped = collect_layers(alloc, &gathered, start, budget, found)?;
+    let stopped = collect_layers(alloc, &gathered, start, budget, found, schedules)?;
     Ok(stopped)
 }
 
-/// What whole schedules come to: those of the moves of this world's runners, and of others that have these events yet to bring.
+/// What whole schedules come to. The observer is not notified of the end.
+pub(crate) fn gather_outcomes<O: Observer>(
+    alloc: Global,
+    world: &World,
+    others: &[WorldEvent],
+    ends: &[Option<RunnerEnd>],
+    budget: &mut Budget<O>,
+) -> Result<Outcomes, AllocError>
+    ensures outcomes { IfOk result (AreOutcomes (record { world = world.now; others = others.now }) ends.now) }
+    ensures witnessed { IfOk result (OutcomesAreWitnessed (record { world = world.now; others = others.now }) ends.now) }
+    ensures left { budget.new.left ≤ budget.old.left }
+    ensures spent { IfOk result (OpenOutcomesAreSpent budget.new.left) }
+    ensures far { IfOk result (OpenOutcomesAreFar (record { world = world.now; others = others.now }) budget.old.left) }
+{
+    let mut found = Vec::new(alloc);
+    let mut schedules = Vec::new(alloc);
+    let stopped = collect_all(
+        alloc,
+        world,
+        others,
+        ends,
+        budget,
+        &mut found,
+        &mut schedules,
+    )?;
+    match stopped {
+        None => Ok(Outcomes::Found {
+            outcomes: Sequence::of(found),
+            schedules: Sequence::of(schedules),
+        }),
+        Some(gone_through) => Ok(Outcomes::Open { gone_through }),
+    }
+}
+
+/// What whole schedules come to, each outcome with a schedule that comes to it: those of the moves of this world's runners, and of others that have
+/// these events yet to bring.
 ///
 /// `ends` has what is known of the runners' ends before, by the runners' numbers, as `ends_reported` returns it. Places are gone through by the
 /// number of moves to them; of those from which the steps see the same, and where the same is known of the ends, the first one alone is
@@ -113,18 +157,13 @@ pub fn find_outcomes<O: Observer>(
     budget: &mut Budget<O>,
 ) -> Result<Outcomes, AllocError>
     ensures outcomes { IfOk result (AreOutcomes (record { world = world.now; others = others.now }) ends.now) }
+    ensures witnessed { IfOk result (OutcomesAreWitnessed (record { world = world.now; others = others.now }) ends.now) }
     ensures left { budget.new.left ≤ budget.old.left }
     ensures spent { IfOk result (OpenOutcomesAreSpent budget.new.left) }
     ensures far { IfOk result (OpenOutcomesAreFar (record { world = world.now; others = others.now }) budget.old.left) }
 {
-    let mut found = Vec::new(alloc);
-    let stopped = collect_all(alloc, world, others, ends, budget, &mut found);
+    let found = gather_outcomes(alloc, world, others, ends, budget);
     budget.observer.ended();
-    let stopped = stopped?;
-    match stopped {
-        None => Ok(Outcomes::Found {
-            outcomes: Sequence::of(found),
-        }),
-        Some(gone_through) => Ok(Outcomes::Open { gone_through }),
-    }
+    let found = found?;
+    Ok(found)
 }

@@ -135,7 +135,7 @@ fn with_end(
 }
 
 /// The place where a search starts.
-fn start_of(
+pub(crate) fn start_of(
     alloc: Global,
     world: &SharedWorld,
     ends: &[Option<RunnerEnd>],

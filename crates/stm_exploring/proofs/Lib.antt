@@ -6,3 +6,5 @@ pub mod RuleLemmas
 pub mod ReadingLemmas
 pub mod PlaceLemmas
 pub mod ScheduledSpells
+pub mod SerialLevelLemmas
+pub mod OutcomeLineLemmas

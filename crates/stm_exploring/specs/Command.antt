@@ -7,11 +7,13 @@ use Rattle.stm_program.specs.declared.level.Level.{Level}
 use Rattle.stm_exploring.specs.declared.printed.Printed.{Printed}
 use Rattle.stm_exploring.specs.declared.printed.SearchAnswer.{SearchAnswer}
 use Rattle.stm_exploring.specs.declared.printed.SearchAnswer.TheVariants.{Kept, Broken, Open}
+use Rattle.stm_exploring.specs.declared.question.Question.{Question}
 use Rattle.stm_exploring.specs.declared.reading.ExploreFault.{ExploreFault}
 use Rattle.stm_exploring.specs.declared.reading.ExploreFault.TheVariants.{OutOfMemory, BadScenario, BadProgram, BadWait, Device}
 use Rattle.stm_explore.specs.declared.waits.Wait.{Wait}
 use Rattle.stm_exploring.specs.declared.rules.Rule.{Rule}
-use Rattle.stm_exploring.specs.Exploring.{Sources, ReadsProgram, Searches, SearchesFor, Gathers}
+use Rattle.stm_exploring.specs.Exploring.{Sources, ReadsProgram, Searches, SearchesFor}
+use Rattle.stm_exploring.specs.Questions.{Gathers}
 use Rattle.stm_exploring.specs.Levels.{SearchesLevels}
 use Rattle.stm_explain.specs.Saying.{bad_input, memory_fault, device_fault, Reports}
 
@@ -89,6 +91,6 @@ ExploresLevels waits rules known failed out err status =
     (searched : Result Printed ExploreFault) × SearchesLevels waits rules known failed searched × Finishes searched out err status
 
 -- without one
-abbrev pub GoesThrough : Option Level → Option (List ℕ) → Bool → Sunk → Sunk → ℕ → Type 0
-GoesThrough level known failed out err status =
-    (gathered : Result Printed ExploreFault) × Gathers level known failed gathered × Finishes gathered out err status
+abbrev pub GoesThrough : Question → Option Level → Option (List ℕ) → Bool → Sunk → Sunk → ℕ → Type 0
+GoesThrough question level known failed out err status =
+    (gathered : Result Printed ExploreFault) × Gathers question level known failed gathered × Finishes gathered out err status

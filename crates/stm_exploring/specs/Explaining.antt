@@ -13,11 +13,13 @@ use Rattle.stm_program.specs.declared.level.Level.{Level}
 use Rattle.stm_exploring.specs.declared.printed.Printed.{Printed}
 use Rattle.stm_exploring.specs.declared.printed.SearchAnswer.{SearchAnswer}
 use Rattle.stm_exploring.specs.declared.printed.SearchAnswer.TheVariants.{Broken}
+use Rattle.stm_exploring.specs.declared.question.Question.{Question}
 use Rattle.stm_exploring.specs.declared.reading.ExploreFault.{ExploreFault}
 use Rattle.stm_exploring.specs.declared.reading.ExploreFault.TheVariants.{BadScenario, BadProgram}
 use Rattle.stm_explore.specs.declared.waits.Wait.{Wait}
 use Rattle.stm_exploring.specs.declared.rules.Rule.{Rule}
-use Rattle.stm_exploring.specs.Exploring.{Sources, ReadsProgram, Searches, SearchesFor, Gathers}
+use Rattle.stm_exploring.specs.Exploring.{Sources, ReadsProgram, Searches, SearchesFor}
+use Rattle.stm_exploring.specs.Questions.{Gathers}
 use Rattle.stm_exploring.specs.Levels.{SearchesLevels}
 use Rattle.stm_exploring.specs.Command.{Sunk, Writes, verdict_status, fault_status, fault_message}
 
@@ -111,6 +113,6 @@ ExploresLevels waits rules scenario known failed out err status =
     (searched : Result Printed ExploreFault) × SearchesLevels waits rules known failed searched × Finishes scenario searched out err status
 
 -- without one
-abbrev pub GoesThrough : Option Level → KeptInput → Option (List ℕ) → Bool → Sunk → Sunk → ℕ → Type 0
-GoesThrough level scenario known failed out err status =
-    (gathered : Result Printed ExploreFault) × Gathers level known failed gathered × Finishes scenario gathered out err status
+abbrev pub GoesThrough : Question → Option Level → KeptInput → Option (List ℕ) → Bool → Sunk → Sunk → ℕ → Type 0
+GoesThrough question level scenario known failed out err status =
+    (gathered : Result Printed ExploreFault) × Gathers question level known failed gathered × Finishes scenario gathered out err status

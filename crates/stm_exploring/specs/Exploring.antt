@@ -1,5 +1,5 @@
 -- What a search does: from the bytes of a scenario and of a rule's program to what is printed.
-use Rattle.std.specs.Prelude.{◌≡◌, ◌⊎◌, ℕ, List, [], ◌∷◌, Bool, true, false, Option, None, Result, Ok, Err, IfSome, codes}
+use Rattle.std.specs.Prelude.{◌≡◌, ◌⊎◌, ℕ, List, [], ◌∷◌, Bool, true, false, Option, None, Result, Ok, Err, IfSome}
 use Rattle.stm_devices.specs.declared.transfer.ReadFault.{ReadFault}
 use Rattle.stm_devices.specs.declared.transfer.ReadFault.TheVariants.{OutOfMemory as NoRoom, Device as NoDevice}
 use Rattle.stm_json.specs.Outcome.{Outcome, ◌>>=◌}
@@ -8,22 +8,15 @@ use Rattle.stm_program.specs.declared.level.Level.{Level}
 use Rattle.stm_program_texts.specs.Reading.{program_in}
 use Rattle.stm_texts.specs.declared.scenario.Scenario.{Scenario}
 use Rattle.stm_texts.specs.Reading.{scenario_in}
-use Rattle.stm_explore.specs.Explored.{AreOutcomes}
 use Rattle.stm_explore.specs.declared.waits.Wait.{Wait}
-use Rattle.stm_explore.specs.declared.finding.Outcomes.{Outcomes}
-use Rattle.stm_explore.specs.declared.finding.Outcomes.TheVariants.{Found, Open as OpenAt}
 use Rattle.stm_exploring.specs.declared.reading.ExploreFault.{ExploreFault}
 use Rattle.stm_exploring.specs.declared.reading.ExploreFault.TheVariants.{OutOfMemory, BadScenario, BadProgram, BadWait, Device}
-use Rattle.stm_exploring.specs.declared.printed.SearchAnswer.{SearchAnswer}
-use Rattle.stm_exploring.specs.declared.printed.SearchAnswer.TheVariants as verdict
 use Rattle.stm_exploring.specs.declared.printed.Printed.{Printed}
-use Rattle.stm_exploring.specs.Asking.{asked, place_of, ends_of}
-use Rattle.stm_exploring.specs.Lines.{count_line, outcomes_text}
+use Rattle.stm_exploring.specs.Asking.{asked}
 use Rattle.stm_exploring.specs.Waits.{first_stranger, IsWaitFault}
 use Rattle.stm_exploring.specs.declared.rules.Rule.{Rule}
 use Rattle.stm_exploring.specs.declared.rules.RuleAnswer.{RuleAnswer}
 use Rattle.stm_exploring.specs.Judging.{AreFound, alone, verdict_of_all, answers_text}
-use Rattle.stm_report_lines.specs.Text.{line_text}
 
 -- ---- what bytes spell
 
@@ -103,29 +96,3 @@ SearchesFor waits level rules known failed (Err (BadProgram fault)) = ⊥
 SearchesFor waits level rules known failed (Err (BadWait fault)) =
     (failed ≡ false) × (s : Scenario) × IfSome known (λ all. asked_in level all ≡ Ok s) × IsWaitFault s waits (BadWait fault)
 SearchesFor waits level rules known failed (Err Device) = failed ≡ true
-
--- ---- what whole schedules come to
-
-abbrev pub gathered_text : Outcomes → List ℕ
-gathered_text (Found outcomes) = outcomes_text outcomes
-gathered_text (OpenAt gone_through) = line_text (count_line (codes "open") gone_through)
-
-abbrev pub verdict_of_outcomes : Outcomes → SearchAnswer
-verdict_of_outcomes (Found outcomes) = verdict.Kept
-verdict_of_outcomes (OpenAt gone_through) = verdict.Open
-
-abbrev pub printed_outcomes : Outcomes → Printed
-printed_outcomes gathered = record { verdict = verdict_of_outcomes gathered; text = gathered_text gathered }
-
--- it is what is printed of what the whole schedules of this scenario come to
-abbrev pub ArePrinted : Scenario → Printed → Type 0
-ArePrinted s p = (gathered : Outcomes) × AreOutcomes (place_of s) (ends_of s) gathered × (p ≡ printed_outcomes gathered)
-
--- what going through the schedules of a source's scenario did, by its answer
-abbrev pub Gathers : Option Level → Option (List ℕ) → Bool → Result Printed ExploreFault → Type 0
-Gathers level known failed (Ok p) = (failed ≡ false) × (s : Scenario) × IfSome known (λ all. asked_in level all ≡ Ok s) × ArePrinted s p
-Gathers level known failed (Err OutOfMemory) = failed ≡ false
-Gathers level known failed (Err (BadScenario fault)) = (failed ≡ false) × IfSome known (λ all. asked_in level all ≡ Err fault)
-Gathers level known failed (Err (BadProgram fault)) = ⊥
-Gathers level known failed (Err (BadWait fault)) = ⊥
-Gathers level known failed (Err Device) = failed ≡ true

@@ -2,8 +2,11 @@ pub mod Asking
 pub mod Lines
 pub mod Judging
 pub mod Waits
+pub mod Anomalies
 pub mod Exploring
 pub mod Levels
+pub mod SerialLevels
+pub mod Questions
 pub mod Laws
 pub mod Command
 pub mod Explaining

@@ -55,7 +55,10 @@ outcome_text o = line_text (outcome_line o)
 abbrev pub each_once : List (List ℕ) → List (List ℕ)
 each_once texts = fold (insert_key (slice_cmp nat_cmp)) [] texts
 
+-- these texts of outcomes, and how many there are
+abbrev pub counted_text : List (List ℕ) → List ℕ
+counted_text texts = concat texts ++ line_text (count_line (codes "outcomes") (length texts))
+
 -- the line of each outcome once, ascending by bytes, and how many there are
 abbrev pub outcomes_text : List Outcome → List ℕ
-outcomes_text outcomes =
-    concat (each_once (map outcome_text outcomes)) ++ line_text (count_line (codes "outcomes") (length (each_once (map outcome_text outcomes))))
+outcomes_text outcomes = counted_text (each_once (map outcome_text outcomes))

@@ -4,13 +4,15 @@ ghost use Rattle.std.specs.Prelude.{◌<◌, length, IfSome};
 ghost use Rattle.stm_serial_search.specs.Search.{AreProgramsOf};
 
 use crate::audience::Audience;
+use crate::final_words::wrong_ends;
+use crate::key_use::{AskedKey, KeyUse};
+use crate::near_keys::{are_of_a_list, nearest};
 use crate::rules::{RuleAnswer, has_kept};
-use crate::sought::Sought;
-use crate::unput::{strike_writes, unput_keys};
 use serde_json::Value as Json;
 use std::alloc::{AllocError, Global};
 use stm_events::EventRefusal;
 use stm_explain::shown;
+use stm_explore::When;
 use stm_history::Text;
 use stm_meaning::{End, Run};
 use stm_program::Program;
@@ -49,6 +51,12 @@ const OF_ALL_ORDERS: &str = "runs in all serial orders";
 /// The same, where not all were.
 const OF_SOME_ORDERS: &str = "runs in 10000 moves of serial orders";
 
+/// A key is near to another one where it is so by fewer edits than about this part of its characters.
+const NEAR: usize = 2;
+
+/// The same, where one is most likely meant for the other.
+const MEANT: usize = 4;
+
 /// What is said where an allocation failed for an account.
 const NO_MEMORY: &str = "out of memory: what the answer covers is not known";
 
@@ -66,45 +74,30 @@ struct Runs {
     ends: Vec<Came>,
 }
 
-/// What is said of a key that the one rule asks for.
-const OF_THE_RULE: &str = "the rule asks";
-
-/// The same, where there are several.
-const OF_A_RULE: &str = "a rule asks";
-
 /// How the programs of runners end, each run alone, in every serial order.
 #[derive(Drop)]
 struct Account {
     alloc: Global,
     /// By the runners' numbers.
     runners: Vec<Runs>,
-    /// The keys that rules ask for, and that nothing put so far.
-    unput: Vec<Text>,
-    /// Who asks for them.
-    asking: &'static str,
-    /// The keys that programs ask for.
-    sought: Sought,
+    /// Which keys are asked for, and which are put.
+    keys: KeyUse,
     /// It goes on while something is to be learned of what is said.
     told: Told,
     /// How many runners have not committed so far.
     waiting: usize,
     /// How many moves may still be made.
     left: u64,
+    /// Whether all orders were gone through so far.
+    is_whole: bool,
     /// Whether an allocation failed.
     is_cut: bool,
 }
 
 impl Follower for Account {
     fn may_move(&mut self) -> bool {
-        if self.left == 0 || self.is_cut {
-            return false;
-        }
-        self.left -= 1;
-        match self.told {
-            Told::All => true,
-            Told::Never => self.waiting > 0 || !self.unput.is_empty(),
-            Told::None => !self.unput.is_empty(),
-        }
+        self.is_whole = self.goes_on();
+        self.is_whole
     }
 
     fn ran(&mut self, runner: u64, run: &Run) {
@@ -121,8 +114,8 @@ impl Follower for Account {
 }
 
 /// A text as it is shown: in quotes, and of a long one its beginning.
-fn shown_text(alloc: Global, text: &Text) -> Result<String, AllocError> {
-    let copy = String::from_str(alloc, text.as_str())?;
+fn shown_text(alloc: Global, text: &str) -> Result<String, AllocError> {
+    let copy = String::from_str(alloc, text)?;
     let json = Json::String(copy);
     let shown = shown(alloc, &json);
     drop(json);
@@ -173,37 +166,52 @@ fn no_account(alloc: Global, count: usize) -> Result<Vec<Runs>, AllocError> {
 }
 
 impl Account {
-    /// Nothing is known of the runs of so many runners, and nothing put these keys so far.
-    fn new(
-        alloc: Global,
-        count: usize,
-        unput: Vec<Text>,
-        asking: &'static str,
-        sought: Sought,
-        told: Told,
-    ) -> Result<Account, AllocError> {
+    /// Whether something is yet to be learned, and one move more may be made for it.
+    fn goes_on(&mut self) -> bool {
+        if self.left == 0 || self.is_cut {
+            return false;
+        }
+        self.left -= 1;
+        match self.told {
+            Told::All => true,
+            Told::Never => self.waiting > 0 || self.keys.is_open(),
+            Told::None => self.keys.is_open(),
+        }
+    }
+
+    /// Whether nothing puts a key, by what the spelling of programs says of it or by their runs in all serial orders.
+    fn is_unput(&self, key: &Text) -> bool {
+        !self.keys.is_put(key) && (self.is_whole || !self.keys.may_be_put(key))
+    }
+
+    /// The same of a key that no program puts by its spelling, either.
+    fn is_strange(&self, key: &Text) -> bool {
+        self.is_unput(key) && !self.keys.is_spelled(key)
+    }
+
+    /// Nothing is known of the runs of so many runners, and this of keys.
+    fn new(alloc: Global, count: usize, keys: KeyUse, told: Told) -> Result<Account, AllocError> {
         let runners = no_account(alloc, count)?;
         Ok(Account {
             alloc,
             runners,
-            unput,
-            asking,
-            sought,
+            keys,
             told,
             waiting: count,
             left: MOST_MOVES,
+            is_whole: true,
             is_cut: false,
         })
     }
 
     /// Notes how a run of a runner ended.
     fn note_run(&mut self, runner: u64, run: &Run) -> Result<(), AllocError> {
-        self.sought.note_run(runner, run)?;
+        let place = runner.saturating_sub(1);
+        if place < self.runners.len() as u64 {
+            self.keys.note_run(place as usize, run)?;
+        }
         match &run.end {
-            End::Done => {
-                strike_writes(&mut self.unput, run.writes.as_slice());
-                self.note_commit(runner)
-            }
+            End::Done => self.note_commit(runner),
             End::Aborted(text) => self.note_abort(runner, text),
             End::Faulted(fault) => self.note_word(runner, "faulted", fault.name()),
         }
@@ -241,7 +249,7 @@ impl Account {
     /// Notes that a run of a runner aborted with this text.
     fn note_abort(&mut self, runner: u64, text: &Text) -> Result<(), AllocError> {
         let alloc = self.alloc;
-        let text = shown_text(alloc, text)?;
+        let text = shown_text(alloc, text.as_str())?;
         let how = format!(in alloc; "aborted {text}")?;
         self.note(runner, how)
     }
@@ -279,6 +287,28 @@ fn line_of(alloc: Global, runner: usize, runs: &Runs, of: &str) -> Result<String
     Ok(line)
 }
 
+/// What a runner is called.
+fn runner_word(alloc: Global, place: usize) -> Result<String, AllocError> {
+    let number = place.saturating_add(1);
+    format!(in alloc; "runner {number}")
+}
+
+/// What a rule is called.
+fn rule_word(alloc: Global, answers: &[RuleAnswer], place: usize) -> Result<String, AllocError> {
+    if place < answers.len() {
+        let rule = &answers[place].rule;
+        if let Some(name) = &rule.name {
+            let name = name.as_str();
+            let word = match rule.when {
+                When::Each => "rule",
+                When::Last => "finally",
+            };
+            return format!(in alloc; "{word} {name}");
+        }
+    }
+    String::from_str(alloc, "the rule")
+}
+
 /// Whether it is to be said how the runs of a runner ended, if there were any.
 fn is_said(runs: &Runs, told: Told) -> bool {
     if runs.ends.is_empty() {
@@ -302,73 +332,165 @@ fn tell_runs<O: Audience>(
         let runs = &account.runners[index];
         if is_said(runs, told) {
             let line = line_of(account.alloc, index + 1, runs, of)?;
-            audience.hear(line.as_str());
+            if runs.has_committed {
+                audience.hear(line.as_str());
+            } else {
+                audience.doubt(line.as_str());
+            }
         }
     }
     Ok(())
 }
 
-/// Says which of these keys a runner asks for.
-fn tell_keys<O: Audience>(
+/// A text before a key that is near to another one; nothing where there is none.
+fn near_words(alloc: Global, near: &str) -> Result<String, AllocError> {
+    if near.is_empty() {
+        return Ok(String::new(alloc));
+    }
+    let near = shown_text(alloc, near)?;
+    format!(in alloc; "; the nearest is {near}")
+}
+
+/// The line that says that somebody asks for a key that nothing puts, and which one is nearest.
+fn key_line(
     alloc: Global,
-    runner: usize,
-    keys: &[Text],
+    who: &str,
+    key: &Text,
+    is_sure: bool,
+    near: &str,
+) -> Result<String, AllocError> {
+    let key = shown_text(alloc, key.as_str())?;
+    let places = if is_sure { "" } else { " in any serial order" };
+    let near = near_words(alloc, near)?;
+    format!(in alloc;
+        "{who} asks for the key {key}, which is not there and which nothing puts{places}{near}"
+    )
+}
+
+/// A key that is so near to one which nothing puts that this is most likely misspelt; an empty text where there is none.
+fn meant<'a>(account: &'a Account, key: &Text) -> Result<&'a str, AllocError> {
+    let alloc = account.alloc;
+    if !account.is_strange(key) {
+        return Ok("");
+    }
+    let keys = &account.keys;
+    let near = nearest(alloc, keys, key, MEANT)?;
+    if are_of_a_list(alloc, key.as_str(), near)? {
+        return Ok("");
+    }
+    Ok(near)
+}
+
+/// The line of a key that a runner asks for and that nothing puts.
+fn runner_key_line(account: &Account, asked: &AskedKey, near: &str) -> Result<String, AllocError> {
+    let alloc = account.alloc;
+    let who = runner_word(alloc, asked.who)?;
+    let is_sure = !account.keys.may_be_put(&asked.key);
+    key_line(alloc, who.as_str(), &asked.key, is_sure, near)
+}
+
+/// Says of a key that a runner asks for that nothing puts it: where another key is most likely meant, and where it is to be said how its runs ended. That
+/// is worth a doubt, if none of them committed.
+fn tell_asked<O: Audience>(
+    account: &Account,
+    asked: &AskedKey,
+    runs: &Runs,
     audience: &mut O,
 ) -> Result<(), AllocError> {
-    for key in keys {
-        let key = shown_text(alloc, key)?;
-        let line = format!(in alloc;
-            "runner {runner} asks for the key {key}, which is not there and which nothing puts in any serial order"
-        )?;
+    let alloc = account.alloc;
+    let meant = meant(account, &asked.key)?;
+    let is_said = is_said(runs, account.told);
+    if !meant.is_empty() || (is_said && !runs.has_committed) {
+        let near = nearest(alloc, &account.keys, &asked.key, NEAR)?;
+        let line = runner_key_line(account, asked, near)?;
+        audience.doubt(line.as_str());
+    } else if is_said {
+        let line = runner_key_line(account, asked, "")?;
         audience.hear(line.as_str());
     }
     Ok(())
 }
 
-/// Says which keys the runners ask for of which it is told, and that nothing puts.
-fn tell_sought<O: Audience>(
-    account: &Account,
-    others: &[WorldEvent],
-    audience: &mut O,
-) -> Result<(), AllocError> {
-    let alloc = account.alloc;
-    for index in 0..account.runners.len() {
-        if is_said(&account.runners[index], account.told) {
-            let keys = account.sought.in_vain(alloc, index as u64 + 1, others)?;
-            let told = tell_keys(alloc, index + 1, keys.as_slice(), audience);
-            drop(keys);
-            told?;
+/// Says which keys the runners ask for that nothing puts.
+fn tell_of_runners<O: Audience>(account: &Account, audience: &mut O) -> Result<(), AllocError> {
+    let keys = &account.keys;
+    for asked in keys.by_runners.as_slice() {
+        if asked.who < account.runners.len() && account.is_unput(&asked.key) {
+            tell_asked(account, asked, &account.runners[asked.who], audience)?;
         }
     }
     Ok(())
 }
 
-/// Says which keys rules ask for and nothing puts.
-fn tell_unput<O: Audience>(account: &Account, audience: &mut O) -> Result<(), AllocError> {
+/// Says which keys rules ask for that nothing puts.
+fn tell_of_rules<O: Audience>(
+    account: &Account,
+    answers: &[RuleAnswer],
+    audience: &mut O,
+) -> Result<(), AllocError> {
     let alloc = account.alloc;
-    let asking = account.asking;
-    for key in account.unput.as_slice() {
-        let key = shown_text(alloc, key)?;
-        let line = format!(in alloc;
-            "{asking} for the key {key}, which is not there and which nothing puts in any serial order"
-        )?;
-        audience.hear(line.as_str());
+    let keys = &account.keys;
+    for asked in keys.by_rules.as_slice() {
+        if account.is_strange(&asked.key) {
+            let key = &asked.key;
+            let near = nearest(alloc, keys, key, NEAR)?;
+            let who = rule_word(alloc, answers, asked.who)?;
+            let line = key_line(alloc, who.as_str(), key, !keys.may_be_put(key), near)?;
+            audience.doubt(line.as_str());
+        }
     }
     Ok(())
 }
 
-/// Says what an account of serial orders has: nothing of keys where not all orders were gone through.
+/// Says of finals which words they compare with a runner's end that are none.
+fn tell_ends<O: Audience>(
+    alloc: Global,
+    answers: &[RuleAnswer],
+    audience: &mut O,
+) -> Result<(), AllocError> {
+    let wrong = wrong_ends(alloc, answers)?;
+    for end in wrong.as_slice() {
+        let who = rule_word(alloc, answers, end.rule)?;
+        let who = who.as_str();
+        let runner = end.runner.as_str();
+        let word = shown_text(alloc, end.word.as_str())?;
+        let near = end.near;
+        let line = format!(in alloc;
+            "{who} asks whether the end of runner {runner} is {word}, which none is; the nearest is \"{near}\""
+        )?;
+        audience.doubt(line.as_str());
+    }
+    Ok(())
+}
+
+/// Says what an account of serial orders has.
 fn tell_orders<O: Audience>(
     account: &Account,
-    others: &[WorldEvent],
+    answers: &[RuleAnswer],
     audience: &mut O,
 ) -> Result<(), AllocError> {
-    if account.left == 0 {
-        return tell_runs(account, account.told, OF_SOME_ORDERS, audience);
-    }
-    tell_runs(account, account.told, OF_ALL_ORDERS, audience)?;
-    tell_sought(account, others, audience)?;
-    tell_unput(account, audience)
+    let of = if account.left == 0 {
+        OF_SOME_ORDERS
+    } else {
+        OF_ALL_ORDERS
+    };
+    tell_runs(account, account.told, of, audience)?;
+    tell_of_runners(account, audience)?;
+    tell_of_rules(account, answers, audience)?;
+    tell_ends(account.alloc, answers, audience)
+}
+
+/// Notes which keys rules and programs ask for, and which the programs and the others put.
+fn note_keys(
+    alloc: Global,
+    keys: &mut KeyUse,
+    others: &[WorldEvent],
+    programs: &[Program],
+    answers: &[RuleAnswer],
+) -> Result<(), AllocError> {
+    keys.note_rules(alloc, answers)?;
+    keys.note_programs(alloc, programs)?;
+    keys.note_events(others)
 }
 
 /// The account of no run, about rules.
@@ -376,23 +498,18 @@ fn account_before(
     alloc: Global,
     world: &World,
     others: &[WorldEvent],
+    programs: &[Program],
     answers: &[RuleAnswer],
     told: Told,
 ) -> Result<Account, AllocError> {
-    let unput = unput_keys(alloc, answers, world, others)?;
-    let asking = if answers.len() == 1 {
-        OF_THE_RULE
-    } else {
-        OF_A_RULE
-    };
-    let sought = match Sought::new(alloc, world) {
-        Ok(sought) => sought,
+    let mut keys = KeyUse::new(alloc, world)?;
+    match note_keys(alloc, &mut keys, others, programs, answers) {
+        Ok(()) => Account::new(alloc, world.runner_count(), keys, told),
         Err(_) => {
-            drop(unput);
-            return Err(AllocError);
+            drop(keys);
+            Err(AllocError)
         }
-    };
-    Account::new(alloc, world.runner_count(), unput, asking, sought, told)
+    }
 }
 
 /// Makes an account, and says it.
@@ -407,12 +524,12 @@ fn make_account<O: Audience>(
 ) -> Result<(), AllocError>
     requires { AreProgramsOf programs.now world.now.runners }
 {
-    let mut account = account_before(alloc, world, others, answers, told)?;
+    let mut account = account_before(alloc, world, others, programs, answers, told)?;
     go_through_orders(alloc, world, others, programs, &mut account)?;
     if account.is_cut {
         return Err(AllocError);
     }
-    tell_orders(&account, others, audience)
+    tell_orders(&account, answers, audience)
 }
 
 /// Says how the runs ended of the runners of which it is told, each program run alone in every serial order, and which keys the rules ask for that are not

@@ -10,6 +10,9 @@ pub trait Audience: Observer {
 
     /// This is said, without a line feed at its end.
     fn hear(&mut self, line: &str);
+
+    /// The same is said, of what makes the answer worth little: of a program that never did its work, or a key that nothing puts.
+    fn doubt(&mut self, line: &str);
 }
 
 impl Audience for Nobody {
@@ -18,17 +21,35 @@ impl Audience for Nobody {
     }
 
     fn hear(&mut self, _line: &str) {}
+
+    fn doubt(&mut self, _line: &str) {}
 }
 
-/// An audience that hears a name before each line.
+/// An audience that hears each line once, also where it is said of several searches.
 #[derive(Drop)]
-pub(crate) struct Beside<'a, O> {
+pub(crate) struct Once<'a, O> {
     pub(crate) alloc: Global,
-    pub(crate) name: &'a str,
+    /// What was said so far.
+    pub(crate) heard: &'a mut Vec<String>,
     pub(crate) audience: &'a mut O,
 }
 
-impl<O: Observer> Observer for Beside<'_, O> {
+impl<O> Once<'_, O> {
+    /// Whether a line is new, which it is no longer. Where an allocation fails for that, each is.
+    fn is_new(&mut self, line: &str) -> bool {
+        for heard in self.heard.as_slice() {
+            if heard.as_str() == line {
+                return false;
+            }
+        }
+        if let Ok(line) = String::from_str(self.alloc, line) {
+            let _ = self.heard.push(line);
+        }
+        true
+    }
+}
+
+impl<O: Observer> Observer for Once<'_, O> {
     fn passed(&mut self, length: u64, left: u64) {
         self.audience.passed(length, left);
     }
@@ -42,16 +63,20 @@ impl<O: Observer> Observer for Beside<'_, O> {
     }
 }
 
-impl<O: Audience> Audience for Beside<'_, O> {
+impl<O: Audience> Audience for Once<'_, O> {
     fn wants_all(&self) -> bool {
         self.audience.wants_all()
     }
 
     fn hear(&mut self, line: &str) {
-        let alloc = self.alloc;
-        let name = self.name;
-        if let Ok(line) = format!(in alloc; "{name}: {line}") {
-            self.audience.hear(line.as_str());
+        if self.is_new(line) {
+            self.audience.hear(line);
+        }
+    }
+
+    fn doubt(&mut self, line: &str) {
+        if self.is_new(line) {
+            self.audience.doubt(line);
         }
     }
 }

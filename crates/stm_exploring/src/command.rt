@@ -9,6 +9,7 @@ use crate::exploring::{explore_sources, search_for};
 use crate::leveled::search_at_levels;
 use crate::outcomes::outcomes_of_source;
 use crate::printed::{Printed, SearchAnswer};
+use crate::question::Question;
 use crate::reading::{ExploreFault, program_of};
 use crate::rules::Rule;
 use std::alloc::Global;
@@ -230,11 +231,17 @@ pub fn explore_levels_to<S: Source, W: Sink, E: Sink, O: Audience>(
 ///
 /// Status 0 and `["outcome",STATE,ENDS]`, the present keys with their values and how each runner ended, for each outcome of a whole schedule,
 /// once, ascending by the bytes of the line, and then `["outcomes",COUNT]`. Status 4 and `["open",LENGTH]`: as many events were taken as `budget`
-/// had left, before all were found, and every schedule of at most LENGTH moves was gone through.
+/// had left, before all were found, and every schedule of at most LENGTH moves was gone through. Where `question` asks for witnesses, a line with
+/// the scenario with the events of a schedule that comes to it stands behind each outcome: none that does is shorter.
+///
+/// Where it asks for serial orders: status 0 and `["serial",COUNT]`, some serial order comes to each of so many outcomes; status 1 and
+/// `["anomaly",LENGTH,STATE,ENDS]`, none comes to this outcome, and the schedule of LENGTH moves does that stands, as a scenario, on a second line; or
+/// status 4 and `["open",LENGTH]`. At each of the four levels there is such a line, with the level as a last element, and then `["enough",LEVEL]`.
 ///
 /// All else is as with `explore_to`, for which there is a rule.
 pub fn outcomes_to<S: Source, W: Sink, E: Sink, O: Audience>(
     alloc: Global,
+    question: Question,
     scenario: &mut S,
     level: Option<Level>,
     budget: &mut Budget<O>,
@@ -244,10 +251,14 @@ pub fn outcomes_to<S: Source, W: Sink, E: Sink, O: Audience>(
     requires scenario_works { S.failed scenario.old ≡ false }
     requires out_works { W.failed out.old ≡ false }
     requires err_works { E.failed err.old ≡ false }
-    ensures ends { GoesThrough level (S.left scenario.old) (S.failed scenario.new)
+    ensures ends { GoesThrough question level (S.left scenario.old) (S.failed scenario.new)
         (record { before = W.held out.old; after = W.held out.new; failed = W.failed out.new })
         (record { before = E.held err.old; after = E.held err.new; failed = E.failed err.new }) result }
     ensures bounded { S.reads scenario.new ≤ S.reads scenario.old + MOST_READ }
 {
-    finish(outcomes_of_source(alloc, scenario, level, budget), out, err)
+    finish(
+        outcomes_of_source(alloc, question, scenario, level, budget),
+        out,
+        err,
+    )
 }

@@ -13,6 +13,7 @@ use crate::exploring::{explore_sources, search_for};
 use crate::leveled::search_at_levels;
 use crate::outcomes::outcomes_of_source;
 use crate::printed::{Printed, SearchAnswer};
+use crate::question::Question;
 use crate::reading::{ExploreFault, program_of};
 use crate::rules::Rule;
 use std::alloc::{AllocError, Global};
@@ -296,6 +297,7 @@ pub fn explore_levels_explained_to<S: Source, W: Sink, E: Sink, O: Audience>(
 /// `NAME:LINE:COLUMN: WORDS`, or nothing where an allocation failed for it.
 pub fn outcomes_explained_to<S: Source, W: Sink, E: Sink, O: Audience>(
     alloc: Global,
+    question: Question,
     scenario: &mut KeptSource<'_, S>,
     level: Option<Level>,
     budget: &mut Budget<O>,
@@ -305,12 +307,12 @@ pub fn outcomes_explained_to<S: Source, W: Sink, E: Sink, O: Audience>(
     requires scenario_works { S.failed scenario.old.source ≡ false }
     requires out_works { W.failed out.old ≡ false }
     requires err_works { E.failed err.old ≡ false }
-    ensures ends { GoesThrough level (record { name = scenario.new.name.now; text = scenario.new.bytes.items }) (S.left scenario.old.source) (S.failed scenario.new.source)
+    ensures ends { GoesThrough question level (record { name = scenario.new.name.now; text = scenario.new.bytes.items }) (S.left scenario.old.source) (S.failed scenario.new.source)
         (record { before = W.held out.old; after = W.held out.new; failed = W.failed out.new })
         (record { before = E.held err.old; after = E.held err.new; failed = E.failed err.new }) result }
     ensures bounded { S.reads scenario.new.source ≤ S.reads scenario.old.source + MOST_READ }
 {
-    let gathered = outcomes_of_source(alloc, scenario, level, budget);
+    let gathered = outcomes_of_source(alloc, question, scenario, level, budget);
     match write(out, gathered) {
         Ok(verdict) => status_of(verdict),
         Err(fault) => report_search_fault(alloc, scenario, &fault, err),

@@ -177,7 +177,11 @@ fn enough_json(alloc: Global, level: Option<Level>) -> Result<Json, AllocError>
 }
 
 /// Adds that line.
-fn push_enough(alloc: Global, text: &mut String, level: Option<Level>) -> Result<(), AllocError>
+pub(crate) fn push_enough(
+    alloc: Global,
+    text: &mut String,
+    level: Option<Level>,
+) -> Result<(), AllocError>
     ensures { OnOk result (string_bytes text.new ≡ string_bytes text.old ++ line_text (enough_line level)) }
 {
     let line = enough_json(alloc, level)?;

@@ -6,8 +6,8 @@ ghost use Rattle.stm_exploring.specs.Judging.{AreFound};
 ghost use Rattle.stm_exploring.specs.Levels.{AreFoundAt, ArePrintedAt, SearchesLevels, leveled, levels};
 
 use crate::asking::put_levels;
-use crate::audience::{Audience, Beside};
-use crate::level_lines::{level_name, print_levels};
+use crate::audience::{Audience, Once};
+use crate::level_lines::print_levels;
 use crate::printed::Printed;
 use crate::reading::{ExploreFault, scenario_of};
 use crate::rules::{Rule, RuleAnswer};
@@ -29,7 +29,7 @@ pub(crate) struct LevelAnswers {
 }
 
 /// The levels, the weakest first.
-const LEVELS: [Level; 4] = [
+pub(crate) const LEVELS: [Level; 4] = [
     Level::ReadCommitted,
     Level::RepeatableReads,
     Level::Serializable,
@@ -37,7 +37,7 @@ const LEVELS: [Level; 4] = [
 ];
 
 /// Puts each start of a scenario at a level.
-fn put_starts(alloc: Global, scenario: &mut Scenario, level: Level)
+pub(crate) fn put_starts(alloc: Global, scenario: &mut Scenario, level: Level)
     ensures { scenario.new ≡ leveled level scenario.old }
 {
     let mut events = mem::replace(&mut scenario.events, Sequence::new(alloc)).into_vec();
@@ -55,7 +55,7 @@ fn put_level(alloc: Global, scenario: &mut Scenario, level: Level)
 }
 
 /// What is known of each rule about a scenario, once its starts are put at a level, in which these runners wait. For each at most so many moves are
-/// made. What is said of it stands beside the level.
+/// made. What was said already is not said again.
 fn judge_level<O: Audience>(
     alloc: Global,
     scenario: &mut Scenario,
@@ -63,6 +63,7 @@ fn judge_level<O: Audience>(
     waits: &[Wait],
     rules: &[Rule],
     most: u64,
+    heard: &mut Vec<String>,
     audience: &mut O,
 ) -> Result<LevelAnswers, AllocError>
     requires { HaveNoStep scenario.old.events }
@@ -72,9 +73,9 @@ fn judge_level<O: Audience>(
     ensures found { IfOk result (λ a. AreFound waits.now rules.now scenario.new a.answers) }
 {
     put_level(alloc, scenario, level);
-    let observer = Beside {
+    let observer = Once {
         alloc,
-        name: level_name(level),
+        heard,
         audience,
     };
     let mut budget = Budget {
@@ -101,9 +102,12 @@ fn judge_levels<O: Audience>(
     requires { HaveNoStep scenario.old.events }
     ensures { IfOk result (λ at. AreFoundAt levels.now waits.now rules.now scenario.old at.items) }
 {
+    let mut heard = Vec::new(alloc);
     let mut at = Vec::new(alloc);
     for level in levels {
-        let answers = judge_level(alloc, scenario, *level, waits, rules, most, audience)?;
+        let answers = judge_level(
+            alloc, scenario, *level, waits, rules, most, &mut heard, audience,
+        )?;
         at.push(answers)?;
     }
     Ok(at)

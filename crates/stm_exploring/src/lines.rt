@@ -57,7 +57,7 @@ fn end_json(alloc: Global, end: &End) -> Result<Json, AllocError>
 }
 
 /// The elements of the line of a word and a number.
-fn count_parts(alloc: Global, word: &str, count: u64) -> Result<Vec<Json>, AllocError>
+pub(crate) fn count_parts(alloc: Global, word: &str, count: u64) -> Result<Vec<Json>, AllocError>
     ensures { IfOk result (λ parts. map view parts.items ≡ string word.now ∷ whole count ∷ []) }
 {
     let word = json!(in alloc; word)?;

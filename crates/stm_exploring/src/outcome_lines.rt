@@ -1,19 +1,22 @@
 //! The lines of what whole schedules come to.
-ghost use Rattle.std.specs.Prelude.{◌≡◌, ◌++◌, map, IfOk, OnOk, string_bytes};
-ghost use Rattle.std.specs.List.{concat};
+ghost use Rattle.std.specs.Prelude.{◌≡◌, ◌≤◌, ◌++◌, length, map, IfOk, OnOk, string_bytes};
+ghost use Rattle.std.specs.List.{concat, zip};
 ghost use Rattle.serde_json.specs.View.{view};
 ghost use Rattle.stm_schedules.specs.declared.outcome.RunnerEnd.TheVariants.{Committed};
-ghost use Rattle.stm_exploring.specs.Lines.{key_value_data, runner_end_data, outcome_line, outcome_text, each_once, outcomes_text};
+ghost use Rattle.stm_exploring.specs.Lines.{key_value_data, runner_end_data, outcome_line, outcome_text, each_once, counted_text, outcomes_text};
+ghost use Rattle.stm_exploring.specs.Questions.{witness_text, witnesses_text};
 
 use crate::lines::push_count;
 use crate::lists::{Written, list_json};
+use crate::schedule_lines::push_scheduled;
 use serde_json::{Value as Json, json};
 use std::alloc::{AllocError, Global};
 use std::collections::BTreeSet;
-use stm_history::Text;
+use stm_history::{Sequence, Text};
 use stm_meaning::Value;
 use stm_report_lines::{array_json, push_line};
-use stm_schedules::{KeyValue, Outcome, RunnerEnd};
+use stm_schedules::{KeyValue, Move, Outcome, RunnerEnd};
+use stm_texts::Scenario;
 
 impl Written for KeyValue {
     ghost written = { key_value_data };
@@ -54,14 +57,36 @@ fn outcome_json(alloc: Global, outcome: &Outcome) -> Result<Json, AllocError>
     json!(in alloc; ["outcome", state, ends])
 }
 
+/// Adds the line of an outcome.
+fn push_outcome(alloc: Global, text: &mut String, outcome: &Outcome) -> Result<(), AllocError>
+    ensures { OnOk result (string_bytes text.new ≡ string_bytes text.old ++ outcome_text outcome.now) }
+{
+    let line = outcome_json(alloc, outcome)?;
+    push_line(alloc, text, &line)
+}
+
 /// The line of an outcome.
 fn outcome_line(alloc: Global, outcome: &Outcome) -> Result<Text, AllocError>
     ensures { IfOk result (λ text. text ≡ outcome_text outcome.now) }
 {
-    let value = outcome_json(alloc, outcome)?;
     let mut line = String::new(alloc);
-    push_line(alloc, &mut line, &value)?;
+    push_outcome(alloc, &mut line, outcome)?;
     Ok(Text::new(line))
+}
+
+/// The line of an outcome, and that of the scenario with a schedule that comes to it.
+fn witness_lines(
+    alloc: Global,
+    scenario: &Scenario,
+    outcome: &Outcome,
+    schedule: &[Move],
+) -> Result<Text, AllocError>
+    ensures { IfOk result (λ text. text ≡ witness_text scenario.now (outcome.now, schedule.now)) }
+{
+    let mut lines = String::new(alloc);
+    push_outcome(alloc, &mut lines, outcome)?;
+    push_scheduled(alloc, &mut lines, scenario, schedule)?;
+    Ok(Text::new(lines))
 }
 
 /// The line of each outcome once, ascending by bytes.
@@ -76,6 +101,36 @@ fn each_line(alloc: Global, outcomes: &[Outcome]) -> Result<BTreeSet<Text>, Allo
     Ok(lines)
 }
 
+/// How many outcomes have a schedule.
+#[tactic(auto, using(crate::proofs::OutcomeLineLemmas::pairs_of_first, crate::proofs::OutcomeLineLemmas::pairs_of_second))]
+fn pair_count(outcomes: &[Outcome], schedules: &[Sequence<Move>]) -> usize
+    ensures pairs { result ≡ length (zip outcomes.now schedules.now) }
+    ensures first { result ≤ length outcomes.now }
+    ensures second { result ≤ length schedules.now }
+{
+    if schedules.len() < outcomes.len() {
+        return schedules.len();
+    }
+    outcomes.len()
+}
+
+/// The lines of each outcome and of its schedule once, ascending by bytes.
+fn each_witness(
+    alloc: Global,
+    scenario: &Scenario,
+    outcomes: &[Outcome],
+    schedules: &[Sequence<Move>],
+) -> Result<BTreeSet<Text>, AllocError>
+    ensures { IfOk result (λ lines. lines.keys ≡ each_once (map (witness_text scenario.now) (zip outcomes.now schedules.now))) }
+{
+    let mut lines = BTreeSet::new(alloc);
+    for i in 0..pair_count(outcomes, schedules) {
+        let text = witness_lines(alloc, scenario, &outcomes[i], schedules[i].as_slice())?;
+        lines.insert(text)?;
+    }
+    Ok(lines)
+}
+
 /// Adds these texts.
 fn push_texts(text: &mut String, texts: &BTreeSet<Text>) -> Result<(), AllocError>
     ensures { OnOk result (string_bytes text.new ≡ string_bytes text.old ++ concat texts.now.keys) }
@@ -86,13 +141,33 @@ fn push_texts(text: &mut String, texts: &BTreeSet<Text>) -> Result<(), AllocErro
     Ok(())
 }
 
+/// These texts of outcomes, and how many there are.
+fn counted_text(alloc: Global, texts: &BTreeSet<Text>) -> Result<String, AllocError>
+    ensures { IfOk result (λ text. string_bytes text ≡ counted_text texts.now.keys) }
+{
+    let mut text = String::new(alloc);
+    push_texts(&mut text, texts)?;
+    push_count(alloc, &mut text, "outcomes", texts.len() as u64)?;
+    Ok(text)
+}
+
 /// What is printed of these outcomes.
 pub(crate) fn outcomes_text(alloc: Global, outcomes: &[Outcome]) -> Result<String, AllocError>
     ensures { IfOk result (λ text. string_bytes text ≡ outcomes_text outcomes.now) }
 {
     let lines = each_line(alloc, outcomes)?;
-    let mut text = String::new(alloc);
-    push_texts(&mut text, &lines)?;
-    push_count(alloc, &mut text, "outcomes", lines.len() as u64)?;
-    Ok(text)
+    counted_text(alloc, &lines)
+}
+
+/// What is printed of these outcomes, with these schedules that come to them.
+pub(crate) fn witnesses_text(
+    alloc: Global,
+    scenario: &Scenario,
+    outcomes: &[Outcome],
+    schedules: &[Sequence<Move>],
+) -> Result<String, AllocError>
+    ensures { IfOk result (λ text. string_bytes text ≡ witnesses_text scenario.now outcomes.now schedules.now) }
+{
+    let lines = each_witness(alloc, scenario, outcomes, schedules)?;
+    counted_text(alloc, &lines)
 }

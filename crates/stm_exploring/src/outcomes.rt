@@ -1,32 +1,64 @@
 //! What the whole schedules of a scenario come to, from its source to what is printed.
 ghost use Rattle.std.specs.Prelude.{◌≡◌, ◌≤◌, ◌+◌, [], false, IfOk, string_bytes};
 ghost use Rattle.stm_devices.specs.declared.transfer.TheConstants.{MOST_READ};
-ghost use Rattle.stm_explore.specs.Explored.{AreOutcomes};
 ghost use Rattle.stm_schedules.specs.Outcomes.{after_replies};
 ghost use Rattle.stm_world.specs.World.{world_after, replies_to};
 ghost use Rattle.stm_exploring.specs.Asking.{place_of, ends_of};
-ghost use Rattle.stm_exploring.specs.Exploring.{gathered_text, verdict_of_outcomes, printed_outcomes, ArePrinted, Gathers};
+ghost use Rattle.stm_exploring.specs.Questions.{AreGathered, AreListed, ArePrinted, Gathers, found_text, gathered_text, printed_outcomes, verdict_of_outcomes};
 
 use crate::audience::{Audience, tell_parts};
 use crate::lines::count_text;
-use crate::outcome_lines::outcomes_text;
+use crate::outcome_lines::{outcomes_text, witnesses_text};
 use crate::printed::{Printed, SearchAnswer};
+use crate::question::Question;
 use crate::reading::{ExploreFault, scenario_of};
+use crate::serial::compare;
+use crate::serial_levels::compare_at_levels;
 use crate::setup::{run_setup, setup_and_others};
 use std::alloc::{AllocError, Global};
 use stm_devices::Source;
-use stm_explore::{Budget, Outcomes, find_outcomes};
+use stm_explore::{Budget, Move, Outcome, Outcomes, Sequence, find_outcomes};
 use stm_history::Text;
 use stm_program::Level;
 use stm_retry::World;
 use stm_texts::{Scenario, WorldEvent, opens_with};
 
+/// What is printed of these outcomes, and of schedules that come to them, where these are asked for.
+fn found_text(
+    alloc: Global,
+    witnessed: bool,
+    scenario: &Scenario,
+    outcomes: &[Outcome],
+    schedules: &[Sequence<Move>],
+) -> Result<String, AllocError>
+    ensures { IfOk result (λ text. string_bytes text ≡ found_text witnessed scenario.now outcomes.now schedules.now) }
+{
+    if witnessed {
+        return witnesses_text(alloc, scenario, outcomes, schedules);
+    }
+    outcomes_text(alloc, outcomes)
+}
+
 /// What is printed of what whole schedules come to.
-fn gathered_text(alloc: Global, gathered: &Outcomes) -> Result<String, AllocError>
-    ensures { IfOk result (λ text. string_bytes text ≡ gathered_text gathered.now) }
+fn gathered_text(
+    alloc: Global,
+    witnessed: bool,
+    scenario: &Scenario,
+    gathered: &Outcomes,
+) -> Result<String, AllocError>
+    ensures { IfOk result (λ text. string_bytes text ≡ gathered_text witnessed scenario.now gathered.now) }
 {
     match gathered {
-        Outcomes::Found { outcomes } => outcomes_text(alloc, outcomes.as_slice()),
+        Outcomes::Found {
+            outcomes,
+            schedules,
+        } => found_text(
+            alloc,
+            witnessed,
+            scenario,
+            outcomes.as_slice(),
+            schedules.as_slice(),
+        ),
         Outcomes::Open { gone_through } => count_text(alloc, "open", *gone_through),
     }
 }
@@ -42,10 +74,15 @@ fn verdict_of(gathered: &Outcomes) -> SearchAnswer
 }
 
 /// What is printed of what whole schedules come to, and whether all were gone through.
-fn print(alloc: Global, gathered: &Outcomes) -> Result<Printed, AllocError>
-    ensures { IfOk result (λ p. p ≡ printed_outcomes gathered.now) }
+fn print(
+    alloc: Global,
+    witnessed: bool,
+    scenario: &Scenario,
+    gathered: &Outcomes,
+) -> Result<Printed, AllocError>
+    ensures { IfOk result (λ p. p ≡ printed_outcomes witnessed scenario.now gathered.now) }
 {
-    let text = gathered_text(alloc, gathered)?;
+    let text = gathered_text(alloc, witnessed, scenario, gathered)?;
     Ok(Printed {
         verdict: verdict_of(gathered),
         text: Text::new(text),
@@ -60,12 +97,13 @@ fn gather_from<O: Audience>(
     others: &[WorldEvent],
     budget: &mut Budget<O>,
 ) -> Result<Outcomes, AllocError>
-    ensures { IfOk result (AreOutcomes (record { world = world_after setup.now world.old; others = others.now })
+    ensures { IfOk result (AreGathered (record { world = world_after setup.now world.old; others = others.now })
         (after_replies (replies_to setup.now world.old) [])) }
 {
     let ends = run_setup(alloc, world, setup)?;
     tell_parts(alloc, setup.len(), others.len(), &mut budget.observer);
-    find_outcomes(alloc, world, others, ends.as_slice(), budget)
+    let gathered = find_outcomes(alloc, world, others, ends.as_slice(), budget)?;
+    Ok(gathered)
 }
 
 /// What the whole schedules of a scenario come to.
@@ -74,7 +112,7 @@ fn gather_scenario<O: Audience>(
     scenario: &Scenario,
     budget: &mut Budget<O>,
 ) -> Result<Outcomes, AllocError>
-    ensures { IfOk result (AreOutcomes (place_of scenario.now) (ends_of scenario.now)) }
+    ensures { IfOk result (AreGathered (place_of scenario.now) (ends_of scenario.now)) }
 {
     let (setup, others) = setup_and_others(scenario.events.as_slice());
     let opening = opens_with(scenario.opening);
@@ -84,35 +122,55 @@ fn gather_scenario<O: Audience>(
     gathered
 }
 
-/// What is printed of what the whole schedules of a scenario come to.
+/// What is printed of what the whole schedules of a scenario come to: with schedules, or without.
 fn gather<O: Audience>(
     alloc: Global,
+    witnessed: bool,
     scenario: &Scenario,
     budget: &mut Budget<O>,
 ) -> Result<Printed, AllocError>
-    ensures { IfOk result (ArePrinted scenario.now) }
+    ensures { IfOk result (AreListed witnessed scenario.now) }
 {
     let gathered = gather_scenario(alloc, scenario, budget)?;
-    print(alloc, &gathered)
+    print(alloc, witnessed, scenario, &gathered)
 }
 
-/// Reads a scenario from its source to the end, and looks what its whole schedules come to: the state, and how each runner ended.
+/// What is printed of what is asked of a scenario.
+fn answer<O: Audience>(
+    alloc: Global,
+    question: Question,
+    scenario: &mut Scenario,
+    budget: &mut Budget<O>,
+) -> Result<Printed, AllocError>
+    ensures { IfOk result (ArePrinted question scenario.old) }
+{
+    match question {
+        Question::Outcomes => gather(alloc, false, scenario, budget),
+        Question::Witnesses => gather(alloc, true, scenario, budget),
+        Question::Serial => compare(alloc, scenario, budget),
+        Question::SerialLevels => compare_at_levels(alloc, scenario, budget),
+    }
+}
+
+/// Reads a scenario from its source to the end, and looks what its whole schedules come to: the state, and how each runner ended. Where it is asked,
+/// each has the scenario with a schedule that comes to it, or it is told whether a serial order comes to each.
 ///
 /// The steps of the scenario are left out. Each start is taken at the level that is named, where one is. At most as many events are taken as `budget` has left, and its observer is notified
 /// of how far the search is. The source has not failed before. It fails as `BadScenario` with the scenario's first fault; as `OutOfMemory` where an allocation failed; and as `Device` exactly where the source has failed. At most 16777217 bytes are read, in at
 /// most that many reads.
 pub fn outcomes_of_source<S: Source, O: Audience>(
     alloc: Global,
+    question: Question,
     scenario: &mut S,
     level: Option<Level>,
     budget: &mut Budget<O>,
 ) -> Result<Printed, ExploreFault>
     requires { S.failed scenario.old ≡ false }
-    ensures gathered { Gathers level (S.left scenario.old) (S.failed scenario.new) result }
+    ensures gathered { Gathers question level (S.left scenario.old) (S.failed scenario.new) result }
     ensures bounded { S.reads scenario.new ≤ S.reads scenario.old + MOST_READ }
 {
-    let scenario = scenario_of(alloc, scenario, level, &mut budget.observer)?;
-    match gather(alloc, &scenario, budget) {
+    let mut scenario = scenario_of(alloc, scenario, level, &mut budget.observer)?;
+    match answer(alloc, question, &mut scenario, budget) {
         Ok(printed) => Ok(printed),
         Err(_) => Err(ExploreFault::OutOfMemory),
     }

@@ -6,3 +6,5 @@ pub mod FormatKeptKeys
 pub mod FormatLoops
 pub mod FormatRowLemmas
 pub mod FormatWidths
+pub mod FormatPages
+pub mod FormatAttempts

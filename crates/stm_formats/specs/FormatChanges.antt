@@ -7,7 +7,7 @@ use Rattle.stm_keys.specs.declared.event.Event.TheVariants.{Put, Delete}
 use Rattle.stm_keys.specs.Events.{events_of}
 use Rattle.stm_reasons.specs.Causes.{state_by}
 use Rattle.stm_formats.specs.declared.format_changes.TheConstants.{MOST_CHANGES}
-use Rattle.stm_formats.specs.FormatShown.{shown}
+use Rattle.stm_formats.specs.FormatShown.{plain, shown}
 use Rattle.stm_formats.specs.FormatPieces.{joined}
 
 -- ---- a key
@@ -26,8 +26,8 @@ known_words h key mod_rev revision =
 -- ---- what a revision changed
 
 abbrev pub change_words : Event → List ℕ
-change_words (Put key state) = joined (shown key ∷ codes " = \"" ∷ shown state.value ∷ codes "\"" ∷ [])
-change_words (Delete key revision) = joined (shown key ∷ codes " deleted" ∷ [])
+change_words (Put key state) = joined (plain key ∷ codes " = \"" ∷ shown state.value ∷ codes "\"" ∷ [])
+change_words (Delete key revision) = joined (plain key ∷ codes " deleted" ∷ [])
 
 -- what stands before a change after that many
 abbrev pub between : ℕ → List ℕ

@@ -7,14 +7,14 @@ use Rattle.stm_events.specs.declared.reply.Reply.{Reply}
 use Rattle.stm_events.specs.declared.reply.Reply.TheVariants.{Started, Committed, GaveUp, Aborted, Faulted, Ended}
 use Rattle.stm_events.specs.declared.refusal.Denied.{Denied}
 use Rattle.stm_world.specs.World.{World}
-use Rattle.stm_formats.specs.FormatShown.{shown}
+use Rattle.stm_formats.specs.FormatShown.{plain, shown}
 use Rattle.stm_formats.specs.FormatPieces.{joined}
 
 -- ---- the keys that are present
 
 -- a key with its value, and the revision of its last change
 abbrev pub key_note : List ℕ → KeyState → List ℕ
-key_note key state = joined (codes "key " ∷ shown key ∷ codes " = \"" ∷ shown state.value ∷ codes "\" @" ∷ decimal state.mod_rev ∷ [])
+key_note key state = joined (codes "key " ∷ plain key ∷ codes " = \"" ∷ shown state.value ∷ codes "\" @" ∷ decimal state.mod_rev ∷ [])
 
 abbrev pub notes_of_key : List ℕ → Option KeyState → List (List ℕ)
 notes_of_key key None = []

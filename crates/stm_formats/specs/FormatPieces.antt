@@ -4,8 +4,8 @@ use Rattle.stm_formats.specs.declared.format_row.Lane.{Lane}
 use Rattle.stm_formats.specs.declared.format_row.Lane.TheVariants.{Store, Runner}
 use Rattle.stm_formats.specs.declared.format_pieces.TheConstants.{MOST_COLUMNS}
 use Rattle.stm_formats.specs.declared.format_pieces.Piece.{Piece}
-use Rattle.stm_formats.specs.declared.format_pieces.Piece.TheVariants.{Say, Shown, Number, Padded, Spaces, Title, Tag, Raw, Escaped}
-use Rattle.stm_formats.specs.FormatShown.{shown}
+use Rattle.stm_formats.specs.declared.format_pieces.Piece.TheVariants.{Say, Key, Shown, Source, Number, Padded, Spaces, Title, Tag, Raw, Escaped}
+use Rattle.stm_formats.specs.FormatShown.{plain, shown, source_shown}
 use Rattle.stm_formats.specs.FormatEscaped.{escaped}
 
 -- one text after the other
@@ -29,7 +29,9 @@ tag_text (Runner runner) = if nat_lt runner MOST_COLUMNS then [] else decimal ru
 
 abbrev pub piece_text : Piece → List ℕ
 piece_text (Say text) = text.now
+piece_text (Key text) = plain text.now
 piece_text (Shown text) = shown text.now
+piece_text (Source text) = source_shown text.now
 piece_text (Number number) = decimal number
 piece_text (Padded number) = padded number
 piece_text (Title column) = title column

@@ -6,7 +6,7 @@ use Rattle.stm_reasons.specs.declared.reason.Deed.TheVariants.{Put, Deleted, End
 use Rattle.stm_reasons.specs.declared.reason.Ending.{Ending}
 use Rattle.stm_reasons.specs.declared.reason.Ending.TheVariants.{Conflict, GaveUp, Stale}
 use Rattle.stm_reasons.specs.declared.reason.Reason.{Reason}
-use Rattle.stm_formats.specs.FormatShown.{shown}
+use Rattle.stm_formats.specs.FormatShown.{plain}
 use Rattle.stm_formats.specs.FormatPieces.{joined}
 
 -- what the runner did
@@ -41,7 +41,7 @@ moral other = []
 
 abbrev pub reason_note : Reason → List ℕ
 reason_note reason =
-    joined (codes "runner " ∷ decimal reason.runner ∷ ending_words reason.ending ∷ decimal reason.event ∷ codes ": " ∷ shown reason.key
+    joined (codes "runner " ∷ decimal reason.runner ∷ ending_words reason.ending ∷ decimal reason.event ∷ codes ": " ∷ plain reason.key
     ∷ was_words reason.seen ∷ read_words reason.read ∷ cause_words reason.cause ∷ moral reason.ending ∷ [])
 
 abbrev pub reason_notes : List Reason → List (List ℕ)

@@ -1,9 +1,9 @@
--- How a key, a value or a message is shown: a long one without its middle, and each without control characters.
+-- How texts are shown: without control characters, a key whole, and a long value, message or source without its middle.
 --
 -- RFC 3629, UTF-8: the bytes 128 to 191 go on with a character that began before them; U+0080 to U+009F are 194 and 128 to 159, U+202A to U+202E are 226, 128
 -- and 170 to 174, and U+2066 to U+2069 are 226, 129 and 166 to 169.
 use Rattle.std.specs.Prelude.{ℕ, zero, suc, pred, ◌-◌, List, [], ◌∷◌, ◌++◌, drop, length, get_or, Bool, ◌&&◌, ◌||◌, nat_eq, nat_lt, nat_le, if◌then◌else◌, codes}
-use Rattle.stm_formats.specs.declared.format_pieces.TheConstants.{MOST_SHOWN, FRONT, BACK}
+use Rattle.stm_formats.specs.declared.format_pieces.TheConstants.{MOST_SHOWN, FRONT, BACK, MOST_SOURCE, SOURCE_FRONT, SOURCE_BACK}
 
 abbrev pub is_continuation : ℕ → Bool
 is_continuation b = nat_le 128 b && nat_lt b 192
@@ -45,5 +45,14 @@ plain_after zero (b ∷ bs) = if nat_eq (hidden (b ∷ bs)) 0 then b ∷ plain_a
 abbrev pub plain : List ℕ → List ℕ
 plain text = plain_after 0 text
 
+-- of more than `most` bytes only those in front and at the end
+abbrev pub cut : ℕ → ℕ → ℕ → List ℕ → List ℕ
+cut most first last text = if nat_le (length text) most then plain text else plain (front first text) ++ codes ".." ++ plain (back last text)
+
+-- a value or a message
 abbrev pub shown : List ℕ → List ℕ
-shown text = if nat_le (length text) MOST_SHOWN then plain text else plain (front FRONT text) ++ codes ".." ++ plain (back BACK text)
+shown text = cut MOST_SHOWN FRONT BACK text
+
+-- a source on one line
+abbrev pub source_shown : List ℕ → List ℕ
+source_shown text = cut MOST_SOURCE SOURCE_FRONT SOURCE_BACK text

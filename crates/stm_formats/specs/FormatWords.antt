@@ -14,8 +14,9 @@ use Rattle.stm_events.specs.Names.{refusal_name}
 use Rattle.stm_texts.specs.Grammar.{level_text}
 use Rattle.stm_reasons.specs.Counters.{counter_after}
 use Rattle.stm_formats.specs.declared.format_changes.TheConstants.{MOST_CHANGES}
-use Rattle.stm_formats.specs.FormatShown.{shown}
+use Rattle.stm_formats.specs.FormatShown.{plain, shown}
 use Rattle.stm_formats.specs.FormatPieces.{joined}
+use Rattle.stm_formats.specs.FormatSource.{program_words, compare_words}
 use Rattle.stm_formats.specs.FormatChanges.{known_words, between, changed_since}
 
 -- a word and the number or the text that it is about
@@ -29,9 +30,9 @@ reported_words word text = joined (word ∷ codes " " ∷ shown text ∷ [])
 abbrev pub changed_words : List ℕ → ℕ → List ℕ
 changed_words word revision = joined (word ∷ codes " @" ∷ decimal revision ∷ [])
 
--- the level of a runner that was started
+-- the level of a runner that was started, and the first line of its program
 abbrev pub start_words : WorldEvent → List ℕ
-start_words (event.Start program level limit) = joined (codes "start " ∷ level_text level ∷ [])
+start_words (event.Start program level limit) = joined (codes "start " ∷ level_text level ∷ program_words program ∷ [])
 start_words other = codes "start"
 
 -- ---- what was read
@@ -42,7 +43,7 @@ link mod_rev = if nat_eq mod_rev 0 then codes ": " else codes " = "
 
 -- a key that was seen as of a revision, at this modification revision
 abbrev pub seen_words : History → List ℕ → ℕ → ℕ → List ℕ
-seen_words h key mod_rev revision = joined (shown key ∷ link mod_rev ∷ known_words h key mod_rev revision ∷ [])
+seen_words h key mod_rev revision = joined (plain key ∷ link mod_rev ∷ known_words h key mod_rev revision ∷ [])
 
 -- the revision that a read shows, where the store was at another one
 abbrev pub as_of : ℕ → ℕ → List ℕ
@@ -77,12 +78,23 @@ commit_words revision attempts = joined (codes "COMMIT @" ∷ decimal revision �
 -- what a failed compare was about: the key, what was seen of it, and what it is now
 abbrev pub compared_words : History → List ℕ → List ℕ → ℕ → ℕ → List ℕ
 compared_words h word key seen now =
-    joined (word ∷ codes " " ∷ shown key ∷ codes ": was " ∷ known_words h key seen seen ∷ codes ", is " ∷ known_words h key now now ∷ [])
+    joined (word ∷ codes " " ∷ plain key ∷ codes ": was " ∷ known_words h key seen seen ∷ codes ", is " ∷ known_words h key now now ∷ [])
 
 -- ---- other events
 
-abbrev pub txn_words : Bool → ℕ → List ℕ
-txn_words succeeded revision = changed_words (if succeeded then codes "txn" else codes "txn failed") revision
+-- what a transaction compared
+abbrev pub compared_by : WorldEvent → List ℕ
+compared_by (event.Txn txn) = compare_words txn.compares
+compared_by other = []
+
+abbrev pub failed_word : Bool → List ℕ
+failed_word succeeded = if succeeded then [] else codes "failed "
+
+abbrev pub at_words : ℕ → List ℕ
+at_words revision = joined (codes "@" ∷ decimal revision ∷ [])
+
+abbrev pub txn_words : WorldEvent → Bool → ℕ → List ℕ
+txn_words event succeeded revision = joined (codes "txn " ∷ failed_word succeeded ∷ compared_by event ∷ at_words revision ∷ [])
 
 abbrev pub revoked_words : ℕ → ℕ → List ℕ
 revoked_words id revision = joined (codes "revoke " ∷ decimal id ∷ codes " @" ∷ decimal revision ∷ [])
@@ -108,7 +120,7 @@ reply_words h event (GaveUp runner attempts key seen now) = compared_words h (co
 reply_words h event (Aborted runner text) = reported_words (codes "ABORT") text
 reply_words h event (Faulted runner fault) = reported_words (codes "FAULT") (fault_name fault)
 reply_words h event (Ended runner cause) = reported_words (codes "ENDED") (refusal_name cause)
-reply_words h event (Txn succeeded revision answers) = txn_words succeeded revision
+reply_words h event (Txn succeeded revision answers) = txn_words event succeeded revision
 reply_words h event (Granted id) = named_words (codes "grant") id
 reply_words h event (Kept id) = named_words (codes "keep") id
 reply_words h event (Revoked id revision) = revoked_words id revision

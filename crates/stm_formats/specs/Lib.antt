@@ -1,6 +1,7 @@
 pub mod FormatShown
 pub mod FormatEscaped
 pub mod FormatPieces
+pub mod FormatSource
 pub mod FormatChanges
 pub mod FormatReasons
 pub mod FormatWords
@@ -9,4 +10,7 @@ pub mod FormatColumns
 pub mod FormatNotes
 pub mod FormatText
 pub mod FormatSvg
+pub mod FormatPage
+pub mod FormatHtml
+pub mod FormatEnds
 pub mod FormatRuns

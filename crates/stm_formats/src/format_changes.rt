@@ -56,7 +56,7 @@ fn change_words(alloc: Global, event: &Event) -> Result<Sequence<u8>, AllocError
     match event {
         Event::Put { key, state } => {
             let pieces = [
-                Piece::Shown(key.as_str()),
+                Piece::Key(key.as_str()),
                 Piece::Say(" = \""),
                 Piece::Shown(state.value.as_str()),
                 Piece::Say("\""),
@@ -64,7 +64,7 @@ fn change_words(alloc: Global, event: &Event) -> Result<Sequence<u8>, AllocError
             said(alloc, &pieces)
         }
         Event::Delete { key, .. } => {
-            said(alloc, &[Piece::Shown(key.as_str()), Piece::Say(" deleted")])
+            said(alloc, &[Piece::Key(key.as_str()), Piece::Say(" deleted")])
         }
     }
 }

@@ -20,7 +20,7 @@ fn key_note<'a>(
 {
     let pieces = [
         Piece::Say("key "),
-        Piece::Shown(key),
+        Piece::Key(key),
         Piece::Say(" = \""),
         Piece::Shown(state.value.as_str()),
         Piece::Say("\" @"),

@@ -1,6 +1,6 @@
 //! Writing a text piece by piece.
 ghost use Rattle.std.specs.Prelude.{◌≡◌, ◌++◌, ◌<◌, ◌≤◌, ◌+◌, drop, get_or, decimal, replicate, length, map, take, IfOk, OnOk};
-ghost use Rattle.stm_formats.specs.FormatShown.{front, back, from_character, hidden, plain, plain_after, shown, is_continuation};
+ghost use Rattle.stm_formats.specs.FormatShown.{front, back, cut, from_character, hidden, plain, plain_after, is_continuation};
 ghost use Rattle.stm_formats.specs.FormatEscaped.{entity, escaped};
 ghost use Rattle.stm_formats.specs.FormatPieces.{joined, padded, title, tag_text, piece_text};
 
@@ -12,22 +12,35 @@ use stm_history::Sequence;
 /// So many columns a report has for runners at most. All runners from this number on stand in the last one, each row with its runner's number.
 pub(crate) const MOST_COLUMNS: u64 = 9;
 
-/// A key or value of more bytes than this is shown without its middle.
+/// A value or a message of more bytes than this is shown without its middle.
 const MOST_SHOWN: usize = 32;
 
-/// So many bytes at the front of a long text are shown, and the rest of the character that they end in.
+/// So many bytes at the front of a long one are shown, and the rest of the character that they end in.
 const FRONT: usize = 12;
 
-/// So many bytes at the end of a long text are shown, but for the rest of a character that began before them.
+/// So many bytes at the end of a long one are shown, but for the rest of a character that began before them.
 const BACK: usize = 18;
+
+/// The same of a source.
+const MOST_SOURCE: usize = 64;
+
+/// So many bytes at the front of a long source are shown.
+const SOURCE_FRONT: usize = 25;
+
+/// So many bytes at the end of a long source are shown.
+const SOURCE_BACK: usize = 37;
 
 /// A piece of what is written.
 #[derive(Clone, Copy)]
 pub(crate) enum Piece<'a> {
     /// A text of this crate.
     Say(&'a str),
-    /// A key or value, a long one without its middle, with a `?` for each control character.
+    /// A key, with a `?` for each control character.
+    Key(&'a str),
+    /// A value or a message, a long one without its middle, with a `?` for each control character.
     Shown(&'a str),
+    /// A source, a long one without its middle, with a `?` for each control character.
+    Source(&'a [u8]),
     /// A number in decimal.
     Number(u64),
     /// A number in decimal, after spaces that make it six characters where it has fewer.
@@ -141,16 +154,22 @@ fn push_plain(out: &mut Vec<u8>, bytes: &[u8]) -> Result<(), AllocError>
     Ok(())
 }
 
-/// Adds a key or a value as it is shown.
-fn push_shown(out: &mut Vec<u8>, text: &str) -> Result<(), AllocError>
-    ensures { OnOk result (out.new.items ≡ out.old.items ++ shown text.now) }
+/// Adds bytes as they are shown, of more than `most` only those in front and at the end.
+fn push_cut(
+    out: &mut Vec<u8>,
+    bytes: &[u8],
+    most: usize,
+    first: usize,
+    last: usize,
+) -> Result<(), AllocError>
+    requires { first ≤ most }
+    ensures { OnOk result (out.new.items ≡ out.old.items ++ cut most first last bytes.now) }
 {
-    let bytes = text.as_bytes();
-    if bytes.len() <= MOST_SHOWN {
+    if bytes.len() <= most {
         return push_plain(out, bytes);
     }
-    let (front, _) = bytes.split_at(end_of_front(bytes, FRONT));
-    let (_, back) = bytes.split_at(start_of_back(bytes, BACK));
+    let (front, _) = bytes.split_at(end_of_front(bytes, first));
+    let (_, back) = bytes.split_at(start_of_back(bytes, last));
     push_plain(out, front)?;
     out.extend_from_slice(b"..")?;
     push_plain(out, back)
@@ -248,7 +267,9 @@ fn push_piece(out: &mut Vec<u8>, piece: Piece<'_>) -> Result<(), AllocError>
 {
     match piece {
         Piece::Say(text) => out.extend_from_slice(text.as_bytes()),
-        Piece::Shown(text) => push_shown(out, text),
+        Piece::Key(text) => push_plain(out, text.as_bytes()),
+        Piece::Shown(text) => push_cut(out, text.as_bytes(), MOST_SHOWN, FRONT, BACK),
+        Piece::Source(bytes) => push_cut(out, bytes, MOST_SOURCE, SOURCE_FRONT, SOURCE_BACK),
         Piece::Number(number) => push_number(out, number),
         Piece::Padded(number) => push_padded(out, number),
         Piece::Title(column) => push_title(out, column),

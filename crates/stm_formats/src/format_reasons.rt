@@ -91,7 +91,7 @@ fn moral(ending: Ending) -> &'static str
 }
 
 /// The note of a reason.
-fn reason_note(alloc: Global, reason: &Reason) -> Result<Sequence<u8>, AllocError>
+pub(crate) fn reason_note(alloc: Global, reason: &Reason) -> Result<Sequence<u8>, AllocError>
     ensures { IfOk result (λ note. note ≡ reason_note reason.now) }
 {
     let was = was_words(alloc, reason.seen)?;
@@ -103,7 +103,7 @@ fn reason_note(alloc: Global, reason: &Reason) -> Result<Sequence<u8>, AllocErro
         Piece::Say(ending_words(reason.ending)),
         Piece::Number(reason.event),
         Piece::Say(": "),
-        Piece::Shown(reason.key.as_str()),
+        Piece::Key(reason.key.as_str()),
         Piece::Raw(was.as_slice()),
         Piece::Raw(read.as_slice()),
         Piece::Raw(cause.as_slice()),

@@ -1,7 +1,9 @@
-//! The text and the picture of a run.
+//! The text, the picture and the page of a run.
 ghost use Rattle.std.specs.Prelude.{◌≡◌, length, IfOk};
-ghost use Rattle.stm_formats.specs.FormatRuns.{rows_from, notes_from, text_from, svg_from};
+ghost use Rattle.stm_formats.specs.FormatRuns.{rows_from, left_from, notes_from, text_from, svg_from, html_from};
 
+use crate::format_ends::push_ends;
+use crate::format_html::html_of;
 use crate::format_notes::notes_of;
 use crate::format_reasons::push_reasons;
 use crate::format_row::Row;
@@ -10,7 +12,7 @@ use crate::format_svg::svg_of;
 use crate::format_text::text_of;
 use std::alloc::{AllocError, Global};
 use stm_history::Sequence;
-use stm_reasons::reasons_of;
+use stm_reasons::{counters, reasons_of};
 use stm_retry::{Denied, Reply, World, WorldEvent};
 
 /// The rows of events that led to a world from a revision of its store.
@@ -27,7 +29,20 @@ fn rows_from(
     rows_of(alloc, world.store().keys(), since, events, replies)
 }
 
-/// What is left after events that led to a world from a revision of its store, and why commits failed.
+/// What is left after events that led to a world, and on what values runs aborted or came to faults.
+fn left_from(
+    alloc: Global,
+    world: &World,
+    replies: &[Result<Reply, Denied>],
+) -> Result<Vec<Sequence<u8>>, AllocError>
+    ensures { IfOk result (λ notes. notes.items ≡ left_from world.now replies.now) }
+{
+    let mut notes = notes_of(alloc, world, replies)?;
+    push_ends(alloc, &mut notes, world.store().keys(), replies)?;
+    Ok(notes)
+}
+
+/// The same after events that led to a world from a revision of its store, and why commits failed.
 fn notes_from(
     alloc: Global,
     world: &World,
@@ -36,7 +51,7 @@ fn notes_from(
 ) -> Result<Vec<Sequence<u8>>, AllocError>
     ensures { IfOk result (λ notes. notes.items ≡ notes_from world.now since replies.now) }
 {
-    let mut notes = notes_of(alloc, world, replies)?;
+    let mut notes = left_from(alloc, world, replies)?;
     let reasons = reasons_of(alloc, world.store().keys(), since, replies)?;
     push_reasons(alloc, &mut notes, reasons.as_slice())?;
     Ok(notes)
@@ -76,4 +91,32 @@ pub fn svg_from(
     let rows = rows_from(alloc, world, since, events, replies)?;
     let notes = notes_from(alloc, world, since, replies)?;
     svg_of(alloc, rows.as_slice(), notes.as_slice())
+}
+
+/// The page of the events that led to a world from one whose store was at this revision, and of their replies.
+///
+/// There is a reply to each event. It fails where a growth was refused.
+pub fn html_from(
+    alloc: Global,
+    world: &World,
+    since: u64,
+    events: &[WorldEvent],
+    replies: &[Result<Reply, Denied>],
+) -> Result<Vec<u8>, AllocError>
+    requires { length events.now ≡ length replies.now }
+    ensures { IfOk result (λ html. html.items ≡ html_from world.now since events.now replies.now) }
+{
+    let keys = world.store().keys();
+    let rows = rows_from(alloc, world, since, events, replies)?;
+    let notes = left_from(alloc, world, replies)?;
+    let counters = counters(alloc, since, replies)?;
+    let reasons = reasons_of(alloc, keys, since, replies)?;
+    html_of(
+        alloc,
+        keys,
+        counters.as_slice(),
+        rows.as_slice(),
+        notes.as_slice(),
+        reasons.as_slice(),
+    )
 }

@@ -1,17 +1,20 @@
 //! What a row says of an event and its reply.
-ghost use Rattle.std.specs.Prelude.{◌≡◌, ◌++◌, codes, IfOk, OnOk};
+ghost use Rattle.std.specs.Prelude.{◌≡◌, ◌++◌, [], ◌∷◌, codes, IfOk, OnOk};
 ghost use Rattle.stm_texts.specs.Grammar.{level_text};
 ghost use Rattle.stm_formats.specs.FormatWords.{named_words, reported_words, changed_words, start_words, link, seen_words, as_of, fetched_words, counted_read};
-ghost use Rattle.stm_formats.specs.FormatWords.{reads_after, listed_words, attempt_words, commit_words, compared_words, txn_words, revoked_words};
+ghost use Rattle.stm_formats.specs.FormatWords.{reads_after, listed_words, attempt_words, commit_words, compared_words, compared_by, failed_word, at_words, txn_words, revoked_words};
+ghost use Rattle.stm_formats.specs.FormatPieces.{joined};
+ghost use Rattle.stm_formats.specs.FormatSource.{program_words};
 ghost use Rattle.stm_formats.specs.FormatWords.{advanced_words, batch_words, lost_words, reply_words, asked_word, refused_words, told_words, words_of};
 
 use crate::format_changes::{MOST_CHANGES, between, changed_since, known_words};
 use crate::format_pieces::{Piece, push_pieces, said};
+use crate::format_source::{compare_words, program_words};
 use std::alloc::{AllocError, Global};
 use stm_events::{EventRefusal, KeyRead};
 use stm_history::Sequence;
 use stm_keys::Keys;
-use stm_program::Level;
+use stm_program::{Level, Program};
 use stm_reasons::counter_after;
 use stm_retry::{Denied, Reply, WorldEvent};
 
@@ -51,15 +54,25 @@ fn changed(alloc: Global, word: &str, revision: u64) -> Result<Sequence<u8>, All
     said(alloc, &pieces)
 }
 
+/// The words of a start of a program at a level.
+fn begun(alloc: Global, program: &Program, level: Level) -> Result<Sequence<u8>, AllocError>
+    ensures { IfOk result (λ words. words ≡ joined (codes "start " ∷ level_text level ∷ program_words program.now ∷ [])) }
+{
+    let source = program_words(alloc, program)?;
+    let pieces = [
+        Piece::Say("start "),
+        Piece::Say(level_name(level)),
+        Piece::Raw(source.as_slice()),
+    ];
+    said(alloc, &pieces)
+}
+
 /// The words of a start.
 fn started(alloc: Global, event: &WorldEvent) -> Result<Sequence<u8>, AllocError>
     ensures { IfOk result (λ words. words ≡ start_words event.now) }
 {
     match event {
-        WorldEvent::Start { level, .. } => {
-            let pieces = [Piece::Say("start "), Piece::Say(level_name(*level))];
-            said(alloc, &pieces)
-        }
+        WorldEvent::Start { program, level, .. } => begun(alloc, program, *level),
         _ => said(alloc, &[Piece::Say("start")]),
     }
 }
@@ -72,7 +85,7 @@ fn link(mod_rev: u64) -> &'static str
 }
 
 /// The words of a key that was seen as of a revision, at a modification revision.
-fn seen_words(
+pub(crate) fn seen_words(
     alloc: Global,
     keys: &Keys,
     key: &str,
@@ -83,7 +96,7 @@ fn seen_words(
 {
     let known = known_words(alloc, keys, key, mod_rev, revision)?;
     let pieces = [
-        Piece::Shown(key),
+        Piece::Key(key),
         Piece::Say(link(mod_rev)),
         Piece::Raw(known.as_slice()),
     ];
@@ -146,7 +159,7 @@ fn push_read(
 }
 
 /// The words of the keys of a list that were read as of a revision.
-fn reads_words(
+pub(crate) fn reads_words(
     alloc: Global,
     keys: &Keys,
     revision: u64,
@@ -216,7 +229,7 @@ fn compared<'a>(
     let pieces = [
         Piece::Say(word),
         Piece::Say(" "),
-        Piece::Shown(key),
+        Piece::Key(key),
         Piece::Say(": was "),
         Piece::Raw(before.as_slice()),
         Piece::Say(", is "),
@@ -225,15 +238,48 @@ fn compared<'a>(
     said(alloc, &pieces)
 }
 
-/// The words of another client's transaction.
-fn transacted(alloc: Global, succeeded: bool, revision: u64) -> Result<Sequence<u8>, AllocError>
-    ensures { IfOk result (λ words. words ≡ txn_words succeeded revision) }
+/// What a transaction compared.
+fn compared_by(alloc: Global, event: &WorldEvent) -> Result<Sequence<u8>, AllocError>
+    ensures { IfOk result (λ words. words ≡ compared_by event.now) }
 {
-    if succeeded {
-        changed(alloc, "txn", revision)
-    } else {
-        changed(alloc, "txn failed", revision)
+    match event {
+        WorldEvent::Txn { txn } => compare_words(alloc, txn.compares.as_slice()),
+        _ => Ok(Sequence::new(alloc)),
     }
+}
+
+/// Whether a compare of a transaction failed.
+fn failed_word(succeeded: bool) -> &'static str
+    ensures { result.now ≡ failed_word succeeded }
+{
+    if succeeded { "" } else { "failed " }
+}
+
+/// A revision.
+fn at_words(alloc: Global, revision: u64) -> Result<Sequence<u8>, AllocError>
+    ensures { IfOk result (λ words. words ≡ at_words revision) }
+{
+    said(alloc, &[Piece::Say("@"), Piece::Number(revision)])
+}
+
+/// The words of another client's transaction.
+fn transacted(
+    alloc: Global,
+    event: &WorldEvent,
+    succeeded: bool,
+    revision: u64,
+) -> Result<Sequence<u8>, AllocError>
+    ensures { IfOk result (λ words. words ≡ txn_words event.now succeeded revision) }
+{
+    let compared = compared_by(alloc, event)?;
+    let at = at_words(alloc, revision)?;
+    let pieces = [
+        Piece::Say("txn "),
+        Piece::Say(failed_word(succeeded)),
+        Piece::Raw(compared.as_slice()),
+        Piece::Raw(at.as_slice()),
+    ];
+    said(alloc, &pieces)
 }
 
 /// The words of a revocation.
@@ -332,7 +378,7 @@ fn taken_words(
             succeeded,
             revision,
             ..
-        } => transacted(alloc, *succeeded, *revision),
+        } => transacted(alloc, event, *succeeded, *revision),
         Reply::Granted { id } => named(alloc, "grant", *id),
         Reply::Kept { id } => named(alloc, "keep", *id),
         Reply::Revoked { id, revision } => revoked(alloc, *id, *revision),

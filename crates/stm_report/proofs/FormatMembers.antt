@@ -1,14 +1,48 @@
--- Members of a line under their names.
-use Rattle.std.proofs.Common.{◌≡◌, ◌==◌, ℕ, List, [], ◌∷◌, true, length, refl, arith}
-use Rattle.std.proofs.lemmas.Bool.Decides.{nat_tests}
-use Rattle.serde_json.specs.Data.{Members, no_items}
-use Rattle.stm_report.specs.FormatFields.{members_named}
+-- Members of a line, one after the other.
+use Rattle.std.proofs.Common.{◌≡◌, ℕ, zero, suc, ◌+◌, ◌<◌, List, [], ◌∷◌, map, ◌++◌, length, drop, get_or, Bool, false, true, ◌||◌, refl, sym, ap, ◌∙◌, append_assoc, arith}
+use Rattle.std.proofs.lemmas.List.{get_or-map}
+use Rattle.serde_json.specs.declared.value.Value.{Value}
+use Rattle.serde_json.specs.View.{view, items_view}
+use Rattle.serde_json.specs.Written.{has_float, items_have_float}
+use Rattle.stm_formats.proofs.Joining.{left_at}
+use Rattle.stm_report.specs.FormatFields.{member_text, members_text}
 
--- names without a value add no member
-pub none_left : (names : List (List ℕ)) (ms : Members) → members_named names no_items ms ≡ ms
-none_left [] ms = refl
-none_left (name ∷ names) ms = refl
+-- the name at a place
+module _ {A : Type 0} (name : A → List ℕ) where
+  pub name_within : (xs : List A) (i : ℕ) (x : A) → i < length xs → x ≡ get_or xs i x → name x ≡ get_or (map name xs) i []
+  name_within xs i x within is = ap name is ∙ sym (get_or-map name xs i x [] within)
 
-pub no_values : {A : Type 0} (xs : List A) (n : ℕ) → n ≡ length xs → (n == 0) ≡ true → xs ≡ []
-no_values [] n is none = refl
-no_values (x ∷ xs) n is none = absurd (grind (arith, nat_tests))
+  pub no_name : (xs : List A) (i : ℕ) → (i < length xs → ⊥) → [] ≡ get_or (map name xs) i []
+  no_name [] i past = refl
+  no_name (x ∷ xs) zero past = absurd (past (omega arith))
+  no_name (x ∷ xs) (suc i) past = no_name xs i (λ within. past (omega (arith, within)))
+
+first_of : (a b : Bool) → (a || b) ≡ false → a ≡ false
+first_of false b none = refl
+first_of true b none = none
+
+rest_of : (a b : Bool) → (a || b) ≡ false → b ≡ false
+rest_of false b none = none
+rest_of true b none = cc
+
+module _ (values : List Value) (i : ℕ) (value : Value) (within : i < length values) (is : value ≡ get_or values i value) where
+  left : drop i values ≡ value ∷ drop (i + 1) values
+  left = left_at values i value within is
+
+  -- neither it nor one behind it has a float
+  pub plain : items_have_float (items_view (drop i values)) ≡ false → has_float (view value) ≡ false
+  plain none = first_of (has_float (view value)) (items_have_float (items_view (drop (i + 1) values))) (ap (λ (vs : List Value). items_have_float (items_view vs)) (sym left) ∙ none)
+
+  pub plain_behind : items_have_float (items_view (drop i values)) ≡ false → items_have_float (items_view (drop (i + 1) values)) ≡ false
+  plain_behind none = rest_of (has_float (view value)) (items_have_float (items_view (drop (i + 1) values))) (ap (λ (vs : List Value). items_have_float (items_view vs)) (sym left) ∙ none)
+
+  -- one more member
+  pub next_member : (names : List (List ℕ)) (name text total : List ℕ) → name ≡ get_or names i [] → text ++ members_text names i (items_view (drop i values)) ≡ total
+      → (text ++ member_text i name (view value)) ++ members_text names (i + 1) (items_view (drop (i + 1) values)) ≡ total
+  next_member names name text total named so_far =
+      let step : i + 1 ≡ suc i = omega arith in
+      append_assoc text (member_text i name (view value)) (members_text names (i + 1) (items_view (drop (i + 1) values)))
+      ∙ ap (λ (n : ℕ). text ++ (member_text i name (view value) ++ members_text names n (items_view (drop (i + 1) values)))) step
+      ∙ ap (λ (it : List ℕ). text ++ (member_text i it (view value) ++ members_text names (suc i) (items_view (drop (i + 1) values)))) named
+      ∙ ap (λ (vs : List Value). text ++ members_text names i (items_view vs)) (sym left)
+      ∙ so_far

@@ -2,7 +2,6 @@
 use Rattle.std.proofs.Common.{◌≡◌, ℕ, ◌+◌, ◌<◌, ◌≤◌, List, [], ◌∷◌, ◌++◌, length, map, drop, get_or, Option, Some, refl, sym, ap, ◌∙◌}
 use Rattle.std.proofs.Common.{String, string_bytes, append_assoc, append-nil}
 use Rattle.std.proofs.lemmas.List.{drop_all}
-use Rattle.serde_json.specs.Data.{Data}
 use Rattle.stm_history.specs.declared.key_state.KeyState.{KeyState}
 use Rattle.stm_history.specs.History.{History, key_now}
 use Rattle.stm_events.specs.declared.line.ReportLine.TheVariants.{Key}
@@ -28,15 +27,15 @@ array_text (l ∷ ls) = ap (λ (t : List ℕ). line_text (line_data l) ++ t) (ar
 module _ (form : LineForm) where
   formed_text-append : (ks ls : List ReportLine) → formed_text form (ks ++ ls) ≡ formed_text form ks ++ formed_text form ls
   formed_text-append [] ls = refl
-  formed_text-append (k ∷ ks) ls = ap (λ (t : List ℕ). line_text (formed form k) ++ t) (formed_text-append ks ls)
-      ∙ sym (append_assoc (line_text (formed form k)) (formed_text form ks) (formed_text form ls))
+  formed_text-append (k ∷ ks) ls = ap (λ (t : List ℕ). formed form k ++ t) (formed_text-append ks ls)
+      ∙ sym (append_assoc (formed form k) (formed_text form ks) (formed_text form ls))
 
   -- the lines of events, of keys, of leases and of the end are those of the report
   pub whole_text : (events keys leases : List ReportLine) (end : ReportLine) →
-      ((formed_text form events ++ formed_text form keys) ++ formed_text form leases) ++ line_text (formed form end)
+      ((formed_text form events ++ formed_text form keys) ++ formed_text form leases) ++ formed form end
       ≡ formed_text form (events ++ ((keys ++ leases) ++ end ∷ []))
   whole_text events keys leases end =
-      let last : List ℕ = line_text (formed form end) in
+      let last : List ℕ = formed form end in
       sym (
       formed_text-append events ((keys ++ leases) ++ end ∷ [])
       ∙ ap (λ (t : List ℕ). formed_text form events ++ t) (formed_text-append (keys ++ leases) (end ∷ []))
@@ -47,10 +46,10 @@ module _ (form : LineForm) where
       )
 
   -- the line of a key that is present
-  pub one_key : (h : History) (key : List ℕ) (state : KeyState) (d : Data) → Some state ≡ key_now h key → d ≡ formed form (Key key state)
-      → formed_text form (key_lines_of key (key_now h key)) ≡ line_text d
-  one_key h key state d present is =
-      ap (λ (kv : Option KeyState). formed_text form (key_lines_of key kv)) (sym present) ∙ append-nil (line_text (formed form (Key key state))) ∙ ap line_text (sym is)
+  pub one_key : (h : History) (key : List ℕ) (state : KeyState) → Some state ≡ key_now h key
+      → formed_text form (key_lines_of key (key_now h key)) ≡ formed form (Key key state)
+  one_key h key state present =
+      ap (λ (kv : Option KeyState). formed_text form (key_lines_of key kv)) (sym present) ∙ append-nil (formed form (Key key state))
 
 module _ {A : Type 0} (form : LineForm) where
   -- the line of one more key

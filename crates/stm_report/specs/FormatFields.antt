@@ -1,6 +1,7 @@
--- The lines of a report as objects: each element of a line under the name of its field. A name says what docs/FORMATS.md says of the element.
-use Rattle.std.specs.Prelude.{ℕ, List, [], ◌∷◌, Result, Ok, Err, codes}
-use Rattle.serde_json.specs.Data.{Data, array, object, Items, no_items, item, Members, no_members, put}
+-- The lines of a report as objects: each element of a line under the name of its field, in the order of the line. A name says what docs/FORMATS.md says of the element.
+use Rattle.std.specs.Prelude.{ℕ, suc, nat_eq, if◌then◌else◌, List, [], ◌∷◌, ◌++◌, get_or, Result, Ok, Err, codes}
+use Rattle.serde_json.specs.Data.{Data, array, Items, no_items, item}
+use Rattle.serde_json.specs.Written.{compact_text}
 use Rattle.stm_events.specs.declared.line.ReportLine.{ReportLine}
 use Rattle.stm_events.specs.declared.line.ReportLine.TheVariants.{Event, Key, Lease, End}
 use Rattle.stm_events.specs.declared.reply.Reply.{Reply}
@@ -8,19 +9,26 @@ use Rattle.stm_events.specs.declared.reply.Reply.TheVariants.{Started, Prefetche
 use Rattle.stm_events.specs.declared.reply.Reply.TheVariants.{Txn, Granted, Kept, Revoked, Advanced, Compacted, Watching, Batch, Lost, Cancelled}
 use Rattle.stm_events.specs.declared.refusal.Denied.{Denied}
 use Rattle.stm_report_lines.specs.LineData.{line_data}
+use Rattle.stm_report_lines.specs.Text.{line_text}
 
 -- ---- a line with names
 
--- the members that these have, and those with the elements under these names
-abbrev pub members_named : List (List ℕ) → Items → Members → Members
-members_named [] ds ms = ms
-members_named (name ∷ names) no_items ms = ms
-members_named (name ∷ names) (item d ds) ms = members_named names ds (put name d ms)
+-- what stands before a member at a place
+abbrev pub comma : ℕ → List ℕ
+comma n = if nat_eq n 0 then [] else codes ","
 
--- an array as an object
-abbrev pub object_of : List (List ℕ) → Data → Data
-object_of names (array ds) = object (members_named names ds no_members)
-object_of names other = other
+abbrev pub member_text : ℕ → List ℕ → Data → List ℕ
+member_text n name d = comma n ++ codes "\"" ++ name ++ codes "\":" ++ compact_text d
+
+-- members of these elements, the first of them at place n, each under the name at its place
+abbrev pub members_text : List (List ℕ) → ℕ → Items → List ℕ
+members_text names n no_items = []
+members_text names n (item d ds) = member_text n (get_or names n []) d ++ members_text names (suc n) ds
+
+-- an array as an object, on a line of its own
+abbrev pub object_text : List (List ℕ) → Data → List ℕ
+object_text names (array ds) = codes "{" ++ members_text names 0 ds ++ codes "}\n"
+object_text names other = line_text other
 
 -- ---- the names
 
@@ -63,8 +71,3 @@ line_fields (Key key state) =
     codes "kind" ∷ codes "key" ∷ codes "value" ∷ codes "create_rev" ∷ codes "mod_rev" ∷ codes "version" ∷ codes "lease" ∷ []
 line_fields (Lease id ttl renewed) = codes "kind" ∷ codes "lease" ∷ codes "ttl" ∷ codes "renewed" ∷ []
 line_fields (End revision entries) = codes "kind" ∷ codes "revision" ∷ codes "entries" ∷ []
-
--- ---- the object of a line
-
-abbrev pub line_object : ReportLine → Data
-line_object l = object_of (line_fields l) (line_data l)

@@ -16,9 +16,9 @@ use Rattle.stm_report.specs.declared.run_script.ScriptFault.TheVariants.{OutOfMe
 use Rattle.stm_report.specs.Report.{IsReport}
 use Rattle.stm_devices.specs.Ends.{Devices, IsUntouched}
 use Rattle.stm_report.specs.declared.format.Format.{Format}
-use Rattle.stm_report.specs.declared.format.Format.TheVariants.{Lines, Json, Text, Svg}
+use Rattle.stm_report.specs.declared.format.Format.TheVariants.{Lines, Json, Text, Svg, Html}
 use Rattle.stm_report.specs.Forms.{json_text}
-use Rattle.stm_formats.specs.FormatRuns.{text_from, svg_from}
+use Rattle.stm_formats.specs.FormatRuns.{text_from, svg_from, html_from}
 
 -- ---- the report of a run in a format
 
@@ -29,6 +29,7 @@ IsTextSince since Lines w events replies text = IsReport w replies text × IsUtf
 IsTextSince since Json w events replies text = text ≡ json_text w replies
 IsTextSince since Text w events replies text = text ≡ text_from w since events replies
 IsTextSince since Svg w events replies text = text ≡ svg_from w since events replies
+IsTextSince since Html w events replies text = text ≡ html_from w since events replies
 
 -- the text is that of these events' run from a world
 abbrev pub IsTextFrom : Format → World → List WorldEvent → List ℕ → Type 0

@@ -10,16 +10,23 @@ use Rattle.stm_report_lines.specs.Text.{line_text}
 use Rattle.stm_report.specs.declared.line_form.LineForm.{LineForm}
 use Rattle.stm_report.specs.declared.line_form.LineForm.TheVariants.{Array, Object}
 use Rattle.stm_report.specs.Report.{report_of}
-use Rattle.stm_report.specs.FormatFields.{line_object}
+use Rattle.stm_report.specs.FormatFields.{object_text, line_fields}
 
-abbrev pub formed : LineForm → ReportLine → Data
-formed Array l = line_data l
-formed Object l = line_object l
+abbrev pub formed_data : LineForm → List (List ℕ) → Data → List ℕ
+formed_data Array names d = line_text d
+formed_data Object names d = object_text names d
+
+abbrev pub formed : LineForm → ReportLine → List ℕ
+formed form l = formed_data form (line_fields l) (line_data l)
+
+-- a line as an object
+abbrev pub object_line : ReportLine → List ℕ
+object_line l = formed Object l
 
 -- the text of a report's lines in a form
 abbrev pub formed_text : LineForm → List ReportLine → List ℕ
 formed_text form [] = []
-formed_text form (l ∷ lines) = line_text (formed form l) ++ formed_text form lines
+formed_text form (l ∷ lines) = formed form l ++ formed_text form lines
 
 -- the lines of a report as objects
 abbrev pub json_text : World → List (Result Reply Denied) → List ℕ

@@ -13,10 +13,12 @@ pub enum Format {
     Text,
     /// The rows of the text as a picture.
     Svg,
+    /// The rows of the text as a page for a browser, with the keys at each event.
+    Html,
 }
 
 impl Format {
-    /// The format of this name: `lines`, `json`, `text` or `svg`; `None` for another word.
+    /// The format of this name: `lines`, `json`, `text`, `svg` or `html`; `None` for another word.
     pub fn named(word: &str) -> Option<Format>
         ensures { result ≡ format_named word.now }
     {
@@ -31,6 +33,9 @@ impl Format {
         }
         if word == "svg" {
             return Some(Format::Svg);
+        }
+        if word == "html" {
+            return Some(Format::Html);
         }
         None
     }

@@ -1,43 +1,102 @@
 //! The lines of a report as objects.
-ghost use Rattle.std.specs.Prelude.{◌≡◌, ℕ, false, map, IfOk};
-ghost use Rattle.serde_json.specs.Data.{no_members};
-ghost use Rattle.serde_json.specs.View.{view, items_view, members_view};
-ghost use Rattle.serde_json.specs.Written.{has_float};
-ghost use Rattle.stm_events.specs.declared.line.ReportLine.TheVariants as lines;
-ghost use Rattle.stm_report.specs.FormatFields.{members_named, object_of, reply_fields, event_fields, line_object};
+ghost use Rattle.std.specs.Prelude.{◌≡◌, ◌++◌, ℕ, false, [], map, get_or, IfOk, OnOk, string_bytes};
+ghost use Rattle.serde_json.specs.View.{view, items_view};
+ghost use Rattle.serde_json.specs.Written.{has_float, items_have_float};
+ghost use Rattle.stm_report.specs.FormatFields.{comma, member_text, members_text, object_text, reply_fields, event_fields};
 
-use serde_json::{Map, Value as Json};
+use serde_json::Value as Json;
 use std::alloc::{AllocError, Global};
-use stm_history::KeyState;
-use stm_report_lines::{end_json, event_json, key_json, lease_json};
+use stm_report_lines::push_line;
 use stm_retry::{Denied, Reply};
 
-/// The members that have these values under these names.
-fn members_named(
-    alloc: Global,
-    mut values: Vec<Json>,
-    names: &[&str],
-) -> Result<Map<String, Json>, AllocError>
-    ensures { IfOk result (λ members. members_view members.entries
-        ≡ members_named (map (λ name. name.now) names.now) (items_view values.items) no_members) }
+/// The names of the fields of the line of a present key.
+pub(crate) const KEY_FIELDS: &[&str] = &[
+    "kind",
+    "key",
+    "value",
+    "create_rev",
+    "mod_rev",
+    "version",
+    "lease",
+];
+
+/// The names of the fields of the line of a live lease.
+pub(crate) const LEASE_FIELDS: &[&str] = &["kind", "lease", "ttl", "renewed"];
+
+/// The names of the fields of the last line.
+pub(crate) const END_FIELDS: &[&str] = &["kind", "revision", "entries"];
+
+/// What stands before a member at a place.
+fn comma(index: usize) -> &'static str
+    ensures { result.now ≡ comma index }
 {
-    let mut members = Map::new(alloc);
-    for name in names {
-        if values.is_empty() {
-            return Ok(members);
-        }
-        serde_json::put(&mut members, alloc, name, values.remove(0))?;
-    }
-    Ok(members)
+    if index == 0 { "" } else { "," }
 }
 
-/// A line as an object, its elements under these names.
-fn object_of(alloc: Global, line: Json, names: &[&str]) -> Result<Json, AllocError>
-    ensures { IfOk result (λ v. view v ≡ object_of (map (λ name. name.now) names.now) (view line)) }
+/// The name at a place.
+fn name_at<'a>(names: &[&'a str], index: usize) -> &'a str
+    ensures { result.now ≡ get_or (map (λ name. name.now) names.now) index [] }
+{
+    if index < names.len() {
+        names[index]
+    } else {
+        ""
+    }
+}
+
+/// Adds a member.
+fn push_member(
+    alloc: Global,
+    text: &mut String,
+    index: usize,
+    name: &str,
+    value: &Json,
+) -> Result<(), AllocError>
+    requires { has_float (view value.now) ≡ false }
+    ensures { OnOk result (string_bytes text.new ≡ string_bytes text.old ++ member_text index name.now (view value.now)) }
+{
+    let compact = value.to_string(alloc)?;
+    text.push_str(comma(index))?;
+    text.push_str("\"")?;
+    text.push_str(name)?;
+    text.push_str("\":")?;
+    text.push_str(compact.as_str())
+}
+
+/// Adds members of these values, each under the name at its place.
+fn push_members(
+    alloc: Global,
+    text: &mut String,
+    names: &[&str],
+    values: &[Json],
+) -> Result<(), AllocError>
+    requires { items_have_float (items_view values.now) ≡ false }
+    ensures { OnOk result (string_bytes text.new
+        ≡ string_bytes text.old ++ members_text (map (λ name. name.now) names.now) 0 (items_view values.now)) }
+{
+    for (index, value) in values.iter().enumerate() {
+        push_member(alloc, text, index, name_at(names, index), value)?;
+    }
+    Ok(())
+}
+
+/// Adds a line as an object, its elements under these names and in their order.
+pub(crate) fn push_object(
+    alloc: Global,
+    text: &mut String,
+    names: &[&str],
+    line: &Json,
+) -> Result<(), AllocError>
+    requires { has_float (view line.now) ≡ false }
+    ensures { OnOk result (string_bytes text.new ≡ string_bytes text.old ++ object_text (map (λ name. name.now) names.now) (view line.now)) }
 {
     match line {
-        Json::Array(values) => Ok(Json::Object(members_named(alloc, values, names)?)),
-        other => Ok(other),
+        Json::Array(values) => {
+            text.push_str("{")?;
+            push_members(alloc, text, names, values.as_slice())?;
+            text.push_str("}\n")
+        }
+        _ => push_line(alloc, text, line),
     }
 }
 
@@ -73,68 +132,11 @@ fn reply_fields(reply: &Reply) -> &'static [&'static str]
 }
 
 /// The names of the fields of the line of an event with its reply.
-fn event_fields(reply: &Result<Reply, Denied>) -> &'static [&'static str]
+pub(crate) fn event_fields(reply: &Result<Reply, Denied>) -> &'static [&'static str]
     ensures { map (λ name. name.now) result.now ≡ event_fields reply.now }
 {
     match reply {
         Ok(reply) => reply_fields(reply),
         Err(_) => &["event", "kind", "cause", "expired"],
     }
-}
-
-/// The object of the event with this number, by the reply to it.
-pub(crate) fn event_object(
-    alloc: Global,
-    number: u64,
-    reply: &Result<Reply, Denied>,
-) -> Result<Json, AllocError>
-    ensures object { IfOk result (λ v. view v ≡ line_object (lines.Event number reply.now)) }
-    ensures no_float { IfOk result (λ v. has_float (view v) ≡ false) }
-{
-    let line = event_json(alloc, number, reply)?;
-    object_of(alloc, line, event_fields(reply))
-}
-
-/// The object of a present key.
-pub(crate) fn key_object(alloc: Global, key: &str, state: &KeyState) -> Result<Json, AllocError>
-    ensures object { IfOk result (λ v. view v ≡ line_object (lines.Key key.now state.now)) }
-    ensures no_float { IfOk result (λ v. has_float (view v) ≡ false) }
-{
-    let line = key_json(alloc, key, state)?;
-    object_of(
-        alloc,
-        line,
-        &[
-            "kind",
-            "key",
-            "value",
-            "create_rev",
-            "mod_rev",
-            "version",
-            "lease",
-        ],
-    )
-}
-
-/// The object of a live lease.
-pub(crate) fn lease_object(
-    alloc: Global,
-    id: u64,
-    ttl: u64,
-    renewed: u64,
-) -> Result<Json, AllocError>
-    ensures object { IfOk result (λ v. view v ≡ line_object (lines.Lease id ttl renewed)) }
-    ensures no_float { IfOk result (λ v. has_float (view v) ≡ false) }
-{
-    let line = lease_json(alloc, id, ttl, renewed)?;
-    object_of(alloc, line, &["kind", "lease", "ttl", "renewed"])
-}
-
-/// The object of the end.
-pub(crate) fn end_object(alloc: Global, revision: u64, entries: u64) -> Result<Json, AllocError>
-    ensures object { IfOk result (λ v. view v ≡ line_object (lines.End revision entries)) }
-    ensures no_float { IfOk result (λ v. has_float (view v) ≡ false) }
-{
-    let line = end_json(alloc, revision, entries)?;
-    object_of(alloc, line, &["kind", "revision", "entries"])
 }

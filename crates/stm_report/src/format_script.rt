@@ -9,7 +9,7 @@ use crate::report_text::{report, report_objects};
 use crate::run_script::ScriptFault;
 use std::alloc::{AllocError, Global};
 use stm_devices::{ReadFault, Sink, Source, read_all, write_all};
-use stm_formats::{svg_from, text_from};
+use stm_formats::{html_from, svg_from, text_from};
 use stm_retry::{Denied, Reply, World, WorldEvent};
 use stm_texts::{ReadError, Scenario, opens_with, read_scenario};
 
@@ -32,6 +32,7 @@ pub fn render(
         Format::Json => Ok(report_objects(alloc, world, replies)?.into_bytes()),
         Format::Text => text_from(alloc, world, since, events, replies),
         Format::Svg => svg_from(alloc, world, since, events, replies),
+        Format::Html => html_from(alloc, world, since, events, replies),
     }
 }
 

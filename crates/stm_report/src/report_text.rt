@@ -7,10 +7,10 @@ ghost use Rattle.stm_leases.specs.Live.{Live};
 ghost use Rattle.stm_entries.specs.LiveLeases.{HasLeases};
 ghost use Rattle.stm_check.specs.StoreLines.{key_lines_of, key_lines, lease_lines};
 ghost use Rattle.stm_events.specs.declared.line.ReportLine.TheVariants as lines;
-ghost use Rattle.stm_report.specs.Forms.{formed, formed_text, json_text};
+ghost use Rattle.stm_report.specs.Forms.{formed, formed_data, formed_text, json_text};
 ghost use Rattle.stm_report.specs.Report.{event_lines, report_of, IsReport};
 
-use crate::format_fields::{end_object, event_object, key_object, lease_object};
+use crate::format_fields::{END_FIELDS, KEY_FIELDS, LEASE_FIELDS, event_fields, push_object};
 use crate::leases::live_leases;
 use crate::line_form::LineForm;
 use serde_json::Value as Json;
@@ -22,68 +22,79 @@ use stm_journal::present_keys;
 use stm_report_lines::{end_json, event_json, key_json, lease_json, push_line};
 use stm_retry::{Denied, Reply, Store, World};
 
-/// The line of an event in a form.
-fn event_line(
+/// Adds a line in a form, as an object with its elements under these names.
+fn push_formed(
     alloc: Global,
+    text: &mut String,
+    form: LineForm,
+    names: &[&str],
+    line: &Json,
+) -> Result<(), AllocError>
+    requires { has_float (view line.now) ≡ false }
+    ensures { OnOk result (string_bytes text.new
+        ≡ string_bytes text.old ++ formed_data form (map (λ name. name.now) names.now) (view line.now)) }
+{
+    match form {
+        LineForm::Array => push_line(alloc, text, line),
+        LineForm::Object => push_object(alloc, text, names, line),
+    }
+}
+
+/// Adds the line of an event in a form.
+fn push_event(
+    alloc: Global,
+    text: &mut String,
     form: LineForm,
     number: u64,
     reply: &Result<Reply, Denied>,
-) -> Result<Json, AllocError>
-    ensures line { IfOk result (λ v. view v ≡ formed form (lines.Event number reply.now)) }
-    ensures no_float { IfOk result (λ v. has_float (view v) ≡ false) }
+) -> Result<(), AllocError>
+    ensures { OnOk result (string_bytes text.new ≡ string_bytes text.old ++ formed form (lines.Event number reply.now)) }
 {
-    match form {
-        LineForm::Array => event_json(alloc, number, reply),
-        LineForm::Object => event_object(alloc, number, reply),
-    }
+    let line = event_json(alloc, number, reply)?;
+    push_formed(alloc, text, form, event_fields(reply), &line)
 }
 
-/// The line of a present key in a form.
-fn key_line(alloc: Global, form: LineForm, key: &str, state: &KeyState) -> Result<Json, AllocError>
-    ensures line { IfOk result (λ v. view v ≡ formed form (lines.Key key.now state.now)) }
-    ensures no_float { IfOk result (λ v. has_float (view v) ≡ false) }
-{
-    match form {
-        LineForm::Array => {
-            let line = key_json(alloc, key, state)?;
-            Ok(line)
-        }
-        LineForm::Object => key_object(alloc, key, state),
-    }
-}
-
-/// The line of a live lease in a form.
-fn lease_line(
+/// Adds the line of a present key in a form.
+fn push_state(
     alloc: Global,
+    text: &mut String,
+    form: LineForm,
+    key: &str,
+    state: &KeyState,
+) -> Result<(), AllocError>
+    ensures { OnOk result (string_bytes text.new ≡ string_bytes text.old ++ formed form (lines.Key key.now state.now)) }
+{
+    let line = key_json(alloc, key, state)?;
+    push_formed(alloc, text, form, KEY_FIELDS, &line)
+}
+
+/// Adds the line of a live lease in a form.
+fn push_lease(
+    alloc: Global,
+    text: &mut String,
     form: LineForm,
     id: u64,
-    ttl: u64,
-    renewed: u64,
-) -> Result<Json, AllocError>
-    ensures line { IfOk result (λ v. view v ≡ formed form (lines.Lease id ttl renewed)) }
-    ensures no_float { IfOk result (λ v. has_float (view v) ≡ false) }
+    lease: &LiveLease,
+) -> Result<(), AllocError>
+    ensures { OnOk result (string_bytes text.new
+        ≡ string_bytes text.old ++ formed form (lines.Lease id lease.now.ttl lease.now.renewed)) }
 {
-    match form {
-        LineForm::Array => {
-            let line = lease_json(alloc, id, ttl, renewed)?;
-            Ok(line)
-        }
-        LineForm::Object => lease_object(alloc, id, ttl, renewed),
-    }
+    let line = lease_json(alloc, id, lease.ttl, lease.renewed)?;
+    push_formed(alloc, text, form, LEASE_FIELDS, &line)
 }
 
-/// The last line in a form.
-fn end_line(alloc: Global, form: LineForm, revision: u64, entries: u64) -> Result<Json, AllocError>
-    ensures line { IfOk result (λ v. view v ≡ formed form (lines.End revision entries)) }
-    ensures no_float { IfOk result (λ v. has_float (view v) ≡ false) }
+/// Adds the last line in a form.
+fn push_end(
+    alloc: Global,
+    text: &mut String,
+    form: LineForm,
+    revision: u64,
+    entries: u64,
+) -> Result<(), AllocError>
+    ensures { OnOk result (string_bytes text.new ≡ string_bytes text.old ++ formed form (lines.End revision entries)) }
 {
-    match form {
-        LineForm::Array => {
-            let line = end_json(alloc, revision, entries)?;
-            Ok(line)
-        }
-        LineForm::Object => end_object(alloc, revision, entries),
-    }
+    let line = end_json(alloc, revision, entries)?;
+    push_formed(alloc, text, form, END_FIELDS, &line)
 }
 
 /// Adds a line for each event, numbered from 1.
@@ -96,8 +107,7 @@ fn push_events(
     ensures { OnOk result (string_bytes text.new ≡ string_bytes text.old ++ formed_text form (event_lines 1 replies.now)) }
 {
     for (before, reply) in replies.iter().enumerate() {
-        let line = event_line(alloc, form, before as u64 + 1, reply)?;
-        push_line(alloc, text, &line)?;
+        push_event(alloc, text, form, before as u64 + 1, reply)?;
     }
     Ok(())
 }
@@ -115,10 +125,7 @@ fn push_key(
 {
     match store.keys().get(key) {
         None => Ok(()),
-        Some(state) => {
-            let line = key_line(alloc, form, key, state)?;
-            push_line(alloc, text, &line)
-        }
+        Some(state) => push_state(alloc, text, form, key, state),
     }
 }
 
@@ -150,8 +157,7 @@ fn push_leases(
         → string_bytes text.new ≡ string_bytes text.old ++ formed_text form (lease_lines live)) }
 {
     for (id, lease) in leases {
-        let line = lease_line(alloc, form, *id, lease.ttl, lease.renewed)?;
-        push_line(alloc, text, &line)?;
+        push_lease(alloc, text, form, *id, lease)?;
     }
     Ok(())
 }
@@ -172,8 +178,13 @@ fn written(
     push_keys(alloc, &mut text, form, world.store(), present.as_slice())?;
     push_leases(alloc, &mut text, form, &leases)?;
     let revision = world.store().keys().revision();
-    let end = end_line(alloc, form, revision, world.history().len() as u64)?;
-    push_line(alloc, &mut text, &end)?;
+    push_end(
+        alloc,
+        &mut text,
+        form,
+        revision,
+        world.history().len() as u64,
+    )?;
     Ok(text)
 }
 

@@ -23,14 +23,17 @@ use Rattle.stm_events.specs.Names.{refusal_name}
 use Rattle.stm_meaning.specs.Faults.{fault_name}
 use Rattle.stm_formats.specs.declared.format_row.Lane.{Lane}
 use Rattle.stm_formats.specs.declared.format_row.Lane.TheVariants.{Store, Runner}
-use Rattle.stm_formats.specs.FormatShown.{shown, plain, plain_after, hidden, front, back}
+use Rattle.stm_formats.specs.FormatShown.{shown, source_shown, plain, plain_after, hidden, front, back}
 use Rattle.stm_formats.specs.FormatPieces.{joined, padded, tag_text}
+use Rattle.stm_program_source.specs.Program.{shown_body}
+use Rattle.stm_show.specs.Transactions.{shown_compares}
+use Rattle.stm_formats.specs.FormatSource.{line_after, source_words, program_words}
 use Rattle.stm_events.specs.declared.reply.KeyRead.{KeyRead}
 use Rattle.stm_reasons.specs.Counters.{counter_after}
 use Rattle.stm_reasons.specs.Causes.{state_by}
 use Rattle.stm_formats.specs.FormatChanges.{state_words, known_words, change_words, between, counted_change, changes_after, revision_words, changed_since}
 use Rattle.stm_formats.specs.FormatWords.{named_words, reported_words, start_words, link, seen_words, as_of, fetched_words, counted_read, reads_after, listed_words}
-use Rattle.stm_formats.specs.FormatWords.{attempt_words, commit_words, compared_words, txn_words, revoked_words, changed_words, advanced_words, batch_words}
+use Rattle.stm_formats.specs.FormatWords.{attempt_words, commit_words, compared_words, compared_by, failed_word, at_words, txn_words, revoked_words, changed_words, advanced_words, batch_words}
 use Rattle.stm_formats.specs.FormatWords.{lost_words, asked_word, refused_words, reply_words, told_words, words_of}
 use Rattle.stm_formats.specs.FormatRows.{lane_of, row_of, rows_of}
 use Rattle.stm_formats.specs.FormatColumns.{column, place}
@@ -70,14 +73,17 @@ plain_without zero (x ∷ xs) =
     next_without (nat_eq (hidden (x ∷ xs)) 0) x (plain_after 0 xs) (plain_after (pred (hidden (x ∷ xs))) xs)
     (other_by (nat_lt x 32) (nat_eq x 127) x _ refl) (plain_without 0 xs) (plain_without (pred (hidden (x ∷ xs))) xs)
 
-shown_by : (first last : ℕ) (b : Bool) (text : List ℕ) → has 10 (cond b (plain text) (plain (front first text) ++ codes ".." ++ plain (back last text))) ≡ false
-shown_by first last true text = plain_without 0 text
-shown_by first last false text =
+cut_by : (first last : ℕ) (b : Bool) (text : List ℕ) → has 10 (cond b (plain text) (plain (front first text) ++ codes ".." ++ plain (back last text))) ≡ false
+cut_by first last true text = plain_without 0 text
+cut_by first last false text =
     has-append 10 (plain (front first text) ++ codes "..") (plain (back last text))
     (has-append 10 (plain (front first text)) (codes "..") (plain_without 0 (front first text)) refl) (plain_without 0 (back last text))
 
 shown_without : (text : List ℕ) → has 10 (shown text) ≡ false
-shown_without text = shown_by _ _ _ text
+shown_without text = cut_by _ _ _ text
+
+source_without : (text : List ℕ) → has 10 (source_shown text) ≡ false
+source_without text = cut_by _ _ _ text
 
 glyph_by : (b : Bool) (d : ℕ) → nat_eq (cond b (48 + d) (87 + d)) 10 ≡ false
 glyph_by true d = grind (arith, nat_tests)
@@ -105,17 +111,34 @@ level_without _ = refl
 
 -- ---- words
 
+source_words_without : (source : List ℕ) → has 10 (source_words source) ≡ false
+source_words_without [] = refl
+source_words_without (b ∷ bs) = joined_without (codes "  " ∷ source_shown (b ∷ bs) ∷ []) (refl, (source_without (b ∷ bs), tt))
+
 start_without : (e : WorldEvent) → has 10 (start_words e) ≡ false
-start_without (event.Start program level limit) = joined_without (codes "start " ∷ level_text level ∷ []) (refl, (level_without level, tt))
+start_without (event.Start program level limit) =
+    joined_without (codes "start " ∷ level_text level ∷ program_words program ∷ [])
+    (refl, (level_without level, (source_words_without (line_after 0 (shown_body program)), tt)))
 start_without _ = refl
 
 asked_without : (e : WorldEvent) → has 10 (asked_word e) ≡ false
 asked_without (event.Start program level limit) = refl
 asked_without _ = refl
 
-txn_without : (succeeded : Bool) (revision : ℕ) → has 10 (txn_words succeeded revision) ≡ false
-txn_without true revision = joined_without (codes "txn" ∷ codes " @" ∷ decimal revision ∷ []) (refl, (refl, (decimal_without revision, tt)))
-txn_without false revision = joined_without (codes "txn failed" ∷ codes " @" ∷ decimal revision ∷ []) (refl, (refl, (decimal_without revision, tt)))
+compared_by_without : (e : WorldEvent) → has 10 (compared_by e) ≡ false
+compared_by_without (event.Txn txn) = joined_without (source_shown (shown_compares txn.compares) ∷ []) (source_without (shown_compares txn.compares), tt)
+compared_by_without _ = refl
+
+failed_without : (succeeded : Bool) → has 10 (failed_word succeeded) ≡ false
+failed_without true = refl
+failed_without false = refl
+
+txn_without : (e : WorldEvent) (succeeded : Bool) (revision : ℕ) → has 10 (txn_words e succeeded revision) ≡ false
+txn_without e succeeded revision =
+    joined_without (codes "txn " ∷ failed_word succeeded ∷ compared_by e ∷ at_words revision ∷ []) (
+      refl,
+      (failed_without succeeded, (compared_by_without e, (joined_without (codes "@" ∷ decimal revision ∷ []) (refl, (decimal_without revision, tt)), tt))),
+    )
 
 compacted_without : (revision : ℕ) → has 10 (changed_words (codes "compact") revision) ≡ false
 compacted_without revision = joined_without (codes "compact" ∷ codes " @" ∷ decimal revision ∷ []) (refl, (refl, (decimal_without revision, tt)))
@@ -148,9 +171,9 @@ known_without h key mod_rev revision =
 
 change_without : (e : Event) → has 10 (change_words e) ≡ false
 change_without (change.Put key state) =
-    joined_without (shown key ∷ codes " = \"" ∷ shown state.value ∷ codes "\"" ∷ [])
-    (shown_without key, (refl, (shown_without state.value, (refl, tt))))
-change_without (change.Delete key revision) = joined_without (shown key ∷ codes " deleted" ∷ []) (shown_without key, (refl, tt))
+    joined_without (plain key ∷ codes " = \"" ∷ shown state.value ∷ codes "\"" ∷ [])
+    (plain_without 0 key, (refl, (shown_without state.value, (refl, tt))))
+change_without (change.Delete key revision) = joined_without (plain key ∷ codes " deleted" ∷ []) (plain_without 0 key, (refl, tt))
 
 between_without : (count : ℕ) → has 10 (between count) ≡ false
 between_without count = either_without (nat_eq count 0) (codes "  ") (codes ", ") refl refl
@@ -185,8 +208,8 @@ changed_without h before after =
 
 seen_without : (h : History) (key : List ℕ) (mod_rev revision : ℕ) → has 10 (seen_words h key mod_rev revision) ≡ false
 seen_without h key mod_rev revision =
-    joined_without (shown key ∷ link mod_rev ∷ known_words h key mod_rev revision ∷ [])
-    (shown_without key, (either_without (nat_eq mod_rev 0) (codes ": ") (codes " = ") refl refl, (known_without h key mod_rev revision, tt)))
+    joined_without (plain key ∷ link mod_rev ∷ known_words h key mod_rev revision ∷ [])
+    (plain_without 0 key, (either_without (nat_eq mod_rev 0) (codes ": ") (codes " = ") refl refl, (known_without h key mod_rev revision, tt)))
 
 as_of_without : (of_rev revision : ℕ) → has 10 (as_of of_rev revision) ≡ false
 as_of_without of_rev revision =
@@ -225,8 +248,8 @@ commit_without revision attempts =
 
 compared_without : (h : History) (word key : List ℕ) (seen now : ℕ) → has 10 word ≡ false → has 10 (compared_words h word key seen now) ≡ false
 compared_without h word key seen now none =
-    joined_without (word ∷ codes " " ∷ shown key ∷ codes ": was " ∷ known_words h key seen seen ∷ codes ", is " ∷ known_words h key now now ∷ [])
-    (none, (refl, (shown_without key, (refl, (known_without h key seen seen, (refl, (known_without h key now now, tt)))))))
+    joined_without (word ∷ codes " " ∷ plain key ∷ codes ": was " ∷ known_words h key seen seen ∷ codes ", is " ∷ known_words h key now now ∷ [])
+    (none, (refl, (plain_without 0 key, (refl, (known_without h key seen seen, (refl, (known_without h key now now, tt)))))))
 
 -- ---- other events
 
@@ -264,7 +287,7 @@ reply_without h e (GaveUp runner attempts key seen now) = compared_without h (co
 reply_without h e (Aborted runner text) = reported_without (codes "ABORT") text refl
 reply_without h e (Faulted runner fault) = reported_without (codes "FAULT") (fault_name fault) refl
 reply_without h e (Ended runner cause) = reported_without (codes "ENDED") (refusal_name cause) refl
-reply_without h e (Txn succeeded revision answers) = txn_without succeeded revision
+reply_without h e (Txn succeeded revision answers) = txn_without e succeeded revision
 reply_without h e (Granted id) = named_without (codes "grant") id refl
 reply_without h e (Kept id) = named_without (codes "keep") id refl
 reply_without h e (Revoked id revision) = revoked_without id revision

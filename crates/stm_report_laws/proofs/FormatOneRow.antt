@@ -7,7 +7,7 @@ use Rattle.stm_events.specs.declared.refusal.Denied.{Denied}
 use Rattle.stm_world.specs.World.{replies_to}
 use Rattle.stm_reasons.specs.Counters.{counter_after}
 use Rattle.stm_formats.specs.FormatRows.{rows_of, AreNumbered}
-use Rattle.stm_report.specs.FormatFields.{line_object}
+use Rattle.stm_report.specs.Forms.{object_line}
 use Rattle.stm_report.specs.Report.{event_lines}
 use Rattle.stm_report.proofs.FormatRowLemmas.{one_reply}
 use Rattle.stm_report_laws.specs.FormatLaws.{OneRowAnEvent, OneObjectAnEvent}
@@ -23,7 +23,7 @@ numbered h before n [] replies = tt
 numbered h before n (e ∷ es) [] = tt
 numbered h before n (e ∷ es) (r ∷ rs) = (refl, numbered h (counter_after before r) (suc n) es rs)
 
-one_object : (n : ℕ) (replies : List (Result Reply Denied)) → length (map line_object (event_lines n replies)) ≡ length replies
+one_object : (n : ℕ) (replies : List (Result Reply Denied)) → length (map object_line (event_lines n replies)) ≡ length replies
 one_object n [] = refl
 one_object n (r ∷ rs) = ap suc (one_object (suc n) rs)
 

@@ -17,7 +17,6 @@ pub mod ReadBack
 pub mod SmallLines
 pub mod ScriptsRead
 pub mod FormatEscapedLaws
-pub mod FormatNoFloats
 pub mod FormatOneLine
 pub mod FormatOneRow
 pub mod WholeReportLaws

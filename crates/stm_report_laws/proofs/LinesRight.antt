@@ -29,7 +29,7 @@ use Rattle.stm_world.proofs.Following.{FollowsStep, with_line}
 use Rattle.stm_world.proofs.Headlines.{Follows, step_follows, opened_follows}
 use Rattle.stm_world.proofs.RunnerSteps.{CommitLaws, reads_truth}
 use Rattle.stm_world.proofs.Slots.{same_number, other_number}
-use Rattle.stm_world.proofs.Untouched.{IsFresh}
+use Rattle.stm_world.proofs.Untouched.{IsFresh, call_says_nothing}
 use Rattle.stm_check.specs.declared.runner.Runner.{Runner}
 use Rattle.stm_check.specs.Fits.{is_number, can_have, fits}
 use Rattle.stm_check.specs.Point.{Point, committed_entry, commit_entries, entries_reported as reported_entries, led_by, standing_after, after}
@@ -38,8 +38,8 @@ use Rattle.stm_check.specs.Runners.{running as running_in, runners_after}
 use Rattle.stm_check.specs.StoreLines.{end_lines}
 use Rattle.stm_check.specs.Wrong.{IsRight as IsRightLine, AreRight, entries_along}
 use Rattle.stm_report.specs.Report.{event_lines}
-use Rattle.stm_report_laws.proofs.RunsReported.{RunsAreReported, none_are_reported, call_says_nothing, run_with, runs_with}
-use Rattle.stm_report_laws.proofs.RunsReported.{same_runs, Goes, goes_on, ended_runs, failed_runs, begun_runs}
+use Rattle.stm_report_laws.proofs.RunsReported.{RunsAreReported, none_are_reported, run_with, runs_with}
+use Rattle.stm_report_laws.proofs.RunsReported.{same_runs, quiet_runs, Goes, goes_on, ended_runs, failed_runs, begun_runs}
 use Rattle.stm_world.proofs.EventKeeps.{store_limit}
 use Rattle.stm_report_laws.proofs.CallsReported.{unwatched, CallIsRight, txn_right, grant_right, keep_right, revoke_right, advance_right, compact_right}
 use Rattle.stm_report_laws.proofs.CallsReported.{watch_key_right, watch_range_right, poll_right, cancel_right}
@@ -260,7 +260,7 @@ call_goes start n log rs event reply {c} is right reported r =
       store_is = r.store ∙ sym (ap (λ (a : Asked). unwatched (store_after_asked task_of a told s)) is);
       entries_are = r.entries ∙ sym (ap (λ (a : Asked). entries_asked task_of s (store_after_asked task_of a told s) a told) is);
       runs = subst (λ (after_call : List Runner). RunsAreReported (line ∷ log) after_call) (sym r.runners)
-          (same_runs line log rs (call_says_nothing s c) reported);
+          (quiet_runs line log rs (call_says_nothing s c) reported);
     })
 
 event_goes : (start : Setup) (n : ℕ) (log : List Line) (rs : List Runner) (event : WorldEvent) (reply : Result Reply Denied) → RunsAreReported log rs →

@@ -1,20 +1,17 @@
 -- What a check knows of the runners is what the log so far says of them, whatever the next line is about.
 use Rattle.std.proofs.Common.{◌≡◌, ℕ, ◌+◌, List, [], ◌∷◌, ◌++◌, length, Option, Some, None, Ok, Bool, true, false, cond, refl, sym, ◌∙◌, ap, subst}
 use Rattle.std.specs.Prelude.{nat_eq, option_map, Result, ◌||◌}
-use Rattle.stm_txn.specs.Standing.{Standing, Setup}
+use Rattle.stm_txn.specs.Standing.{Setup}
 use Rattle.stm_events.specs.declared.event.WorldEvent.TheVariants.{Start}
 use Rattle.stm_events.specs.declared.reply.Reply.{Reply}
-use Rattle.stm_events.specs.declared.reply.Reply.TheVariants.{Started, Prefetched, Fetched, Committed, Conflict, GaveUp, Aborted, Faulted, Ended}
+use Rattle.stm_events.specs.declared.reply.Reply.TheVariants.{Started}
 use Rattle.stm_events.specs.declared.refusal.Denied.{Denied}
-use Rattle.stm_events.specs.Replies.{runner_named}
-use Rattle.stm_events.specs.Called.{Call, called}
-use Rattle.stm_events.proofs.CallReplies.{call_replies}
 use Rattle.stm_world.specs.Task.{Task}
 use Rattle.stm_world.specs.Log.{Line, begun, is_over, running, started, failures, is_id, is_start, task_in}
 use Rattle.stm_world.specs.Log.{runner_started, runner_ended, runner_in_conflict}
 use Rattle.stm_world.proofs.Following.{with_line}
 use Rattle.stm_world.proofs.Slots.{equal_numbers, same_number, differ}
-use Rattle.stm_world.proofs.Untouched.{IsFresh}
+use Rattle.stm_world.proofs.Untouched.{IsFresh, SaysNothing as IsAboutNone, same_running, same_failures}
 use Rattle.stm_check.specs.declared.runner.Runner.{Runner}
 use Rattle.stm_check.specs.Runners.{running as running_in, begun as begun_run, unless_over, ended, with_conflict, with_runner}
 use Rattle.stm_report_laws.proofs.RunLists.{changed_own, changed_other, changed_count, added_own, added_other, added_count}
@@ -50,22 +47,6 @@ pub record SaysOfRuns (reply : Result Reply Denied) (begins ends fails : Option 
 abbrev pub SaysNothing : Result Reply Denied → Type 0
 SaysNothing reply = SaysOfRuns reply None None None
 
-says_by_reply : (reply : Reply) → runner_named reply ≡ None → SaysNothing (Ok reply)
-says_by_reply (Started runner) none = absurd (cc)
-says_by_reply (Prefetched runner revision reads) none = absurd (cc)
-says_by_reply (Fetched runner key mod_rev of_rev revision) none = absurd (cc)
-says_by_reply (Committed runner revision attempts output trace answers) none = absurd (cc)
-says_by_reply (Conflict runner key seen now) none = absurd (cc)
-says_by_reply (GaveUp runner attempts key seen now) none = absurd (cc)
-says_by_reply (Aborted runner text) none = absurd (cc)
-says_by_reply (Faulted runner fault) none = absurd (cc)
-says_by_reply (Ended runner cause) none = absurd (cc)
-says_by_reply reply none = record { begins_is = refl; ends_is = refl; fails_is = refl }
-
-pub call_says_nothing : (s : Standing) (c : Call) → SaysNothing (called s c).reply
-call_says_nothing =
-    call_replies SaysNothing (record { told = says_by_reply; refused = λ cause expired. record { begins_is = refl; ends_is = refl; fails_is = refl } })
-
 -- what a log says of a runner, by what its last line says
 reported_by : (line : Line) (log : List Line) (begins ends fails : Option ℕ) → SaysOfRuns line.reply begins ends fails → (id : ℕ) →
     runs_with (failures id (line ∷ log)) (running id (line ∷ log))
@@ -91,6 +72,13 @@ pub same_runs : (line : Line) (log : List Line) (rs : List Runner) → SaysNothi
 same_runs line log rs says reported = record {
   count = reported.count ∙ sym (count_by line log None None None says);
   runs = λ id. reported.runs id ∙ sym (reported_by line log None None None says id);
+}
+
+-- a line that is about no runner
+pub quiet_runs : (line : Line) (log : List Line) (rs : List Runner) → IsAboutNone line.reply → RunsAreReported log rs → RunsAreReported (line ∷ log) rs
+quiet_runs line log rs says reported = record {
+  count = reported.count ∙ sym (ap (λ (o : Option ℕ). cond (is_start o) (started log + 1) (started log)) says.not_started);
+  runs = λ id. let u = says.untouched id in reported.runs id ∙ sym (λ i. runs_with (same_failures id line log u i) (same_running id line log u i));
 }
 
 -- a run that goes on, and its task as the log has it

@@ -1,14 +1,13 @@
 -- What a script writes is read as its report, which a check says yes to.
-use Rattle.std.proofs.Common.{◌≡◌, ℕ, suc, ◌+◌, ◌≤◌, List, [], ◌∷◌, length, Option, Some, Ok, Err, IfSome, IsUtf8, refl, sym, ap, subst, ◌∙◌, arith}
+use Rattle.std.proofs.Common.{◌≡◌, ℕ, ◌+◌, ◌≤◌, List, length, Option, Some, Ok, Err, IfSome, IsUtf8, sym, ap, subst, ◌∙◌, arith}
 use Rattle.std.specs.Prelude.{Result}
 use Rattle.std.specs.FinMap as finmap
 use Rattle.stm_json.specs.declared.limits.TheConstants.{MOST_BYTES}
 use Rattle.stm_json.specs.declared.read_error.BadInput.{BadInput}
 use Rattle.stm_json.specs.Outcome.{Outcome}
-use Rattle.stm_events.specs.declared.event.WorldEvent.{WorldEvent}
 use Rattle.stm_events.specs.declared.reply.Reply.{Reply}
 use Rattle.stm_events.specs.declared.refusal.Denied.{Denied}
-use Rattle.stm_world.specs.World.{World, opened, step, world_after, replies_to}
+use Rattle.stm_world.specs.World.{World, opened, world_after, replies_to}
 use Rattle.stm_texts.specs.declared.scenario.Scenario.{Scenario}
 use Rattle.stm_texts.specs.declared.events.TheConstants.{MOST_EVENTS}
 use Rattle.stm_texts.specs.Reading.{scenario_in}
@@ -28,6 +27,7 @@ use Rattle.stm_compile.proofs.ConflictLemmas.{failed_compares_conflict}
 use Rattle.stm_world.proofs.Headlines.{headline}
 use Rattle.stm_report.specs.Report.{event_lines, report_of}
 use Rattle.stm_report.specs.Script.{IsRunReport}
+use Rattle.stm_report.proofs.FormatRowLemmas.{one_reply}
 use Rattle.stm_report.specs.FormatScript.{IsRunText}
 use Rattle.stm_report_laws.specs.ReadBack.{IsReadable, AreReadable}
 use Rattle.stm_report_laws.specs.Laws.{IsReadAsRight, ScriptsAreReadAsRight, NeverNoToAScript, YesToAScript}
@@ -40,17 +40,13 @@ use Rattle.stm_report_laws.proofs.SmallLines.{events_readable, end_readable}
 
 -- ---- the report of a run of a scenario that was read
 
-reply_for_each : (events : List WorldEvent) (w : World) → length (replies_to events w) ≡ length events
-reply_for_each [] w = refl
-reply_for_each (e ∷ es) w = ap suc (reply_for_each es (step e w).next)
-
 lines_readable : (s : Scenario) → AsksFew s → AreReadable (report_of (world_after s.events (opened (setup_of s.opening))) (replies_to s.events (opened (setup_of s.opening)))).lines
 lines_readable s asks =
     let start : Setup = setup_of s.opening in
     let w : World = world_after s.events (opened start) in
     let replies : List (Result Reply Denied) = replies_to s.events (opened start) in
     let count : length s.events ≤ MOST_EVENTS = asks.count in
-    let each : length replies ≡ length s.events = reply_for_each s.events (opened start) in
+    let each : length replies ≡ length s.events = one_reply s.events (opened start) in
     let run : RunFits (0 + length s.events) replies w = run_fits_from 0 s.events (opened start) (opened_fits start asks.opens) (omega (arith, count)) asks.events in
     let entries : length w.entries + finmap.len w.standing.live ≤ (0 + length s.events) + (0 + length s.events) = run.world.entries in
     all_append IsReadable (event_lines 1 replies) (end_lines w.standing (length w.entries)) (events_readable 1 replies (omega (arith, count, each)) run.replies)
@@ -92,7 +88,7 @@ never_no_to_a_script bytes text s r (other, reads_other, written) reads reads_re
 
 -- ---- two sources
 
-at_known : (known : Option (List ℕ)) (all : List ℕ) (P : List ℕ → Type 0) → known ≡ Some all → IfSome known P → P all
+pub at_known : (known : Option (List ℕ)) (all : List ℕ) (P : List ℕ → Type 0) → known ≡ Some all → IfSome known P → P all
 at_known known all P is holds = subst (λ (k : Option (List ℕ)). IfSome k P) is holds
 
 abbrev is_read : {A : Type 0} → Outcome A → Type 0

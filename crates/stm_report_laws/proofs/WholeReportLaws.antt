@@ -17,6 +17,7 @@ use Rattle.stm_report.specs.WholeJudging.{JudgesText, Judges}
 use Rattle.stm_report_laws.specs.WholeLaws.{AlikeIsEqual, IsSettled, YesIsTheReport}
 use Rattle.stm_report.proofs.WholeLineLemmas.{alike, own, same_lines}
 use Rattle.stm_report.proofs.WholeJudgingLemmas.{is_read, read_or_bad}
+use Rattle.stm_report_laws.proofs.ScriptsRead.{at_known}
 
 -- ---- alike line by line is equal
 
@@ -47,9 +48,6 @@ one_of_reading reading a b (s, reads, first) (other, reads_other, second) =
     one_of_scenario s a b first (subst (λ (x : Scenario). IsRunReport x b) same second)
 
 -- ---- the law
-
-at_known : (known : Option (List ℕ)) (all : List ℕ) (P : List ℕ → Type 0) → known ≡ Some all → IfSome known P → P all
-at_known known all P is holds = subst (λ (k : Option (List ℕ)). IfSome k P) is holds
 
 yes_means : (d : Sources) (scenario text : List ℕ) → d.scenario ≡ Some scenario → d.report ≡ Some text → Judges d (Ok Yes)
     → IsReportOf (scenario_in scenario) text

@@ -7,7 +7,7 @@ use Rattle.stm_events.specs.declared.refusal.Denied.{Denied}
 use Rattle.stm_world.specs.World.{World, replies_to}
 use Rattle.stm_formats.specs.FormatEscaped.{escaped}
 use Rattle.stm_formats.specs.FormatRows.{rows_of, AreNumbered}
-use Rattle.stm_report.specs.FormatFields.{line_object}
+use Rattle.stm_report.specs.Forms.{object_line}
 use Rattle.stm_report.specs.Report.{event_lines}
 use Rattle.stm_formats.specs.FormatText.{rows_text}
 
@@ -19,7 +19,7 @@ OneRowAnEvent =
 
 -- and one object for each event
 abbrev pub OneObjectAnEvent : Type 0
-OneObjectAnEvent = (events : List WorldEvent) (w : World) → length (map line_object (event_lines 1 (replies_to events w))) ≡ length events
+OneObjectAnEvent = (events : List WorldEvent) (w : World) → length (map object_line (event_lines 1 (replies_to events w))) ≡ length events
 
 abbrev pub has : ℕ → List ℕ → Bool
 has b [] = false

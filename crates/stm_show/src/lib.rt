@@ -10,3 +10,4 @@ pub use scenario::scenario_source;
 pub use showing::{ShowFault, Shown, show};
 pub use stm_json::BadInput;
 pub use stm_texts::Scenario;
+pub use transactions::push_compares;

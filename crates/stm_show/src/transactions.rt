@@ -89,8 +89,12 @@ fn push_some_compares(
     out.push(' ')
 }
 
-/// Adds compares, where there are some.
-fn push_compares(alloc: Global, out: &mut String, compares: &[Compare]) -> Result<(), AllocError>
+/// Adds compares as `if .. && .. `, where there are some. It fails where an allocation failed.
+pub fn push_compares(
+    alloc: Global,
+    out: &mut String,
+    compares: &[Compare],
+) -> Result<(), AllocError>
     ensures { OnOk result (string_bytes out.new ≡ string_bytes out.old ++ shown_compares compares.now) }
 {
     match compares.split_first() {

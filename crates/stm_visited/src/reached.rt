@@ -43,7 +43,7 @@ impl<P, M: Copy + Drop> Reached<P, M> {
     }
 
     /// The moves by which it was reached.
-    pub(crate) fn path(&self, alloc: Global) -> Result<Sequence<M>, AllocError>
+    pub fn path(&self, alloc: Global) -> Result<Sequence<M>, AllocError>
         ensures { IfOk result (λ path. path ≡ self.now.path) }
     {
         let path = Vec::from_slice(alloc, self.path.as_slice())?;

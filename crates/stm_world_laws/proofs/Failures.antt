@@ -6,6 +6,7 @@ use Rattle.stm_history.specs.declared.revisions.TheConstants.{HIGHEST_REVISION}
 use Rattle.stm_history.specs.Opening.{Opening}
 use Rattle.stm_history.specs.History.{History, now}
 use Rattle.stm_program.specs.Writes.{latest_writes}
+use Rattle.stm_outcome.proofs.Branching.{neither}
 use Rattle.stm_entries.specs.declared.entry.Entry.{Entry}
 use Rattle.stm_entries.specs.Laws.{AddsTo}
 use Rattle.stm_entries.specs.Replayed.{Replayed, opening, without_moment}
@@ -81,25 +82,21 @@ others_move_on start log line id grows o m = record {
 
 -- ---- a start ----
 
-of_both : (ended over : Bool) → (ended || over) ≡ false → (ended ≡ false) × (over ≡ false)
-of_both true over none = absurd (cc)
-of_both false over none = (refl, none)
-
 failed_by : (id failed conflicts : ℕ) (over : Bool) (reply : Result Reply Denied) → (over ≡ false → failed ≡ conflicts) →
     (is_id id (runner_ended reply) || over) ≡ false →
     cond (is_of_runner id (failed_commit reply)) (failed + 1) failed ≡ cond (is_id id (runner_in_conflict reply)) (conflicts + 1) conflicts
 failed_by id failed conflicts over (Err refusal) on none = on none
 failed_by id failed conflicts over (Ok (Conflict runner key seen now)) on none = ap (λ n. cond (nat_eq runner id) (n + 1) n) (on none)
 failed_by id failed conflicts over (Ok (GaveUp runner attempts key seen now)) on none =
-    let parts = of_both (nat_eq runner id) over none in
+    let parts = neither (nat_eq runner id) over none in
     ap (λ b. cond b (failed + 1) failed) parts.0 ∙ on parts.1
 failed_by id failed conflicts over (Ok (Started runner)) on none = on none
 failed_by id failed conflicts over (Ok (Prefetched runner revision reads)) on none = on none
 failed_by id failed conflicts over (Ok (Fetched runner key mod_rev of_rev revision)) on none = on none
-failed_by id failed conflicts over (Ok (Committed runner revision attempts output trace answers)) on none = on (of_both (nat_eq runner id) over none).1
-failed_by id failed conflicts over (Ok (Aborted runner text)) on none = on (of_both (nat_eq runner id) over none).1
-failed_by id failed conflicts over (Ok (Faulted runner fault)) on none = on (of_both (nat_eq runner id) over none).1
-failed_by id failed conflicts over (Ok (Ended runner cause)) on none = on (of_both (nat_eq runner id) over none).1
+failed_by id failed conflicts over (Ok (Committed runner revision attempts output trace answers)) on none = on (neither (nat_eq runner id) over none).1
+failed_by id failed conflicts over (Ok (Aborted runner text)) on none = on (neither (nat_eq runner id) over none).1
+failed_by id failed conflicts over (Ok (Faulted runner fault)) on none = on (neither (nat_eq runner id) over none).1
+failed_by id failed conflicts over (Ok (Ended runner cause)) on none = on (neither (nat_eq runner id) over none).1
 failed_by id failed conflicts over _ on none = on none
 
 -- of a run that is not over only conflicts were reported as failures

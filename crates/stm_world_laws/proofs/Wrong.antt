@@ -3,7 +3,6 @@ use Rattle.std.proofs.Common.{◌≡◌, ◌≢◌, inl, inr, ℕ, ◌+◌, ◌-
 use Rattle.std.proofs.Common.{false, cond, refl, sym, ◌∙◌, ap, subst, arith}
 use Rattle.std.specs.Prelude.{nat_eq, nat_lt, slice_set, Result}
 use Rattle.std.proofs.lemmas.Bool.{le-leb}
-use Rattle.std.specs.Cmp.{unsigned_Decides}
 use Rattle.stm_steps.specs.declared.run.End.TheVariants.{Done as DoneEnd, Aborted as AbortedEnd}
 use Rattle.stm_steps.specs.declared.run.Run.{Run}
 use Rattle.stm_steps.specs.declared.run.Answered.TheVariants.{Ended as EndedRun, Wants}
@@ -45,11 +44,9 @@ use Rattle.stm_world_laws.specs.WrongLogs.{WrongLogs}
 use Rattle.stm_world.proofs.Logs.{as_many}
 use Rattle.stm_events.specs.Called.{Asked, Starts, Steps, Calls, asked}
 use Rattle.stm_world.proofs.Untouched.{call_says_nothing}
+use Rattle.stm_world.proofs.Slots.{equal_numbers}
 
 -- ---- numbers ----
-
-equal_numbers : (a b : ℕ) → nat_eq a b ≡ true → a ≡ b
-equal_numbers a b h = (unsigned_Decides a b).0 h
 
 -- only a start answers a number
 step_gives_none : (at : Situation) (reply : Reply) → ReplyIsRight at reply → runner_started (Ok reply) ≡ None

@@ -12,7 +12,7 @@ use stm_commands::{
     Format, KeptSource, Std, check_explained_to, check_whole_explained_to, script_explained_to,
 };
 use stm_explain::is_hidden;
-use stm_exploring::{Level, Wait, explore_explained_to, outcomes_explained_to};
+use stm_exploring::{Level, Question, Wait, explore_explained_to, outcomes_explained_to};
 
 /// Whether a path has a character that does something to a terminal.
 pub(crate) fn has_hidden(path: &str) -> bool {
@@ -123,7 +123,7 @@ pub(crate) fn run_rule(
         &mut out,
         &mut err,
     );
-    close(&mut budget);
+    let status = close(&mut budget, status);
     say_unread(rt, scenario.name, scenario.source.device.failure);
     say_unread(rt, rule.name, rule.source.device.failure);
     say_unwritten(rt, out.device.failure);
@@ -133,6 +133,7 @@ pub(crate) fn run_rule(
 /// Goes through the interleavings of a scenario.
 pub(crate) fn run_outcomes(
     rt: &HostRuntime,
+    question: Question,
     scenario: &JsonFile<'_>,
     level: Option<Level>,
     budget: Told<'_>,
@@ -143,13 +144,14 @@ pub(crate) fn run_outcomes(
     let mut budget = shown_budget(rt, budget, true);
     let status = outcomes_explained_to(
         rt.alloc(),
+        question,
         &mut scenario,
         level,
         &mut budget,
         &mut out,
         &mut err,
     );
-    close(&mut budget);
+    let status = close(&mut budget, status);
     say_unread(rt, scenario.name, scenario.source.device.failure);
     say_unwritten(rt, out.device.failure);
     status

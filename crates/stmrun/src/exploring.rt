@@ -6,24 +6,28 @@ use crate::rules::{is_json, named_in, rules_named, rules_of, unnamed_rule};
 use crate::ruling::{Question, run_rules};
 use crate::sources::{JsonFile, SourceText, say_unasked, source_at, text_at};
 use crate::terminals::{Told, close, shown_budget};
-use crate::waits::{read_waits, refuse_without_rule};
+use crate::waits::{read_waits, refuse_beside, refuse_without_rule};
 use std::slice;
 use stm_arguments::{ExploreWords, Levels};
 use stm_commands::Std;
 use stm_compiling::{Beside, Rule as SourceRule, Wait as SourceWait};
-use stm_exploring::{Level, Rule, Wait, explore_to, outcomes_to};
+use stm_exploring::{Level, Question as Sought, Rule, Wait, explore_to, outcomes_to};
 
 /// What is searched, and how.
 #[derive(Clone, Copy)]
-pub(crate) struct Search<'a> {
+pub(crate) struct Search<'a, 'w> {
     /// The path of the scenario.
-    pub(crate) path: &'a str,
+    pub(crate) path: &'w str,
     /// The words that name rules.
-    pub(crate) keeps: &'a [&'a str],
+    pub(crate) keeps: &'a [&'w str],
     /// Which runners wait for which others, as it is spelled.
-    pub(crate) after: Option<&'a str>,
+    pub(crate) after: Option<&'w str>,
     /// The levels at which the starts are taken.
     pub(crate) levels: Levels,
+    /// Whether no rule is asked, and a schedule printed of each outcome.
+    pub(crate) witness: bool,
+    /// Whether no rule is asked, but whether serial orders come to each outcome.
+    pub(crate) serial: bool,
     /// At most so many events are taken, and the runners are named so.
     pub(crate) told: Told<'a>,
     /// Whether a fault is explained.
@@ -35,7 +39,7 @@ pub(crate) struct Search<'a> {
 /// Looks through the interleavings of a scenario for one that breaks the rule of a file, at a level, or at each start's own.
 fn run_rule(
     rt: &HostRuntime,
-    search: &Search<'_>,
+    search: &Search<'_, '_>,
     scenario: &JsonFile<'_>,
     rule: &JsonFile<'_>,
     waits: &[Wait],
@@ -59,14 +63,13 @@ fn run_rule(
         &mut out,
         &mut err,
     );
-    close(&mut budget);
-    status
+    close(&mut budget, status)
 }
 
 /// Looks through the interleavings of a scenario for one that breaks each of these rules.
 fn ask(
     rt: &HostRuntime,
-    search: &Search<'_>,
+    search: &Search<'_, '_>,
     scenario: &JsonFile<'_>,
     rules: &[Rule],
     waits: &[Wait],
@@ -87,15 +90,30 @@ fn ask(
     }
 }
 
+/// What is asked of a scenario without a rule.
+fn question_of(search: &Search<'_, '_>) -> Sought {
+    if search.serial {
+        match search.levels {
+            Levels::All => Sought::SerialLevels,
+            Levels::Own | Levels::One(_) => Sought::Serial,
+        }
+    } else if search.witness {
+        Sought::Witnesses
+    } else {
+        Sought::Outcomes
+    }
+}
+
 /// Goes through the interleavings of a scenario, at a level, or at each start's own.
 fn run_outcomes(
     rt: &HostRuntime,
-    search: &Search<'_>,
+    search: &Search<'_, '_>,
     scenario: &JsonFile<'_>,
     level: Option<Level>,
 ) -> u8 {
+    let question = question_of(search);
     if search.explain {
-        return explaining::run_outcomes(rt, scenario, level, search.told);
+        return explaining::run_outcomes(rt, question, scenario, level, search.told);
     }
     let mut scenario = Std::new(scenario.open(rt));
     let mut out = Std::new(rt.stdout());
@@ -103,25 +121,26 @@ fn run_outcomes(
     let mut budget = shown_budget(rt, search.told, false);
     let status = outcomes_to(
         rt.alloc(),
+        question,
         &mut scenario,
         level,
         &mut budget,
         &mut out,
         &mut err,
     );
-    close(&mut budget);
-    status
+    close(&mut budget, status)
 }
 
-/// Goes through the interleavings of a scenario; all levels are refused.
+/// Goes through the interleavings of a scenario; all levels are refused, unless it is looked for serial orders.
 fn search_outcomes(
     rt: &HostRuntime,
-    search: &Search<'_>,
+    search: &Search<'_, '_>,
     scenario: &JsonFile<'_>,
 ) -> Result<u8, u8> {
     match search.levels {
         Levels::Own => Ok(run_outcomes(rt, search, scenario, None)),
         Levels::One(level) => Ok(run_outcomes(rt, search, scenario, Some(level))),
+        Levels::All if search.serial => Ok(run_outcomes(rt, search, scenario, None)),
         Levels::All => Err(refuse_without_rule(rt, "--level all")),
     }
 }
@@ -129,7 +148,7 @@ fn search_outcomes(
 /// Looks through the interleavings of a scenario for one that breaks the rule of a path.
 fn search_rule(
     rt: &HostRuntime,
-    search: &Search<'_>,
+    search: &Search<'_, '_>,
     scenario: &JsonFile<'_>,
     path: &str,
     waits: &[Wait],
@@ -154,7 +173,7 @@ fn is_named(word: &str, path: &str, rule: &SourceRule) -> bool {
 }
 
 /// Says which rules of the scenario's source are not asked, where words name those that are.
-fn say_others(rt: &HostRuntime, search: &Search<'_>, rules: &[SourceRule]) -> Result<(), u8> {
+fn say_others(rt: &HostRuntime, search: &Search<'_, '_>, rules: &[SourceRule]) -> Result<(), u8> {
     for rule in rules {
         if !search
             .keeps
@@ -168,7 +187,11 @@ fn say_others(rt: &HostRuntime, search: &Search<'_>, rules: &[SourceRule]) -> Re
 }
 
 /// Refuses runners that wait where no rule is asked, after it was said which do not.
-fn refuse_waiting(rt: &HostRuntime, search: &Search<'_>, waits: &[SourceWait]) -> Result<(), u8> {
+fn refuse_waiting(
+    rt: &HostRuntime,
+    search: &Search<'_, '_>,
+    waits: &[SourceWait],
+) -> Result<(), u8> {
     if search.after.is_some() {
         return Err(refuse_without_rule(rt, "--after <RUNNER:FIRST,..>"));
     }
@@ -183,7 +206,7 @@ fn refuse_waiting(rt: &HostRuntime, search: &Search<'_>, waits: &[SourceWait]) -
 /// Looks through the interleavings of a scenario for one that breaks a rule that words name. What its source has beside it says who waits.
 fn search_named(
     rt: &HostRuntime,
-    search: &Search<'_>,
+    search: &Search<'_, '_>,
     scenario: &JsonFile<'_>,
     beside: &Beside,
 ) -> Result<u8, u8> {
@@ -198,16 +221,27 @@ fn search_named(
     }
 }
 
+/// Goes through the interleavings of a scenario for what they come to. It is said which rules of its source are not asked.
+fn search_without(
+    rt: &HostRuntime,
+    search: &Search<'_, '_>,
+    scenario: &JsonFile<'_>,
+    beside: &Beside,
+) -> Result<u8, u8> {
+    say_unasked(rt, beside.rules.as_slice(), &[])?;
+    refuse_waiting(rt, search, beside.waits.as_slice())?;
+    search_outcomes(rt, search, scenario)
+}
+
 /// Looks through the interleavings of a scenario for one that breaks a rule of its source, or where that has none for what they come to.
 fn search_own(
     rt: &HostRuntime,
-    search: &Search<'_>,
+    search: &Search<'_, '_>,
     scenario: &JsonFile<'_>,
     beside: Beside,
 ) -> Result<u8, u8> {
-    if beside.rules.as_slice().is_empty() {
-        refuse_waiting(rt, search, beside.waits.as_slice())?;
-        return search_outcomes(rt, search, scenario);
+    if search.witness || search.serial || beside.rules.as_slice().is_empty() {
+        return search_without(rt, search, scenario, &beside);
     }
     let waits = read_waits(rt, search.after, &beside)?;
     let Beside { rules, .. } = beside;
@@ -221,6 +255,23 @@ fn has_one_input(path: &str, words: &[&str]) -> bool {
     count == 0 || (count == 1 && path != "-")
 }
 
+/// Refuses what is not asked beside a rule, where words name one, and the one question beside the other.
+fn refuse_rules(rt: &HostRuntime, words: &ExploreWords<'_>) -> Result<(), u8> {
+    if words.serial && words.witness {
+        return Err(refuse_beside(rt, "--serial", "--witness"));
+    }
+    if words.keeps.as_slice().is_empty() {
+        return Ok(());
+    }
+    if words.serial {
+        return Err(refuse_beside(rt, "--serial", "--keeps <PROGRAM>"));
+    }
+    if words.witness {
+        return Err(refuse_beside(rt, "--witness", "--keeps <PROGRAM>"));
+    }
+    Ok(())
+}
+
 /// Looks through the interleavings of a path's scenario for one that breaks a rule, one that words name, or where there are none one of its source, or
 /// where that has none for what they come to. Only one of the scenario and the rules can be standard input.
 pub(crate) fn run_search(
@@ -232,10 +283,11 @@ pub(crate) fn run_search(
         let _ = rt.eprintln("stmrun: standard input can be only one of SCENARIO and PROGRAM");
         return Err(2);
     }
+    refuse_rules(rt, words)?;
     let (scenario, beside) = source_at(rt, words.scenario, explain)?;
     let text = match scenario {
         JsonFile::Compiled(_, _) => text_at(rt, words.scenario, &beside),
-        JsonFile::Json(_) => None,
+        JsonFile::Json(_) | JsonFile::Held(_) => None,
     };
     let runners = match &text {
         Some(text) => text.runners.as_slice(),
@@ -246,9 +298,12 @@ pub(crate) fn run_search(
         keeps: words.keeps.as_slice(),
         after: words.after,
         levels: words.levels,
+        witness: words.witness,
+        serial: words.serial,
         told: Told {
             events: words.budget,
             runners,
+            strict: words.strict,
         },
         explain,
         source: text.as_ref(),

@@ -53,7 +53,7 @@ pub(crate) fn rules_of(rt: &HostRuntime, rules: Sequence<SourceRule>) -> Result<
 }
 
 /// The program that is read as JSON; or the status, once what is wrong with it was said. It is explained, or is not.
-fn read_program(rt: &HostRuntime, file: &JsonFile<'_>, explain: bool) -> Result<Program, u8> {
+fn rule_program(rt: &HostRuntime, file: &JsonFile<'_>, explain: bool) -> Result<Program, u8> {
     let mut err = Std::new(rt.stderr());
     if explain {
         let mut source = kept_json(rt, file);
@@ -70,7 +70,7 @@ pub(crate) fn unnamed_rule(
     file: &JsonFile<'_>,
     explain: bool,
 ) -> Result<Rule, u8> {
-    let program = read_program(rt, file, explain)?;
+    let program = rule_program(rt, file, explain)?;
     Ok(Rule {
         name: None,
         when: When::Each,
@@ -81,7 +81,7 @@ pub(crate) fn unnamed_rule(
 
 /// The rule of a program that is read as JSON, under a name.
 fn read_rule(rt: &HostRuntime, file: &JsonFile<'_>, name: &str, explain: bool) -> Result<Rule, u8> {
-    let program = read_program(rt, file, explain)?;
+    let program = rule_program(rt, file, explain)?;
     match Text::copy_of(rt.alloc(), name) {
         Ok(name) => Ok(Rule {
             name: Some(name),

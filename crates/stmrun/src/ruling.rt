@@ -48,7 +48,7 @@ fn search_explained<O: Write + Drop>(
         out,
         &mut err,
     );
-    close(&mut budget);
+    let status = close(&mut budget, status);
     say_unread(rt, scenario.name, scenario.source.device.failure);
     say_unwritten(rt, out.device.failure);
     status
@@ -80,8 +80,7 @@ pub(crate) fn search<O: Write + Drop>(
         out,
         &mut err,
     );
-    close(&mut budget);
-    status
+    close(&mut budget, status)
 }
 
 /// Looks for rules at each level, and explains faults.
@@ -99,7 +98,7 @@ fn search_levels_explained(rt: &HostRuntime, question: &Question<'_>) -> u8 {
         &mut out,
         &mut err,
     );
-    close(&mut budget);
+    let status = close(&mut budget, status);
     say_unread(rt, scenario.name, scenario.source.device.failure);
     say_unwritten(rt, out.device.failure);
     status
@@ -123,8 +122,7 @@ fn search_levels(rt: &HostRuntime, question: &Question<'_>, explain: bool) -> u8
         &mut out,
         &mut err,
     );
-    close(&mut budget);
-    status
+    close(&mut budget, status)
 }
 
 /// Looks through the interleavings of a scenario for one that breaks a rule, for each of these rules. A fault is explained, or is not.

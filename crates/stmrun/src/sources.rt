@@ -11,11 +11,20 @@ use stm_compiling::{
     Beside, Compiled, NamedRunner, Part, Rule, Wait, compile_to, compiled, compiled_part,
     named_runners, notes_of,
 };
-use stm_devices::read_all;
+use stm_devices::{ReadFault, read_all};
 use stm_history::{Sequence, Text};
 
 /// What the names of sources end in.
 pub(crate) const ENDING: &str = ".stm";
+
+/// The path of standard input.
+const STANDARD: &str = "-";
+
+/// The words and signs with which a source begins, and nothing that is JSON.
+const BEGINNINGS: [&str; 16] = [
+    "program", "rule", "finally", "begin", "start", "step", "txn", "grant", "keep", "revoke",
+    "advance", "watch", "poll", "cancel", "compact", "//",
+];
 
 /// What is read as JSON.
 #[derive(Drop)]
@@ -24,6 +33,8 @@ pub(crate) enum JsonFile<'a> {
     Json(&'a str),
     /// The line to which a source was compiled, under this name.
     Compiled(Text, String),
+    /// What standard input had.
+    Held(Vec<u8>),
 }
 
 impl JsonFile<'_> {
@@ -32,6 +43,7 @@ impl JsonFile<'_> {
         match self {
             JsonFile::Json(path) => open_beside(rt, path),
             JsonFile::Compiled(line, _) => Opened::Compiled(line.as_str().as_bytes()),
+            JsonFile::Held(bytes) => Opened::Compiled(bytes.as_slice()),
         }
     }
 
@@ -40,6 +52,7 @@ impl JsonFile<'_> {
         match self {
             JsonFile::Json(path) => name_of(path),
             JsonFile::Compiled(_, name) => name.as_str(),
+            JsonFile::Held(_) => name_of(STANDARD),
         }
     }
 }
@@ -81,12 +94,68 @@ fn compiled_at(rt: &HostRuntime, path: &str, explain: bool) -> Result<Compiled, 
     compiled
 }
 
+/// The text with which bytes begin.
+fn front_of(bytes: &[u8]) -> &str {
+    match str::from_utf8(bytes) {
+        Ok(text) => text,
+        Err(error) => match bytes.get(..error.valid_up_to()) {
+            Some(front) => str::from_utf8(front).unwrap_or(""),
+            None => "",
+        },
+    }
+}
+
+/// Whether a text begins as a source does.
+fn begins_source(text: &str) -> bool {
+    let text = text.trim();
+    for word in BEGINNINGS {
+        if text.starts_with(word) {
+            return true;
+        }
+    }
+    false
+}
+
+/// What standard input has, or the status, once it was said why it cannot be read.
+fn standard_bytes(rt: &HostRuntime, explain: bool) -> Result<Vec<u8>, u8> {
+    let mut input = Std::new(Noting::new(open(rt, STANDARD)));
+    let read = read_all(rt.alloc(), &mut input);
+    match read {
+        Ok(bytes) => Ok(bytes),
+        Err(ReadFault::OutOfMemory) => Err(out_of_memory(rt)),
+        Err(ReadFault::Device) => {
+            let _ = rt.eprintln("stmrun: device fault");
+            if explain {
+                say_unread(rt, name_of(STANDARD), input.device.failure);
+            }
+            Err(3)
+        }
+    }
+}
+
+/// The scenario on standard input, and what its source has beside it, where it begins as a source does.
+fn standard_at<'a>(rt: &HostRuntime, explain: bool) -> Result<(JsonFile<'a>, Beside), u8> {
+    let bytes = standard_bytes(rt, explain)?;
+    if !begins_source(front_of(bytes.as_slice())) {
+        return Ok((JsonFile::Held(bytes), Beside::nothing(rt.alloc())));
+    }
+    let mut err = Std::new(rt.stderr());
+    let name = explained_name(STANDARD, explain);
+    let compiled = compiled(rt.alloc(), name, &mut Std::new(bytes.as_slice()), &mut err);
+    let Compiled { line, beside } = compiled?;
+    let scenario = line_of(rt, STANDARD, line)?;
+    Ok((scenario, beside))
+}
+
 /// The scenario of a path, and what its source has beside it; or the status, once what is wrong with that was said. It is explained, or is not.
 pub(crate) fn source_at<'a>(
     rt: &HostRuntime,
     path: &'a str,
     explain: bool,
 ) -> Result<(JsonFile<'a>, Beside), u8> {
+    if path == STANDARD {
+        return standard_at(rt, explain);
+    }
     if !is_source(path) {
         return Ok((JsonFile::Json(path), Beside::nothing(rt.alloc())));
     }
@@ -106,6 +175,9 @@ pub(crate) struct SourceText {
 
 /// The text of the source of a path, which has this beside its scenario; none, where it cannot be read again.
 pub(crate) fn text_at(rt: &HostRuntime, path: &str, beside: &Beside) -> Option<SourceText> {
+    if path == STANDARD {
+        return None;
+    }
     let mut input = Std::new(open(rt, path));
     let bytes = read_all(rt.alloc(), &mut input).ok()?;
     let runners = named_runners(rt.alloc(), bytes.as_slice(), beside).ok()?;

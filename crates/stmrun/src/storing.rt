@@ -236,11 +236,27 @@ fn run_words(rt: &HostRuntime, words: &RunWords<'_>, explain: bool) -> Result<()
     run_program(rt, words.store, &file, manner, explain)
 }
 
+/// The format of what a store has: that of this name, lines where there is none.
+fn shown_format(rt: &HostRuntime, word: Option<&str>) -> Result<Format, u8> {
+    match word {
+        None | Some("lines") => Ok(Format::Lines),
+        Some("json") => Ok(Format::Json),
+        Some("text") => Ok(Format::Text),
+        Some(_) => {
+            let _ = rt.eprintln(
+                "error: unknown format for '--format <FORMAT>'\n  [possible values: lines, json, text]",
+            );
+            Err(2)
+        }
+    }
+}
+
 /// Prints what the store of a file has.
-fn show(rt: &HostRuntime, store: &str) -> Result<(), u8> {
+fn show(rt: &HostRuntime, store: &str, word: Option<&str>) -> Result<(), u8> {
+    let format = shown_format(rt, word)?;
     let (mut records, bytes) = opened_there(rt, store)?;
     let mut out = Std::new(Noting::new(rt.stdout()));
-    let shown = show_kept(Format::Lines, &mut records, bytes, &mut out);
+    let shown = show_kept(format, &mut records, bytes, &mut out);
     say_unwritten(rt, out.device.failure);
     match shown {
         Ok(()) => Ok(()),
@@ -354,7 +370,7 @@ pub(crate) fn run_stored_program(rt: &HostRuntime, words: &RunWords<'_>, explain
 pub(crate) fn run_shown(rt: &HostRuntime, words: &StoreWords<'_>) -> u8 {
     let store = words.store;
     status_of(match words.shown {
-        Shown::Now => show(rt, store),
+        Shown::Now => show(rt, store, words.format),
         Shown::At(revision) => show_past(rt, store, revision),
         Shown::Since(revision, which) => show_events(rt, store, revision, which),
         Shown::Whole => check(rt, store),

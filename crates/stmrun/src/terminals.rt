@@ -50,11 +50,12 @@ impl<C: Clock> Observer for Progress<'_, C> {
     }
 }
 
-/// How many events a search may take, and the runners that its scenario names.
+/// How many events a search may take, the runners that its scenario names, and whether an answer that is worth little has status 1.
 #[derive(Clone, Copy)]
 pub(crate) struct Told<'a> {
     pub(crate) events: u64,
     pub(crate) runners: &'a [NamedRunner],
+    pub(crate) strict: bool,
 }
 
 /// What is said on standard error of a search: how far it is, and at its end how its programs ended.
@@ -66,6 +67,19 @@ pub(crate) struct SearchLines<'a> {
     explain: bool,
     /// The runners that the scenario names.
     runners: &'a [NamedRunner],
+    /// Whether an answer that is worth little has status 1.
+    is_strict: bool,
+    /// Whether something was said that makes the answer worth little.
+    is_doubtful: bool,
+}
+
+impl SearchLines<'_> {
+    /// Says a line on standard error.
+    fn say(&self, line: &str) {
+        if let Ok(line) = with_name(self.rt.alloc(), self.runners, line) {
+            let _ = eprintln!(self.rt; "stmrun: {line}");
+        }
+    }
 }
 
 impl Observer for SearchLines<'_> {
@@ -88,9 +102,12 @@ impl Audience for SearchLines<'_> {
     }
 
     fn hear(&mut self, line: &str) {
-        if let Ok(line) = with_name(self.rt.alloc(), self.runners, line) {
-            let _ = eprintln!(self.rt; "stmrun: {line}");
-        }
+        self.say(line);
+    }
+
+    fn doubt(&mut self, line: &str) {
+        self.is_doubtful = true;
+        self.say(line);
     }
 }
 
@@ -111,7 +128,11 @@ pub(crate) fn shown_budget<'a>(
 ) -> Budget<SearchLines<'a>>
     ensures { result.left ≡ told.entry.events }
 {
-    let Told { events, runners } = told;
+    let Told {
+        events,
+        runners,
+        strict,
+    } = told;
     Budget {
         left: events,
         observer: SearchLines {
@@ -119,13 +140,21 @@ pub(crate) fn shown_budget<'a>(
             progress: progress_of(rt, events),
             explain,
             runners,
+            is_strict: strict,
+            is_doubtful: false,
         },
     }
 }
 
-/// Says on a standard error that is no terminal how much a search looked at, where it took long.
-pub(crate) fn close(budget: &mut Budget<SearchLines<'_>>) {
+/// Says on a standard error that is no terminal how much a search looked at, where it took long, and gives the status of the search, which had this one:
+/// where an answer that is worth little has status 1, that one in the place of 0.
+pub(crate) fn close(budget: &mut Budget<SearchLines<'_>>, status: u8) -> u8 {
     if let Progress::Noted(notes) = &mut budget.observer.progress {
         notes.close(budget.left);
+    }
+    if status == 0 && budget.observer.is_strict && budget.observer.is_doubtful {
+        1
+    } else {
+        status
     }
 }

@@ -117,6 +117,13 @@ pub(crate) fn read_waits(
     }
 }
 
+/// Refuses an option beside another, and gives the status.
+pub(crate) fn refuse_beside(rt: &HostRuntime, option: &str, other: &str) -> u8 {
+    let _ = eprintln!(rt; "error: '{option}' is for a search without '{other}'");
+    let _ = rt.eprintln(USAGE);
+    2
+}
+
 /// Refuses an option where no rule is asked, which it is for, and gives the status.
 pub(crate) fn refuse_without_rule(rt: &HostRuntime, option: &str) -> u8 {
     let _ = eprintln!(rt; "error: '{option}' is for a search with '--keeps <PROGRAM>'");

@@ -6,26 +6,32 @@ use Rattle.stm_visited.specs.Layers.{Reached, StandFor, on_among, moved_from_eac
 use Rattle.stm_explore.specs.declared.places.ReportedPlace.{ReportedPlace}
 use Rattle.stm_explore.specs.Gathering.{Gathers}
 use Rattle.stm_explore.specs.Explored.{count_up_to}
+use Rattle.stm_explore.specs.Witnesses.{HaveWitnesses}
 use Rattle.stm_explore.specs.Spots.{place_of, outcome_steps}
 use Rattle.stm_explore.proofs.LayerOutcomes.{first_layer, first_end, next_gathered, next_end, none_on, far_gathered, far_open, far_without}
+use Rattle.stm_explore.proofs.Witnessing.{first_witnesses, next_witnesses}
 use Rattle.stm_explore.proofs.finding.collect_layers.Goals as goal
 
 pub returns-then-not-branch-clause-collected : goal.returns-then-not-branch-clause-collected
 returns-then-not-branch-clause-collected g c =
     let others = c.args.gathered.now.others.now in
-    first_end others c.args.start c.in_ok-layer.layer.items c.args.found.now.items c.collect_whole.new.found.items c.in_ok-layer.ensures c.requires
+    first_end others c.args.start c.in_ok-layer.layer.items c.args.found.now.items c.collect_whole.new.found.items c.in_ok-layer.ensures c.requires.none_found
     (subst (λ (rs : List (Reached ReportedPlace Move)). Gathers (shown_among (outcome_steps others) 0 rs) c.args.found.now.items c.collect_whole.new.found.items)
-    c.as_slice.ensures.value c.in_ok-collect_whole.ensures)
+    c.as_slice.ensures.value c.in_ok-collect_whole.ensures.gathers)
     (ap (on_among (outcome_steps others) 1) (sym c.as_slice-2.ensures.value) ∙ sym c.in_ok-can_go_on.ensures ∙ c.if-not-branch.true)
 
 pub loop-gone_through-init : goal.loop-gone_through-init
 loop-gone_through-init g c =
     let others = c.args.gathered.now.others.now in
     record {
-      come = first_layer others c.args.start c.in_ok-layer.layer.items c.args.found.now.items c.collect_whole.new.found.items c.in_ok-layer.ensures c.requires
+      come = first_layer others c.args.start c.in_ok-layer.layer.items c.args.found.now.items c.collect_whole.new.found.items c.in_ok-layer.ensures c.requires.none_found
           (subst (λ (rs : List (Reached ReportedPlace Move)). Gathers (shown_among (outcome_steps others) 0 rs) c.args.found.now.items c.collect_whole.new.found.items)
-          c.as_slice.ensures.value c.in_ok-collect_whole.ensures)
+          c.as_slice.ensures.value c.in_ok-collect_whole.ensures.gathers)
           (ap (on_among (outcome_steps others) 1) (sym c.as_slice-2.ensures.value) ∙ sym c.in_ok-can_go_on.ensures ∙ c.if-not-branch.false);
+      witnessed = first_witnesses others c.args.start c.in_ok-layer.layer.items c.args.found.now.items c.collect_whole.new.found.items c.args.schedules.now.items
+          c.collect_whole.new.schedules.items c.in_ok-layer.ensures c.requires.none_found c.requires.no_schedules
+          (subst (λ (rs : List (Reached ReportedPlace Move)). HaveWitnesses others rs c.args.found.now.items c.collect_whole.new.found.items c.args.schedules.now.items
+          c.collect_whole.new.schedules.items) c.as_slice.ensures.value c.in_ok-collect_whole.ensures.witnesses);
       within = omega arith;
       made = omega arith;
     }
@@ -39,7 +45,7 @@ returns-then-not-branch-2-clause-collected g c =
     next_end others c.args.start c.loop-gone_through.gone_through c.loop-gone_through.layer.items c.in-Ok.next.items c.loop-gone_through.found.items
     c.collect_whole-in-Ok.new.found.items c.loop-gone_through.invariant.come stand
     (subst (λ (rs : List (Reached ReportedPlace Move)). Gathers (shown_among (outcome_steps others) 0 rs) c.loop-gone_through.found.items c.collect_whole-in-Ok.new.found.items)
-    c.as_slice-in-Ok.ensures.value c.in_ok-collect_whole-in-Ok.ensures)
+    c.as_slice-in-Ok.ensures.value c.in_ok-collect_whole-in-Ok.ensures.gathers)
     (ap (on_among (outcome_steps others) 1) (sym c.as_slice-in-Ok-2.ensures.value) ∙ sym c.in_ok-can_go_on-in-Ok.ensures ∙ c.if-not-branch-2.true)
 
 pub loop-gone_through-preserved : goal.loop-gone_through-preserved
@@ -54,7 +60,12 @@ loop-gone_through-preserved g c =
       come = next_gathered others c.args.start c.loop-gone_through.gone_through c.loop-gone_through.layer.items c.in-Ok.next.items c.loop-gone_through.found.items
           c.collect_whole-in-Ok.new.found.items c.loop-gone_through.invariant.come stand
           (subst (λ (rs : List (Reached ReportedPlace Move)). Gathers (shown_among (outcome_steps others) 0 rs) c.loop-gone_through.found.items c.collect_whole-in-Ok.new.found.items)
-          c.as_slice-in-Ok.ensures.value c.in_ok-collect_whole-in-Ok.ensures) on;
+          c.as_slice-in-Ok.ensures.value c.in_ok-collect_whole-in-Ok.ensures.gathers) on;
+      witnessed = next_witnesses others c.args.start c.loop-gone_through.gone_through c.loop-gone_through.layer.items c.in-Ok.next.items c.loop-gone_through.found.items
+          c.collect_whole-in-Ok.new.found.items c.loop-gone_through.schedules.items c.collect_whole-in-Ok.new.schedules.items c.loop-gone_through.invariant.come stand
+          (subst (λ (rs : List (Reached ReportedPlace Move)). HaveWitnesses others rs c.loop-gone_through.found.items c.collect_whole-in-Ok.new.found.items
+          c.loop-gone_through.schedules.items c.collect_whole-in-Ok.new.schedules.items) c.as_slice-in-Ok.ensures.value c.in_ok-collect_whole-in-Ok.ensures.witnesses)
+          c.loop-gone_through.invariant.witnessed;
       within = elim c.in-Ok.ensures.taken [
         | inl nothing ↦ absurd (let none = none_on others c.in-Ok.next.items nothing in cc)
         | inr less ↦ omega (arith, c.loop-gone_through.invariant.within)
@@ -96,3 +107,25 @@ returns-clause-far g c =
     let none : c.loop-gone_through.budget.left ≡ 0 = omega (arith, c.loop-gone_through.invariant.within) in
     subst (λ (n : ℕ). c.args.budget.now.left ≤ count_up_to (suc n) (place_of c.args.gathered.now.others.now c.args.start.at)) all
     (far_without _ _ _ _ c.loop-gone_through.invariant.made none)
+
+-- ---- witnesses
+
+pub returns-then-not-branch-clause-witnessed : goal.returns-then-not-branch-clause-witnessed
+returns-then-not-branch-clause-witnessed g c =
+    let others = c.args.gathered.now.others.now in
+    first_witnesses others c.args.start c.in_ok-layer.layer.items c.args.found.now.items c.collect_whole.new.found.items c.args.schedules.now.items
+    c.collect_whole.new.schedules.items c.in_ok-layer.ensures c.requires.none_found c.requires.no_schedules
+    (subst (λ (rs : List (Reached ReportedPlace Move)). HaveWitnesses others rs c.args.found.now.items c.collect_whole.new.found.items c.args.schedules.now.items
+    c.collect_whole.new.schedules.items) c.as_slice.ensures.value c.in_ok-collect_whole.ensures.witnesses)
+
+pub returns-then-not-branch-2-clause-witnessed : goal.returns-then-not-branch-2-clause-witnessed
+returns-then-not-branch-2-clause-witnessed g c =
+    let others = c.args.gathered.now.others.now in
+    let stand : StandFor ReportedPlace Move Outcome (outcome_steps others) c.in-Ok.next.items (moved_from_each (outcome_steps others) c.loop-gone_through.layer.items) =
+    subst (λ (rs : List (Reached ReportedPlace Move)). StandFor ReportedPlace Move Outcome (outcome_steps others) c.in-Ok.next.items (moved_from_each (outcome_steps others) rs))
+    c.as_slice-in-loop-gone_through.ensures.value c.in-Ok.ensures.stand in
+    next_witnesses others c.args.start c.loop-gone_through.gone_through c.loop-gone_through.layer.items c.in-Ok.next.items c.loop-gone_through.found.items
+    c.collect_whole-in-Ok.new.found.items c.loop-gone_through.schedules.items c.collect_whole-in-Ok.new.schedules.items c.loop-gone_through.invariant.come stand
+    (subst (λ (rs : List (Reached ReportedPlace Move)). HaveWitnesses others rs c.loop-gone_through.found.items c.collect_whole-in-Ok.new.found.items
+    c.loop-gone_through.schedules.items c.collect_whole-in-Ok.new.schedules.items) c.as_slice-in-Ok.ensures.value c.in_ok-collect_whole-in-Ok.ensures.witnesses)
+    c.loop-gone_through.invariant.witnessed

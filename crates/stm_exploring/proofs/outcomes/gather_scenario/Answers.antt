@@ -5,7 +5,7 @@ use Rattle.stm_schedules.specs.Outcomes.{Ends}
 use Rattle.stm_schedules.specs.Places.{Place}
 use Rattle.stm_texts.specs.declared.scenario.Scenario.{Scenario}
 use Rattle.stm_texts.specs.Opens.{setup_at, setup_of}
-use Rattle.stm_explore.specs.Explored.{AreOutcomes}
+use Rattle.stm_exploring.specs.Questions.{AreGathered}
 use Rattle.stm_exploring.specs.Asking.{place_of, ends_of}
 use Rattle.stm_exploring.proofs.PlaceLemmas.{placed, placed_is, ends_are}
 use Rattle.stm_exploring.proofs.outcomes.gather_scenario.Goals as goal
@@ -23,5 +23,5 @@ returns g c =
     c.as_slice.ensures c.in_ok-world.ensures opens in
     let ends = ends_are s setup c.as_slice.result.now start c.in_ok-world.world c.setup_and_others.ensures.setup c.as_slice.ensures c.in_ok-world.ensures
     opens in
-    subst (λ (p : Place). IfOk c.gather_from-gathered.result (AreOutcomes p (ends_of s))) at
-    (subst (λ (e : Ends). IfOk c.gather_from-gathered.result (AreOutcomes (placed setup others c.in_ok-world.world) e)) ends c.gather_from-gathered.ensures)
+    subst (λ (p : Place). IfOk c.gather_from-gathered.result (AreGathered p (ends_of s))) at
+    (subst (λ (e : Ends). IfOk c.gather_from-gathered.result (AreGathered (placed setup others c.in_ok-world.world) e)) ends c.gather_from-gathered.ensures)

@@ -15,7 +15,6 @@ use Rattle.stm_events.specs.declared.line.ReportLine.{ReportLine}
 use Rattle.stm_events.specs.declared.line.ReportLine.TheVariants.{End}
 use Rattle.stm_check.specs.StoreLines.{key_lines, lease_lines}
 use Rattle.stm_check.proofs.FinalLemmas.{present_lines}
-use Rattle.stm_report_lines.specs.Text.{line_text}
 use Rattle.stm_report.specs.declared.line_form.LineForm.{LineForm}
 use Rattle.stm_report.specs.Forms.{formed, formed_text}
 use Rattle.stm_report.specs.Report.{event_lines}
@@ -45,27 +44,26 @@ returns c =
     ap (λ (entries : List Entry). (replay entries (opening start)).live) c.history.ensures.entries ∙ ap (λ (r : Replayed). r.live) c.history.ensures.replays in
     let live : HasLeases c.in_ok-leases.leases w.standing.live =
     same_leases c.in_ok-leases.leases replayed w.standing.live (sym is_live) (c.in_ok-leases.ensures start) in
-    let text : string_bytes c.push_line.new.text
-    ≡ ((formed_text form events ++ formed_text form (key_lines kept listed)) ++ formed_text form leases) ++ line_text (formed form kept_end) =
+    let text : string_bytes c.push_end.new.text
+    ≡ ((formed_text form events ++ formed_text form (key_lines kept listed)) ++ formed_text form leases) ++ formed form kept_end =
     rw (
-      c.in_ok-push_line.ensures,
+      c.in_ok-push_end.ensures,
       c.in_ok-push_leases.ensures w.standing.live live,
       c.in_ok-push_keys.ensures,
       c.store-2.ensures.standing,
       c.as_slice.ensures.value,
       c.in_ok-push_events.ensures,
       c.new-text.ensures.bytes,
-      c.in_ok-end.ensures.line,
       c.revision-revision.ensures.value,
       c.keys-2.ensures.history,
       c.store-3.ensures.standing,
       c.history-2.ensures.entries,
     ) refl in
     text
-    ∙ ap (λ (lines : List ReportLine). ((formed_text form events ++ formed_text form lines) ++ formed_text form leases) ++ line_text (formed form kept_end)) (same_lines h number reached listed)
-    ∙ ap (λ (n : ℕ). ((formed_text form events ++ formed_text form (key_lines h listed)) ++ formed_text form leases) ++ line_text (formed form (End n (length w.entries))))
+    ∙ ap (λ (lines : List ReportLine). ((formed_text form events ++ formed_text form lines) ++ formed_text form leases) ++ formed form kept_end) (same_lines h number reached listed)
+    ∙ ap (λ (n : ℕ). ((formed_text form events ++ formed_text form (key_lines h listed)) ++ formed_text form leases) ++ formed form (End n (length w.entries)))
     (cut_keeps_now h number reached)
-    ∙ ap (λ (keys : List (List ℕ)). ((formed_text form events ++ formed_text form (key_lines h keys)) ++ formed_text form leases) ++ line_text (formed form end)) present
-    ∙ ap (λ (lines : List ReportLine). ((formed_text form events ++ formed_text form lines) ++ formed_text form leases) ++ line_text (formed form end))
+    ∙ ap (λ (keys : List (List ℕ)). ((formed_text form events ++ formed_text form (key_lines h keys)) ++ formed_text form leases) ++ formed form end) present
+    ∙ ap (λ (lines : List ReportLine). ((formed_text form events ++ formed_text form lines) ++ formed_text form leases) ++ formed form end)
     (present_lines h (keys_named h))
     ∙ whole_text form events (key_lines h (keys_named h)) leases end

@@ -1,0 +1,54 @@
+-- What is known at the four levels, as loops come to it.
+use Rattle.std.proofs.Common.{◌≡◌, ℕ, zero, suc, ◌+◌, ◌-◌, ◌<◌, ◌≤◌, true, false, List, [], ◌∷◌, ◌++◌, length, take, drop, get_or, All, Some, None, refl, sym, ap, ◌∙◌, subst, arith}
+use Rattle.std.specs.List.{list_all}
+use Rattle.std.proofs.lemmas.List.{drop_all, length-drop, take_all}
+use Rattle.std.proofs.lemmas.List.Elements.{All-push}
+use Rattle.stm_program.specs.declared.level.Level.{Level}
+use Rattle.stm_texts.specs.declared.scenario.Scenario.{Scenario}
+use Rattle.stm_explore.specs.Orders.{IsSerialAnswer}
+use Rattle.stm_exploring.specs.declared.serial_levels.SerialLevel.{SerialLevel}
+use Rattle.stm_exploring.specs.Asking.{ends_of, place_of}
+use Rattle.stm_exploring.specs.Levels.{leveled}
+use Rattle.stm_exploring.specs.SerialLevels.{enough_serial, is_serial}
+
+-- after one more level
+module _ (s : Scenario) where
+  abbrev Holds : SerialLevel → Type 0
+  Holds a = IsSerialAnswer (place_of (leveled a.level s)) (ends_of (leveled a.level s)) a.answer
+
+  pub serial_levels_more : (at : List SerialLevel) (a : SerialLevel) (old new : Scenario) (level : Level) → new ≡ leveled level old →
+      ((k : Level) → leveled k old ≡ leveled k s) → a.level ≡ level → IsSerialAnswer (place_of new) (ends_of new) a.answer → All Holds at → All Holds (at ++ a ∷ [])
+  serial_levels_more at a old new level is same of found all =
+      All-push Holds at a all
+      (subst (λ (l : Level). IsSerialAnswer (place_of (leveled l s)) (ends_of (leveled l s)) a.answer) (sym of)
+      (subst (λ (it : Scenario). IsSerialAnswer (place_of it) (ends_of it) a.answer) (is ∙ same level) found))
+
+-- ---- the least that is enough
+
+next_not : (at : List SerialLevel) (i : ℕ) → i < length at → list_all is_serial (drop i at) ≡ false → enough_serial (drop (suc i) at) ≡ enough_serial (drop i at)
+next_not [] i within less = absurd (omega (arith, within))
+next_not (a ∷ at) zero within less = rw less refl
+next_not (a ∷ at) (suc i) within less = next_not at i (omega (arith, within)) less
+
+-- what a slice from there on has
+rest_is : (at : List SerialLevel) (i : ℕ) → take (length at - i) (drop i at) ≡ drop i at
+rest_is at i = let long : length (drop i at) ≡ length at - i = length-drop i at in take_all (length at - i) (drop i at) (omega arith)
+
+pub not_serial_yet : (at : List SerialLevel) (i : ℕ) → i < length at → list_all is_serial (take (length at - i) (drop i at)) ≡ false
+    → enough_serial (drop (i + 1) at) ≡ enough_serial (drop i at)
+not_serial_yet at i within less =
+    let step : i + 1 ≡ suc i = omega arith in
+    ap (λ (n : ℕ). enough_serial (drop n at)) step ∙ next_not at i within (ap (list_all is_serial) (sym (rest_is at i)) ∙ less)
+
+here_enough : (at : List SerialLevel) (i : ℕ) (d : SerialLevel) → i < length at → list_all is_serial (drop i at) ≡ true
+    → Some (get_or at i d).level ≡ enough_serial (drop i at)
+here_enough [] i d within passes = absurd (omega (arith, within))
+here_enough (x ∷ at) zero d within passes = rw passes refl
+here_enough (x ∷ at) (suc i) d within passes = here_enough at i d (omega (arith, within)) passes
+
+pub is_serial_from : (at : List SerialLevel) (i : ℕ) (d : SerialLevel) → i < length at → list_all is_serial (take (length at - i) (drop i at)) ≡ true
+    → Some (get_or at i d).level ≡ enough_serial (drop i at)
+is_serial_from at i d within passes = here_enough at i d within (ap (list_all is_serial) (sym (rest_is at i)) ∙ passes)
+
+pub never_serial : (at : List SerialLevel) (i : ℕ) → length at ≤ i → None ≡ enough_serial (drop i at)
+never_serial at i all = ap enough_serial (sym (drop_all i at all))

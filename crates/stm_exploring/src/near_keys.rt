@@ -1,0 +1,102 @@
+//! The keys that are nearest to others, by edits of characters.
+ghost use Rattle.std.specs.Prelude.{◌<◌};
+
+use crate::key_use::KeyUse;
+use std::alloc::{AllocError, Global};
+use stm_history::Text;
+use strsim::levenshtein;
+
+/// A key of more bytes than this has no near one.
+const MOST_NEAR: usize = 60;
+
+/// The nearest key so far, and by how many edits.
+#[derive(Clone, Copy)]
+struct Near<'a> {
+    key: &'a str,
+    edits: usize,
+}
+
+/// The nearer one of what was found so far and another key, where this is not the same.
+fn nearer<'a>(
+    alloc: Global,
+    near: Near<'a>,
+    key: &str,
+    known: &'a Text,
+) -> Result<Near<'a>, AllocError> {
+    let known = known.as_str();
+    if known.len() > MOST_NEAR {
+        return Ok(near);
+    }
+    let edits = levenshtein(alloc, key, known)?;
+    if 0 < edits && edits < near.edits {
+        Ok(Near { key: known, edits })
+    } else {
+        Ok(near)
+    }
+}
+
+/// The nearest one among the keys that are there where the schedules begin.
+fn near_there<'a>(
+    alloc: Global,
+    keys: &'a KeyUse,
+    near: Near<'a>,
+    key: &str,
+) -> Result<Near<'a>, AllocError> {
+    let mut near = near;
+    for place in 0..keys.state.len() {
+        near = nearer(alloc, near, key, &keys.state.at(place).key)?;
+    }
+    Ok(near)
+}
+
+/// The nearest one among these keys.
+fn near_among<'a>(
+    alloc: Global,
+    keys: &'a [Text],
+    near: Near<'a>,
+    key: &str,
+) -> Result<Near<'a>, AllocError> {
+    let mut near = near;
+    for known in keys {
+        near = nearer(alloc, near, key, known)?;
+    }
+    Ok(near)
+}
+
+/// The key that is there or is put and that is nearest to one: an empty text, where each is further than that part of it.
+pub(crate) fn nearest<'a>(
+    alloc: Global,
+    keys: &'a KeyUse,
+    key: &Text,
+    part: usize,
+) -> Result<&'a str, AllocError>
+    requires { 0 < part }
+{
+    let key = key.as_str();
+    if key.len() > MOST_NEAR {
+        return Ok("");
+    }
+    let edits = key.chars().count() / part + 1;
+    let near = near_there(alloc, keys, Near { key: "", edits }, key)?;
+    let near = near_among(alloc, keys.put.as_slice(), near, key)?;
+    let near = near_among(alloc, keys.spelled.as_slice(), near, key)?;
+    Ok(near.key)
+}
+
+/// A text without its digits.
+fn without_digits(alloc: Global, text: &str) -> Result<String, AllocError> {
+    let mut rest = String::new(alloc);
+    for character in text.chars() {
+        if !character.is_ascii_digit() {
+            rest.push(character)?;
+        }
+    }
+    Ok(rest)
+}
+
+/// Whether two keys are the same but for their digits, as those of a list are.
+pub(crate) fn are_of_a_list(alloc: Global, key: &str, other: &str) -> Result<bool, AllocError> {
+    let left = without_digits(alloc, key)?;
+    let right = without_digits(alloc, other)?;
+    Ok(left.as_str() == right.as_str())
+}

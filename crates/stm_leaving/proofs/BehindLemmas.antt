@@ -1,5 +1,5 @@
 -- A block with the statements that it begins with in front, the first of these last.
-use Rattle.std.proofs.Common.{◌≡◌, List, [], ◌∷◌, ◌++◌, reverse, refl, sym, ap, ◌∙◌}
+use Rattle.std.proofs.Common.{◌≡◌, List, [], ◌∷◌, ◌++◌, reverse, refl, ◌∙◌}
 use mathlib.Core.List.{reverse_aux}
 use Rattle.stm_program.specs.Syntax.{Statement, Block, Then}
 use Rattle.stm_program.specs.BlockView.{block_of}

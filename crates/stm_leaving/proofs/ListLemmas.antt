@@ -6,7 +6,7 @@ use Rattle.std.proofs.Math.Seq.{drop-length}
 use Rattle.std.proofs.lemmas.Bool.Decides.{nat_tests}
 use Rattle.std.proofs.lemmas.Bool.{and_parts}
 use Rattle.stm_program.specs.Syntax.{Condition, Block, If, For, End, Then}
-use Rattle.stm_leaving.specs.Source.{Source, Sources, Copies, Plain, Choice, Items, Count, Return, Break, Continue, Nil, Next, NoCopy, Copy}
+use Rattle.stm_leaving.specs.Source.{Source, Sources, Plain, Choice, Items, Count, Return, Break, Continue, Nil, Next}
 use Rattle.stm_leaving.specs.Leaving.{goes_on, keeps_to, keeps_to_one}
 use Rattle.stm_leaving.specs.PartsView.{sources_of}
 use Rattle.stm_leaving.specs.CopiesView.{copies_of}

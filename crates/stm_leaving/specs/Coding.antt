@@ -1,5 +1,5 @@
 -- A code for each kind of tree of a source, as those of programs have one (`stm_program/specs/Coding.antt`).
-use Rattle.std.specs.Prelude.{◌≡◌, refl, ℕ, [], ◌∷◌}
+use Rattle.std.specs.Prelude.{◌≡◌, refl, [], ◌∷◌}
 use Rattle.std.specs.Coded.{Coded, code_by}
 use Rattle.std.proofs.Common.{ap}
 use base.Stored.{Gv, gnil, gnum, gcons}

@@ -3,7 +3,6 @@ ghost use Rattle.std.specs.Prelude.{◌≡◌, IfOk};
 ghost use Rattle.stm_program.specs.BlockView.{block_of};
 ghost use Rattle.stm_program.specs.Syntax as program;
 ghost use Rattle.stm_leaving.specs.Source as tree;
-ghost use Rattle.stm_leaving.specs.PartsView.{sources_of};
 ghost use Rattle.stm_leaving.specs.Closed as spec;
 
 use crate::behind::Behind;
@@ -287,12 +286,4 @@ pub fn closed_parts(alloc: Global, parts: &Parts) -> Result<Vec<Stmt>, AllocErro
     let end = no_statements(alloc)?;
     let behind = closed_list(alloc, parts, &nothing, Behind::of(alloc, end))?;
     behind.into_statements()
-}
-
-/// The same of statements in a list.
-pub fn closed_statements(alloc: Global, parts: Vec<Part>) -> Result<Vec<Stmt>, AllocError>
-    ensures { IfOk result (λ all. block_of all.items ≡ spec.closed (sources_of parts.items) spec.nothing) }
-{
-    let parts = Arc::new(alloc, parts)?;
-    closed_parts(alloc, &Parts { parts })
 }

@@ -1,5 +1,4 @@
 //! Statements of a source.
-ghost use Rattle.std.specs.Prelude.{◌≡◌};
 
 use std::marker::Model;
 use std::sync::Arc;

@@ -1,5 +1,5 @@
 -- What loops go over: how far one counts, and the items of one over items.
-use Rattle.std.specs.Prelude.{ℕ, pos, negsuc, List, [], ◌∷◌, length, Bool, true, not, ◌||◌, ◌&&◌, Option, Some, None, is_some, Result, Ok, Err}
+use Rattle.std.specs.Prelude.{ℕ, pos, negsuc, List, length, Bool, true, not, ◌||◌, ◌&&◌, Option, Some, None, is_some, Result, Ok, Err}
 use Rattle.std.specs.Prelude.{nat_eq, nat_le, if◌then◌else◌, codes}
 use Rattle.stm_tokens.specs.declared.token.Token.{Token}
 use Rattle.stm_tokens.specs.declared.token.Symbol.TheVariants as symbol

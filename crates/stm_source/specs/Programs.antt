@@ -21,6 +21,7 @@ use Rattle.stm_terms.specs.Scope.{numbered_from}
 use Rattle.stm_source.specs.declared.programs.Look.{Look}
 use Rattle.stm_leaving.specs.Source.{Sources}
 use Rattle.stm_leaving.specs.Closed.{nothing, closed}
+use Rattle.stm_leaving.specs.Written.{is_too_long}
 use Rattle.stm_source.specs.declared.leaving.Around.TheVariants.{Program}
 use Rattle.stm_source.specs.Statements.{statements_at}
 
@@ -82,7 +83,7 @@ program_in_room at keys statements = program_by at keys statements (block_room M
 
 -- the same of statements of a source: what follows a statement goes into the branches that come to it
 abbrev pub program_of : ℕ → List (List ℕ) → Sources → Outcome ProgramTree
-program_of at keys parts = program_in_room at keys (closed parts nothing)
+program_of at keys parts = if is_too_long MAX_NODES parts then bad at cause.TooManyNodes else program_in_room at keys (closed parts nothing)
 
 -- no name of a variable is in sight at its beginning
 abbrev pub first_scope : Arguments → Look → List Token → Scope

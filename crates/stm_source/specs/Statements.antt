@@ -8,7 +8,7 @@ use Rattle.stm_tokens.specs.declared.token.Symbol.TheVariants as symbol
 use Rattle.stm_tokens.specs.declared.token.Word.{Word}
 use Rattle.stm_tokens.specs.declared.token.Word.TheVariants as word
 use Rattle.stm_tokens.specs.Same.{same_symbol, same_word}
-use Rattle.stm_program.specs.declared.limits.TheConstants.{MAX_LEASE}
+use Rattle.stm_program.specs.declared.limits.TheConstants.{MAX_LEASE, MAX_NODES}
 use Rattle.stm_program.specs.declared.operator.Operator.TheVariants.{Add, Sub}
 use Rattle.stm_program.specs.Syntax.{Expression, Variable, Statement, Set, Put, Del, Emit, Abort}
 use Rattle.stm_terms.specs.declared.faults.SourceCause.TheVariants as cause
@@ -22,6 +22,7 @@ use Rattle.stm_leaving.specs.Source.{Source, Sources, Plain, Choice, Items, Coun
 use Rattle.stm_leaving.specs.PartsView.{sources_of}
 use Rattle.stm_leaving.specs.CopiesView.{copies_of}
 use Rattle.stm_leaving.specs.Closed.{nothing, closed}
+use Rattle.stm_leaving.specs.Written.{is_too_long}
 use Rattle.stm_source.specs.declared.leaving.Around.{Around}
 use Rattle.stm_source.specs.declared.leaving.Leave.{Leave}
 use Rattle.stm_source.specs.declared.leaving.Ending.{Ending}
@@ -224,7 +225,7 @@ copy_at block scope name item tokens = block (with_item scope name item) tokens 
 
 -- how many nodes may follow a copy
 abbrev pub copy_room : ℕ → Sources → ℕ
-copy_room room copy = room_behind room (closed copy nothing)
+copy_room room copy = if is_too_long MAX_NODES copy then 0 else room_behind room (closed copy nothing)
 
 -- behind these, those for each item, read of the same tokens, while there may be more nodes
 abbrev pub copies_from : (Item → List Token → Read Sources) → List Token → ℕ → List Sources → List Item → List Token → Read (List Sources)

@@ -1,7 +1,6 @@
 //! Where a statement may leave its block, and how statements end.
-ghost use Rattle.std.specs.Prelude.{◌≡◌, option_copied};
+ghost use Rattle.std.specs.Prelude.{◌≡◌};
 ghost use Rattle.stm_terms.specs.Outcome.{Returns};
-ghost use Rattle.stm_leaving.specs.Source as tree;
 ghost use Rattle.stm_source.specs.Leaving as spec;
 
 use stm_leaving::{Part, PartNode};

@@ -8,8 +8,9 @@ ghost use Rattle.stm_source.specs.Programs as spec;
 use crate::leaving::Around;
 use crate::statements::statements;
 use std::alloc::{AllocError, Global};
+use std::sync::Arc;
 use stm_history::{Sequence, Text};
-use stm_leaving::{Part, closed_statements};
+use stm_leaving::{Part, Parts, closed_parts, is_too_long};
 use stm_program::{
     MAX_DEPTH, MAX_NODES, MAX_PREFETCH, MAX_TEXT, Program, Stmt, is_listed, list_fits,
 };
@@ -161,7 +162,13 @@ pub(crate) fn program_of(
 ) -> Result<Program, SourceError>
     ensures { Returns (λ p. p) result (spec.program_of at (map string_bytes keys.items) (sources_of parts.items)) }
 {
-    let statements = closed_statements(alloc, parts)?;
+    let parts = Parts {
+        parts: Arc::new(alloc, parts)?,
+    };
+    if is_too_long(&parts, MAX_NODES) {
+        return Err(fault(at, SourceCause::TooManyNodes));
+    }
+    let statements = closed_parts(alloc, &parts)?;
     program_in_room(alloc, at, keys, statements)
 }
 

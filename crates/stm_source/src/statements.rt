@@ -18,7 +18,7 @@ use crate::loops::{after_zero, counted, items, limit, room_behind, shared_name, 
 use std::alloc::{AllocError, Global};
 use std::sync::Arc;
 use stm_history::Sequence;
-use stm_leaving::{Copies, Part, PartNode, Parts, closed_parts};
+use stm_leaving::{Copies, Part, PartNode, Parts, closed_parts, is_too_long};
 use stm_program::{Expr, ExprNode, MAX_LEASE, MAX_NODES, Operator, Stmt, StmtNode, Variable};
 use stm_terms::{
     Fronted, FrontedPair, Item, Join, Kind, MOST_BRACKETS, Scope, SharedText, SourceCause,
@@ -382,6 +382,9 @@ fn chosen(
 fn copy_room(alloc: Global, copy: &Parts, room: usize) -> Result<usize, AllocError>
     ensures { IfOk result (λ left. left ≡ spec.copy_room room copy.now) }
 {
+    if is_too_long(copy, MAX_NODES) {
+        return Ok(0);
+    }
     let statements = closed_parts(alloc, copy)?;
     Ok(room_behind(statements.as_slice(), room))
 }

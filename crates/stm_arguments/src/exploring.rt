@@ -73,8 +73,14 @@ nothing, and counts as one that never began.
 With --level all there is a line for each level, the weakest first, without the scenario, and then [\"enough\",LEVEL]. With
 --witness and --serial a source's rules are not asked.
 
+Where SCENARIO is a source, a source stands in the place of each scenario that is printed. With --format text a table does, as
+script --format text prints it; with --level all and a rule, that of the weakest level at which a rule is broken.
+
 Statuses: 0 always, serial, or all outcomes were found, 1 broken or an anomaly, 2 bad input or usage, 3 out of memory or a
 failed device, 4 open.";
+
+/// The names of the forms in which schedules are printed.
+const FORMATS: &[&str] = &["lines", "text"];
 
 /// The words of `explore`.
 #[derive(Drop)]
@@ -95,6 +101,8 @@ pub struct ExploreWords<'a> {
     pub serial: bool,
     /// Whether an answer that is worth little has status 1.
     pub strict: bool,
+    /// The name of the form in which schedules are printed: lines, where there is none.
+    pub format: Option<&'a str>,
     /// Whether a fault is explained.
     pub explain: bool,
 }
@@ -151,6 +159,13 @@ pub(crate) fn explore_command<'a>(alloc: Global) -> Result<Command<'a>, AllocErr
             "strict",
             "Status 1 also where a rule is kept, and a runner never committed or a key is asked for that nothing puts",
         ))?
+        .arg(option(
+            alloc,
+            "format",
+            "FORMAT",
+            ValueParser::Names(FORMATS),
+            "The form of schedules: lines (the default), of JSON or of the source; text: the table of script --format text",
+        ))?
         .arg(explain(alloc))
 }
 
@@ -168,6 +183,7 @@ pub(crate) fn explore_of<'a>(
     let witness = flag_of(found, "witness");
     let serial = flag_of(found, "serial");
     let strict = flag_of(found, "strict");
+    let format = word_of(found, "format");
     let explain = flag_of(found, "explain");
     let keeps = words_of(alloc, found, "keeps")?;
     Ok(ExploreWords {
@@ -179,6 +195,7 @@ pub(crate) fn explore_of<'a>(
         witness,
         serial,
         strict,
+        format,
         explain,
     })
 }

@@ -27,18 +27,47 @@ fn name_in<'a>(runners: &'a [NamedRunner], digits: &str) -> Option<&'a str> {
     }
 }
 
-/// A line with the name of the runner that it is about, if its source gives it one. Behind a quote stand words of others, in which nothing is a number of
-/// a runner.
-pub(crate) fn with_name(
+/// What stands before the first number of a runner in a line, its digits, and what stands behind them. Behind a quote stand words of others, in which
+/// nothing is one.
+fn next_runner(line: &str) -> Option<(&str, &str, &str)> {
+    let (front, behind) = line.split_once(RUNNER)?;
+    if front.contains('"') {
+        return None;
+    }
+    let (digits, rest) = digits_of(behind);
+    Some((front, digits, rest))
+}
+
+/// Adds a runner: with its name, if its source gives it one.
+fn push_runner(
+    alloc: Global,
+    out: &mut String,
+    runners: &[NamedRunner],
+    digits: &str,
+) -> Result<(), AllocError> {
+    let runner = match name_in(runners, digits) {
+        Some(name) => format!(in alloc; "{name} (runner {digits})")?,
+        None => format!(in alloc; "runner {digits}")?,
+    };
+    out.push_str(runner.as_str())
+}
+
+/// A line with the names of the runners that it is about, where their source gives them some.
+pub(crate) fn with_names(
     alloc: Global,
     runners: &[NamedRunner],
     line: &str,
 ) -> Result<String, AllocError> {
-    if let Some((front, behind)) = line.split_once(RUNNER) {
-        let (digits, rest) = digits_of(behind);
-        if let (false, Some(name)) = (front.contains('"'), name_in(runners, digits)) {
-            return format!(in alloc; "{front}{name} (runner {digits}){rest}");
-        }
+    let mut named = String::new(alloc);
+    let mut rest = line;
+    for _ in 0..line.len() {
+        let Some((front, digits, behind)) = next_runner(rest) else {
+            break;
+        };
+        named.push_str(front)?;
+        push_runner(alloc, &mut named, runners, digits)?;
+        rest = behind;
     }
-    String::from_str(alloc, line)
+    named.push_str(rest)?;
+    Ok(named)
 }

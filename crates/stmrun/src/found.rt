@@ -29,8 +29,10 @@ const BROKEN: &str = "[\"broken\"";
 
 /// The table of a run of a scenario, behind an empty line; none, where an allocation fails for it.
 fn table_of(alloc: Global, line: &str) -> Option<String> {
-    let mut out = Std::new(Vec::new(alloc));
-    let mut err = Std::new(Vec::new(alloc));
+    let printed: Vec<u8> = Vec::new(alloc);
+    let said: Vec<u8> = Vec::new(alloc);
+    let mut out = Std::new(printed);
+    let mut err = Std::new(said);
     let mut input = Std::new(line.as_bytes());
     let status = script_as_to(alloc, Format::Text, &mut input, &mut out, &mut err);
     if status != 0 {

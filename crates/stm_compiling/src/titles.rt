@@ -45,7 +45,7 @@ fn programs_of(alloc: Global, tokens: &[Token]) -> Result<Vec<&str>, AllocError>
 }
 
 /// The names of runners among tokens, in their order.
-pub(crate) fn runners_of(alloc: Global, tokens: &[Token]) -> Result<Vec<&str>, AllocError> {
+fn runners_of(alloc: Global, tokens: &[Token]) -> Result<Vec<&str>, AllocError> {
     let mut runners = Vec::new(alloc);
     let mut is_named = false;
     let mut is_behind = false;

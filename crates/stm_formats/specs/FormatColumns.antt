@@ -1,10 +1,10 @@
 -- Columns: which one a row stands in, and where they begin.
-use Rattle.std.specs.Prelude.{ℕ, zero, suc, ◌+◌, max, min, nat_eq, if◌then◌else◌, List, [], ◌∷◌, ◌++◌, length, get_or}
+use Rattle.std.specs.Prelude.{ℕ, zero, suc, ◌+◌, ◌-◌, ◌/◌, Option, Some, None, max, min, nat_eq, if◌then◌else◌, List, [], ◌∷◌, ◌++◌, length, get_or}
 use Rattle.stm_formats.specs.declared.format_row.Lane.{Lane}
 use Rattle.stm_formats.specs.declared.format_row.Lane.TheVariants.{Store, Runner}
 use Rattle.stm_formats.specs.declared.format_row.Row.{Row}
 use Rattle.stm_formats.specs.declared.format_pieces.TheConstants.{MOST_COLUMNS}
-use Rattle.stm_formats.specs.declared.format_columns.TheConstants.{LEAST_WIDTH, MOST_WIDTH, MOST_PLACE}
+use Rattle.stm_formats.specs.declared.format_columns.TheConstants.{LEAST_WIDTH, MOST_WIDTH, WIDEST, MOST_PLACE}
 
 -- the number of the column's runner, 0 for the store
 abbrev pub lane_number : Lane → ℕ
@@ -21,27 +21,32 @@ last_column [] = 0
 last_column (row ∷ rows) = max (column row.lane) (last_column rows)
 
 -- the length of a row's words, up to a limit, where it stands in a column
-abbrev pub width_in : ℕ → Row → ℕ
-width_in c row = if nat_eq (column row.lane) c then min (length row.words) MOST_WIDTH else 0
+abbrev pub width_in : ℕ → ℕ → Row → ℕ
+width_in limit c row = if nat_eq (column row.lane) c then min (length row.words) limit else 0
 
 -- how wide a column is: as its longest words
-abbrev pub width : ℕ → List Row → ℕ
-width c [] = LEAST_WIDTH
-width c (row ∷ rows) = max (width_in c row) (width c rows)
+abbrev pub width : ℕ → ℕ → List Row → ℕ
+width limit c [] = LEAST_WIDTH
+width limit c (row ∷ rows) = max (width_in limit c row) (width limit c rows)
+
+-- The limit of a report of this width with so many runners' columns: the last one begins before the middle, where the columns have their least widths.
+abbrev pub most_width : Option ℕ → ℕ → ℕ
+most_width None last = MOST_WIDTH
+most_width (Some width) last = min (((width / 2 - 8) / max last 1) - 2) WIDEST
 
 -- how many characters stand before a column: each is followed by two spaces
-abbrev pub begin : List Row → ℕ → ℕ
-begin rows zero = 0
-begin rows (suc c) = begin rows c + width c rows + 2
+abbrev pub begin : ℕ → List Row → ℕ → ℕ
+begin limit rows zero = 0
+begin limit rows (suc c) = begin limit rows c + width limit c rows + 2
 
 -- where that many columns begin
-abbrev pub places : List Row → ℕ → List ℕ
-places rows zero = []
-places rows (suc c) = places rows c ++ begin rows c ∷ []
+abbrev pub places : ℕ → List Row → ℕ → List ℕ
+places limit rows zero = []
+places limit rows (suc c) = places limit rows c ++ begin limit rows c ∷ []
 
 -- where the columns begin, and where one behind the last would
-unfoldable pub all_places : List Row → List ℕ
-all_places rows = places rows 11
+unfoldable pub all_places : ℕ → List Row → List ℕ
+all_places limit rows = places limit rows 11
 
 -- where a column begins
 abbrev pub place : List ℕ → ℕ → ℕ

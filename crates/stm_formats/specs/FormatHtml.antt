@@ -13,6 +13,7 @@ use Rattle.stm_formats.specs.declared.format_row.Lane.{Lane}
 use Rattle.stm_formats.specs.declared.format_row.Mark.{Mark}
 use Rattle.stm_formats.specs.declared.format_row.Mark.TheVariants.{Committed, Failed, Plain}
 use Rattle.stm_formats.specs.declared.format_row.Row.{Row}
+use Rattle.stm_formats.specs.declared.format_pieces.TheConstants.{MOST_SHOWN}
 use Rattle.stm_formats.specs.FormatShown.{plain, shown}
 use Rattle.stm_formats.specs.FormatPieces.{joined, title, tag_text}
 use Rattle.stm_formats.specs.FormatEscaped.{escaped}
@@ -30,7 +31,7 @@ abbrev pub key_html : List ℕ → List ℕ
 key_html key = attribute_html (codes "<i hidden data-key='") (plain key)
 
 abbrev pub value_html : List ℕ → List ℕ
-value_html value = attribute_html (codes " data-value='") (shown value)
+value_html value = attribute_html (codes " data-value='") (shown MOST_SHOWN value)
 
 abbrev pub put_html : List ℕ → List ℕ → List ℕ
 put_html key value = joined (key_html key ∷ value_html value ∷ [])

@@ -13,16 +13,16 @@ use Rattle.stm_formats.specs.FormatPieces.{joined}
 -- ---- the keys that are present
 
 -- a key with its value, and the revision of its last change
-abbrev pub key_note : List ℕ → KeyState → List ℕ
-key_note key state = joined (codes "key " ∷ plain key ∷ codes " = \"" ∷ shown state.value ∷ codes "\" @" ∷ decimal state.mod_rev ∷ [])
+abbrev pub key_note : ℕ → List ℕ → KeyState → List ℕ
+key_note most key state = joined (codes "key " ∷ plain key ∷ codes " = \"" ∷ shown most state.value ∷ codes "\" @" ∷ decimal state.mod_rev ∷ [])
 
-abbrev pub notes_of_key : List ℕ → Option KeyState → List (List ℕ)
-notes_of_key key None = []
-notes_of_key key (Some state) = key_note key state ∷ []
+abbrev pub notes_of_key : ℕ → List ℕ → Option KeyState → List (List ℕ)
+notes_of_key most key None = []
+notes_of_key most key (Some state) = key_note most key state ∷ []
 
-abbrev pub key_notes : History → List (List ℕ) → List (List ℕ)
-key_notes h [] = []
-key_notes h (key ∷ keys) = notes_of_key key (key_now h key) ++ key_notes h keys
+abbrev pub key_notes : ℕ → History → List (List ℕ) → List (List ℕ)
+key_notes most h [] = []
+key_notes most h (key ∷ keys) = notes_of_key most key (key_now h key) ++ key_notes most h keys
 
 -- ---- the runners that are unfinished
 
@@ -56,7 +56,7 @@ unfinished_notes runner (false ∷ ended) = unfinished_note runner ∷ unfinishe
 abbrev pub end_note : ℕ → ℕ → List ℕ
 end_note revision entries = joined (codes "revision " ∷ decimal revision ∷ codes ", entries " ∷ decimal entries ∷ [])
 
-abbrev pub notes_of : World → List (Result Reply Denied) → List (List ℕ)
-notes_of w replies =
-    key_notes w.standing.history (keys_present w.standing.history)
+abbrev pub notes_of : ℕ → World → List (Result Reply Denied) → List (List ℕ)
+notes_of most w replies =
+    key_notes most w.standing.history (keys_present w.standing.history)
     ++ end_note (now w.standing.history) (length w.entries) ∷ unfinished_notes 1 (ended_after [] replies)

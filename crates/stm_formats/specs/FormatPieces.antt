@@ -30,8 +30,8 @@ tag_text (Runner runner) = if nat_lt runner MOST_COLUMNS then [] else decimal ru
 abbrev pub piece_text : Piece → List ℕ
 piece_text (Say text) = text.now
 piece_text (Key text) = plain text.now
-piece_text (Shown text) = shown text.now
-piece_text (Source text) = source_shown text.now
+piece_text (Shown most text) = shown most text.now
+piece_text (Source most text) = source_shown most text.now
 piece_text (Number number) = decimal number
 piece_text (Padded number) = padded number
 piece_text (Title column) = title column

@@ -48,16 +48,16 @@ mark_of (Ok other) = Plain
 mark_of (Err denied) = Failed
 
 -- the row of an event before which the store was at a revision, with its reply
-abbrev pub row_of : History → ℕ → ℕ → WorldEvent → Result Reply Denied → Row
-row_of h before n event reply =
-    record { number = n; lane = lane_of event reply; mark = mark_of reply; words = words_of h before event reply }
+abbrev pub row_of : ℕ → History → ℕ → ℕ → WorldEvent → Result Reply Denied → Row
+row_of most h before n event reply =
+    record { number = n; lane = lane_of event reply; mark = mark_of reply; words = words_of most h before event reply }
 
 -- a row for each event, numbered from n, where the store was at a revision before them and has this history since
-abbrev pub rows_of : History → ℕ → ℕ → List WorldEvent → List (Result Reply Denied) → List Row
-rows_of h before n [] replies = []
-rows_of h before n (event ∷ events) [] = []
-rows_of h before n (event ∷ events) (reply ∷ replies) =
-    row_of h before n event reply ∷ rows_of h (counter_after before reply) (suc n) events replies
+abbrev pub rows_of : ℕ → History → ℕ → ℕ → List WorldEvent → List (Result Reply Denied) → List Row
+rows_of most h before n [] replies = []
+rows_of most h before n (event ∷ events) [] = []
+rows_of most h before n (event ∷ events) (reply ∷ replies) =
+    row_of most h before n event reply ∷ rows_of most h (counter_after before reply) (suc n) events replies
 
 -- the rows are numbered from n
 abbrev pub AreNumbered : ℕ → List Row → Type 0

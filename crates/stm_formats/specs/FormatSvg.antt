@@ -9,6 +9,7 @@ use Rattle.stm_formats.specs.declared.format_row.Row.{Row}
 use Rattle.stm_formats.specs.FormatPieces.{joined, title, tag_text}
 use Rattle.stm_formats.specs.FormatEscaped.{escaped}
 use Rattle.stm_formats.specs.FormatColumns.{column, last_column, all_places, place}
+use Rattle.stm_formats.specs.declared.format_columns.TheConstants.{MOST_WIDTH}
 use Rattle.stm_formats.specs.declared.format_svg.TheConstants.{MOST_LETTERS}
 
 -- where a column's line stands: a letter is 360 units wide
@@ -105,6 +106,6 @@ under_svg rows = joined (codes "<g transform=\"translate(0 " ∷ decimal rows �
 
 unfoldable pub svg_of : List Row → List (List ℕ) → List ℕ
 svg_of rows notes =
-    joined (frame_svg (across (all_places rows) rows notes) (lines_of rows notes) ∷ columns_svg (all_places rows) (length rows) (last_column rows + 1)
-    ∷ rows_svg (all_places rows) rows
+    joined (frame_svg (across (all_places MOST_WIDTH rows) rows notes) (lines_of rows notes) ∷ columns_svg (all_places MOST_WIDTH rows) (length rows) (last_column rows + 1)
+    ∷ rows_svg (all_places MOST_WIDTH rows) rows
     ∷ under_svg (length rows) ∷ notes_svg 1 notes ∷ codes "</g>\n</svg>\n" ∷ [])

@@ -1,8 +1,8 @@
 -- A report as text: a header with the titles of the columns, a row for each event, and after an empty line what is left.
-use Rattle.std.specs.Prelude.{ℕ, ◌+◌, ◌-◌, zero, suc, List, [], ◌∷◌, ◌++◌, map, nat_eq, if◌then◌else◌, codes, replicate}
+use Rattle.std.specs.Prelude.{ℕ, Option, ◌+◌, ◌-◌, zero, suc, List, [], ◌∷◌, ◌++◌, map, nat_eq, if◌then◌else◌, codes, replicate}
 use Rattle.stm_formats.specs.declared.format_row.Row.{Row}
 use Rattle.stm_formats.specs.FormatPieces.{joined, padded, title, tag_text}
-use Rattle.stm_formats.specs.FormatColumns.{column, last_column, all_places, place}
+use Rattle.stm_formats.specs.FormatColumns.{column, last_column, most_width, all_places, place}
 
 abbrev pub spaces : ℕ → List ℕ
 spaces n = replicate n 32
@@ -30,7 +30,12 @@ note_text note = joined (note ∷ codes "\n" ∷ [])
 abbrev pub notes_text : List (List ℕ) → List ℕ
 notes_text notes = joined (map note_text notes)
 
-abbrev pub text_of : List Row → List (List ℕ) → List ℕ
-text_of rows notes =
-    joined (codes " event  store" ∷ headings (all_places rows) (last_column rows) ∷ codes "\n" ∷ rows_text (all_places rows) rows ∷ codes "\n"
+-- with columns that are as wide as a limit at most
+abbrev pub text_in : ℕ → List Row → List (List ℕ) → List ℕ
+text_in limit rows notes =
+    joined (codes " event  store" ∷ headings (all_places limit rows) (last_column rows) ∷ codes "\n" ∷ rows_text (all_places limit rows) rows ∷ codes "\n"
     ∷ notes_text notes ∷ [])
+
+-- the text of a width
+abbrev pub text_of : Option ℕ → List Row → List (List ℕ) → List ℕ
+text_of width rows notes = text_in (most_width width (last_column rows)) rows notes

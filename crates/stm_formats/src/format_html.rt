@@ -6,7 +6,7 @@ ghost use Rattle.stm_formats.specs.FormatHtml.{reason_html, reasons_html, html_o
 
 use crate::format_columns::{column, last_column};
 use crate::format_page::{page_foot, page_head};
-use crate::format_pieces::{Piece, push_pieces, said};
+use crate::format_pieces::{MOST_SHOWN, Piece, push_pieces, said};
 use crate::format_reasons::reason_note;
 use crate::format_row::{Mark, Row};
 use std::alloc::{AllocError, Global};
@@ -36,7 +36,7 @@ fn push_key(alloc: Global, out: &mut Vec<u8>, key: &str) -> Result<(), AllocErro
 fn push_value(alloc: Global, out: &mut Vec<u8>, value: &str) -> Result<(), AllocError>
     ensures { OnOk result (out.new.items ≡ out.old.items ++ value_html value.now) }
 {
-    let text = said(alloc, &[Piece::Shown(value)])?;
+    let text = said(alloc, &[Piece::Shown(MOST_SHOWN, value)])?;
     push_attribute(out, " data-value='", text.as_slice())
 }
 

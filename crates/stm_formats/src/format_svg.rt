@@ -3,7 +3,7 @@ ghost use Rattle.std.specs.Prelude.{◌≡◌, ◌++◌, ◌+◌, ◌≤◌, IfO
 ghost use Rattle.stm_formats.specs.FormatSvg.{line_at, letters, rows_reach, notes_reach, across, shape, colour, column_svg, columns_svg, row_svg, rows_svg, note_svg, notes_svg};
 ghost use Rattle.stm_formats.specs.FormatSvg.{lines_of, frame_svg, under_svg, svg_of};
 
-use crate::format_columns::{all_places, column, last_column, place};
+use crate::format_columns::{MOST_WIDTH, all_places, column, last_column, place};
 use crate::format_pieces::{Piece, push_pieces};
 use crate::format_row::{Mark, Row};
 use std::alloc::{AllocError, Global};
@@ -234,7 +234,7 @@ pub(crate) fn svg_of(
 ) -> Result<Vec<u8>, AllocError>
     ensures { IfOk result (λ svg. svg.items ≡ svg_of rows.now notes.now) }
 {
-    let places = all_places(alloc, rows)?;
+    let places = all_places(alloc, MOST_WIDTH, rows)?;
     let places = places.as_slice();
     let mut out = Vec::new(alloc);
     push_frame(&mut out, across(places, rows, notes), lines_of(rows, notes))?;

@@ -2,7 +2,7 @@
 ghost use Rattle.std.specs.Prelude.{◌≡◌, ◌++◌, ◌≤◌, IfOk, OnOk};
 ghost use Rattle.stm_formats.specs.FormatText.{heading, headings, row_text, rows_text, note_text, notes_text, text_of};
 
-use crate::format_columns::{all_places, column, last_column, place};
+use crate::format_columns::{all_places, column, last_column, most_width, place};
 use crate::format_pieces::{Piece, push_pieces};
 use crate::format_row::Row;
 use std::alloc::{AllocError, Global};
@@ -75,15 +75,16 @@ fn push_notes(out: &mut Vec<u8>, notes: &[Sequence<u8>]) -> Result<(), AllocErro
     Ok(())
 }
 
-/// The text of a report of these rows and notes. It fails where a growth was refused.
+/// The text of a report of these rows and notes, of a width. It fails where a growth was refused.
 pub(crate) fn text_of(
     alloc: Global,
+    width: Option<u32>,
     rows: &[Row],
     notes: &[Sequence<u8>],
 ) -> Result<Vec<u8>, AllocError>
-    ensures { IfOk result (λ text. text.items ≡ text_of rows.now notes.now) }
+    ensures { IfOk result (λ text. text.items ≡ text_of width rows.now notes.now) }
 {
-    let places = all_places(alloc, rows)?;
+    let places = all_places(alloc, most_width(width, last_column(rows)), rows)?;
     let mut out = Vec::new(alloc);
     out.extend_from_slice(b" event  store")?;
     push_headings(&mut out, places.as_slice(), last_column(rows))?;

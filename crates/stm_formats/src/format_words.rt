@@ -39,10 +39,15 @@ fn named(alloc: Global, word: &str, number: u64) -> Result<Sequence<u8>, AllocEr
 }
 
 /// A word and the text that it is about.
-fn reported<'a>(alloc: Global, word: &'a str, text: &'a str) -> Result<Sequence<u8>, AllocError>
-    ensures { IfOk result (λ words. words ≡ reported_words word.now text.now) }
+fn reported<'a>(
+    alloc: Global,
+    most: u32,
+    word: &'a str,
+    text: &'a str,
+) -> Result<Sequence<u8>, AllocError>
+    ensures { IfOk result (λ words. words ≡ reported_words most word.now text.now) }
 {
-    let pieces = [Piece::Say(word), Piece::Say(" "), Piece::Shown(text)];
+    let pieces = [Piece::Say(word), Piece::Say(" "), Piece::Shown(most, text)];
     said(alloc, &pieces)
 }
 
@@ -55,10 +60,15 @@ fn changed(alloc: Global, word: &str, revision: u64) -> Result<Sequence<u8>, All
 }
 
 /// The words of a start of a program at a level.
-fn begun(alloc: Global, program: &Program, level: Level) -> Result<Sequence<u8>, AllocError>
-    ensures { IfOk result (λ words. words ≡ joined (codes "start " ∷ level_text level ∷ program_words program.now ∷ [])) }
+fn begun(
+    alloc: Global,
+    most: u32,
+    program: &Program,
+    level: Level,
+) -> Result<Sequence<u8>, AllocError>
+    ensures { IfOk result (λ words. words ≡ joined (codes "start " ∷ level_text level ∷ program_words most program.now ∷ [])) }
 {
-    let source = program_words(alloc, program)?;
+    let source = program_words(alloc, most, program)?;
     let pieces = [
         Piece::Say("start "),
         Piece::Say(level_name(level)),
@@ -68,11 +78,11 @@ fn begun(alloc: Global, program: &Program, level: Level) -> Result<Sequence<u8>,
 }
 
 /// The words of a start.
-fn started(alloc: Global, event: &WorldEvent) -> Result<Sequence<u8>, AllocError>
-    ensures { IfOk result (λ words. words ≡ start_words event.now) }
+fn started(alloc: Global, most: u32, event: &WorldEvent) -> Result<Sequence<u8>, AllocError>
+    ensures { IfOk result (λ words. words ≡ start_words most event.now) }
 {
     match event {
-        WorldEvent::Start { program, level, .. } => begun(alloc, program, *level),
+        WorldEvent::Start { program, level, .. } => begun(alloc, most, program, *level),
         _ => said(alloc, &[Piece::Say("start")]),
     }
 }
@@ -87,14 +97,15 @@ fn link(mod_rev: u64) -> &'static str
 /// The words of a key that was seen as of a revision, at a modification revision.
 pub(crate) fn seen_words(
     alloc: Global,
+    most: u32,
     keys: &Keys,
     key: &str,
     mod_rev: u64,
     revision: u64,
 ) -> Result<Sequence<u8>, AllocError>
-    ensures { IfOk result (λ words. words ≡ seen_words keys.now.history key.now mod_rev revision) }
+    ensures { IfOk result (λ words. words ≡ seen_words most keys.now.history key.now mod_rev revision) }
 {
-    let known = known_words(alloc, keys, key, mod_rev, revision)?;
+    let known = known_words(alloc, most, keys, key, mod_rev, revision)?;
     let pieces = [
         Piece::Key(key),
         Piece::Say(link(mod_rev)),
@@ -116,15 +127,16 @@ fn as_of(alloc: Global, of_rev: u64, revision: u64) -> Result<Sequence<u8>, Allo
 /// The words of a fetch.
 fn fetched(
     alloc: Global,
+    most: u32,
     keys: &Keys,
     key: &str,
     mod_rev: u64,
     of_rev: u64,
     revision: u64,
 ) -> Result<Sequence<u8>, AllocError>
-    ensures { IfOk result (λ words. words ≡ fetched_words keys.now.history key.now mod_rev of_rev revision) }
+    ensures { IfOk result (λ words. words ≡ fetched_words most keys.now.history key.now mod_rev of_rev revision) }
 {
-    let seen = seen_words(alloc, keys, key, mod_rev, of_rev)?;
+    let seen = seen_words(alloc, most, keys, key, mod_rev, of_rev)?;
     let shows = as_of(alloc, of_rev, revision)?;
     let pieces = [
         Piece::Say("read "),
@@ -137,16 +149,17 @@ fn fetched(
 /// Adds a key of a list that was read after so many others.
 fn push_read(
     alloc: Global,
+    most: u32,
     out: &mut Vec<u8>,
     keys: &Keys,
     revision: u64,
     count: u64,
     read: &KeyRead,
 ) -> Result<(), AllocError>
-    ensures { OnOk result (out.new.items ≡ out.old.items ++ counted_read keys.now.history revision count read.now) }
+    ensures { OnOk result (out.new.items ≡ out.old.items ++ counted_read most keys.now.history revision count read.now) }
 {
     if count < MOST_CHANGES {
-        let seen = seen_words(alloc, keys, read.key.as_str(), read.mod_rev, revision)?;
+        let seen = seen_words(alloc, most, keys, read.key.as_str(), read.mod_rev, revision)?;
         return push_pieces(
             out,
             &[Piece::Say(between(count)), Piece::Raw(seen.as_slice())],
@@ -161,15 +174,16 @@ fn push_read(
 /// The words of the keys of a list that were read as of a revision.
 pub(crate) fn reads_words(
     alloc: Global,
+    most: u32,
     keys: &Keys,
     revision: u64,
     reads: &[KeyRead],
 ) -> Result<Vec<u8>, AllocError>
-    ensures { IfOk result (λ words. words.items ≡ reads_after keys.now.history revision 0 reads.now) }
+    ensures { IfOk result (λ words. words.items ≡ reads_after most keys.now.history revision 0 reads.now) }
 {
     let mut out = Vec::new(alloc);
     for (count, read) in reads.iter().enumerate() {
-        push_read(alloc, &mut out, keys, revision, count as u64, read)?;
+        push_read(alloc, most, &mut out, keys, revision, count as u64, read)?;
     }
     Ok(out)
 }
@@ -177,13 +191,14 @@ pub(crate) fn reads_words(
 /// The words of a list that was fetched.
 fn listed(
     alloc: Global,
+    most: u32,
     keys: &Keys,
     revision: u64,
     reads: &[KeyRead],
 ) -> Result<Sequence<u8>, AllocError>
-    ensures { IfOk result (λ words. words ≡ listed_words keys.now.history revision reads.now) }
+    ensures { IfOk result (λ words. words ≡ listed_words most keys.now.history revision reads.now) }
 {
-    let read = reads_words(alloc, keys, revision, reads)?;
+    let read = reads_words(alloc, most, keys, revision, reads)?;
     said(
         alloc,
         &[Piece::Say("read the list"), Piece::Raw(read.as_slice())],
@@ -216,16 +231,17 @@ fn committed(alloc: Global, revision: u64, attempts: u64) -> Result<Sequence<u8>
 /// The words of a commit of which a compare failed.
 fn compared<'a>(
     alloc: Global,
+    most: u32,
     keys: &Keys,
     word: &'a str,
     key: &'a str,
     seen: u64,
     now: u64,
 ) -> Result<Sequence<u8>, AllocError>
-    ensures { IfOk result (λ words. words ≡ compared_words keys.now.history word.now key.now seen now) }
+    ensures { IfOk result (λ words. words ≡ compared_words most keys.now.history word.now key.now seen now) }
 {
-    let before = known_words(alloc, keys, key, seen, seen)?;
-    let after = known_words(alloc, keys, key, now, now)?;
+    let before = known_words(alloc, most, keys, key, seen, seen)?;
+    let after = known_words(alloc, most, keys, key, now, now)?;
     let pieces = [
         Piece::Say(word),
         Piece::Say(" "),
@@ -239,11 +255,11 @@ fn compared<'a>(
 }
 
 /// What a transaction compared.
-fn compared_by(alloc: Global, event: &WorldEvent) -> Result<Sequence<u8>, AllocError>
-    ensures { IfOk result (λ words. words ≡ compared_by event.now) }
+fn compared_by(alloc: Global, most: u32, event: &WorldEvent) -> Result<Sequence<u8>, AllocError>
+    ensures { IfOk result (λ words. words ≡ compared_by most event.now) }
 {
     match event {
-        WorldEvent::Txn { txn } => compare_words(alloc, txn.compares.as_slice()),
+        WorldEvent::Txn { txn } => compare_words(alloc, most, txn.compares.as_slice()),
         _ => Ok(Sequence::new(alloc)),
     }
 }
@@ -265,13 +281,14 @@ fn at_words(alloc: Global, revision: u64) -> Result<Sequence<u8>, AllocError>
 /// The words of another client's transaction.
 fn transacted(
     alloc: Global,
+    most: u32,
     event: &WorldEvent,
     succeeded: bool,
     revision: u64,
 ) -> Result<Sequence<u8>, AllocError>
-    ensures { IfOk result (λ words. words ≡ txn_words event.now succeeded revision) }
+    ensures { IfOk result (λ words. words ≡ txn_words most event.now succeeded revision) }
 {
-    let compared = compared_by(alloc, event)?;
+    let compared = compared_by(alloc, most, event)?;
     let at = at_words(alloc, revision)?;
     let pieces = [
         Piece::Say("txn "),
@@ -340,45 +357,54 @@ fn lost(alloc: Global, watcher: u64, floor: u64) -> Result<Sequence<u8>, AllocEr
 /// The words of an event that was taken.
 fn taken_words(
     alloc: Global,
+    most: u32,
     keys: &Keys,
     event: &WorldEvent,
     reply: &Reply,
 ) -> Result<Sequence<u8>, AllocError>
-    ensures { IfOk result (λ words. words ≡ reply_words keys.now.history event.now reply.now) }
+    ensures { IfOk result (λ words. words ≡ reply_words most keys.now.history event.now reply.now) }
 {
     match reply {
-        Reply::Started { .. } => started(alloc, event),
+        Reply::Started { .. } => started(alloc, most, event),
         Reply::Prefetched {
             revision,
             reads,
             ..
-        } => listed(alloc, keys, *revision, reads.as_slice()),
+        } => listed(alloc, most, keys, *revision, reads.as_slice()),
         Reply::Fetched {
             key,
             mod_rev,
             of_rev,
             revision,
             ..
-        } => fetched(alloc, keys, key.as_str(), *mod_rev, *of_rev, *revision),
+        } => fetched(
+            alloc,
+            most,
+            keys,
+            key.as_str(),
+            *mod_rev,
+            *of_rev,
+            *revision,
+        ),
         Reply::Committed {
             revision,
             attempts,
             ..
         } => committed(alloc, *revision, *attempts),
         Reply::Conflict { key, seen, now, .. } => {
-            compared(alloc, keys, "CONFLICT", key.as_str(), *seen, *now)
+            compared(alloc, most, keys, "CONFLICT", key.as_str(), *seen, *now)
         }
         Reply::GaveUp { key, seen, now, .. } => {
-            compared(alloc, keys, "GAVE UP", key.as_str(), *seen, *now)
+            compared(alloc, most, keys, "GAVE UP", key.as_str(), *seen, *now)
         }
-        Reply::Aborted { text, .. } => reported(alloc, "ABORT", text.as_str()),
-        Reply::Faulted { fault, .. } => reported(alloc, "FAULT", fault.name()),
-        Reply::Ended { cause, .. } => reported(alloc, "ENDED", cause.name()),
+        Reply::Aborted { text, .. } => reported(alloc, most, "ABORT", text.as_str()),
+        Reply::Faulted { fault, .. } => reported(alloc, most, "FAULT", fault.name()),
+        Reply::Ended { cause, .. } => reported(alloc, most, "ENDED", cause.name()),
         Reply::Txn {
             succeeded,
             revision,
             ..
-        } => transacted(alloc, event, *succeeded, *revision),
+        } => transacted(alloc, most, event, *succeeded, *revision),
         Reply::Granted { id } => named(alloc, "grant", *id),
         Reply::Kept { id } => named(alloc, "keep", *id),
         Reply::Revoked { id, revision } => revoked(alloc, *id, *revision),
@@ -418,16 +444,17 @@ fn asked_word(event: &WorldEvent) -> &'static str
 /// The words of an event that was refused.
 fn refused(
     alloc: Global,
+    most: u32,
     event: &WorldEvent,
     cause: EventRefusal,
 ) -> Result<Sequence<u8>, AllocError>
-    ensures { IfOk result (λ words. words ≡ refused_words event.now cause) }
+    ensures { IfOk result (λ words. words ≡ refused_words most event.now cause) }
 {
     let pieces = [
         Piece::Say("REFUSED "),
         Piece::Say(asked_word(event)),
         Piece::Say(": "),
-        Piece::Shown(cause.name()),
+        Piece::Shown(most, cause.name()),
     ];
     said(alloc, &pieces)
 }
@@ -435,15 +462,16 @@ fn refused(
 /// The words of an event by its reply.
 fn told_words(
     alloc: Global,
+    most: u32,
     keys: &Keys,
     event: &WorldEvent,
     reply: &Result<Reply, Denied>,
 ) -> Result<Sequence<u8>, AllocError>
-    ensures { IfOk result (λ words. words ≡ told_words keys.now.history event.now reply.now) }
+    ensures { IfOk result (λ words. words ≡ told_words most keys.now.history event.now reply.now) }
 {
     match reply {
-        Ok(reply) => taken_words(alloc, keys, event, reply),
-        Err(denied) => refused(alloc, event, denied.cause),
+        Ok(reply) => taken_words(alloc, most, keys, event, reply),
+        Err(denied) => refused(alloc, most, event, denied.cause),
     }
 }
 
@@ -451,15 +479,16 @@ fn told_words(
 /// where a growth was refused.
 pub(crate) fn words_of(
     alloc: Global,
+    most: u32,
     keys: &Keys,
     before: u64,
     event: &WorldEvent,
     reply: &Result<Reply, Denied>,
 ) -> Result<Sequence<u8>, AllocError>
-    ensures { IfOk result (λ words. words ≡ words_of keys.now.history before event.now reply.now) }
+    ensures { IfOk result (λ words. words ≡ words_of most keys.now.history before event.now reply.now) }
 {
-    let told = told_words(alloc, keys, event, reply)?;
-    let changed = changed_since(alloc, keys, before, counter_after(before, reply))?;
+    let told = told_words(alloc, most, keys, event, reply)?;
+    let changed = changed_since(alloc, most, keys, before, counter_after(before, reply))?;
     said(
         alloc,
         &[Piece::Raw(told.as_slice()), Piece::Raw(changed.as_slice())],

@@ -27,7 +27,7 @@ use Rattle.stm_formats.specs.FormatRuns.{text_from, svg_from, html_from}
 abbrev pub IsTextSince : ℕ → Format → World → List WorldEvent → List (Result Reply Denied) → List ℕ → Type 0
 IsTextSince since Lines w events replies text = IsReport w replies text × IsUtf8 text
 IsTextSince since Json w events replies text = text ≡ json_text w replies
-IsTextSince since Text w events replies text = text ≡ text_from w since events replies
+IsTextSince since (Text width) w events replies text = text ≡ text_from width w since events replies
 IsTextSince since Svg w events replies text = text ≡ svg_from w since events replies
 IsTextSince since Html w events replies text = text ≡ html_from w since events replies
 

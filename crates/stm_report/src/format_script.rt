@@ -30,7 +30,7 @@ pub fn render(
     match format {
         Format::Lines => Ok(report(alloc, world, replies)?.into_bytes()),
         Format::Json => Ok(report_objects(alloc, world, replies)?.into_bytes()),
-        Format::Text => text_from(alloc, world, since, events, replies),
+        Format::Text { width } => text_from(alloc, width, world, since, events, replies),
         Format::Svg => svg_from(alloc, world, since, events, replies),
         Format::Html => html_from(alloc, world, since, events, replies),
     }

@@ -16,9 +16,9 @@ next_shown exact left h i out new total bs b within at is added so_far =
     let here : drop i bs ≡ b ∷ behind = left_at bs i b within at in
     let hidden : hidden_from left (b ∷ behind) ≡ h = ap (hidden_from left) (sym here) ∙ sym is in
     let opened : shown_after exact left (drop i bs) ≡ byte_text exact h b ++ shown_after exact (h - 1) behind =
-        ap (shown_after exact left) here
-        ∙ ap (λ (n : ℕ). byte_text exact n b ++ shown_after exact (pred n) behind) hidden
-        ∙ ap (λ (n : ℕ). byte_text exact h b ++ shown_after exact n behind) (pred_is h) in
+    ap (shown_after exact left) here
+    ∙ ap (λ (n : ℕ). byte_text exact n b ++ shown_after exact (pred n) behind) hidden
+    ∙ ap (λ (n : ℕ). byte_text exact h b ++ shown_after exact n behind) (pred_is h) in
     ap (λ (s : List ℕ). s ++ shown_after exact (h - 1) behind) added
     ∙ append_assoc out (byte_text exact h b) (shown_after exact (h - 1) behind)
     ∙ ap (λ (s : List ℕ). out ++ s) (sym opened)

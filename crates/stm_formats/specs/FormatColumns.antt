@@ -3,7 +3,9 @@ use Rattle.std.specs.Prelude.{ℕ, zero, suc, ◌+◌, ◌-◌, ◌/◌, Option,
 use Rattle.stm_formats.specs.declared.format_row.Lane.{Lane}
 use Rattle.stm_formats.specs.declared.format_row.Lane.TheVariants.{Store, Runner}
 use Rattle.stm_formats.specs.declared.format_row.Row.{Row}
-use Rattle.stm_formats.specs.declared.format_pieces.TheConstants.{MOST_COLUMNS}
+use Rattle.stm_formats.specs.declared.format_label.TheConstants.{MOST_COLUMNS}
+use Rattle.stm_formats.specs.declared.format_label.RunnerLabel.{RunnerLabel}
+use Rattle.stm_formats.specs.FormatLabels.{title}
 use Rattle.stm_formats.specs.declared.format_columns.TheConstants.{LEAST_WIDTH, MOST_WIDTH, WIDEST, MOST_PLACE}
 
 -- the number of the column's runner, 0 for the store
@@ -24,29 +26,36 @@ last_column (row ∷ rows) = max (column row.lane) (last_column rows)
 abbrev pub width_in : ℕ → ℕ → Row → ℕ
 width_in limit c row = if nat_eq (column row.lane) c then min (length row.words) limit else 0
 
--- how wide a column is: as its longest words
-abbrev pub width : ℕ → ℕ → List Row → ℕ
-width limit c [] = LEAST_WIDTH
-width limit c (row ∷ rows) = max (width_in limit c row) (width limit c rows)
+-- how wide a column with this title is at least
+abbrev pub least_width : ℕ → List ℕ → ℕ
+least_width limit title = max (min (length title) limit) LEAST_WIDTH
 
--- The limit of a report of this width with so many runners' columns: the last one begins before the middle, where the columns have their least widths.
+-- how wide a column is that is at least so wide: as its longest words
+abbrev pub width : ℕ → ℕ → ℕ → List Row → ℕ
+width limit least c [] = least
+width limit least c (row ∷ rows) = max (width_in limit c row) (width limit least c rows)
+
+abbrev pub titled_width : ℕ → List RunnerLabel → ℕ → List Row → ℕ
+titled_width limit labels c rows = width limit (least_width limit (title labels c)) c rows
+
+-- The limit of a report of this width with so many runners' columns: the last one begins before the middle, unless the least widths are too much for that.
 abbrev pub most_width : Option ℕ → ℕ → ℕ
 most_width None last = MOST_WIDTH
 most_width (Some width) last = min (((width / 2 - 8) / max last 1) - 2) WIDEST
 
 -- how many characters stand before a column: each is followed by two spaces
-abbrev pub begin : ℕ → List Row → ℕ → ℕ
-begin limit rows zero = 0
-begin limit rows (suc c) = begin limit rows c + width limit c rows + 2
+abbrev pub begin : ℕ → List RunnerLabel → List Row → ℕ → ℕ
+begin limit labels rows zero = 0
+begin limit labels rows (suc c) = begin limit labels rows c + titled_width limit labels c rows + 2
 
 -- where that many columns begin
-abbrev pub places : ℕ → List Row → ℕ → List ℕ
-places limit rows zero = []
-places limit rows (suc c) = places limit rows c ++ begin limit rows c ∷ []
+abbrev pub places : ℕ → List RunnerLabel → List Row → ℕ → List ℕ
+places limit labels rows zero = []
+places limit labels rows (suc c) = places limit labels rows c ++ begin limit labels rows c ∷ []
 
 -- where the columns begin, and where one behind the last would
-unfoldable pub all_places : ℕ → List Row → List ℕ
-all_places limit rows = places limit rows 11
+unfoldable pub all_places : ℕ → List RunnerLabel → List Row → List ℕ
+all_places limit labels rows = places limit labels rows 11
 
 -- where a column begins
 abbrev pub place : List ℕ → ℕ → ℕ

@@ -7,7 +7,9 @@ use Rattle.stm_events.specs.declared.reply.Reply.{Reply}
 use Rattle.stm_events.specs.declared.reply.Reply.TheVariants.{Started, Prefetched, Fetched, Conflict, Aborted, Faulted}
 use Rattle.stm_events.specs.declared.reply.KeyRead.{KeyRead}
 use Rattle.stm_events.specs.declared.refusal.Denied.{Denied}
+use Rattle.stm_formats.specs.declared.format_label.RunnerLabel.{RunnerLabel}
 use Rattle.stm_formats.specs.FormatPieces.{joined}
+use Rattle.stm_formats.specs.FormatLabels.{runner_words}
 use Rattle.stm_formats.specs.FormatWords.{seen_words, reads_after}
 
 -- an attempt of the runner begins with this reply
@@ -50,18 +52,18 @@ attempt_reads most h runner replies (suc before) = reads_to most h runner (suc b
 abbrev pub noted : List ℕ → List ℕ → List (List ℕ)
 noted words reads = if nat_lt (length reads) 2 then [] else joined (words ∷ codes ": it had read " ∷ drop 2 reads ∷ []) ∷ []
 
-abbrev pub end_words : List ℕ → ℕ → ℕ → List ℕ
-end_words word runner number = joined (codes "runner " ∷ decimal runner ∷ word ∷ decimal number ∷ [])
+abbrev pub end_words : List RunnerLabel → List ℕ → ℕ → ℕ → List ℕ
+end_words labels word runner number = joined (runner_words labels runner ∷ word ∷ decimal number ∷ [])
 
 -- the note of the event after that many
-abbrev pub end_note : ℕ → History → List (Result Reply Denied) → ℕ → Result Reply Denied → List (List ℕ)
-end_note most h replies before (Ok (Aborted runner text)) =
-    noted (end_words (codes " aborts at event ") runner (suc before)) (attempt_reads most h runner replies before)
-end_note most h replies before (Ok (Faulted runner fault)) =
-    noted (end_words (codes " faults at event ") runner (suc before)) (attempt_reads most h runner replies before)
-end_note most h replies before other = []
+abbrev pub end_note : ℕ → List RunnerLabel → History → List (Result Reply Denied) → ℕ → Result Reply Denied → List (List ℕ)
+end_note most labels h replies before (Ok (Aborted runner text)) =
+    noted (end_words labels (codes " aborts at event ") runner (suc before)) (attempt_reads most h runner replies before)
+end_note most labels h replies before (Ok (Faulted runner fault)) =
+    noted (end_words labels (codes " faults at event ") runner (suc before)) (attempt_reads most h runner replies before)
+end_note most labels h replies before other = []
 
 -- those of these replies, the first of them to the event after that many
-abbrev pub end_notes : ℕ → History → List (Result Reply Denied) → ℕ → List (Result Reply Denied) → List (List ℕ)
-end_notes most h replies before [] = []
-end_notes most h replies before (reply ∷ later) = end_note most h replies before reply ++ end_notes most h replies (suc before) later
+abbrev pub end_notes : ℕ → List RunnerLabel → History → List (Result Reply Denied) → ℕ → List (Result Reply Denied) → List (List ℕ)
+end_notes most labels h replies before [] = []
+end_notes most labels h replies before (reply ∷ later) = end_note most labels h replies before reply ++ end_notes most labels h replies (suc before) later

@@ -1,6 +1,7 @@
 -- What a row says of an event and its reply. A revision comes after `@`, 0 where the key is absent.
-use Rattle.std.specs.Prelude.{ℕ, suc, List, [], ◌∷◌, ◌++◌, length, nat_eq, nat_lt, Bool, if◌then◌else◌, Result, Ok, Err, codes, decimal}
+use Rattle.std.specs.Prelude.{ℕ, suc, List, [], ◌∷◌, ◌++◌, length, nat_eq, nat_lt, Bool, if◌then◌else◌, Option, None, Some, Result, Ok, Err, codes, decimal}
 use Rattle.stm_history.specs.History.{History}
+use Rattle.stm_program.specs.Syntax.{ProgramTree}
 use Rattle.stm_meaning.specs.Faults.{fault_name}
 use Rattle.stm_events.specs.declared.event.WorldEvent.{WorldEvent}
 use Rattle.stm_events.specs.declared.event.WorldEvent.TheVariants as event
@@ -13,10 +14,12 @@ use Rattle.stm_events.specs.declared.refusal.EventRefusal.{EventRefusal}
 use Rattle.stm_events.specs.Names.{refusal_name}
 use Rattle.stm_texts.specs.Grammar.{level_text}
 use Rattle.stm_reasons.specs.Counters.{counter_after}
+use Rattle.stm_formats.specs.declared.format_label.RunnerLabel.{RunnerLabel}
 use Rattle.stm_formats.specs.declared.format_changes.TheConstants.{MOST_CHANGES}
 use Rattle.stm_formats.specs.FormatShown.{plain, shown}
 use Rattle.stm_formats.specs.FormatPieces.{joined}
-use Rattle.stm_formats.specs.FormatSource.{program_words, compare_words}
+use Rattle.stm_formats.specs.FormatLabels.{program_of}
+use Rattle.stm_formats.specs.FormatSource.{source_words, program_words, compare_words}
 use Rattle.stm_formats.specs.FormatChanges.{known_words, between, changed_since}
 
 -- a word and the number or the text that it is about
@@ -30,10 +33,16 @@ reported_words most word text = joined (word ∷ codes " " ∷ shown most text �
 abbrev pub changed_words : List ℕ → ℕ → List ℕ
 changed_words word revision = joined (word ∷ codes " @" ∷ decimal revision ∷ [])
 
--- the level of a runner that was started, and the first line of its program
-abbrev pub start_words : ℕ → WorldEvent → List ℕ
-start_words most (event.Start program level limit) = joined (codes "start " ∷ level_text level ∷ program_words most program ∷ [])
-start_words most other = codes "start"
+-- what a runner was started with: its program with the arguments, as the source has them, or the first line of its program
+abbrev pub called_words : ℕ → Option (List ℕ) → ProgramTree → List ℕ
+called_words most None program = program_words most program
+called_words most (Some call) program = source_words most call
+
+-- the level of a runner that was started, and that
+abbrev pub start_words : ℕ → List RunnerLabel → ℕ → WorldEvent → List ℕ
+start_words most labels runner (event.Start program level limit) =
+    joined (codes "start " ∷ level_text level ∷ called_words most (program_of labels runner) program ∷ [])
+start_words most labels runner other = codes "start"
 
 -- ---- what was read
 
@@ -110,26 +119,26 @@ batch_words watcher events upto =
 abbrev pub lost_words : ℕ → ℕ → List ℕ
 lost_words watcher floor = joined (codes "LOST watcher " ∷ decimal watcher ∷ codes ": kept from @" ∷ decimal floor ∷ [])
 
-abbrev pub reply_words : ℕ → History → WorldEvent → Reply → List ℕ
-reply_words most h event (Started runner) = start_words most event
-reply_words most h event (Prefetched runner revision reads) = listed_words most h revision reads
-reply_words most h event (Fetched runner key mod_rev of_rev revision) = fetched_words most h key mod_rev of_rev revision
-reply_words most h event (Committed runner revision attempts output trace answers) = commit_words revision attempts
-reply_words most h event (Conflict runner key seen now) = compared_words most h (codes "CONFLICT") key seen now
-reply_words most h event (GaveUp runner attempts key seen now) = compared_words most h (codes "GAVE UP") key seen now
-reply_words most h event (Aborted runner text) = reported_words most (codes "ABORT") text
-reply_words most h event (Faulted runner fault) = reported_words most (codes "FAULT") (fault_name fault)
-reply_words most h event (Ended runner cause) = reported_words most (codes "ENDED") (refusal_name cause)
-reply_words most h event (Txn succeeded revision answers) = txn_words most event succeeded revision
-reply_words most h event (Granted id) = named_words (codes "grant") id
-reply_words most h event (Kept id) = named_words (codes "keep") id
-reply_words most h event (Revoked id revision) = revoked_words id revision
-reply_words most h event (Advanced now expired) = advanced_words now (length expired)
-reply_words most h event (Compacted revision) = changed_words (codes "compact") revision
-reply_words most h event (Watching watcher) = named_words (codes "watch") watcher
-reply_words most h event (Batch watcher upto events) = batch_words watcher (length events) upto
-reply_words most h event (Lost watcher floor) = lost_words watcher floor
-reply_words most h event (Cancelled watcher) = named_words (codes "cancel") watcher
+abbrev pub reply_words : ℕ → List RunnerLabel → History → WorldEvent → Reply → List ℕ
+reply_words most labels h event (Started runner) = start_words most labels runner event
+reply_words most labels h event (Prefetched runner revision reads) = listed_words most h revision reads
+reply_words most labels h event (Fetched runner key mod_rev of_rev revision) = fetched_words most h key mod_rev of_rev revision
+reply_words most labels h event (Committed runner revision attempts output trace answers) = commit_words revision attempts
+reply_words most labels h event (Conflict runner key seen now) = compared_words most h (codes "CONFLICT") key seen now
+reply_words most labels h event (GaveUp runner attempts key seen now) = compared_words most h (codes "GAVE UP") key seen now
+reply_words most labels h event (Aborted runner text) = reported_words most (codes "ABORT") text
+reply_words most labels h event (Faulted runner fault) = reported_words most (codes "FAULT") (fault_name fault)
+reply_words most labels h event (Ended runner cause) = reported_words most (codes "ENDED") (refusal_name cause)
+reply_words most labels h event (Txn succeeded revision answers) = txn_words most event succeeded revision
+reply_words most labels h event (Granted id) = named_words (codes "grant") id
+reply_words most labels h event (Kept id) = named_words (codes "keep") id
+reply_words most labels h event (Revoked id revision) = revoked_words id revision
+reply_words most labels h event (Advanced now expired) = advanced_words now (length expired)
+reply_words most labels h event (Compacted revision) = changed_words (codes "compact") revision
+reply_words most labels h event (Watching watcher) = named_words (codes "watch") watcher
+reply_words most labels h event (Batch watcher upto events) = batch_words watcher (length events) upto
+reply_words most labels h event (Lost watcher floor) = lost_words watcher floor
+reply_words most labels h event (Cancelled watcher) = named_words (codes "cancel") watcher
 
 -- what was asked for
 abbrev pub asked_word : WorldEvent → List ℕ
@@ -149,10 +158,10 @@ asked_word (event.Cancel watcher) = codes "cancel"
 abbrev pub refused_words : ℕ → WorldEvent → EventRefusal → List ℕ
 refused_words most event cause = joined (codes "REFUSED " ∷ asked_word event ∷ codes ": " ∷ shown most (refusal_name cause) ∷ [])
 
-abbrev pub told_words : ℕ → History → WorldEvent → Result Reply Denied → List ℕ
-told_words most h event (Ok reply) = reply_words most h event reply
-told_words most h event (Err denied) = refused_words most event denied.cause
+abbrev pub told_words : ℕ → List RunnerLabel → History → WorldEvent → Result Reply Denied → List ℕ
+told_words most labels h event (Ok reply) = reply_words most labels h event reply
+told_words most labels h event (Err denied) = refused_words most event denied.cause
 
 -- what a row says of an event before which the store was at a revision: of its reply, and what it changed
-abbrev pub words_of : ℕ → History → ℕ → WorldEvent → Result Reply Denied → List ℕ
-words_of most h before event reply = joined (told_words most h event reply ∷ changed_since most h before (counter_after before reply) ∷ [])
+abbrev pub words_of : ℕ → List RunnerLabel → History → ℕ → WorldEvent → Result Reply Denied → List ℕ
+words_of most labels h before event reply = joined (told_words most labels h event reply ∷ changed_since most h before (counter_after before reply) ∷ [])

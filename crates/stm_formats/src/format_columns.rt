@@ -1,8 +1,8 @@
 //! The columns of a report.
-ghost use Rattle.std.specs.Prelude.{◌≡◌, ◌≤◌, IfOk};
-ghost use Rattle.stm_formats.specs.FormatColumns.{lane_number, column, last_column, width_in, width, most_width, all_places, place};
+ghost use Rattle.std.specs.Prelude.{◌≡◌, ◌×◌, ◌≤◌, IfOk};
+ghost use Rattle.stm_formats.specs.FormatColumns.{lane_number, column, last_column, width_in, least_width, width, titled_width, most_width, all_places, place};
 
-use crate::format_pieces::MOST_COLUMNS;
+use crate::format_label::{MOST_COLUMNS, RunnerLabel, title};
 use crate::format_row::{Lane, Row};
 use std::alloc::{AllocError, Global};
 
@@ -60,17 +60,42 @@ fn width_in(limit: u64, number: u64, row: &Row) -> u64
     }
 }
 
-/// The width of a column of these rows, up to a limit.
-fn width(limit: u64, number: u64, rows: &[Row]) -> u64
+/// The least width of a column with this title, up to a limit.
+fn least_width(limit: u64, title: &[u8]) -> u64
     requires { limit ≤ 1000 }
-    ensures width { result ≡ width limit number rows.now }
-    ensures within { result ≤ 1010 }
+    ensures width { result ≡ least_width limit title.now }
+    ensures within { result ≤ 1000 }
 {
-    let mut widest = LEAST_WIDTH;
+    (title.len() as u64).min(limit).max(LEAST_WIDTH)
+}
+
+/// The width of a column of these rows, up to a limit, and at least this one.
+fn width(limit: u64, least: u64, number: u64, rows: &[Row]) -> u64
+    requires { (limit ≤ 1000) × (least ≤ 1000) }
+    ensures width { result ≡ width limit least number rows.now }
+    ensures within { result ≤ 1000 }
+{
+    let mut widest = least;
     for row in rows {
         widest = width_in(limit, number, row).max(widest);
     }
     widest
+}
+
+/// The width of a column of these rows, up to a limit, that is at least as wide as its title.
+fn titled_width(
+    alloc: Global,
+    limit: u64,
+    labels: &[RunnerLabel],
+    number: u64,
+    rows: &[Row],
+) -> Result<u64, AllocError>
+    requires { limit ≤ 1000 }
+    ensures width { IfOk result (λ width. width ≡ titled_width limit labels.now number rows.now) }
+    ensures within { IfOk result (λ width. width ≤ 1000) }
+{
+    let words = title(alloc, labels, number)?;
+    Ok(width(limit, least_width(limit, words.as_slice()), number, rows))
 }
 
 /// The greatest width of a column of a report with so many runners' columns, so that the last one begins before its middle.
@@ -89,15 +114,20 @@ pub(crate) fn most_width(width: Option<u32>, last: u64) -> u64
 
 /// Where the columns of these rows begin, each as wide as a limit at most, and where one behind the last would.
 #[tactic(auto, unfolding(crate::specs::FormatColumns::all_places))]
-pub(crate) fn all_places(alloc: Global, limit: u64, rows: &[Row]) -> Result<Vec<u64>, AllocError>
+pub(crate) fn all_places(
+    alloc: Global,
+    limit: u64,
+    labels: &[RunnerLabel],
+    rows: &[Row],
+) -> Result<Vec<u64>, AllocError>
     requires { limit ≤ 1000 }
-    ensures { IfOk result (λ v. v.items ≡ all_places limit rows.now) }
+    ensures { IfOk result (λ v. v.items ≡ all_places limit labels.now rows.now) }
 {
     let mut places = Vec::new(alloc);
     let mut begin = 0;
     for number in 0..11u64 {
         places.push(begin)?;
-        begin += width(limit, number, rows) + 2;
+        begin += titled_width(alloc, limit, labels, number, rows)? + 2;
     }
     Ok(places)
 }

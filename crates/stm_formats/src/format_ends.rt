@@ -2,6 +2,7 @@
 ghost use Rattle.std.specs.Prelude.{◌≡◌, ◌++◌, ◌+◌, ◌<◌, ◌≤◌, length, IfOk, OnOk};
 ghost use Rattle.stm_formats.specs.FormatEnds.{begins, read_at, fetched_at, listed_at, own_read, attempt_reads, noted, end_words, end_note, end_notes};
 
+use crate::format_label::{RunnerLabel, runner_words};
 use crate::format_pieces::{Piece, said};
 use crate::format_words::{reads_words, seen_words};
 use std::alloc::{AllocError, Global};
@@ -166,15 +167,16 @@ fn attempt_reads(
 /// How a run ended, and at which event.
 fn end_words<'a>(
     alloc: Global,
+    labels: &[RunnerLabel],
     word: &'a str,
     runner: u64,
     number: u64,
 ) -> Result<Sequence<u8>, AllocError>
-    ensures { IfOk result (λ words. words ≡ end_words word.now runner number) }
+    ensures { IfOk result (λ words. words ≡ end_words labels.now word.now runner number) }
 {
+    let named = runner_words(alloc, labels, runner)?;
     let pieces = [
-        Piece::Say("runner "),
-        Piece::Number(runner),
+        Piece::Raw(named.as_slice()),
         Piece::Say(word),
         Piece::Number(number),
     ];
@@ -207,6 +209,7 @@ fn push_noted<'a>(
 fn push_ended(
     alloc: Global,
     most: u32,
+    labels: &[RunnerLabel],
     notes: &mut Vec<Sequence<u8>>,
     keys: &Keys,
     replies: &[Result<Reply, Denied>],
@@ -216,9 +219,9 @@ fn push_ended(
 ) -> Result<(), AllocError>
     requires { before < length replies.now }
     ensures { OnOk result (notes.new.items ≡ notes.old.items
-        ++ noted (end_words word.now runner (before + 1)) (attempt_reads most keys.now.history runner replies.now before)) }
+        ++ noted (end_words labels.now word.now runner (before + 1)) (attempt_reads most keys.now.history runner replies.now before)) }
 {
-    let words = end_words(alloc, word, runner, before as u64 + 1)?;
+    let words = end_words(alloc, labels, word, runner, before as u64 + 1)?;
     let reads = attempt_reads(alloc, most, keys, runner, replies, before)?;
     push_noted(alloc, notes, words.as_slice(), reads.as_slice())
 }
@@ -227,6 +230,7 @@ fn push_ended(
 fn push_end(
     alloc: Global,
     most: u32,
+    labels: &[RunnerLabel],
     notes: &mut Vec<Sequence<u8>>,
     keys: &Keys,
     replies: &[Result<Reply, Denied>],
@@ -234,13 +238,14 @@ fn push_end(
     reply: &Result<Reply, Denied>,
 ) -> Result<(), AllocError>
     requires { before < length replies.now }
-    ensures { OnOk result (notes.new.items ≡ notes.old.items ++ end_note most keys.now.history replies.now before reply.now) }
+    ensures { OnOk result (notes.new.items ≡ notes.old.items ++ end_note most labels.now keys.now.history replies.now before reply.now) }
 {
     match reply {
         Ok(Reply::Aborted { runner, .. }) => {
             push_ended(
                 alloc,
                 most,
+                labels,
                 notes,
                 keys,
                 replies,
@@ -253,6 +258,7 @@ fn push_end(
             push_ended(
                 alloc,
                 most,
+                labels,
                 notes,
                 keys,
                 replies,
@@ -269,14 +275,15 @@ fn push_end(
 pub(crate) fn push_ends(
     alloc: Global,
     most: u32,
+    labels: &[RunnerLabel],
     notes: &mut Vec<Sequence<u8>>,
     keys: &Keys,
     replies: &[Result<Reply, Denied>],
 ) -> Result<(), AllocError>
-    ensures { OnOk result (notes.new.items ≡ notes.old.items ++ end_notes most keys.now.history replies.now 0 replies.now) }
+    ensures { OnOk result (notes.new.items ≡ notes.old.items ++ end_notes most labels.now keys.now.history replies.now 0 replies.now) }
 {
     for (before, reply) in replies.iter().enumerate() {
-        push_end(alloc, most, notes, keys, replies, before, reply)?;
+        push_end(alloc, most, labels, notes, keys, replies, before, reply)?;
     }
     Ok(())
 }

@@ -4,6 +4,7 @@ ghost use Rattle.stm_history.specs.History.{key_now};
 ghost use Rattle.stm_formats.specs.FormatNotes.{key_note, notes_of_key, key_notes, ended_by, ended_after, unfinished_notes};
 ghost use Rattle.stm_formats.specs.FormatNotes.{end_note, notes_of};
 
+use crate::format_label::{RunnerLabel, runner_words};
 use crate::format_pieces::{Piece, said};
 use std::alloc::{AllocError, Global};
 use stm_history::{KeyState, Sequence};
@@ -109,16 +110,18 @@ fn ended_after(alloc: Global, replies: &[Result<Reply, Denied>]) -> Result<Vec<b
 /// Adds the note of a runner, if its run has not ended.
 fn push_runner(
     alloc: Global,
+    labels: &[RunnerLabel],
     notes: &mut Vec<Sequence<u8>>,
     runner: u64,
     ended: bool,
 ) -> Result<(), AllocError>
-    ensures { OnOk result (notes.new.items ≡ notes.old.items ++ unfinished_notes runner (ended ∷ [])) }
+    ensures { OnOk result (notes.new.items ≡ notes.old.items ++ unfinished_notes labels.now runner (ended ∷ [])) }
 {
     if ended {
         return Ok(());
     }
-    let pieces = [Piece::Say("unfinished: runner "), Piece::Number(runner)];
+    let words = runner_words(alloc, labels, runner)?;
+    let pieces = [Piece::Say("unfinished: "), Piece::Raw(words.as_slice())];
     notes.push(said(alloc, &pieces)?)?;
     Ok(())
 }
@@ -126,13 +129,14 @@ fn push_runner(
 /// Adds a note for each runner whose run has not ended.
 fn push_unfinished(
     alloc: Global,
+    labels: &[RunnerLabel],
     notes: &mut Vec<Sequence<u8>>,
     ended: &[bool],
 ) -> Result<(), AllocError>
-    ensures { OnOk result (notes.new.items ≡ notes.old.items ++ unfinished_notes 1 ended.now) }
+    ensures { OnOk result (notes.new.items ≡ notes.old.items ++ unfinished_notes labels.now 1 ended.now) }
 {
     for (before, ended) in ended.iter().enumerate() {
-        push_runner(alloc, notes, before as u64 + 1, *ended)?;
+        push_runner(alloc, labels, notes, before as u64 + 1, *ended)?;
     }
     Ok(())
 }
@@ -155,10 +159,11 @@ fn end_note(alloc: Global, revision: u64, entries: u64) -> Result<Sequence<u8>, 
 pub(crate) fn notes_of(
     alloc: Global,
     most: u32,
+    labels: &[RunnerLabel],
     world: &World,
     replies: &[Result<Reply, Denied>],
 ) -> Result<Vec<Sequence<u8>>, AllocError>
-    ensures { IfOk result (λ notes. notes.items ≡ notes_of most world.now replies.now) }
+    ensures { IfOk result (λ notes. notes.items ≡ notes_of most labels.now world.now replies.now) }
 {
     let present = present_keys(alloc, world.store().keys())?;
     let ended = ended_after(alloc, replies)?;
@@ -166,6 +171,6 @@ pub(crate) fn notes_of(
     push_keys(alloc, most, &mut notes, world.store(), present.as_slice())?;
     let revision = world.store().keys().revision();
     notes.push(end_note(alloc, revision, world.history().len() as u64)?)?;
-    push_unfinished(alloc, &mut notes, ended.as_slice())?;
+    push_unfinished(alloc, labels, &mut notes, ended.as_slice())?;
     Ok(notes)
 }

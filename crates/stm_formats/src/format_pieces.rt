@@ -2,15 +2,13 @@
 ghost use Rattle.std.specs.Prelude.{◌≡◌, ◌++◌, ◌<◌, ◌≤◌, ◌^◌, drop, get_or, decimal, replicate, length, map, take, IfOk, OnOk};
 ghost use Rattle.stm_formats.specs.FormatShown.{front, back, byte_text, coded, cut, digit, from_character, hidden, hidden_from, is_unseen, is_unseen_pair, shown_after, spelled, is_continuation};
 ghost use Rattle.stm_formats.specs.FormatEscaped.{entity, escaped};
-ghost use Rattle.stm_formats.specs.FormatPieces.{joined, padded, title, tag_text, piece_text};
+ghost use Rattle.stm_formats.specs.FormatPieces.{joined, padded, tag_text, piece_text};
 
+use crate::format_label::MOST_COLUMNS;
 use crate::format_row::Lane;
 use itoa::Buffer;
 use std::alloc::{AllocError, Global};
 use stm_history::Sequence;
-
-/// So many columns a report has for runners at most. All runners from this number on stand in the last one, each row with its runner's number.
-pub(crate) const MOST_COLUMNS: u64 = 9;
 
 /// A value or a message of more bytes than this is shown without its middle, where no width says otherwise.
 pub(crate) const MOST_SHOWN: u32 = 32;
@@ -32,8 +30,6 @@ pub(crate) enum Piece<'a> {
     Padded(u64),
     /// So many spaces.
     Spaces(u64),
-    /// The title of a column.
-    Title(u64),
     /// Which runner a row of the last column is about.
     Tag(Lane),
     /// Bytes as they are.
@@ -258,20 +254,6 @@ fn push_tag(out: &mut Vec<u8>, lane: Lane) -> Result<(), AllocError>
     }
 }
 
-/// Adds the title of a column.
-fn push_title(out: &mut Vec<u8>, column: u64) -> Result<(), AllocError>
-    ensures { OnOk result (out.new.items ≡ out.old.items ++ title column) }
-{
-    if column == 0 {
-        return out.extend_from_slice(b"store");
-    }
-    if column >= MOST_COLUMNS {
-        return out.extend_from_slice(b"others");
-    }
-    out.extend_from_slice(b"runner ")?;
-    push_number(out, column)
-}
-
 /// Adds a byte as XML has it in a text.
 fn push_entity(out: &mut Vec<u8>, byte: u8) -> Result<(), AllocError>
     ensures { OnOk result (out.new.items ≡ out.old.items ++ entity byte) }
@@ -311,7 +293,6 @@ fn push_piece(out: &mut Vec<u8>, piece: Piece<'_>) -> Result<(), AllocError>
         Piece::Source(most, bytes) => push_cut(out, false, most as usize + most as usize, bytes),
         Piece::Number(number) => push_number(out, number),
         Piece::Padded(number) => push_padded(out, number),
-        Piece::Title(column) => push_title(out, column),
         Piece::Spaces(count) => push_spaces(out, count),
         Piece::Tag(lane) => push_tag(out, lane),
         Piece::Raw(bytes) => out.extend_from_slice(bytes),

@@ -47,7 +47,11 @@ fn second_line(alloc: Global, text: &[u8]) -> Result<Vec<u8>, AllocError>
 }
 
 /// A source on one line, after two spaces, where there is one.
-fn source_words(alloc: Global, most: u32, source: &[u8]) -> Result<Sequence<u8>, AllocError>
+pub(crate) fn source_words(
+    alloc: Global,
+    most: u32,
+    source: &[u8],
+) -> Result<Sequence<u8>, AllocError>
     ensures { IfOk result (λ words. words ≡ source_words most source.now) }
 {
     if source.is_empty() {

@@ -1,15 +1,15 @@
 //! What a row says of an event and its reply.
-ghost use Rattle.std.specs.Prelude.{◌≡◌, ◌++◌, [], ◌∷◌, codes, IfOk, OnOk};
+ghost use Rattle.std.specs.Prelude.{◌≡◌, ◌++◌, [], ◌∷◌, codes, option_map, IfOk, OnOk};
 ghost use Rattle.stm_texts.specs.Grammar.{level_text};
-ghost use Rattle.stm_formats.specs.FormatWords.{named_words, reported_words, changed_words, start_words, link, seen_words, as_of, fetched_words, counted_read};
+ghost use Rattle.stm_formats.specs.FormatWords.{named_words, reported_words, changed_words, called_words, start_words, link, seen_words, as_of, fetched_words, counted_read};
 ghost use Rattle.stm_formats.specs.FormatWords.{reads_after, listed_words, attempt_words, commit_words, compared_words, compared_by, failed_word, at_words, txn_words, revoked_words};
 ghost use Rattle.stm_formats.specs.FormatPieces.{joined};
-ghost use Rattle.stm_formats.specs.FormatSource.{program_words};
 ghost use Rattle.stm_formats.specs.FormatWords.{advanced_words, batch_words, lost_words, reply_words, asked_word, refused_words, told_words, words_of};
 
 use crate::format_changes::{MOST_CHANGES, between, changed_since, known_words};
+use crate::format_label::{RunnerLabel, program_of};
 use crate::format_pieces::{Piece, push_pieces, said};
-use crate::format_source::{compare_words, program_words};
+use crate::format_source::{compare_words, program_words, source_words};
 use std::alloc::{AllocError, Global};
 use stm_events::{EventRefusal, KeyRead};
 use stm_history::Sequence;
@@ -59,16 +59,33 @@ fn changed(alloc: Global, word: &str, revision: u64) -> Result<Sequence<u8>, All
     said(alloc, &pieces)
 }
 
-/// The words of a start of a program at a level.
+/// What a runner was started with: its program with the arguments, as the source has them, or the first line of its program.
+fn called_words(
+    alloc: Global,
+    most: u32,
+    call: Option<&str>,
+    program: &Program,
+) -> Result<Sequence<u8>, AllocError>
+    ensures { IfOk result (λ words. words ≡ called_words most (option_map (λ c. c.now) call.entry) program.now) }
+{
+    match call {
+        None => program_words(alloc, most, program),
+        Some(call) => source_words(alloc, most, call.as_bytes()),
+    }
+}
+
+/// The words of a start of a program at a level, with what it is called.
 fn begun(
     alloc: Global,
     most: u32,
+    call: Option<&str>,
     program: &Program,
     level: Level,
 ) -> Result<Sequence<u8>, AllocError>
-    ensures { IfOk result (λ words. words ≡ joined (codes "start " ∷ level_text level ∷ program_words most program.now ∷ [])) }
+    ensures { IfOk result (λ words. words
+        ≡ joined (codes "start " ∷ level_text level ∷ called_words most (option_map (λ c. c.now) call.entry) program.now ∷ [])) }
 {
-    let source = program_words(alloc, most, program)?;
+    let source = called_words(alloc, most, call, program)?;
     let pieces = [
         Piece::Say("start "),
         Piece::Say(level_name(level)),
@@ -77,12 +94,20 @@ fn begun(
     said(alloc, &pieces)
 }
 
-/// The words of a start.
-fn started(alloc: Global, most: u32, event: &WorldEvent) -> Result<Sequence<u8>, AllocError>
-    ensures { IfOk result (λ words. words ≡ start_words most event.now) }
+/// The words of the start of a runner.
+fn started(
+    alloc: Global,
+    most: u32,
+    labels: &[RunnerLabel],
+    runner: u64,
+    event: &WorldEvent,
+) -> Result<Sequence<u8>, AllocError>
+    ensures { IfOk result (λ words. words ≡ start_words most labels.now runner event.now) }
 {
     match event {
-        WorldEvent::Start { program, level, .. } => begun(alloc, most, program, *level),
+        WorldEvent::Start { program, level, .. } => {
+            begun(alloc, most, program_of(labels, runner), program, *level)
+        }
         _ => said(alloc, &[Piece::Say("start")]),
     }
 }
@@ -358,14 +383,15 @@ fn lost(alloc: Global, watcher: u64, floor: u64) -> Result<Sequence<u8>, AllocEr
 fn taken_words(
     alloc: Global,
     most: u32,
+    labels: &[RunnerLabel],
     keys: &Keys,
     event: &WorldEvent,
     reply: &Reply,
 ) -> Result<Sequence<u8>, AllocError>
-    ensures { IfOk result (λ words. words ≡ reply_words most keys.now.history event.now reply.now) }
+    ensures { IfOk result (λ words. words ≡ reply_words most labels.now keys.now.history event.now reply.now) }
 {
     match reply {
-        Reply::Started { .. } => started(alloc, most, event),
+        Reply::Started { runner } => started(alloc, most, labels, *runner, event),
         Reply::Prefetched {
             revision,
             reads,
@@ -463,14 +489,15 @@ fn refused(
 fn told_words(
     alloc: Global,
     most: u32,
+    labels: &[RunnerLabel],
     keys: &Keys,
     event: &WorldEvent,
     reply: &Result<Reply, Denied>,
 ) -> Result<Sequence<u8>, AllocError>
-    ensures { IfOk result (λ words. words ≡ told_words most keys.now.history event.now reply.now) }
+    ensures { IfOk result (λ words. words ≡ told_words most labels.now keys.now.history event.now reply.now) }
 {
     match reply {
-        Ok(reply) => taken_words(alloc, most, keys, event, reply),
+        Ok(reply) => taken_words(alloc, most, labels, keys, event, reply),
         Err(denied) => refused(alloc, most, event, denied.cause),
     }
 }
@@ -480,14 +507,15 @@ fn told_words(
 pub(crate) fn words_of(
     alloc: Global,
     most: u32,
+    labels: &[RunnerLabel],
     keys: &Keys,
     before: u64,
     event: &WorldEvent,
     reply: &Result<Reply, Denied>,
 ) -> Result<Sequence<u8>, AllocError>
-    ensures { IfOk result (λ words. words ≡ words_of most keys.now.history before event.now reply.now) }
+    ensures { IfOk result (λ words. words ≡ words_of most labels.now keys.now.history before event.now reply.now) }
 {
-    let told = told_words(alloc, most, keys, event, reply)?;
+    let told = told_words(alloc, most, labels, keys, event, reply)?;
     let changed = changed_since(alloc, most, keys, before, counter_after(before, reply))?;
     said(
         alloc,

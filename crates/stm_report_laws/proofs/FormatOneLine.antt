@@ -21,18 +21,21 @@ use Rattle.stm_events.specs.declared.refusal.Denied.{Denied}
 use Rattle.stm_events.specs.declared.refusal.EventRefusal.{EventRefusal}
 use Rattle.stm_events.specs.Names.{refusal_name}
 use Rattle.stm_meaning.specs.Faults.{fault_name}
+use Rattle.stm_program.specs.Syntax.{ProgramTree}
+use Rattle.stm_formats.specs.declared.format_label.RunnerLabel.{RunnerLabel}
+use Rattle.stm_formats.specs.FormatLabels.{program_of}
 use Rattle.stm_formats.specs.declared.format_row.Lane.{Lane}
 use Rattle.stm_formats.specs.declared.format_row.Lane.TheVariants.{Store, Runner}
 use Rattle.stm_formats.specs.FormatShown.{shown, source_shown, plain, hidden, hidden_from, digit, coded, byte_text, shown_after, front, back}
 use Rattle.stm_formats.specs.FormatPieces.{joined, padded, tag_text}
 use Rattle.stm_program_source.specs.Program.{shown_body}
 use Rattle.stm_show.specs.Transactions.{shown_compares}
-use Rattle.stm_formats.specs.FormatSource.{line_after, source_words, program_words}
+use Rattle.stm_formats.specs.FormatSource.{line_after, source_words}
 use Rattle.stm_events.specs.declared.reply.KeyRead.{KeyRead}
 use Rattle.stm_reasons.specs.Counters.{counter_after}
 use Rattle.stm_reasons.specs.Causes.{state_by}
 use Rattle.stm_formats.specs.FormatChanges.{state_words, known_words, change_words, between, counted_change, changes_after, revision_words, changed_since}
-use Rattle.stm_formats.specs.FormatWords.{named_words, reported_words, start_words, link, seen_words, as_of, fetched_words, counted_read, reads_after, listed_words}
+use Rattle.stm_formats.specs.FormatWords.{named_words, reported_words, called_words, start_words, link, seen_words, as_of, fetched_words, counted_read, reads_after, listed_words}
 use Rattle.stm_formats.specs.FormatWords.{attempt_words, commit_words, compared_words, compared_by, failed_word, at_words, txn_words, revoked_words, changed_words, advanced_words, batch_words}
 use Rattle.stm_formats.specs.FormatWords.{lost_words, asked_word, refused_words, reply_words, told_words, words_of}
 use Rattle.stm_formats.specs.FormatRows.{lane_of, row_of, rows_of}
@@ -135,11 +138,15 @@ source_words_without : (most : ℕ) (source : List ℕ) → has 10 (source_words
 source_words_without most [] = refl
 source_words_without most (b ∷ bs) = joined_without (codes "  " ∷ source_shown most (b ∷ bs) ∷ []) (refl, (source_without most (b ∷ bs), tt))
 
-start_without : (most : ℕ) (e : WorldEvent) → has 10 (start_words most e) ≡ false
-start_without most (event.Start program level limit) =
-    joined_without (codes "start " ∷ level_text level ∷ program_words most program ∷ [])
-    (refl, (level_without level, (source_words_without most (line_after 0 (shown_body program)), tt)))
-start_without most _ = refl
+called_without : (most : ℕ) (call : Option (List ℕ)) (program : ProgramTree) → has 10 (called_words most call program) ≡ false
+called_without most None program = source_words_without most (line_after 0 (shown_body program))
+called_without most (Some call) program = source_words_without most call
+
+start_without : (most : ℕ) (labels : List RunnerLabel) (runner : ℕ) (e : WorldEvent) → has 10 (start_words most labels runner e) ≡ false
+start_without most labels runner (event.Start program level limit) =
+    joined_without (codes "start " ∷ level_text level ∷ called_words most (program_of labels runner) program ∷ [])
+    (refl, (level_without level, (called_without most (program_of labels runner) program, tt)))
+start_without most labels runner _ = refl
 
 asked_without : (e : WorldEvent) → has 10 (asked_word e) ≡ false
 asked_without (event.Start program level limit) = refl
@@ -297,35 +304,35 @@ refused_without most e cause =
     joined_without (codes "REFUSED " ∷ asked_word e ∷ codes ": " ∷ shown most (refusal_name cause) ∷ [])
     (refl, (asked_without e, (refl, (shown_without most (refusal_name cause), tt))))
 
-reply_without : (most : ℕ) (h : History) (e : WorldEvent) (reply : Reply) → has 10 (reply_words most h e reply) ≡ false
-reply_without most h e (Started runner) = start_without most e
-reply_without most h e (Prefetched runner revision reads) = listed_without most h revision reads
-reply_without most h e (Fetched runner key mod_rev of_rev revision) = fetched_without most h key mod_rev of_rev revision
-reply_without most h e (Committed runner revision attempts output trace answers) = commit_without revision attempts
-reply_without most h e (Conflict runner key seen now) = compared_without most h (codes "CONFLICT") key seen now refl
-reply_without most h e (GaveUp runner attempts key seen now) = compared_without most h (codes "GAVE UP") key seen now refl
-reply_without most h e (Aborted runner text) = reported_without most (codes "ABORT") text refl
-reply_without most h e (Faulted runner fault) = reported_without most (codes "FAULT") (fault_name fault) refl
-reply_without most h e (Ended runner cause) = reported_without most (codes "ENDED") (refusal_name cause) refl
-reply_without most h e (Txn succeeded revision answers) = txn_without most e succeeded revision
-reply_without most h e (Granted id) = named_without (codes "grant") id refl
-reply_without most h e (Kept id) = named_without (codes "keep") id refl
-reply_without most h e (Revoked id revision) = revoked_without id revision
-reply_without most h e (Advanced now expired) = advanced_without now (length expired)
-reply_without most h e (Compacted revision) = compacted_without revision
-reply_without most h e (Watching watcher) = named_without (codes "watch") watcher refl
-reply_without most h e (Batch watcher upto events) = batch_without watcher (length events) upto
-reply_without most h e (Lost watcher floor) = lost_without watcher floor
-reply_without most h e (Cancelled watcher) = named_without (codes "cancel") watcher refl
+reply_without : (most : ℕ) (labels : List RunnerLabel) (h : History) (e : WorldEvent) (reply : Reply) → has 10 (reply_words most labels h e reply) ≡ false
+reply_without most labels h e (Started runner) = start_without most labels runner e
+reply_without most labels h e (Prefetched runner revision reads) = listed_without most h revision reads
+reply_without most labels h e (Fetched runner key mod_rev of_rev revision) = fetched_without most h key mod_rev of_rev revision
+reply_without most labels h e (Committed runner revision attempts output trace answers) = commit_without revision attempts
+reply_without most labels h e (Conflict runner key seen now) = compared_without most h (codes "CONFLICT") key seen now refl
+reply_without most labels h e (GaveUp runner attempts key seen now) = compared_without most h (codes "GAVE UP") key seen now refl
+reply_without most labels h e (Aborted runner text) = reported_without most (codes "ABORT") text refl
+reply_without most labels h e (Faulted runner fault) = reported_without most (codes "FAULT") (fault_name fault) refl
+reply_without most labels h e (Ended runner cause) = reported_without most (codes "ENDED") (refusal_name cause) refl
+reply_without most labels h e (Txn succeeded revision answers) = txn_without most e succeeded revision
+reply_without most labels h e (Granted id) = named_without (codes "grant") id refl
+reply_without most labels h e (Kept id) = named_without (codes "keep") id refl
+reply_without most labels h e (Revoked id revision) = revoked_without id revision
+reply_without most labels h e (Advanced now expired) = advanced_without now (length expired)
+reply_without most labels h e (Compacted revision) = compacted_without revision
+reply_without most labels h e (Watching watcher) = named_without (codes "watch") watcher refl
+reply_without most labels h e (Batch watcher upto events) = batch_without watcher (length events) upto
+reply_without most labels h e (Lost watcher floor) = lost_without watcher floor
+reply_without most labels h e (Cancelled watcher) = named_without (codes "cancel") watcher refl
 
-told_without : (most : ℕ) (h : History) (e : WorldEvent) (reply : Result Reply Denied) → has 10 (told_words most h e reply) ≡ false
-told_without most h e (Ok reply) = reply_without most h e reply
-told_without most h e (Err denied) = refused_without most e denied.cause
+told_without : (most : ℕ) (labels : List RunnerLabel) (h : History) (e : WorldEvent) (reply : Result Reply Denied) → has 10 (told_words most labels h e reply) ≡ false
+told_without most labels h e (Ok reply) = reply_without most labels h e reply
+told_without most labels h e (Err denied) = refused_without most e denied.cause
 
-words_without : (most : ℕ) (h : History) (before : ℕ) (e : WorldEvent) (reply : Result Reply Denied) → has 10 (words_of most h before e reply) ≡ false
-words_without most h before e reply =
-    joined_without (told_words most h e reply ∷ changed_since most h before (counter_after before reply) ∷ [])
-    (told_without most h e reply, (changed_without most h before (counter_after before reply), tt))
+words_without : (most : ℕ) (labels : List RunnerLabel) (h : History) (before : ℕ) (e : WorldEvent) (reply : Result Reply Denied) → has 10 (words_of most labels h before e reply) ≡ false
+words_without most labels h before e reply =
+    joined_without (told_words most labels h e reply ∷ changed_since most h before (counter_after before reply) ∷ [])
+    (told_without most labels h e reply, (changed_without most h before (counter_after before reply), tt))
 
 -- ---- a row
 
@@ -367,26 +374,26 @@ count-append : (xs ys : List ℕ) → count 10 (xs ++ ys) ≡ count 10 xs + coun
 count-append [] ys = omega arith
 count-append (x ∷ xs) ys = ap (λ (n : ℕ). cond (nat_eq x 10) (n + 1) n) (count-append xs ys) ∙ line_by (nat_eq x 10) (count 10 xs) (count 10 ys)
 
-one_line : (most : ℕ) (places : List ℕ) (n : ℕ) (h : History) (before : ℕ) (e : WorldEvent) (reply : Result Reply Denied) → count 10 (row_text places (row_of most h before n e reply)) ≡ 1
-one_line most places n h before e reply =
+one_line : (most : ℕ) (labels : List RunnerLabel) (places : List ℕ) (n : ℕ) (h : History) (before : ℕ) (e : WorldEvent) (reply : Result Reply Denied) → count 10 (row_text places (row_of most labels h before n e reply)) ≡ 1
+one_line most labels places n h before e reply =
     let at : ℕ = 2 + place places (column (lane_of e reply)) in
     let indent = spaces at in
     let end : List ℕ = codes "\n" ++ [] in
-    count-before (padded n) (indent ++ (tag_text (lane_of e reply) ++ (words_of most h before e reply ++ end)))
+    count-before (padded n) (indent ++ (tag_text (lane_of e reply) ++ (words_of most labels h before e reply ++ end)))
     (has-append 10 (spaces (6 - length (decimal n))) (decimal n) (spaces_without (6 - length (decimal n))) (decimal_without n))
-    ∙ count-before indent (tag_text (lane_of e reply) ++ (words_of most h before e reply ++ end)) (spaces_without at)
-    ∙ count-before (tag_text (lane_of e reply)) (words_of most h before e reply ++ end) (tag_without (lane_of e reply))
-    ∙ count-before (words_of most h before e reply) end (words_without most h before e reply)
+    ∙ count-before indent (tag_text (lane_of e reply) ++ (words_of most labels h before e reply ++ end)) (spaces_without at)
+    ∙ count-before (tag_text (lane_of e reply)) (words_of most labels h before e reply ++ end) (tag_without (lane_of e reply))
+    ∙ count-before (words_of most labels h before e reply) end (words_without most labels h before e reply)
 
 one_more : (m : ℕ) → 1 + m ≡ suc m
 one_more m = omega arith
 
 pub one_line_a_row : OneLineARow
-one_line_a_row most places n h before [] replies = refl
-one_line_a_row most places n h before (e ∷ es) [] = refl
-one_line_a_row most places n h before (e ∷ es) (r ∷ rs) =
-    let rest = rows_of most h (counter_after before r) (suc n) es rs in
-    count-append (row_text places (row_of most h before n e r)) (rows_text places rest)
-    ∙ ap (λ (m : ℕ). m + count 10 (rows_text places rest)) (one_line most places n h before e r)
-    ∙ ap (λ (m : ℕ). 1 + m) (one_line_a_row most places (suc n) h (counter_after before r) es rs)
+one_line_a_row most labels places n h before [] replies = refl
+one_line_a_row most labels places n h before (e ∷ es) [] = refl
+one_line_a_row most labels places n h before (e ∷ es) (r ∷ rs) =
+    let rest = rows_of most labels h (counter_after before r) (suc n) es rs in
+    count-append (row_text places (row_of most labels h before n e r)) (rows_text places rest)
+    ∙ ap (λ (m : ℕ). m + count 10 (rows_text places rest)) (one_line most labels places n h before e r)
+    ∙ ap (λ (m : ℕ). 1 + m) (one_line_a_row most labels places (suc n) h (counter_after before r) es rs)
     ∙ one_more (length rest)

@@ -9,7 +9,8 @@ use std::io;
 use std::io::Input;
 use std::rt::Files;
 use stm_commands::{
-    Format, KeptSource, Std, check_explained_to, check_whole_explained_to, script_explained_to,
+    Format, KeptSource, RunnerLabel, Std, check_explained_to, check_whole_explained_to,
+    script_explained_to,
 };
 use stm_explain::is_hidden;
 use stm_exploring::{Level, Question, Wait, explore_explained_to, outcomes_explained_to};
@@ -67,11 +68,16 @@ pub(crate) fn say_unwritten(rt: &HostRuntime, failure: Option<io::Error>) {
 }
 
 /// Runs a scenario.
-pub(crate) fn run_script(rt: &HostRuntime, scenario: &JsonFile<'_>, format: Format) -> u8 {
+pub(crate) fn run_script(
+    rt: &HostRuntime,
+    scenario: &JsonFile<'_>,
+    format: Format,
+    labels: &[RunnerLabel],
+) -> u8 {
     let mut input = kept_json(rt, scenario);
     let mut out = Std::new(Noting::new(rt.stdout()));
     let mut err = Std::new(rt.stderr());
-    let status = script_explained_to(rt.alloc(), format, &mut input, &mut out, &mut err);
+    let status = script_explained_to(rt.alloc(), format, labels, &mut input, &mut out, &mut err);
     say_unread(rt, input.name, input.source.device.failure);
     say_unwritten(rt, out.device.failure);
     status

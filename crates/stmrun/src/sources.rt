@@ -4,12 +4,13 @@ ghost use Rattle.std.specs.Prelude.{◌≡◌, false};
 use crate::explaining::{name_of, say_unread, say_unwritten};
 use crate::files::{Opened, open, open_beside};
 use crate::noting::Noting;
+use std::alloc::{AllocError, Global};
 use std::io::Input;
 use std::rt::Files;
-use stm_commands::Std;
+use stm_commands::{RunnerLabel, Std};
 use stm_compiling::{
-    Beside, Compiled, NamedRunner, Part, Rule, Wait, compile_to, compiled, compiled_part,
-    named_runners, notes_of,
+    Beside, CalledRunner, Compiled, NamedRunner, Part, Rule, Wait, called_runners, compile_to,
+    compiled, compiled_part, named_runners, notes_of,
 };
 use stm_devices::{ReadFault, read_all};
 use stm_history::{Sequence, Text};
@@ -183,6 +184,42 @@ pub(crate) fn text_at(rt: &HostRuntime, path: &str, beside: &Beside) -> Option<S
     let runners = named_runners(rt.alloc(), bytes.as_slice(), beside).ok()?;
     let text = String::from_utf8(bytes).ok()?;
     Some(SourceText { text, runners })
+}
+
+/// The labels of runners that are called so.
+fn labels_of(alloc: Global, called: Vec<CalledRunner>) -> Result<Vec<RunnerLabel>, AllocError> {
+    let mut labels = Vec::new(alloc);
+    for runner in called {
+        let CalledRunner { name, program } = runner;
+        labels.push(RunnerLabel { name, program })?;
+    }
+    Ok(labels)
+}
+
+/// What the source of a path calls its runners: nothing, where it is no source, or cannot be read again.
+fn read_labels(rt: &HostRuntime, path: &str) -> Result<Vec<RunnerLabel>, AllocError> {
+    let mut input = Std::new(open(rt, path));
+    let Ok(bytes) = read_all(rt.alloc(), &mut input) else {
+        return Ok(Vec::new(rt.alloc()));
+    };
+    let called = called_runners(rt.alloc(), front_of(bytes.as_slice()))?;
+    labels_of(rt.alloc(), called)
+}
+
+/// What the source of a path calls the runners of its scenario, which was read; or the status, once it was said that memory ran out. What has no path is
+/// not read again, and JSON has no names.
+pub(crate) fn labels_at(
+    rt: &HostRuntime,
+    path: &str,
+    scenario: &JsonFile<'_>,
+) -> Result<Vec<RunnerLabel>, u8> {
+    match scenario {
+        JsonFile::Compiled(_, _) if path != STANDARD => match read_labels(rt, path) {
+            Ok(labels) => Ok(labels),
+            Err(_) => Err(out_of_memory(rt)),
+        },
+        _ => Ok(Vec::new(rt.alloc())),
+    }
 }
 
 /// The rules of the source of a path; or the status, once what is wrong with it was said. It is explained, or is not.

@@ -38,7 +38,7 @@ pub fn script_explained(alloc: Global, scenario: &[u8]) -> Left {
     let mut input = KeptSource::new(alloc, "s.json", source);
     let mut out = Std::new(writer_of(alloc, NONE.out));
     let mut err = Std::new(writer_of(alloc, NONE.err));
-    let status = script_explained_to(alloc, Format::Lines, &mut input, &mut out, &mut err);
+    let status = script_explained_to(alloc, Format::Lines, &[], &mut input, &mut out, &mut err);
     let reads = input.source.device.calls;
     Left {
         status,

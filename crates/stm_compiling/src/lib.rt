@@ -10,6 +10,7 @@ mod command;
 mod explaining;
 mod fault;
 mod kept;
+mod labels;
 mod line;
 mod misfits;
 mod naming;
@@ -24,6 +25,7 @@ mod whole;
 
 pub use command::{compile_to, compiled, compiled_part};
 pub use kept::{kept_text, spells};
+pub use labels::{CalledRunner, called_runners};
 pub use notes::notes_of;
 pub use part::{Part, Printed};
 pub use runners::{NamedRunner, name_of_runner, named_runners};

@@ -4,7 +4,7 @@ ghost use Rattle.stm_schedules.specs.Outcomes.{Ends};
 ghost use Rattle.stm_schedules.specs.Places.{Place};
 ghost use Rattle.stm_explore.specs.declared.waits.Wait.{Wait};
 ghost use Rattle.stm_exploring.specs.declared.rules.Rule.{Rule as RuleValue};
-ghost use Rattle.stm_exploring.specs.Judging.{AreFoundFrom, AreFoundWhen};
+ghost use Rattle.stm_exploring.specs.Judging.{AreFoundEach, AreFoundFrom};
 
 use crate::judging::Answer;
 use crate::rules::{Rule, RuleAnswer, copy_of};
@@ -34,7 +34,7 @@ pub(crate) fn push_answers(
     requires when { All (λ (rule : RuleValue). rule.when ≡ when) rules.now }
     requires each { length found.items ≡ length rules.now }
     ensures { OnOk result ((waits : List Wait) (p : Place) (ends : Ends) (before : List RuleValue)
-        → AreFoundWhen when waits (map (λ (rule : RuleValue). rule.program) rules.now) p ends found.items
+        → AreFoundEach when waits (map (λ (rule : RuleValue). rule.program) rules.now) p ends found.items
         → AreFoundFrom waits before p ends answers.old.items → AreFoundFrom waits (before ++ rules.now) p ends answers.new.items) }
 {
     let mut index = 0;

@@ -4,7 +4,7 @@ use Rattle.std.specs.List.{AllZip}
 use Rattle.std.specs.Option.{option_to_list}
 use Rattle.std.specs.Prelude.{IfSome, Option, None, Some}
 use Rattle.std.proofs.Math.Seq.{take-suc, drop-cons}
-use Rattle.std.proofs.lemmas.List.{map-append}
+use Rattle.std.proofs.lemmas.List.{get_or-drop, get_or-take, length-drop, length-take-le, map-append}
 use Rattle.std.proofs.lemmas.List.Elements.{All-push}
 use Rattle.stm_program.specs.Syntax.{ProgramTree}
 use Rattle.stm_schedules.specs.Outcomes.{Ends}
@@ -167,3 +167,12 @@ joined_parts xs i j within = let e : i + (j - i) ≡ j = omega (arith, within) i
     parts [] (suc i) zero = refl
     parts [] (suc i) (suc n) = refl
     parts (x ∷ xs) (suc i) n = ap (λ ys. x ∷ ys) (parts xs i n)
+
+-- those from one up to another one, of each of which it is so
+pub group_asked : (when : When) (rules : List Rule) (i j : ℕ) → j ≤ length rules → ((k : ℕ) → k < j → (d : Rule) → i ≤ k → (get_or rules k d).when ≡ when) →
+    All (λ (r : Rule). r.when ≡ when) (take (j - i) (drop i rules))
+group_asked when rules i j within asked = λ k d there.
+    let short : length (take (j - i) (drop i rules)) ≡ j - i =
+    length-take-le (j - i) (drop i rules) (let left = length-drop i rules in omega (arith, left, within)) in
+    let below : k < j - i = omega (arith, short, there) in
+    ap (λ (r : Rule). r.when) (get_or-take (j - i) (drop i rules) k d below ∙ get_or-drop i rules k d) ∙ asked (i + k) (omega (arith, below)) d (omega arith)

@@ -1,5 +1,5 @@
 //! Rules that stand side by side and are asked at the same places: one walk is enough for them.
-ghost use Rattle.std.specs.Prelude.{◌≡◌, ◌≢◌, ◌<◌, ◌≤◌, ◌-◌, ◌++◌, true, false, List, length, map, take, drop, get_or, All, IfOk, OnOk};
+ghost use Rattle.std.specs.Prelude.{◌≡◌, ◌<◌, ◌≤◌, ◌-◌, ◌++◌, ℕ, true, List, length, map, take, drop, get_or, All, IfOk, OnOk};
 ghost use Rattle.stm_schedules.specs.Outcomes.{Ends};
 ghost use Rattle.stm_schedules.specs.Places.{Place};
 ghost use Rattle.stm_explore.specs.declared.waits.Wait.{Wait};
@@ -48,8 +48,7 @@ pub(crate) fn push_answers(
 
 /// Whether rules are asked at the same places.
 fn is_same(left: When, right: When) -> bool
-    ensures yes { result ≡ true → left ≡ right }
-    ensures no { result ≡ false → left ≢ right }
+    ensures { result ≡ true → left ≡ right }
 {
     match (left, right) {
         (When::Each, When::Each) | (When::Last, When::Last) => true,
@@ -57,18 +56,28 @@ fn is_same(left: When, right: When) -> bool
     }
 }
 
-/// Where the first rule stands, from this one on, that is not asked then; behind the last one, where all are.
+/// Where the first rule stands, behind this one, that is not asked then, as this one is; behind the last one, where all are.
 pub(crate) fn end_of_group(rules: &[Rule], from: usize, when: When) -> usize
-    requires { from ≤ length rules.now }
-    ensures behind { from ≤ result }
+    requires within { from < length rules.now }
+    requires first { (d : RuleValue) → (get_or rules.now from d).when ≡ when }
+    ensures further { from < result }
     ensures within { result ≤ length rules.now }
-    ensures asked { All (λ (rule : RuleValue). rule.when ≡ when) (take (result - from) (drop from rules.now)) }
-    ensures further { (d : RuleValue) → from < length rules.now → (get_or rules.now from d).when ≡ when → from < result }
+    ensures asked { (k : ℕ) → k < result → (d : RuleValue) → from ≤ k → (get_or rules.now k d).when ≡ when }
 {
-    for index in from..rules.len() {
+    for index in from + 1..rules.len() {
         if !is_same(rules[index].when, when) {
             return index;
         }
     }
     rules.len()
+}
+
+/// The rules from this one up to another one.
+pub(crate) fn group_of(rules: &[Rule], from: usize, end: usize) -> &[Rule]
+    requires behind { from ≤ end }
+    requires within { end ≤ length rules.now }
+    ensures { result.now ≡ take (end - from) (drop from rules.now) }
+{
+    let left = &rules[from..];
+    &left[..end - from]
 }

@@ -13,7 +13,7 @@ ghost use Rattle.stm_exploring.specs.Judging.{AreAnswers, AreFound, AreFoundBesi
 use crate::accounts::tell_account;
 use crate::audience::{Audience, tell_parts};
 use crate::faulted::tell_faults;
-use crate::grouping::{asked_by, end_of_group, push_answers};
+use crate::grouping::{asked_by, end_of_group, group_of, push_answers};
 use crate::judging::{Answer, judge_comparing, judge_schedules};
 use crate::printed::Printed;
 use crate::printing::print;
@@ -160,7 +160,7 @@ fn judge_rules<O: Observer>(
         }
         let when = rules[done].when;
         let end = end_of_group(rules, done, when);
-        let group = &rules[done..end];
+        let group = group_of(rules, done, end);
         judge_group(
             alloc,
             world,

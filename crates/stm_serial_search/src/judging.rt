@@ -63,7 +63,8 @@ fn push_undecided(
     match judged {
         Judged::Undecided => {
             let copy = rule.clone()?;
-            left.push(copy)
+            left.push(copy)?;
+            Ok(())
         }
         Judged::Always | Judged::Broken(_) | Judged::NotAsked => Ok(()),
     }

@@ -1,6 +1,5 @@
 -- Runs of jobs over the store of a world.
 use Rattle.std.proofs.Common.{◌≡◌, ◌⊎◌, ⊎_elim, ℕ, ◌+◌, ◌<◌, ◌≤◌, sym, ap, ◌∙◌, subst, arith}
-use Rattle.std.specs.FinMap as finmap
 use Rattle.std.proofs.lemmas.Bool.{cases_order}
 use Rattle.stm_history.specs.History.{History, now}
 use Rattle.stm_keys.specs.declared.event.Event.{Event}
@@ -29,12 +28,11 @@ one_more since last h g so_far same r above within =
 
 -- two stores whose histories are these
 pub alike : (since : ℕ) (s t : Standing) (h g : History) → h ≡ s.history → g ≡ t.history → now h ≡ now g → AreSameUpTo since (now h) h g → s.moment ≡ t.moment
-    → finmap.len s.live ≡ finmap.len t.live → AreAlikeSince since s t
-alike since s t h g is_h is_g reached events moment leases = record {
+    → AreAlikeSince since s t
+alike since s t h g is_h is_g reached events moment = record {
   reached = sym (ap now is_h) ∙ reached ∙ ap now is_g;
   events =
       subst (λ (k : History). AreSameUpTo since (now s.history) s.history k) is_g
       (subst (λ (k : History). AreSameUpTo since (now k) k g) is_h events);
   moment = moment;
-  leases = leases;
 }

@@ -3,7 +3,6 @@
 --
 -- That the calls of a scenario are made before its jobs is `stm_job_texts`'; that a store is kept as what it was asked is our own.
 use Rattle.std.specs.Prelude.{◌≡◌, ◌<◌, ◌≤◌, ℕ, List, map, length, Bool, Option, Ok}
-use Rattle.std.specs.FinMap as finmap
 use Rattle.std.specs.Io.KnownBytes.{Appends}
 use Rattle.stm_history.specs.History.{History, now}
 use Rattle.stm_keys.specs.Events.{events_of}
@@ -41,14 +40,14 @@ event_of (Keep id) = event.Keep id
 event_of (Revoke id) = event.Revoke id
 event_of (Advance moment) = event.Advance moment
 
--- Two stores are alike that were the same at a revision: the same has happened in both since, they are at the same moment, and have as many leases.
+-- Two stores are alike that were the same at a revision: the same has happened in both since, and they are at the same moment.
 pub record AreAlikeSince (since : ℕ) (s t : Standing) : Type 0 where
   pub reached : now s.history ≡ now t.history
   pub events : (r : ℕ) → since < r → r ≤ now s.history → events_of s.history r ≡ events_of t.history r
   pub moment : s.moment ≡ t.moment
-  pub leases : finmap.len s.live ≡ finmap.len t.live
 
--- Jobs were run over the store of a world that has taken these calls; these lines show what came of it; and the store that is left is alike.
+-- Jobs were run over the store of a world that has taken these calls; these lines show what came of it; and the store that is left is alike, and has the
+-- leases that live after the calls.
 pub record HasRunOver (shown : Bool) (calls : List WorldEvent) (jobs : List Job) (world : World) (ends : List JobEnd) (lines : List ℕ) (left : Standing) : Type 0 where
   pub attempts : List ℕ
   pub committed : ℕ
@@ -56,6 +55,7 @@ pub record HasRunOver (shown : Bool) (calls : List WorldEvent) (jobs : List Job)
   pub ran : RanTo (made_over (kept_of (world_after calls world).standing)) jobs ends attempts committed after
   pub shows : AreLinesOf shown ends attempts (length jobs) committed after.standing.history lines
   pub alike : AreAlikeSince (now (kept_of (world_after calls world).standing).history) after.standing left
+  pub leases : (world_after calls world).standing.live ≡ left.live
 
 -- A scenario of jobs was run over the world that a file leads to, and what the jobs have changed was kept.
 pub record HasRunAndKept (shown : Bool) (mended file : List ℕ) (asked : JobsAsked) (ends : List JobEnd) (lines : List ℕ) : Type 0 where

@@ -25,6 +25,7 @@ use std::alloc::{AllocError, Global};
 use std::mem::replace;
 use std::sync::Wait;
 use std::thread::Threads;
+use stm_alike::leave_same_leases;
 use stm_devices::Sink;
 use stm_hall::Hall;
 use stm_history::Sequence;
@@ -33,16 +34,15 @@ use stm_job_texts::{StoreCall, lines};
 use stm_lasting::{Disk, Kept, RecordFile, World};
 use stm_report::{Opening, Scenario, WorldEvent};
 use stm_texts::opens_with;
-use stm_txn::Store;
 use stm_workers::{NoGate, run_workers};
 
-/// A run of jobs, and the revision of the store before it.
+/// A run of jobs, and the world over whose store they were run.
 #[derive(Drop)]
 struct Ran {
     /// What it came to.
     gathered: Gathered,
-    /// The revision.
-    since: u64,
+    /// The world: it has taken the calls.
+    begun: World,
 }
 
 /// What is printed and kept of a run of jobs.
@@ -107,16 +107,6 @@ fn copy_after(world: &World, events: &[WorldEvent]) -> Result<World, AllocError>
     }
 }
 
-/// The store of a copy of a world, after these events.
-fn store_after(world: &World, events: &[WorldEvent]) -> Result<Store, AllocError>
-    ensures { IfOk result (λ store. store.standing ≡ kept (world_after events.now world.now).standing) }
-{
-    let copy = copy_after(world, events)?;
-    let store = copy.store().copy();
-    drop(copy);
-    store
-}
-
 /// Why a run was broken off. Its hall is dropped.
 fn fault_of(broken: RunFault) -> StoreFault {
     let cause = broken.cause;
@@ -125,6 +115,32 @@ fn fault_of(broken: RunFault) -> StoreFault {
         FaultCause::OutOfMemory => StoreFault::OutOfMemory,
         FaultCause::Spawn => StoreFault::NoThread,
         FaultCause::Audit { job } => StoreFault::Audit(job as u64),
+    }
+}
+
+/// A hall over a copy of the store of a world.
+fn hall_over(alloc: Global, world: &World) -> Result<Hall, AllocError>
+    ensures { IfOk result (λ hall. hall ≡ made_over (kept world.now.standing)) }
+{
+    let store = world.store().copy()?;
+    Ok(Hall::new(alloc, store))
+}
+
+/// Runs jobs over a copy of the store of a world.
+fn gathered_over<R: Threads + Wait + Sync>(
+    rt: &R,
+    alloc: Global,
+    world: &World,
+    jobs: &[Job],
+    workers: usize,
+) -> Result<Gathered, StoreFault>
+    requires workers { (1 ≤ workers) × (workers ≤ MOST_WORKERS) }
+    ensures { IfOk result (λ g. RanTo (made_over (kept world.now.standing)) jobs.now g.ends.items g.attempts.items g.committed g.hall) }
+{
+    let hall = hall_over(alloc, world)?;
+    match run_workers(rt, alloc, jobs, workers, hall, &NoGate) {
+        Ok(gathered) => Ok(gathered),
+        Err(broken) => Err(fault_of(broken)),
     }
 }
 
@@ -138,31 +154,53 @@ fn run_over<R: Threads + Wait + Sync>(
     workers: usize,
 ) -> Result<Ran, StoreFault>
     requires workers { (1 ≤ workers) × (workers ≤ MOST_WORKERS) }
-    ensures ran { IfOk result (λ r. RanTo (made_over (kept (world_after calls.now world.now).standing)) jobs.now r.gathered.ends.items r.gathered.attempts.items
-        r.gathered.committed r.gathered.hall) }
-    ensures since { IfOk result (λ r. r.since ≡ now (kept (world_after calls.now world.now).standing).history) }
+    ensures ran { IfOk result (λ r. RanTo (made_over (kept r.begun.standing)) jobs.now r.gathered.ends.items r.gathered.attempts.items r.gathered.committed
+        r.gathered.hall) }
+    ensures begun { IfOk result (λ r. r.begun ≡ world_after calls.now world.now) }
 {
-    let store = store_after(world, calls)?;
-    let since = store.keys().revision();
-    match run_workers(rt, alloc, jobs, workers, Hall::new(alloc, store), &NoGate) {
-        Ok(gathered) => Ok(Ran { gathered, since }),
-        Err(broken) => Err(fault_of(broken)),
+    let begun = copy_after(world, calls)?;
+    match gathered_over(rt, alloc, &begun, jobs, workers) {
+        Ok(gathered) => Ok(Ran { gathered, begun }),
+        Err(fault) => {
+            drop(begun);
+            Err(fault)
+        }
     }
 }
 
-/// Whether a scenario leads a world to a store that is alike. The world stays as it is.
-fn leads_to(
-    world: &World,
-    scenario: &Scenario,
-    store: &Store,
-    since: u64,
-) -> Result<bool, AllocError>
-    ensures { IfOk result (λ leads. leads ≡ true → AreAlikeSince since store.now.standing (kept (world_after scenario.now.events world.now).standing)) }
+/// Whether two worlds have the same live leases.
+fn have_same_leases(left: &World, right: &World) -> bool
+    ensures { result ≡ true → left.now.standing.live ≡ right.now.standing.live }
 {
-    let left = store_after(world, scenario.events.as_slice())?;
-    let is_alike = are_alike_since(store, &left, since);
+    let opened = left.opened_at();
+    if opened != right.opened_at() {
+        return false;
+    }
+    leave_same_leases(left.history(), right.history())
+}
+
+/// Whether a world has a store that is like the one that a run of jobs has left.
+fn is_left_by(ran: &Ran, left: &World) -> bool
+    ensures alike { result ≡ true → AreAlikeSince (now (kept ran.now.begun.standing).history) ran.now.gathered.hall.standing (kept left.now.standing) }
+    ensures leases { result ≡ true → ran.now.begun.standing.live ≡ left.now.standing.live }
+{
+    if !have_same_leases(&ran.begun, left) {
+        return false;
+    }
+    let since = ran.begun.store().keys().revision();
+    are_alike_since(ran.gathered.hall.store(), left.store(), since)
+}
+
+/// Whether a scenario leads a world to a store that is like the one that a run of jobs has left. The world stays as it is.
+fn leads_to(world: &World, scenario: &Scenario, ran: &Ran) -> Result<bool, AllocError>
+    ensures alike { IfOk result (λ is. is ≡ true → AreAlikeSince (now (kept ran.now.begun.standing).history) ran.now.gathered.hall.standing
+        (kept (world_after scenario.now.events world.now).standing)) }
+    ensures leases { IfOk result (λ is. is ≡ true → ran.now.begun.standing.live ≡ (world_after scenario.now.events world.now).standing.live) }
+{
+    let left = copy_after(world, scenario.events.as_slice())?;
+    let is_left = is_left_by(ran, &left);
     drop(left);
-    Ok(is_alike)
+    Ok(is_left)
 }
 
 /// Whether two scenarios open a store alike.
@@ -174,7 +212,7 @@ fn open_alike(left: Option<Opening>, right: Option<Opening>) -> bool
     left.revision() == right.revision() && left.operations() == right.operations()
 }
 
-/// Whether a scenario opens a store as the jobs' does, and leads a world to a store that is alike.
+/// Whether a scenario opens a store as the jobs' does, and leads a world to a store that is like the one that they have left.
 fn is_like(
     world: &World,
     asked: &JobsAsked,
@@ -182,11 +220,12 @@ fn is_like(
     ran: &Ran,
 ) -> Result<bool, AllocError>
     ensures opens { IfOk result (λ is. is ≡ true → setup_of scenario.now.opening ≡ setup_of asked.now.opening) }
-    ensures alike { IfOk result (λ is. is ≡ true → AreAlikeSince ran.now.since ran.now.gathered.hall.standing
+    ensures alike { IfOk result (λ is. is ≡ true → AreAlikeSince (now (kept ran.now.begun.standing).history) ran.now.gathered.hall.standing
         (kept (world_after scenario.now.events world.now).standing)) }
+    ensures leases { IfOk result (λ is. is ≡ true → ran.now.begun.standing.live ≡ (world_after scenario.now.events world.now).standing.live) }
 {
     if open_alike(scenario.opening, asked.opening) {
-        return leads_to(world, scenario, ran.gathered.hall.store(), ran.since);
+        return leads_to(world, scenario, ran);
     }
     Ok(false)
 }
@@ -202,11 +241,13 @@ fn changes_of(
     ensures spelled { IfOk result (λ made. scenario_in (string_bytes made.0) ≡ OkOf made.1) }
     ensures starts { IfOk result (λ made. IsOpening made.1.opening) }
     ensures opens { IfOk result (λ made. setup_of made.1.opening ≡ setup_of asked.now.opening) }
-    ensures alike { IfOk result (λ made. AreAlikeSince ran.now.since ran.now.gathered.hall.standing
+    ensures alike { IfOk result (λ made. AreAlikeSince (now (kept ran.now.begun.standing).history) ran.now.gathered.hall.standing
         (kept (world_after made.1.events world.now).standing)) }
+    ensures leases { IfOk result (λ made. ran.now.begun.standing.live ≡ (world_after made.1.events world.now).standing.live) }
 {
+    let since = ran.begun.store().keys().revision();
     let keys = ran.gathered.hall.store().keys();
-    let text = changes_text(alloc, asked.opening, calls, keys, ran.since)?;
+    let text = changes_text(alloc, asked.opening, calls, keys, since)?;
     let scenario = read(alloc, text.as_bytes())?;
     let is_same = is_like(world, asked, &scenario, ran)?;
     if is_same {
@@ -228,7 +269,9 @@ fn written_of(
     ensures spelled { IfOk result (λ w. scenario_in (string_bytes w.text) ≡ OkOf w.scenario) }
     ensures starts { IfOk result (λ w. IsOpening w.scenario.opening) }
     ensures opens { IfOk result (λ w. setup_of w.scenario.opening ≡ setup_of asked.now.opening) }
-    ensures alike { IfOk result (λ w. AreAlikeSince ran.now.since ran.now.gathered.hall.standing (kept (world_after w.scenario.events world.now).standing)) }
+    ensures alike { IfOk result (λ w. AreAlikeSince (now (kept ran.now.begun.standing).history) ran.now.gathered.hall.standing
+        (kept (world_after w.scenario.events world.now).standing)) }
+    ensures leases { IfOk result (λ w. ran.now.begun.standing.live ≡ (world_after w.scenario.events world.now).standing.live) }
     ensures shows { IfOk result (λ w. AreLinesOf with_ends ran.now.gathered.ends.items ran.now.gathered.attempts.items (length asked.now.sorted.jobs)
         ran.now.gathered.committed ran.now.gathered.hall.standing.history (string_bytes w.lines)) }
 {
@@ -260,9 +303,9 @@ fn done_of(
     ran: Ran,
     with_ends: bool,
 ) -> Result<Done, StoreFault>
-    requires ran { RanTo (made_over (kept (world_after calls.now world.now).standing)) asked.now.sorted.jobs ran.gathered.ends.items
-        ran.gathered.attempts.items ran.gathered.committed ran.gathered.hall }
-    requires since { ran.since ≡ now (kept (world_after calls.now world.now).standing).history }
+    requires ran { RanTo (made_over (kept ran.begun.standing)) asked.now.sorted.jobs ran.gathered.ends.items ran.gathered.attempts.items ran.gathered.committed
+        ran.gathered.hall }
+    requires begun { ran.begun ≡ world_after calls.now world.now }
     ensures spelled { IfOk result (λ done. scenario_in (string_bytes done.written.text) ≡ OkOf done.written.scenario) }
     ensures starts { IfOk result (λ done. IsOpening done.written.scenario.opening) }
     ensures opens { IfOk result (λ done. setup_of done.written.scenario.opening ≡ setup_of asked.now.opening) }

@@ -1,6 +1,5 @@
 //! Whether the same has happened in two stores.
 ghost use Rattle.std.specs.Prelude.{◌≡◌, ◌↔◌, ◌<◌, ◌≤◌, ℕ, true, IsTrue};
-ghost use Rattle.std.specs.FinMap as finmap;
 ghost use Rattle.stm_history.specs.History.{now};
 ghost use Rattle.stm_keys.specs.Events.{events_of};
 ghost use Rattle.stm_storing.specs.Jobs.{AreAlikeSince};
@@ -42,13 +41,6 @@ fn are_at_one_moment(left: &Store, right: &Store) -> bool
     left.moment() == right.moment()
 }
 
-/// Whether two stores have as many leases.
-fn have_as_many_leases(left: &Store, right: &Store) -> bool
-    ensures { result ≡ true → finmap.len left.now.standing.live ≡ finmap.len right.now.standing.live }
-{
-    left.lease_count() == right.lease_count()
-}
-
 /// Whether two stores are alike that were the same at a revision.
 pub(crate) fn are_alike_since(left: &Store, right: &Store, since: u64) -> bool
     ensures { result ≡ true → AreAlikeSince since left.now.standing right.now.standing }
@@ -59,9 +51,6 @@ pub(crate) fn are_alike_since(left: &Store, right: &Store, since: u64) -> bool
         return false;
     }
     if !are_at_one_moment(left, right) {
-        return false;
-    }
-    if !have_as_many_leases(left, right) {
         return false;
     }
     have_same_events(keys, keys_there, since)

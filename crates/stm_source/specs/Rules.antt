@@ -37,7 +37,7 @@ asked_runners story is_final tokens = if is_final then Some (runners_in story to
 
 abbrev pub rule_look : Constants → Story → Bool → ℕ → List Token → Look
 rule_look constants story is_final at tokens =
-    record { program = at; at_kinds = true; kinds_at = None; runners = asked_runners story is_final tokens; constants = constants }
+    record { program = at; marks = false; at_kinds = true; kinds_at = None; runners = asked_runners story is_final tokens; constants = constants }
 
 abbrev pub asked_by : List Token → Definitions → Story → Bool → ℕ → List Token → Option (List Token) → ReadProgram
 asked_by all definitions story is_final at tokens (Some rest) = asked_by_name all definitions rest (next_name rest)

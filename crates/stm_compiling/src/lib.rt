@@ -14,6 +14,7 @@ mod line;
 mod misfits;
 mod naming;
 mod notes;
+mod other_kinds;
 mod part;
 mod placing;
 mod program;

@@ -3,10 +3,10 @@ ghost use Rattle.std.specs.Prelude.{◌≡◌, false};
 
 use crate::files::{Opened, open};
 use crate::noting::Noting;
-use crate::sources::JsonFile;
+use crate::sources::{Given, JsonFile, runners_of, say_named};
 use crate::terminals::{Told, close, shown_budget};
 use std::io;
-use std::io::Input;
+use std::io::{Input, Write};
 use std::rt::Files;
 use stm_commands::{
     Format, KeptSource, Std, check_explained_to, check_whole_explained_to, script_explained_to,
@@ -66,14 +66,35 @@ pub(crate) fn say_unwritten(rt: &HostRuntime, failure: Option<io::Error>) {
     }
 }
 
-/// Runs a scenario.
-pub(crate) fn run_script(rt: &HostRuntime, scenario: &JsonFile<'_>, format: Format) -> u8 {
+/// Runs a scenario, and says on `err` what is wrong.
+fn script_on<E: Write + Drop>(
+    rt: &HostRuntime,
+    scenario: &JsonFile<'_>,
+    format: Format,
+    err: &mut Std<E>,
+) -> u8
+    requires { err.old.failed ≡ false }
+{
     let mut input = kept_json(rt, scenario);
     let mut out = Std::new(Noting::new(rt.stdout()));
-    let mut err = Std::new(rt.stderr());
-    let status = script_explained_to(rt.alloc(), format, &mut input, &mut out, &mut err);
+    let status = script_explained_to(rt.alloc(), format, &mut input, &mut out, err);
     say_unread(rt, input.name, input.source.device.failure);
     say_unwritten(rt, out.device.failure);
+    status
+}
+
+/// Runs a scenario. What is said of runners has the names that its source gives them.
+pub(crate) fn run_script(rt: &HostRuntime, given: &Given<'_>, format: Format) -> u8 {
+    let runners = runners_of(rt, given);
+    if runners.is_empty() {
+        let mut err = Std::new(rt.stderr());
+        return script_on(rt, &given.scenario, format, &mut err);
+    }
+    let said: Vec<u8> = Vec::new(rt.alloc());
+    let mut err = Std::new(said);
+    let status = script_on(rt, &given.scenario, format, &mut err);
+    let said = str::from_utf8(err.device.as_slice()).unwrap_or("");
+    say_named(rt, said, runners.as_slice());
     status
 }
 
@@ -131,15 +152,17 @@ pub(crate) fn run_rule(
 }
 
 /// Goes through the interleavings of a scenario.
-pub(crate) fn run_outcomes(
+pub(crate) fn run_outcomes<O: Write + Drop>(
     rt: &HostRuntime,
     question: Question,
     scenario: &JsonFile<'_>,
     level: Option<Level>,
     budget: Told<'_>,
-) -> u8 {
+    out: &mut Std<Noting<O>>,
+) -> u8
+    requires { out.old.failed ≡ false }
+{
     let mut scenario = kept_json(rt, scenario);
-    let mut out = Std::new(Noting::new(rt.stdout()));
     let mut err = Std::new(rt.stderr());
     let mut budget = shown_budget(rt, budget, true);
     let status = outcomes_explained_to(
@@ -148,7 +171,7 @@ pub(crate) fn run_outcomes(
         &mut scenario,
         level,
         &mut budget,
-        &mut out,
+        out,
         &mut err,
     );
     let status = close(&mut budget, status);

@@ -11,6 +11,7 @@ mod auditing;
 mod explaining;
 mod exploring;
 mod files;
+mod found;
 mod naming;
 mod noting;
 mod resuming;
@@ -27,7 +28,7 @@ use explaining::{name_of, say_unread, say_unwritten};
 use exploring::run_search;
 use files::open;
 use noting::Noting;
-use sources::{JsonFile, run_compile, scenario_at};
+use sources::{JsonFile, given_at, run_compile, scenario_at};
 use std::alloc::{AllocError, Global};
 use std::process::ExitCode;
 use std::sync::Wait;
@@ -78,9 +79,9 @@ fn run_script_in(rt: &HostRuntime, path: Option<&str>, word: Option<&str>, expla
     let Some(format) = format_of(word) else {
         return no_format_to(&mut Std::new(rt.stderr()));
     };
-    match scenario_at(rt, path_of(path), explain) {
-        Ok(scenario) if explain => explaining::run_script(rt, &scenario, format),
-        Ok(scenario) => run_script(rt, &scenario, format),
+    match given_at(rt, path_of(path), explain) {
+        Ok(given) if explain => explaining::run_script(rt, &given, format),
+        Ok(given) => run_script(rt, &given.scenario, format),
         Err(status) => status,
     }
 }

@@ -28,7 +28,7 @@ pub use command::{compile_to, compiled, compiled_part};
 pub use kept::{kept_text, spells};
 pub use notes::notes_of;
 pub use part::{Part, Printed};
-pub use placing::SourcePlaces;
+pub use placing::{PlacedLine, SourcePlaces};
 pub use runners::{NamedRunner, name_of_runner, named_runners};
 pub use stm_devices::{Sink, Source};
 pub use stm_source::{Names, Rule, Wait};

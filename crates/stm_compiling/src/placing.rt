@@ -20,6 +20,15 @@ pub struct SourcePlaces<'a> {
     starts: Sequence<MarkedStart>,
 }
 
+/// A line that explains a run, with its place in a source.
+#[derive(Drop)]
+pub struct PlacedLine<'a> {
+    /// The line.
+    pub words: String,
+    /// The line of the source.
+    pub source: &'a str,
+}
+
 /// The programs of a source's starts, with their marks; none, where the source is bad.
 fn starts_of(alloc: Global, text: &str) -> Result<Sequence<MarkedStart>, AllocError> {
     match read_marked_starts(alloc, text.as_bytes()) {
@@ -85,31 +94,34 @@ impl<'a> SourcePlaces<'a> {
     }
 
     /// The words of a run's fault, of which `head` stands before the place of its node and `reason` behind, at a byte of the source, and the line there.
-    fn said_at(
+    fn placed_at(
         &self,
         alloc: Global,
         at: usize,
         head: &str,
         reason: &str,
-    ) -> Result<String, AllocError> {
+    ) -> Result<PlacedLine<'a>, AllocError> {
         let position = position_in(self.text.as_bytes(), at);
         let (line, column) = (position.line, position.column);
         let name = self.name;
-        let text = line_of(self.text, line);
-        format!(in alloc; "{name}:{line}:{column}: {head}: {reason}\n    {text}")
+        let words = format!(in alloc; "{name}:{line}:{column}: {head}: {reason}")?;
+        Ok(PlacedLine {
+            words,
+            source: line_of(self.text, line),
+        })
     }
 
     /// A line that explains a run, as `NAME:LINE:COLUMN: WORDS at POINTER: REASON`, with the place of the statement in the source for that in the line of
-    /// JSON, and then the line of the source. None, where it says no place of a statement.
-    pub fn placed(&self, alloc: Global, line: &str) -> Result<Option<String>, AllocError> {
+    /// JSON, and the line of the source. None, where it says no place of a statement.
+    pub fn placed(&self, alloc: Global, line: &str) -> Result<Option<PlacedLine<'a>>, AllocError> {
         let Some((head, pointer, reason)) = parts_of(line, self.name) else {
             return Ok(None);
         };
         let indices = indices_of(alloc, pointer)?;
         match self.place(alloc, indices.as_slice())? {
             Some(at) => {
-                let said = self.said_at(alloc, at, head, reason)?;
-                Ok(Some(said))
+                let placed = self.placed_at(alloc, at, head, reason)?;
+                Ok(Some(placed))
             }
             None => Ok(None),
         }

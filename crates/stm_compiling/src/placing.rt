@@ -31,7 +31,7 @@ pub struct PlacedLine<'a> {
 
 /// The programs of a source's starts, with their marks; none, where the source is bad.
 fn starts_of(alloc: Global, text: &str) -> Result<Sequence<MarkedStart>, AllocError> {
-    match read_marked_starts(alloc, text.as_bytes()) {
+    match read_marked_starts(alloc, text) {
         Ok(starts) => Ok(starts),
         Err(SourceError::Bad(_)) => Ok(Sequence::new(alloc)),
         Err(SourceError::OutOfMemory) => Err(AllocError),

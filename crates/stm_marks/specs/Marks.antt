@@ -27,8 +27,8 @@ of_mark (Some at) behind here = behind (Some at)
 
 -- in a branch of a choice, which are its second and its third part
 abbrev pub in_branch : Option ℕ → List ℕ → (List ℕ → Option ℕ) → (List ℕ → Option ℕ) → Option ℕ
-in_branch known [] yes no = known
-in_branch known (part ∷ inner) yes no = if nat_eq part 2 then yes inner else (if nat_eq part 3 then no inner else known)
+in_branch known [] t e = known
+in_branch known (part ∷ inner) t e = if nat_eq part 2 then t inner else (if nat_eq part 3 then e inner else known)
 
 -- in the block of a loop, which is its fourth part
 abbrev pub in_body : Option ℕ → List ℕ → (List ℕ → Option ℕ) → Option ℕ
@@ -47,8 +47,8 @@ abbrev mutual
   place_in_statement known path (Del e) = known
   place_in_statement known path (Emit e) = known
   place_in_statement known path (Abort e) = known
-  place_in_statement known path (If c yes no) =
-      in_branch known path (λ inner. in_one known inner (λ i p. place_in known i p yes)) (λ inner. in_one known inner (λ i p. place_in known i p no))
+  place_in_statement known path (If c t e) =
+      in_branch known path (λ inner. in_one known inner (λ i p. place_in known i p t)) (λ inner. in_one known inner (λ i p. place_in known i p e))
   place_in_statement known path (For v e n body) = in_body known path (λ inner. in_one known inner (λ i p. place_in known i p body))
 
   -- in the statement with an index, which does not count marks

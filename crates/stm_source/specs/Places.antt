@@ -19,7 +19,7 @@ use Rattle.stm_source.specs.declared.programs.Look.{Look}
 use Rattle.stm_source.specs.declared.story.Story.{Story}
 use Rattle.stm_source.specs.Definitions.{alone, arguments_at, bound, definition_named, look_of, no_arguments}
 use Rattle.stm_source.specs.Programs.{parts_at}
-use Rattle.stm_source.specs.Sources.{at_end, empty_story, item_at, no_definitions, tokens_of_text}
+use Rattle.stm_source.specs.Sources.{at_end, empty_story, item_at, no_definitions}
 
 -- ---- a program with its marks
 
@@ -91,9 +91,6 @@ starts_from all (suc more) definitions story starts tokens =
     else (item_at all definitions story tokens >>= λ x.
     starts_from all more x.0 x.1 (with_item all x.0 (next_element story) starts (after_start tokens)) x.2)
 
+-- those that tokens spell
 unfoldable pub starts_at : List Token → Outcome (List MarkedStart)
 starts_at tokens = starts_from tokens (length tokens) no_definitions empty_story [] tokens
-
--- those that bytes spell
-abbrev pub starts_in : List ℕ → Outcome (List MarkedStart)
-starts_in bytes = tokens_of_text bytes >>= λ tokens. starts_at tokens

@@ -95,15 +95,11 @@ as_source story = record {
 unfoldable pub source_at : List Token → Outcome Source
 source_at tokens = items_from tokens (length tokens) no_definitions empty_story tokens >>= λ x. Ok (as_source x.1)
 
--- the tokens of a text that is not too long
-unfoldable pub tokens_of_text : List ℕ → Outcome (List Token)
-tokens_of_text bytes =
-    if nat_lt MOST_BYTES (length bytes) then bad 0 cause.TooLong
-    else (if is_utf8 bytes then Ok (tokens_in bytes) else bad (utf8_valid_len bytes) cause.NotUtf8)
-
 -- what bytes spell
 unfoldable pub source_in : List ℕ → Outcome Source
-source_in bytes = tokens_of_text bytes >>= λ tokens. source_at tokens
+source_in bytes =
+    if nat_lt MOST_BYTES (length bytes) then bad 0 cause.TooLong
+    else (if is_utf8 bytes then source_at (tokens_in bytes) else bad (utf8_valid_len bytes) cause.NotUtf8)
 
 -- the scenario that they spell
 unfoldable pub scenario_in : List ℕ → Outcome Scenario

@@ -1,12 +1,13 @@
 //! Reading where the statements of programs begin.
 ghost use Rattle.std.specs.Prelude.{◌≡◌, [], length, map, OnOk, string_bytes};
 ghost use Rattle.stm_terms.specs.Outcome.{Returns};
+ghost use Rattle.stm_tokens.specs.Tokens.{tokens_in};
 ghost use Rattle.stm_source.specs.Places as spec;
 
 use crate::arguments::arguments;
 use crate::definitions::{Definition, Definitions, alone, bound, look_of, no_arguments};
 use crate::programs::{Look, parts};
-use crate::sources::{at_end, empty_definitions, empty_story, item, text_tokens};
+use crate::sources::{at_end, empty_definitions, empty_story, item};
 use crate::story::Story;
 use std::alloc::{AllocError, Global};
 use std::sync::Arc;
@@ -17,7 +18,7 @@ use stm_terms::{
     Arguments, Given, Shared, SourceCause, SourceError, after_name, fault, next_name, place,
     unexpected,
 };
-use stm_tokens::Token;
+use stm_tokens::{Token, tokens_of};
 
 /// How many statements a program has at most with its marks, of which one stands before each.
 const MOST_MARKED: usize = 2 * MAX_NODES;
@@ -224,13 +225,10 @@ fn starts_at(alloc: Global, tokens: &[Token]) -> Result<Sequence<MarkedStart>, S
 }
 
 /// The programs of a source's starts, in their order, each with marks that say where its statements begin; or the source's first fault, as
-/// `read_whole_source` answers it. A start whose program has too many statements with their marks is left out.
-pub fn read_marked_starts(
-    alloc: Global,
-    source: &[u8],
-) -> Result<Sequence<MarkedStart>, SourceError>
-    ensures { Returns (λ starts. starts) result (spec.starts_in source.now) }
+/// `read_whole_source` answers it of a text that is not too long. A start whose program has too many statements with their marks is left out.
+pub fn read_marked_starts(alloc: Global, source: &str) -> Result<Sequence<MarkedStart>, SourceError>
+    ensures { Returns (λ starts. starts) result (spec.starts_at (tokens_in source.now)) }
 {
-    let tokens = text_tokens(alloc, source)?;
+    let tokens = tokens_of(alloc, source.as_bytes())?;
     starts_at(alloc, tokens.as_slice())
 }

@@ -232,23 +232,6 @@ pub fn read_source(alloc: Global, source: &[u8]) -> Result<Scenario, SourceError
     Ok(scenario)
 }
 
-/// The tokens of a text in UTF-8 that is not too long.
-#[tactic(auto, unfolding(crate::specs::Sources::tokens_of_text))]
-pub(crate) fn text_tokens(alloc: Global, source: &[u8]) -> Result<Vec<Token>, SourceError>
-    ensures { Returns (λ tokens. tokens.items) result (spec.tokens_of_text source.now) }
-{
-    if source.len() > MOST_BYTES {
-        return Err(fault(0, SourceCause::TooLong));
-    }
-    match str::from_utf8(source) {
-        Ok(_) => {
-            let tokens = tokens_of(alloc, source)?;
-            Ok(tokens)
-        }
-        Err(error) => Err(fault(error.valid_up_to(), SourceCause::NotUtf8)),
-    }
-}
-
 /// What a source spells, or its first fault.
 ///
 /// A source is a text in UTF-8 of at most 16777216 bytes: constants, programs that have names, rules and finals, and events, one after another. `specs/Sources.antt`
@@ -258,6 +241,14 @@ pub(crate) fn text_tokens(alloc: Global, source: &[u8]) -> Result<Vec<Token>, So
 pub fn read_whole_source(alloc: Global, source: &[u8]) -> Result<Source, SourceError>
     ensures { Returns (λ s. s) result (spec.source_in source.now) }
 {
-    let tokens = text_tokens(alloc, source)?;
-    source_at(alloc, tokens.as_slice())
+    if source.len() > MOST_BYTES {
+        return Err(fault(0, SourceCause::TooLong));
+    }
+    match str::from_utf8(source) {
+        Ok(_) => {
+            let tokens = tokens_of(alloc, source)?;
+            source_at(alloc, tokens.as_slice())
+        }
+        Err(error) => Err(fault(error.valid_up_to(), SourceCause::NotUtf8)),
+    }
 }

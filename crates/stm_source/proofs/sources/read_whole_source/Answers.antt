@@ -2,12 +2,13 @@ use Rattle.std.proofs.Common.{◌≡◌, ◌≤◌, ◌∙◌, length, refl, ari
 use Rattle.stm_json.specs.declared.limits.TheConstants.{MOST_BYTES}
 use Rattle.stm_tokens.specs.Tokens.{tokens_in}
 use Rattle.stm_source.proofs.SourceLemmas.{of_text, of_other_bytes}
-use Rattle.stm_source.proofs.sources.text_tokens.Goals as goal
+use Rattle.stm_source.proofs.sources.read_whole_source.Goals as goal
 
 pub returns-in_ok-tokens-in-Ok : goal.returns-in_ok-tokens-in-Ok
 returns-in_ok-tokens-in-Ok c =
     let short : length c.args.source.now ≤ MOST_BYTES = omega arith in
-    of_text c.args.source.now c.in_ok-tokens-in-Ok.tokens.items short c.in-Ok.ensures.cases.1 c.in_ok-tokens-in-Ok.ensures
+    let is : c.as_slice.result.now ≡ tokens_in c.args.source.now = c.as_slice.ensures.value ∙ c.in_ok-tokens-in-Ok.ensures in
+    rw (of_text c.args.source.now c.as_slice.result.now short c.in-Ok.ensures.cases.1 is) c.source_at.ensures
 
 pub returns-in-Err : goal.returns-in-Err
 returns-in-Err c =

@@ -1,5 +1,5 @@
 -- Where the statements of the programs of a source's starts begin: the programs, read once more with a mark before each statement.
-use Rattle.std.specs.Prelude.{ℕ, zero, suc, ◌+◌, ◌-◌, List, [], ◌∷◌, ◌++◌, length, drop, Option, Some, None, Ok, Err, nat_lt, codes, if◌then◌else◌}
+use Rattle.std.specs.Prelude.{ℕ, zero, suc, ◌+◌, ◌-◌, List, [], ◌∷◌, ◌++◌, length, drop, Option, Some, None, Ok, Err, nat_lt, codes, if◌then◌else◌, true, false}
 use Rattle.stm_tokens.specs.declared.token.Token.{Token}
 use Rattle.stm_program.specs.Syntax.{Block}
 use Rattle.stm_leaving.specs.Closed.{nothing, closed}

@@ -2,6 +2,7 @@
 ghost use Rattle.std.specs.Prelude.{◌≡◌, [], length, map, OnOk, string_bytes};
 ghost use Rattle.stm_terms.specs.Outcome.{Returns};
 ghost use Rattle.stm_tokens.specs.Tokens.{tokens_in};
+ghost use Rattle.stm_source.specs.Definitions.{definition_named};
 ghost use Rattle.stm_source.specs.Places as spec;
 
 use crate::arguments::arguments;
@@ -58,10 +59,10 @@ fn first_behind(keys: &[String]) -> usize
 fn next_element(story: &Story) -> usize
     ensures { result ≡ spec.next_element story.now }
 {
-    let events = story.events.len();
+    let events = story.events.as_slice();
     match story.opening {
-        Some(_) => events + 1,
-        None => events,
+        Some(_) => events.len() + 1,
+        None => events.len(),
     }
 }
 
@@ -124,7 +125,7 @@ fn marked_named(
     at: usize,
     tokens: &[Token],
 ) -> Result<MarkedProgram, SourceError>
-    ensures { Returns (λ p. p) result (spec.marked_named definitions.now all.now at tokens.now (spec.definition_named definitions.now name.now)) }
+    ensures { Returns (λ p. p) result (spec.marked_named definitions.now all.now at tokens.now (definition_named definitions.now name.now)) }
 {
     let Some(definition) = definitions.named(name) else {
         return Err(fault(at, SourceCause::Name));

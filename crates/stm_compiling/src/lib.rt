@@ -14,7 +14,6 @@ mod line;
 mod misfits;
 mod naming;
 mod notes;
-mod other_kinds;
 mod part;
 mod placing;
 mod program;

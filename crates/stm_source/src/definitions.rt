@@ -172,6 +172,7 @@ pub(crate) fn look_of(
     let constants = constants.clone()?;
     Ok(Look {
         program: at,
+        marks: false,
         at_kinds: kinds,
         kinds_at: None,
         runners: None,
@@ -300,7 +301,7 @@ fn list_of(alloc: Global, given: &[Given]) -> Result<Sequence<Item>, AllocError>
 }
 
 /// What parameters stand for, of which so many stand for one argument each, and the next one, if there is one, for those that are left.
-fn bound(
+pub(crate) fn bound(
     alloc: Global,
     parameters: &Shared<Names>,
     alone: usize,

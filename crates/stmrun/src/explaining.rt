@@ -3,7 +3,7 @@ ghost use Rattle.std.specs.Prelude.{◌≡◌, false};
 
 use crate::files::{Opened, open};
 use crate::noting::Noting;
-use crate::sources::{Given, JsonFile, runners_of, say_named};
+use crate::sources::{Given, JsonFile, say_of_runs};
 use crate::terminals::{Told, close, shown_budget};
 use std::io;
 use std::io::{Input, Write};
@@ -85,15 +85,14 @@ fn script_on<E: Write + Drop>(
     status
 }
 
-/// Runs a scenario. What is said of runners has the names that its source gives them.
+/// Runs a scenario. What is said of runs has the places of its source, where it has one, and the names that this gives to runners.
 pub(crate) fn run_script(
     rt: &HostRuntime,
     given: &Given<'_>,
     format: Format,
     labels: &[RunnerLabel],
 ) -> u8 {
-    let runners = runners_of(rt, given);
-    if runners.is_empty() {
+    if given.text.is_none() {
         let mut err = Std::new(rt.stderr());
         return script_on(rt, &given.scenario, format, labels, &mut err);
     }
@@ -101,7 +100,7 @@ pub(crate) fn run_script(
     let mut err = Std::new(said);
     let status = script_on(rt, &given.scenario, format, labels, &mut err);
     let said = str::from_utf8(err.device.as_slice()).unwrap_or("");
-    say_named(rt, said, runners.as_slice());
+    say_of_runs(rt, given, said);
     status
 }
 

@@ -10,14 +10,17 @@ use std::io::Input;
 use std::rt::Files;
 use stm_commands::{RunnerLabel, Std};
 use stm_compiling::{
-    Beside, CalledRunner, Compiled, NamedRunner, Part, Rule, Wait, called_runners, compile_to,
-    compiled, compiled_part, named_runners, notes_of,
+    Beside, CalledRunner, Compiled, NamedRunner, Part, Rule, SourcePlaces, Wait, called_runners,
+    compile_to, compiled, compiled_part, named_runners, notes_of,
 };
 use stm_devices::{ReadFault, read_all};
 use stm_history::{Sequence, Text};
 
 /// What the names of sources end in.
 pub(crate) const ENDING: &str = ".stm";
+
+/// What stands behind the name of a source in that of its line of JSON.
+const COMPILED: &str = ", compiled";
 
 /// The path of standard input.
 const STANDARD: &str = "-";
@@ -78,7 +81,7 @@ pub(crate) fn is_source(path: &str) -> bool {
 /// The line of a source of a path, as it is read.
 fn line_of<'a>(rt: &HostRuntime, path: &str, line: Text) -> Result<JsonFile<'a>, u8> {
     let name = name_of(path);
-    match format!(in rt.alloc(); "{name}, compiled") {
+    match format!(in rt.alloc(); "{name}{COMPILED}") {
         Ok(name) => Ok(JsonFile::Compiled(line, name)),
         Err(_) => Err(out_of_memory(rt)),
     }
@@ -257,6 +260,37 @@ pub(crate) fn say_named(rt: &HostRuntime, lines: &str, runners: &[NamedRunner]) 
         if let Ok(line) = with_names(rt.alloc(), runners, line) {
             let _ = rt.eprintln(line.as_str());
         }
+    }
+}
+
+/// Says a line that explains a run, with its place in the source, if it has one there, and the line of the source.
+fn say_placed(rt: &HostRuntime, line: &str, places: &SourcePlaces<'_>, runners: &[NamedRunner]) {
+    match places.placed(rt.alloc(), line) {
+        Ok(Some(placed)) => {
+            say_named(rt, placed.words.as_str(), runners);
+            let source = placed.source;
+            let _ = eprintln!(rt; "    {source}");
+        }
+        _ => say_named(rt, line, runners),
+    }
+}
+
+/// Says lines that explain the runs of a scenario: with the places of its source, where it has one, and with the names that this gives to runners.
+pub(crate) fn say_of_runs(rt: &HostRuntime, given: &Given<'_>, lines: &str) {
+    let runners = runners_of(rt, given);
+    let name = given.scenario.name();
+    let name = name.strip_suffix(COMPILED).unwrap_or(name);
+    let text = match &given.text {
+        Some(text) => text.as_str(),
+        None => "",
+    };
+    match SourcePlaces::of(rt.alloc(), name, text) {
+        Ok(places) => {
+            for line in lines.lines() {
+                say_placed(rt, line, &places, runners.as_slice());
+            }
+        }
+        Err(_) => say_named(rt, lines, runners.as_slice()),
     }
 }
 

@@ -263,21 +263,17 @@ fn reported_of_two<W: Threads + Wait + Sync>(
     Ok(reported)
 }
 
-/// Asserts what two jobs come to on an empty hall, each of which may send at most `limit` commits.
-fn is_reported<W: Threads + Wait + Sync + Abort>(
-    rt: &W,
-    alloc: Global,
-    holding: &Holding,
-    texts: (&str, &str),
-    limit: u32,
-    workers: usize,
-    expected: &str,
-) -> Result<(), Fail>
-    requires { (1 ≤ limit) × (1 ≤ workers) × (workers ≤ MOST_WORKERS) }
-{
-    let reported = reported_of_two(rt, alloc, texts, limit, workers, holding)?;
-    assert_eq!(rt; reported.as_str(), expected);
-    Ok(())
+/// Two jobs on an empty hall, and what they come to.
+struct Row {
+    /// Where job 0 is held.
+    place: Place,
+    /// Whether there is one worker alone; else there are two.
+    is_alone: bool,
+    /// The programs of the jobs.
+    texts: (&'static str, &'static str),
+    /// Whether each may send a second commit.
+    is_sent_again: bool,
+    expected: &'static str,
 }
 
 const PUT_P: &str = r#"[["put","p","1",0]]"#;
@@ -298,156 +294,127 @@ const PUT_BOTH: &str = r#"[["put","a","1",0],["put","b","1",0]]"#;
 
 const READ_BOTH: &str = r#"[["abort",["cat",["get","a"],["get","b"]]]]"#;
 
-#[test]
-fn two_workers_are_at_work_at_once(rt: HostRuntime) -> Result<(), Fail> {
-    let holding = Holding::new(Place::Commit, MANY_TURNS);
-    let expected =
-        "at once: 2 committed, revision 3, p is 1, 0 fetched, 1 attempts, commit 1 at 3; ";
-    is_reported(&rt, rt.alloc(), &holding, (PUT_P, PUT_Q), 1, 2, expected)
+const ROWS: [Row; 12] = [
+    // Two workers are at work at once.
+    Row {
+        place: Place::Commit,
+        is_alone: false,
+        texts: (PUT_P, PUT_Q),
+        is_sent_again: false,
+        expected: "at once: 2 committed, revision 3, p is 1, 0 fetched, 1 attempts, commit 1 at 3; ",
+    },
+    // One worker runs one job after another.
+    Row {
+        place: Place::Commit,
+        is_alone: true,
+        texts: (PUT_P, PUT_Q),
+        is_sent_again: false,
+        expected: "serial: 2 committed, revision 3, p is 1, 0 fetched, 1 attempts, commit 0 at 2; ",
+    },
+    // Each job has a list of one key, which is fetched before its commit.
+    Row {
+        place: Place::Commit,
+        is_alone: false,
+        texts: (LISTED_P, LISTED_Q),
+        is_sent_again: false,
+        expected: "at once: 2 committed, revision 3, p is 1, 1 fetched, 1 attempts, commit 1 at 3; ",
+    },
+    Row {
+        place: Place::Commit,
+        is_alone: true,
+        texts: (LISTED_P, LISTED_Q),
+        is_sent_again: false,
+        expected: "serial: 2 committed, revision 3, p is 1, 1 fetched, 1 attempts, commit 0 at 2; ",
+    },
+    // No lock is held before the fetch of a list, which is one fetch for all its keys. Job 0 reads what job 1 put.
+    Row {
+        place: Place::Fetch,
+        is_alone: false,
+        texts: (LISTED_READS, PUT_Q),
+        is_sent_again: false,
+        expected: "at once: 2 committed, revision 3, p is 1, 1 fetched, 1 attempts, commit 1 at 3; ",
+    },
+    // Job 1 puts a key of the list of job 0 before that sends its commit. The next attempt has the list from the answers that came with the
+    // failed commit, so it is fetched once.
+    Row {
+        place: Place::CommitOnceBothStand,
+        is_alone: false,
+        texts: (LISTED_READS, PUT_Q),
+        is_sent_again: true,
+        expected: "at once: 2 committed, revision 3, p is 1, 1 fetched, 2 attempts, commit 1 at 3; ",
+    },
+    // Job 0 is about to fetch while job 1 commits, so no lock is held there. It reads what job 1 put.
+    Row {
+        place: Place::Fetch,
+        is_alone: false,
+        texts: (READ_Q, PUT_Q),
+        is_sent_again: false,
+        expected: "at once: 2 committed, revision 3, p is 1, 1 fetched, 1 attempts, commit 1 at 3; ",
+    },
+    // With one worker nobody commits while job 0 stands before its fetch: so it is held there, in vain, and reads an absent key.
+    Row {
+        place: Place::Fetch,
+        is_alone: true,
+        texts: (READ_Q, PUT_Q),
+        is_sent_again: false,
+        expected: "serial: 2 committed, revision 3, p is not 1, 1 fetched, 1 attempts, commit 0 at 2; ",
+    },
+    // Job 0 reads a key that job 1 puts before job 0's commit is sent. It may send no more.
+    Row {
+        place: Place::CommitOnceBothStand,
+        is_alone: false,
+        texts: (READ_Q, PUT_Q),
+        is_sent_again: false,
+        expected: "at once: 1 committed, revision 2, p is not 1, 1 fetched, 1 attempts, gave up over q; ",
+    },
+    // The same, but it may send one more: that one is evaluated on the answer that came with the failed commit, so the key is fetched once.
+    Row {
+        place: Place::CommitOnceBothStand,
+        is_alone: false,
+        texts: (READ_Q, PUT_Q),
+        is_sent_again: true,
+        expected: "at once: 2 committed, revision 3, p is 1, 1 fetched, 2 attempts, commit 1 at 3; ",
+    },
+    // Both jobs have one program: job 1 commits first, and job 0 gives up. So their ends could be exchanged, and would still stand.
+    Row {
+        place: Place::CommitOnceBothStand,
+        is_alone: false,
+        texts: (EXTEND_P, EXTEND_P),
+        is_sent_again: false,
+        expected: "at once: 1 committed, revision 2, p is not 1, 1 fetched, 1 attempts, gave up over p; ",
+    },
+    // Job 1 puts both keys between the two fetches of job 0. That reads them as they were together, and aborts with what it has read: nothing.
+    Row {
+        place: Place::SecondFetch,
+        is_alone: false,
+        texts: (READ_BOTH, PUT_BOTH),
+        is_sent_again: false,
+        expected: "at once: 1 committed, revision 2, p is not 1, 2 fetched, 1 attempts, abort  on a of 1 on b of 1; ",
+    },
+];
+
+/// Asserts what the jobs of a row come to.
+fn is_reported<W: Threads + Wait + Sync + Abort>(
+    rt: &W,
+    alloc: Global,
+    row: &Row,
+) -> Result<(), Fail> {
+    let (workers, turns) = if row.is_alone {
+        (1, FEW_TURNS)
+    } else {
+        (2, MANY_TURNS)
+    };
+    let limit = if row.is_sent_again { 2 } else { 1 };
+    let holding = Holding::new(row.place, turns);
+    let reported = reported_of_two(rt, alloc, row.texts, limit, workers, &holding)?;
+    assert_eq!(rt; reported.as_str(), row.expected);
+    Ok(())
 }
 
 #[test]
-fn one_worker_runs_one_job_after_another(rt: HostRuntime) -> Result<(), Fail> {
-    let holding = Holding::new(Place::Commit, FEW_TURNS);
-    let expected =
-        "serial: 2 committed, revision 3, p is 1, 0 fetched, 1 attempts, commit 0 at 2; ";
-    is_reported(&rt, rt.alloc(), &holding, (PUT_P, PUT_Q), 1, 1, expected)
-}
-
-// Each job has a list of one key, which is fetched before its commit.
-#[test]
-fn two_workers_with_lists_are_at_work_at_once(rt: HostRuntime) -> Result<(), Fail> {
-    let holding = Holding::new(Place::Commit, MANY_TURNS);
-    let expected =
-        "at once: 2 committed, revision 3, p is 1, 1 fetched, 1 attempts, commit 1 at 3; ";
-    is_reported(
-        &rt,
-        rt.alloc(),
-        &holding,
-        (LISTED_P, LISTED_Q),
-        1,
-        2,
-        expected,
-    )
-}
-
-#[test]
-fn one_worker_runs_one_job_with_a_list_after_another(rt: HostRuntime) -> Result<(), Fail> {
-    let holding = Holding::new(Place::Commit, FEW_TURNS);
-    let expected =
-        "serial: 2 committed, revision 3, p is 1, 1 fetched, 1 attempts, commit 0 at 2; ";
-    is_reported(
-        &rt,
-        rt.alloc(),
-        &holding,
-        (LISTED_P, LISTED_Q),
-        1,
-        1,
-        expected,
-    )
-}
-
-// No lock is held before the fetch of a list, which is one fetch for all its keys. Job 0 reads what job 1 put.
-#[test]
-fn no_lock_is_held_before_the_fetch_of_a_list(rt: HostRuntime) -> Result<(), Fail> {
-    let holding = Holding::new(Place::Fetch, MANY_TURNS);
-    let expected =
-        "at once: 2 committed, revision 3, p is 1, 1 fetched, 1 attempts, commit 1 at 3; ";
-    is_reported(
-        &rt,
-        rt.alloc(),
-        &holding,
-        (LISTED_READS, PUT_Q),
-        1,
-        2,
-        expected,
-    )
-}
-
-// Job 1 puts a key of the list of job 0 before that sends its commit. The next attempt has the list from the answers that came with the failed
-// commit, so it is fetched once.
-#[test]
-fn a_list_is_taken_from_the_answers_of_a_failed_commit(rt: HostRuntime) -> Result<(), Fail> {
-    let holding = Holding::new(Place::CommitOnceBothStand, MANY_TURNS);
-    let expected =
-        "at once: 2 committed, revision 3, p is 1, 1 fetched, 2 attempts, commit 1 at 3; ";
-    is_reported(
-        &rt,
-        rt.alloc(),
-        &holding,
-        (LISTED_READS, PUT_Q),
-        2,
-        2,
-        expected,
-    )
-}
-
-// Job 0 is about to fetch while job 1 commits, so no lock is held there. It reads what job 1 put.
-#[test]
-fn no_lock_is_held_before_a_fetch(rt: HostRuntime) -> Result<(), Fail> {
-    let holding = Holding::new(Place::Fetch, MANY_TURNS);
-    let expected =
-        "at once: 2 committed, revision 3, p is 1, 1 fetched, 1 attempts, commit 1 at 3; ";
-    is_reported(&rt, rt.alloc(), &holding, (READ_Q, PUT_Q), 1, 2, expected)
-}
-
-// With one worker nobody commits while job 0 stands before its fetch: so it is held there, in vain, and reads an absent key.
-#[test]
-fn one_worker_waits_before_its_fetch(rt: HostRuntime) -> Result<(), Fail> {
-    let holding = Holding::new(Place::Fetch, FEW_TURNS);
-    let expected =
-        "serial: 2 committed, revision 3, p is not 1, 1 fetched, 1 attempts, commit 0 at 2; ";
-    is_reported(&rt, rt.alloc(), &holding, (READ_Q, PUT_Q), 1, 1, expected)
-}
-
-// Job 0 reads a key that job 1 puts before job 0's commit is sent. It may send no more.
-#[test]
-fn a_job_gives_up_over_a_key_that_another_put(rt: HostRuntime) -> Result<(), Fail> {
-    let holding = Holding::new(Place::CommitOnceBothStand, MANY_TURNS);
-    let expected =
-        "at once: 1 committed, revision 2, p is not 1, 1 fetched, 1 attempts, gave up over q; ";
-    is_reported(&rt, rt.alloc(), &holding, (READ_Q, PUT_Q), 1, 2, expected)
-}
-
-// The same, but it may send one more: that one is evaluated on the answer that came with the failed commit, so the key is fetched once.
-#[test]
-fn a_job_is_sent_again_without_a_fetch(rt: HostRuntime) -> Result<(), Fail> {
-    let holding = Holding::new(Place::CommitOnceBothStand, MANY_TURNS);
-    let expected =
-        "at once: 2 committed, revision 3, p is 1, 1 fetched, 2 attempts, commit 1 at 3; ";
-    is_reported(&rt, rt.alloc(), &holding, (READ_Q, PUT_Q), 2, 2, expected)
-}
-
-// Both jobs have one program: job 1 commits first, and job 0 gives up. So their ends could be exchanged, and would still stand.
-#[test]
-fn ends_of_one_program_are_not_exchanged(rt: HostRuntime) -> Result<(), Fail> {
-    let holding = Holding::new(Place::CommitOnceBothStand, MANY_TURNS);
-    let expected =
-        "at once: 1 committed, revision 2, p is not 1, 1 fetched, 1 attempts, gave up over p; ";
-    is_reported(
-        &rt,
-        rt.alloc(),
-        &holding,
-        (EXTEND_P, EXTEND_P),
-        1,
-        2,
-        expected,
-    )
-}
-
-// Job 1 puts both keys between the two fetches of job 0. That reads them as they were together, and aborts with what it has read: nothing.
-#[test]
-fn an_abort_is_of_one_revision(rt: HostRuntime) -> Result<(), Fail> {
-    let holding = Holding::new(Place::SecondFetch, MANY_TURNS);
-    let expected =
-        "at once: 1 committed, revision 2, p is not 1, 2 fetched, 1 attempts, abort  on a of 1 on b of 1; ";
-    is_reported(
-        &rt,
-        rt.alloc(),
-        &holding,
-        (READ_BOTH, PUT_BOTH),
-        1,
-        2,
-        expected,
-    )
+fn jobs_come_to_what_their_row_says(rt: HostRuntime) -> Result<(), Fail> {
+    for row in &ROWS {
+        is_reported(&rt, rt.alloc(), row)?;
+    }
+    Ok(())
 }

@@ -8,9 +8,7 @@
 #![tactic(auto)]
 
 mod attempts;
-mod leases;
 mod scenarios;
-mod transactions;
 mod workers;
 mod worlds;
 
@@ -25,8 +23,6 @@ use stm_devices::{Std, write_all};
 #[derive(Clone, Copy)]
 enum Run {
     Attempts,
-    Leases,
-    Transactions,
     Workers,
     /// The events of this scenario in a world.
     World(&'static str),
@@ -39,10 +35,9 @@ fn named(name: &str) -> Option<Run> {
         "both_expire" => Some(Run::World(scenarios::BOTH_EXPIRE)),
         "expiring_leases" => Some(Run::World(scenarios::EXPIRING_LEASES)),
         "last_revision" => Some(Run::World(scenarios::LAST_REVISION)),
-        "leases" => Some(Run::Leases),
         "listed_reads" => Some(Run::World(scenarios::LISTED_READS)),
         "one_revision" => Some(Run::World(scenarios::ONE_REVISION)),
-        "transactions" => Some(Run::Transactions),
+        "transactions" => Some(Run::World(scenarios::TRANSACTIONS)),
         "workers" => Some(Run::Workers),
         "write_skew" => Some(Run::World(scenarios::WRITE_SKEW)),
         "write_skew_stopped" => Some(Run::World(scenarios::WRITE_SKEW_STOPPED)),
@@ -71,8 +66,6 @@ fn asked_again<R: Env + AllocGlobal>(rt: &R) -> Result<Option<Run>> {
 fn lines_of<T: Threads + Wait + Sync>(rt: &HostRuntime, threads: &T, run: Run) -> Result<String> {
     match run {
         Run::Attempts => attempts::lines(rt.alloc()),
-        Run::Leases => leases::lines(rt, rt.alloc()),
-        Run::Transactions => transactions::lines(rt.alloc()),
         Run::Workers => workers::lines(rt, threads, rt.alloc()),
         Run::World(scenario) => worlds::lines(rt, rt.alloc(), scenario),
     }

@@ -1,5 +1,5 @@
 //! Tests of the program's commands over devices in memory: readers and writers that fail, a reader without an end, texts that no file of
-//! `tests/` holds, scenarios that a caller makes, and an observer of a search. Cases of the commands from text to text stand in `tests/`.
+//! `tests/` holds, lines of reports, scenarios that a caller makes, and an observer of a search. Cases of the commands from text to text stand in `tests/`.
 //!
 //! This crate has no code but tests. They stand here, and not beside what they test, since a crate with tests is proved twice, and in one
 //! crate, since each crate proves anew how each type that it uses is dropped.
@@ -13,6 +13,8 @@ mod devices;
 mod each_call;
 #[cfg(test)]
 mod endings;
+#[cfg(test)]
+mod lines;
 #[cfg(test)]
 mod openings;
 #[cfg(test)]

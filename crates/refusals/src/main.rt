@@ -7,7 +7,6 @@
 //! `bench/refusals` makes the allocations fail from outside, each in a run of its own.
 #![tactic(auto)]
 
-mod attempts;
 mod scenarios;
 mod workers;
 mod worlds;
@@ -22,7 +21,6 @@ use stm_devices::{Std, write_all};
 /// A run.
 #[derive(Clone, Copy)]
 enum Run {
-    Attempts,
     Workers,
     /// The events of this scenario in a world.
     World(&'static str),
@@ -31,7 +29,6 @@ enum Run {
 /// The run of a name.
 fn named(name: &str) -> Option<Run> {
     match name {
-        "attempts" => Some(Run::Attempts),
         "both_expire" => Some(Run::World(scenarios::BOTH_EXPIRE)),
         "expiring_leases" => Some(Run::World(scenarios::EXPIRING_LEASES)),
         "last_revision" => Some(Run::World(scenarios::LAST_REVISION)),
@@ -65,7 +62,6 @@ fn asked_again<R: Env + AllocGlobal>(rt: &R) -> Result<Option<Run>> {
 /// What a run prints on standard output.
 fn lines_of<T: Threads + Wait + Sync>(rt: &HostRuntime, threads: &T, run: Run) -> Result<String> {
     match run {
-        Run::Attempts => attempts::lines(rt.alloc()),
         Run::Workers => workers::lines(rt, threads, rt.alloc()),
         Run::World(scenario) => worlds::lines(rt, rt.alloc(), scenario),
     }

@@ -1,22 +1,19 @@
 //! A registry of services over a store. A service registers an address under a name that is free, on a lease; where the lease is not renewed in time,
 //! the name is free again.
-#![tactic(auto)]
-
 use anyhow::Result;
 use std::alloc::Global;
 use stm_requests::{Request, absent, get, put};
 use stm_txn::{Refusal, Store, Txn};
 
-fn main(rt: HostRuntime) -> Result<()> {
-    let alloc = rt.alloc();
+pub(crate) fn run(rt: &impl Print, alloc: Global) -> Result<()> {
     let mut store = Store::new(alloc)?;
-    let done = run(&rt, alloc, &mut store);
+    let done = register_both(rt, alloc, &mut store);
     drop(store);
     done
 }
 
 /// Two services want one name, and the second gets it once the first has been silent for too long.
-fn run(rt: &impl Print, alloc: Global, store: &mut Store) -> Result<()> {
+fn register_both(rt: &impl Print, alloc: Global, store: &mut Store) -> Result<()> {
     store.grant(1, 10)?;
     store.grant(2, 60)?;
     register(rt, alloc, store, "10.0.0.1", 1)?;

@@ -1,7 +1,5 @@
 //! A search from code: Ana goes off call if Ben is on call, and Ben does the same. Can nobody be on call afterwards? At each of two levels every
 //! interleaving is looked at.
-#![tactic(auto)]
-
 use anyhow::Result;
 use std::alloc::Global;
 use std::slice;
@@ -21,8 +19,7 @@ const BOTH: &str = r#"[["put","ana","yes",0],["put","ben","yes",0]]"#;
 const RULE: &str =
     r#"[["if",["and",["eq",["get","ana"],"no"],["eq",["get","ben"],"no"]],[["abort","nobody is on call"]],[]]]"#;
 
-fn main(rt: HostRuntime) -> Result<()> {
-    let alloc = rt.alloc();
+pub(crate) fn run(rt: &impl Print, alloc: Global) -> Result<()> {
     println!(rt; "ReadCommitted: {}", search(alloc, Level::ReadCommitted)?)?;
     println!(rt;
         "RepeatableReads: {}",

@@ -1,6 +1,4 @@
 //! Transactions as closures: money goes from one account to another, and a closure that refuses leaves the accounts as they were.
-#![tactic(auto)]
-
 use anyhow::Result;
 use std::alloc::Global;
 use std::error::Error;
@@ -36,16 +34,15 @@ impl From<TransactionError> for TransferError {
     }
 }
 
-fn main(rt: HostRuntime) -> Result<()> {
-    let alloc = rt.alloc();
+pub(crate) fn run(rt: &impl Print, alloc: Global) -> Result<()> {
     let store = Store::new(alloc)?;
     let mut hall = Hall::new(alloc, store);
-    let done = run(&rt, alloc, &mut hall);
+    let done = pay(rt, alloc, &mut hall);
     drop(hall);
     done
 }
 
-fn run(rt: &impl Print, alloc: Global, hall: &mut Hall) -> Result<()> {
+fn pay(rt: &impl Print, alloc: Global, hall: &mut Hall) -> Result<()> {
     open(alloc, hall, "ana", "100")?;
     open(alloc, hall, "ben", "20")?;
     transfer(alloc, hall, "ana", "ben", 30)?;

@@ -1,7 +1,5 @@
 //! A queue of jobs with leases, over a store. A worker takes the first job that nobody holds, and holds it on its lease; where the lease expires before the
 //! job is done, another worker gets it.
-#![tactic(auto)]
-
 use anyhow::Result;
 use std::alloc::Global;
 use stm_closures::{Level, NotCommitted, Store, TransactionError, atomically};
@@ -9,10 +7,9 @@ use stm_closures::{Level, NotCommitted, Store, TransactionError, atomically};
 /// How many jobs there are.
 const JOBS: u64 = 2;
 
-fn main(rt: HostRuntime) -> Result<()> {
-    let alloc = rt.alloc();
+pub(crate) fn run(rt: &impl Print, alloc: Global) -> Result<()> {
     let mut store = Store::new(alloc)?;
-    let worked = work(&rt, alloc, &mut store);
+    let worked = work(rt, alloc, &mut store);
     drop(store);
     worked
 }

@@ -1,10 +1,9 @@
 //! Two transactions as closures, under threads: some threads move coins from "a" to "b", and others from "b" to "a". Whichever goes first, no coin is
 //! lost.
-#![tactic(auto)]
-
 use anyhow::Result;
 use std::alloc::Global;
 use std::sync::Wait;
+use std::thread::Threads;
 use stm_closures::{Commit, Fetch, NotCommitted, atomically};
 use stm_shared_hall::{Hall, Level, Store, TransactionError, Turns, run_on_threads};
 
@@ -17,19 +16,22 @@ const COINS: u32 = 10;
 /// How often one move may be tried.
 const ATTEMPTS: u64 = 1_000_000;
 
-fn main(rt: HostRuntime) -> Result<()> {
-    let alloc = rt.alloc();
+pub(crate) fn run<T: Threads + Wait + Sync>(
+    rt: &impl Print,
+    threads: &T,
+    alloc: Global,
+) -> Result<()> {
     let store = Store::new(alloc)?;
     let mut hall = Hall::new(alloc, store);
     open(alloc, &mut hall)?;
     let (moved, mut hall) = run_on_threads(
-        &rt,
+        threads,
         alloc,
         hall,
         THREADS,
         &|number, turns| { move_coins(alloc, turns, number % 2 == 0) },
     );
-    let reported = report(&rt, alloc, &mut hall);
+    let reported = report(rt, alloc, &mut hall);
     drop(hall);
     for moved in moved? {
         moved?;

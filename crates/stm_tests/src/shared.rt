@@ -1,5 +1,5 @@
 //! Worlds that share their store: an event makes another world, and leaves the one before as it was.
-use crate::recipes::value_of;
+use crate::worlds::value_of;
 use std::alloc::{AllocError, Global};
 use std::test::Fail;
 use stm_recipes::deposit;

@@ -1,4 +1,4 @@
-//! Programs to begin with, over the library: each module is one, with a `run` of its own.
+//! Programs to begin with, over the library: each module is one, with a `run` of its own. Worked examples of single calls come after them.
 #![tactic(auto)]
 
 mod queue;
@@ -6,6 +6,7 @@ mod registry;
 mod search;
 mod threads;
 mod transfers;
+mod worked;
 
 use anyhow::Result;
 use std::alloc::Global;
@@ -18,7 +19,8 @@ fn run<T: Threads + Wait + Sync>(rt: &impl Print, threads: &T, alloc: Global) ->
     registry::run(rt, alloc)?;
     queue::run(rt, alloc)?;
     search::run(rt, alloc)?;
-    threads::run(rt, threads, alloc)
+    threads::run(rt, threads, alloc)?;
+    worked::run(rt, alloc)
 }
 
 fn main(rt: HostRuntime) -> Result<()> {

@@ -1,5 +1,5 @@
 //! What a closure sees, and what comes of it.
-use crate::busy_store::BusyStore;
+use crate::worked::busy_store::BusyStore;
 use anyhow::Result;
 use std::alloc::Global;
 use stm_closures::{

@@ -8,7 +8,7 @@ use stm_terms::{SourceCause, SourceError, fault};
 use stm_tokens::Word;
 
 /// The loops around a statement.
-#[derive(Clone, Copy, Debug, PartialEq, Eq)]
+#[derive(Clone, Copy, PartialEq, Eq)]
 pub(crate) enum Around {
     /// None.
     Program,
@@ -21,7 +21,7 @@ pub(crate) enum Around {
 }
 
 /// A statement that leaves its block.
-#[derive(Clone, Copy, Debug, PartialEq, Eq)]
+#[derive(Clone, Copy, PartialEq, Eq)]
 pub(crate) enum Leave {
     /// `return`
     Return,
@@ -32,7 +32,7 @@ pub(crate) enum Leave {
 }
 
 /// How a statement, or a block, ends.
-#[derive(Clone, Copy, Debug, PartialEq, Eq)]
+#[derive(Clone, Copy, PartialEq, Eq)]
 pub(crate) enum Ending {
     /// What stands behind it may come next.
     GoesOn,

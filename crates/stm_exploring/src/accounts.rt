@@ -24,7 +24,7 @@ use stm_texts::WorldEvent;
 const MOST_MOVES: u64 = 10000;
 
 /// Of which runners it is said how their runs ended.
-#[derive(Clone, Copy, Debug, PartialEq, Eq)]
+#[derive(Clone, Copy, PartialEq, Eq)]
 enum Told {
     /// Of all.
     All,

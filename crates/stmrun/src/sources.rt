@@ -5,12 +5,13 @@ use crate::explaining::{name_of, say_unread, say_unwritten};
 use crate::files::{Opened, open, open_beside};
 use crate::naming::with_names;
 use crate::noting::Noting;
+use std::alloc::{AllocError, Global};
 use std::io::Input;
 use std::rt::Files;
-use stm_commands::Std;
+use stm_commands::{RunnerLabel, Std};
 use stm_compiling::{
-    Beside, Compiled, NamedRunner, Part, Rule, SourcePlaces, Wait, compile_to, compiled,
-    compiled_part, named_runners, notes_of,
+    Beside, CalledRunner, Compiled, NamedRunner, Part, Rule, SourcePlaces, Wait, called_runners,
+    compile_to, compiled, compiled_part, named_runners, notes_of,
 };
 use stm_devices::{ReadFault, read_all};
 use stm_history::{Sequence, Text};
@@ -192,6 +193,8 @@ pub(crate) struct SourceText {
     pub(crate) text: String,
     /// The runners that it names.
     pub(crate) runners: Vec<NamedRunner>,
+    /// What tables call its runners.
+    pub(crate) labels: Vec<RunnerLabel>,
 }
 
 /// A source of this text, which has this beside its scenario; none, where an allocation fails.
@@ -202,7 +205,45 @@ pub(crate) fn source_text(
 ) -> Option<SourceText> {
     let text = text?;
     let runners = named_runners(rt.alloc(), text.as_bytes(), beside).ok()?;
-    Some(SourceText { text, runners })
+    let labels = labels_in_source(rt.alloc(), text.as_str()).ok()?;
+    Some(SourceText {
+        text,
+        runners,
+        labels,
+    })
+}
+
+/// The labels of runners that are called so.
+fn labels_of_called(
+    alloc: Global,
+    called: Vec<CalledRunner>,
+) -> Result<Vec<RunnerLabel>, AllocError> {
+    let mut labels = Vec::new(alloc);
+    for runner in called {
+        let CalledRunner { name, program } = runner;
+        labels.push(RunnerLabel { name, program })?;
+    }
+    Ok(labels)
+}
+
+/// What a source calls its runners.
+pub(crate) fn labels_in_source(
+    alloc: Global,
+    source: &str,
+) -> Result<Vec<RunnerLabel>, AllocError> {
+    let called = called_runners(alloc, source)?;
+    labels_of_called(alloc, called)
+}
+
+/// What a scenario's source calls the runners: nothing, where it has none; or the status, once it was said that memory ran out.
+pub(crate) fn labels_of(rt: &HostRuntime, given: &Given<'_>) -> Result<Vec<RunnerLabel>, u8> {
+    let Some(text) = &given.text else {
+        return Ok(Vec::new(rt.alloc()));
+    };
+    match labels_in_source(rt.alloc(), text.as_str()) {
+        Ok(labels) => Ok(labels),
+        Err(_) => Err(out_of_memory(rt)),
+    }
 }
 
 /// The rules of the source of a path; or the status, once what is wrong with it was said. It is explained, or is not.

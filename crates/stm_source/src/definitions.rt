@@ -17,7 +17,7 @@ use stm_terms::{
 use stm_tokens::{Symbol, Token};
 
 /// A program that a source defines.
-#[derive(Debug, Drop)]
+#[derive(Drop)]
 pub(crate) struct Definition {
     /// The names of its parameters.
     pub parameters: Shared<Names>,
@@ -32,7 +32,7 @@ pub(crate) struct Definition {
 }
 
 /// What a name stands for.
-#[derive(Debug, Drop)]
+#[derive(Drop)]
 pub(crate) enum Meaning {
     /// A program.
     Program(Definition),
@@ -41,7 +41,7 @@ pub(crate) enum Meaning {
 }
 
 /// What a source defines.
-#[derive(Debug, Drop)]
+#[derive(Drop)]
 pub(crate) struct Definitions {
     /// The names of its programs, rules and finals.
     pub names: Names,

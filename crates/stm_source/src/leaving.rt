@@ -8,7 +8,7 @@ use stm_terms::{SourceCause, SourceError, fault};
 use stm_tokens::Word;
 
 /// What is around a statement.
-#[derive(Clone, Copy, Debug, PartialEq, Eq)]
+#[derive(Clone, Copy, PartialEq, Eq)]
 pub(crate) struct Around {
     /// The loops.
     pub loops: Loops,
@@ -17,7 +17,7 @@ pub(crate) struct Around {
 }
 
 /// The loops around a statement.
-#[derive(Clone, Copy, Debug, PartialEq, Eq)]
+#[derive(Clone, Copy, PartialEq, Eq)]
 pub(crate) enum Loops {
     /// None.
     Program,
@@ -30,7 +30,7 @@ pub(crate) enum Loops {
 }
 
 /// A statement that leaves its block.
-#[derive(Clone, Copy, Debug, PartialEq, Eq)]
+#[derive(Clone, Copy, PartialEq, Eq)]
 pub(crate) enum Leave {
     /// `return`
     Return,
@@ -41,7 +41,7 @@ pub(crate) enum Leave {
 }
 
 /// How a statement, or a block, ends.
-#[derive(Clone, Copy, Debug, PartialEq, Eq)]
+#[derive(Clone, Copy, PartialEq, Eq)]
 pub(crate) enum Ending {
     /// What stands behind it may come next.
     GoesOn,

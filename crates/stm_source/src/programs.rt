@@ -22,7 +22,7 @@ use stm_terms::{
 use stm_tokens::{Symbol, Token, Word};
 
 /// How a program is looked at while it is read.
-#[derive(Debug, Drop)]
+#[derive(Drop)]
 pub(crate) struct Look {
     /// The place of what is wrong with it as a whole.
     pub program: usize,

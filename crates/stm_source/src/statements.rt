@@ -33,7 +33,7 @@ use stm_tokens::{Symbol, Token, TokenKind, Word};
 pub(crate) const MOST_STATEMENTS: usize = MAX_NODES + 1;
 
 /// A statement of one value.
-#[derive(Clone, Copy, Debug, PartialEq, Eq)]
+#[derive(Clone, Copy, PartialEq, Eq)]
 pub(crate) enum Simple {
     /// `del`
     Del,

@@ -28,7 +28,7 @@ loop-turn-preserved c =
     let n = length c.args.tokens.now in
     let less : c.loop-turn._turn < n = omega arith in
     let goes : at_end c.loop-turn.rest.now ≡ false = search rules in
-    rw (c.in_ok-push_item.ensures, c.next_element.ensures) (starts_more c.args.tokens.now n c.loop-turn._turn c.loop-turn.definitions c.item.new.definitions c.loop-turn.story
+    rw (c.in_ok-push_item.ensures, c.next_element-element.ensures) (starts_more c.args.tokens.now n c.loop-turn._turn c.loop-turn.definitions c.item.new.definitions c.loop-turn.story
     c.item.new.story c.loop-turn.starts c.loop-turn.rest.now c.in_ok-behind.behind.now
     (starts_from c.args.tokens.now n c.args.definitions.now c.args.story.now [] c.args.tokens.now) less goes c.in_ok-behind.ensures c.loop-turn.invariant)
 

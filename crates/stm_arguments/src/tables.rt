@@ -93,8 +93,8 @@ fn ruled<'a>(
     others: &'static [&'static str],
 ) -> Result<Arg<'a>, AllocError> {
     match beside {
-        Beside::Without => arg.conflicts_with_all(others),
-        Beside::With => arg.requires_all(others),
+        Beside::Without => arg.conflicts_with_all(&*others),
+        Beside::With => arg.requires_all(&*others),
     }
 }
 

@@ -1,15 +1,14 @@
 -- What the reads of an attempt show, from step to step; and what is read of a history that grows.
 use mathlib.Core.Path.{fun_ext}
-use Rattle.std.proofs.Common.{◌≡◌, ◌⊎◌, inl, inr, ℕ, ◌+◌, ◌<◌, ◌≤◌, Option, Some, List, [], ◌∷◌, ◌++◌, length, map, All, Contains, get_or, true, false, cond, refl, sym, ◌∙◌}
+use Rattle.std.proofs.Common.{◌≡◌, ◌⊎◌, inl, inr, ℕ, ◌+◌, ◌≤◌, Option, Some, List, [], ◌∷◌, ◌++◌, length, map, All, Contains, get_or, true, false, cond, refl, sym, ◌∙◌}
 use Rattle.std.proofs.Common.{ap, subst, arith, length-append}
-use Rattle.std.proofs.lemmas.List.{append-nil}
 use Rattle.std.proofs.lemmas.List.Elements.{All-from_recursion, recursion_from_All}
 use Rattle.std.specs.List.{AllByRecursion}
 use Rattle.stm_history.specs.declared.change.Change.{Change}
 use Rattle.stm_history.specs.declared.key_state.KeyState.{KeyState}
 use Rattle.stm_history.specs.declared.key_state.ReadAnswer.{ReadAnswer}
 use Rattle.stm_history.specs.Opening.{Opening}
-use Rattle.stm_history.specs.History.{History, now, key_at, key_now, key_after, number_of_last, revisions_up_to}
+use Rattle.stm_history.specs.History.{History, now, key_at, key_after, number_of_last, revisions_up_to}
 use Rattle.stm_history.proofs.HistoryLaws.{last_is_above, last_revision_is_now}
 use Rattle.stm_program.specs.Syntax.{ProgramTree}
 use Rattle.stm_program.specs.declared.level.Level.{Level}
@@ -18,7 +17,7 @@ use Rattle.stm_outcome.specs.Commits.{revision_read}
 use Rattle.stm_compile.specs.Answers.{answer_now, seen_of, state_as_of, state_now}
 use Rattle.stm_compile.specs.CommitTxn.{reread_keys}
 use Rattle.stm_attempt.specs.Entering.{is_due, gone_on}
-use Rattle.stm_attempt.specs.Fetches.{at_of, base_of}
+use Rattle.stm_attempt.specs.Fetches.{at_of}
 use Rattle.stm_attempt.specs.Known.{Known, known_of}
 use Rattle.stm_attempt.specs.Laws.{AddsPrefetched}
 use Rattle.stm_attempt.specs.Settled.{settled}

@@ -4,8 +4,7 @@
 -- store had the revision that its last attempt has read: at the step that fixed the base of that attempt, and until this comes it is late.
 use Rattle.std.proofs.Common.{◌≡◌, ◌≢◌, ◌⊎◌, inl, inr, ℕ, zero, suc, ◌-◌, ◌<◌, ◌≤◌, List, [], ◌∷◌, length, Option, Some, None, Bool, true, false, cond, refl, sym, ◌∙◌}
 use Rattle.std.proofs.Common.{ap, subst, arith}
-use Rattle.std.specs.Prelude.{nat_eq, nat_lt, slice_get, Result, Ok, Err}
-use Rattle.std.specs.List.{AllByRecursion}
+use Rattle.std.specs.Prelude.{nat_eq, nat_lt, slice_get, slice_set, Result}
 use Rattle.std.proofs.lemmas.List.Elements.{All-from_recursion}
 use Rattle.stm_history.specs.declared.key_state.ReadAnswer.{ReadAnswer}
 use Rattle.stm_history.specs.History.{History, now}
@@ -22,9 +21,9 @@ use Rattle.stm_meaning.specs.Answer.{Lookup}
 use Rattle.stm_meaning.specs.Meaning.{run_over}
 use Rattle.stm_meaning.specs.Laws.{IsContinuedBy}
 use Rattle.stm_txn.specs.Standing.{Setup, Standing, with_history}
-use Rattle.stm_compile.specs.Answers.{AreTrue, look_up, state_as_of, state_now}
+use Rattle.stm_compile.specs.Answers.{AreTrue, state_as_of, state_now}
 use Rattle.stm_compile.proofs.AgreeLemmas.{answers_of_one_revision}
-use Rattle.stm_attempt.specs.Fetches.{AllShow, HaveOneBase}
+use Rattle.stm_attempt.specs.Fetches.{HaveOneBase}
 use Rattle.stm_attempt.specs.Settled.{run_on}
 use Rattle.stm_entries.specs.Alone.{left_by}
 use Rattle.stm_entries.specs.Laws.{AddsTo}
@@ -35,30 +34,30 @@ use Rattle.stm_events.specs.declared.reply.Reply.{Reply}
 use Rattle.stm_events.specs.declared.reply.Reply.TheVariants.{Started, Committed, GaveUp, Aborted, Faulted, Ended}
 use Rattle.stm_events.specs.declared.refusal.Denied.{Denied}
 use Rattle.stm_events.specs.Replies.{runner_named}
-use Rattle.stm_events.specs.Called.{Call, Calls, asked, called}
+use Rattle.stm_events.specs.Called.{Call, Calls, asked}
 use Rattle.stm_events.proofs.CallReplies.{call_replies}
 use Rattle.stm_world.specs.Sound.{IsSound}
 use Rattle.stm_world.specs.Task.{Task}
-use Rattle.stm_world.specs.World.{World, Runner, Slot, Over, Live, Stepped, live_in, runner_at, with_slot, begin, step, step_asked}
+use Rattle.stm_world.specs.World.{World, Runner, Slot, Over, Live, Stepped, live_in, runner_at, with_slot, step, step_asked}
 use Rattle.stm_world.proofs.Bases.{IsWellRun, begin_runs}
 use Rattle.stm_world.proofs.Calls.{call_adds}
 use Rattle.stm_world.proofs.OneState.{all_show}
-use Rattle.stm_world.proofs.Slots.{equal_numbers, differ, same_number, other_number, runner_there, runner_own, runner_other}
+use Rattle.stm_world.proofs.Slots.{other_number, runner_there, runner_own, runner_other}
 use Rattle.stm_world.proofs.Sound.{step_is_sound}
 use Rattle.stm_schedules.specs.declared.moves.Move.{Move}
 use Rattle.stm_schedules.specs.declared.moves.Move.TheVariants.{Step as StepOf, Other}
 use Rattle.stm_schedules.specs.declared.outcome.RunnerEnd.{RunnerEnd}
 use Rattle.stm_schedules.specs.declared.outcome.RunnerEnd.TheVariants as how
-use Rattle.stm_schedules.specs.Outcomes.{Ends, with_end, after_reply, after_reported, ends_moved, ends_after, IsKnown, AreKnown}
-use Rattle.stm_schedules.specs.Places.{Place, moves, moved}
+use Rattle.stm_schedules.specs.Outcomes.{Ends, with_end, after_reply, after_reported, ends_moved, ends_after, AreKnown}
+use Rattle.stm_schedules.specs.Places.{Place, moved}
 use Rattle.stm_schedules.specs.Schedules.{place_after, IsSchedule}
 use Rattle.stm_schedules.proofs.Gathered.{outcomes_are_those}
 use Rattle.stm_schedules.proofs.MoveLemmas.{moves_are_those}
-use Rattle.stm_serial.specs.Serial.{alone, left_alone, after_foreign, AreForeign, is_foreign, point_of}
+use Rattle.stm_serial.specs.Serial.{alone, left_alone, after_foreign, AreForeign, is_foreign}
 use Rattle.stm_serial.proofs.Serializing.{place, none_left, same_runners, standing_after}
-use Rattle.stm_serial_laws.specs.Ends.{EndsSerially, IsFresh, IsSerializable, SchedulesEndSerially, counted, counts, end_alone, end_at, end_by, end_of_run, known_at}
+use Rattle.stm_serial_laws.specs.Ends.{IsFresh, SchedulesEndSerially, counted, counts, end_alone, end_at, end_by, end_of_run, known_at}
 use Rattle.stm_serial_laws.proofs.BaseReads.{BaseFrom, counter_grows, event_adds, state_is_now, state_stays}
-use Rattle.stm_serial_laws.proofs.StepEnds.{Commits, Does, GoesOn, IsOver, IsReady, Stopped, Stops, step_does}
+use Rattle.stm_serial_laws.proofs.StepEnds.{Commits, GoesOn, IsOver, Stopped, Stops, step_does}
 use Rattle.stm_serial_laws.proofs.Turns.{Turn, Whole, Event, AreAsMany, CanBe, IsNotIn, Runs, by_number, can_from, end_in, end_other, end_own, ends_are, is_serial}
 use Rattle.stm_serial_laws.proofs.Turns.{left_in, left_is, moves_of, no_runner, none_in, not_in, other_turn, own_turn, store_in, store_is, as_many_after}
 

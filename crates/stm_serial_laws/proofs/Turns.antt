@@ -1,5 +1,5 @@
 -- Serial runs as turns: a program that is run whole on the store, or the others' next event.
-use Rattle.std.proofs.Common.{◌≡◌, ◌≢◌, ℕ, zero, suc, ◌-◌, ◌<◌, ◌≤◌, List, [], ◌∷◌, length, Option, Some, None, Bool, true, false, cond, refl, sym, ◌∙◌, ap, subst, arith}
+use Rattle.std.proofs.Common.{◌≡◌, ◌≢◌, ℕ, zero, suc, ◌-◌, ◌<◌, ◌≤◌, List, [], ◌∷◌, length, Option, Some, None, true, false, cond, refl, sym, ◌∙◌, ap, subst, arith}
 use Rattle.std.specs.Prelude.{nat_eq, if◌then◌else◌, slice_get, slice_set}
 use Rattle.stm_program.specs.Syntax.{ProgramTree}
 use Rattle.stm_txn.specs.Standing.{Standing}
@@ -10,7 +10,7 @@ use Rattle.stm_schedules.specs.declared.moves.Move.{Move}
 use Rattle.stm_schedules.specs.declared.moves.Move.TheVariants.{Step as StepOf, Other}
 use Rattle.stm_schedules.specs.declared.outcome.RunnerEnd.{RunnerEnd}
 use Rattle.stm_schedules.specs.Outcomes.{Ends}
-use Rattle.stm_schedules.specs.Places.{Place, moves}
+use Rattle.stm_schedules.specs.Places.{moves}
 use Rattle.stm_schedules.proofs.Members.{contained}
 use Rattle.stm_schedules.proofs.MoveLemmas.{step_is_move, other_is_move}
 use Rattle.stm_serial.specs.Serial.{alone, after_foreign, Point, run_whole, serial_after, IsSerial}
@@ -73,7 +73,7 @@ none_in id (Whole j program ∷ ts) os s not = other_turn j id program ts os s n
 none_in id (Event ∷ ts) [] s not = none_in id ts [] s not
 none_in id (Event ∷ ts) (e ∷ os) s not = none_in id ts os (after_foreign e s) not
 
-no_runner : (r : Runner) → Some r ≡ None → ⊥
+pub no_runner : (r : Runner) → Some r ≡ None → ⊥
 no_runner r is = cc
 
 -- one that has ended has none

@@ -32,15 +32,15 @@ module _ (h : History) (r : ℕ) where
 
   -- nothing is added
   pub nothing_added : {A : List ℕ → Type 0} {x : List (List ℕ × KeyState)} → ((q : List ℕ) → A q → ⊥) → Adds h r A x x
-  nothing_added no = record { ordered = λ up. up; part = λ p. p; stays = λ q has. has; has = λ p q a. absurd (no q a) }
+  nothing_added never = record { ordered = λ up. up; part = λ p. p; stays = λ q has. has; has = λ p q a. absurd (never q a) }
 
   -- a key that was absent
   pub absent : (key : List ℕ) (x : List (List ℕ × KeyState)) → key_at h key r ≡ None → Adds h r (λ q. q ≡ key) x x
-  absent key x no = record {
+  absent key x gone = record {
     ordered = λ up. up;
     part = λ p. p;
     stays = λ q has. has;
-    has = λ p q is. ⊎_elim (λ none. none ∙ sym (ap (λ (k : List ℕ). key_at h k r) is ∙ no)) (λ has. has) (p q);
+    has = λ p q is. ⊎_elim (λ none. none ∙ sym (ap (λ (k : List ℕ). key_at h k r) is ∙ gone)) (λ has. has) (p q);
   }
 
   -- a key that was present, in this state
@@ -111,7 +111,7 @@ looked_up (p ∷ present) q s is = by (bytes_eq q p.0) refl (looked_up present q
         → (lookup (bytes_eq q) present ≡ Some s → StandsBelow (λ (p : List ℕ × KeyState). p.0) present (length present) q) → cond b (Some p.1) (lookup (bytes_eq q) present) ≡ Some s
         → StandsBelow (λ (p : List ℕ × KeyState). p.0) (p ∷ present) (length (p ∷ present)) q
     by true same further e = (0, p, omega arith, refl, (bytes_decides q p.0).0 same)
-    by false other further e = let d = further e in (suc d.0, d.1, omega (arith, d.2.0), d.2.1, d.2.2)
+    by false other further e = let d = further e in (suc d.0, d.1, omega (arith, d.2), d.3, d.4)
 
 -- and so does the key of an event
 pub event_stands : (events : List Event) (q : List ℕ) (e : Event) → event_about q events ≡ Some e → StandsBelow key_of_event events (length events) q
@@ -121,7 +121,7 @@ event_stands (x ∷ events) q e is = by (bytes_eq (key_of_event x) q) refl (even
     by : (b : Bool) → bytes_eq (key_of_event x) q ≡ b → (event_about q events ≡ Some e → StandsBelow key_of_event events (length events) q) → cond b (Some x) (event_about q events) ≡ Some e
         → StandsBelow key_of_event (x ∷ events) (length (x ∷ events)) q
     by true same further is_it = (0, x, omega arith, refl, sym ((bytes_decides (key_of_event x) q).0 same))
-    by false other further rest = let d = further rest in (suc d.0, d.1, omega (arith, d.2.0), d.2.1, d.2.2)
+    by false other further rest = let d = further rest in (suc d.0, d.1, omega (arith, d.2), d.3, d.4)
 
 -- ---- a key that no later event is about
 
@@ -242,7 +242,7 @@ revision_added h r at first second = both h r
     by q (n, above, within, some) (inr (inr more)) = absurd (omega (arith, within, more))
 
 pub no_revision : (h : History) (r : ℕ) {x : List (List ℕ × KeyState)} → Adds h r (IsChangedIn h r r) x x
-no_revision h r = nothing_added h r (λ q c. absurd (omega (arith, c.1, c.2.0)))
+no_revision h r = nothing_added h r (λ q c. absurd (omega (arith, c.1, c.2)))
 
 -- ---- all of them
 

@@ -17,5 +17,5 @@ returns c =
     narrowed c.args.keys.now.history c.args.revision
     (λ q some.
     let d = events_stand c.args.events.now q some in
-    (d.0, d.1, omega (arith, d.2.0, c.loop-event-test.false), d.2.1, d.2.2))
+    (d.0, d.1, omega (arith, d.2, c.loop-event-test.false), d.3, d.4))
     c.loop-event.invariant

@@ -16,5 +16,5 @@ returns c =
     narrowed c.args.keys.now.history c.args.revision
     (λ q some.
     let d = present_stand c.args.keys.now.history c.args.keys.now.present c.len.ensures.listed q some in
-    (d.0, d.1, omega (arith, d.2.0, c.len.ensures.count, c.loop-index-test.false), d.2.1, d.2.2))
+    (d.0, d.1, omega (arith, d.2, c.len.ensures.count, c.loop-index-test.false), d.3, d.4))
     c.loop-index.invariant

@@ -1,8 +1,7 @@
 -- The keys that were present at a revision, found one after another.
 use Rattle.std.proofs.Common.{◌≡◌, ◌⊎◌, inl, inr, ⊎_elim, ℕ, zero, suc, ◌+◌, ◌<◌, ◌≤◌, Bool, true, false, cond, List, [], ◌∷◌, length, Option, None, Some}
-use Rattle.std.proofs.Common.{IsSome, is_some, is_eq, nat_cmp, refl, sym, ◌∙◌, ap, subst, arith, eq-eqb, ne_eqb}
+use Rattle.std.proofs.Common.{IsSome, is_eq, nat_cmp, refl, sym, ◌∙◌, ap, subst, arith, eq-eqb, ne_eqb}
 use Rattle.std.specs.Prelude.{bytes_eq, get_or, slice_get, nat_le}
-use Rattle.std.specs.BTreeMap.{is_at}
 use Rattle.std.specs.Cmp.Lexicographic.{slice_cmp, bytes_decides}
 use Rattle.std.specs.List.Sorted.{IsStrictlySortedBy}
 use Rattle.std.specs.Map.{keys_of, lookup}
@@ -12,10 +11,10 @@ use Rattle.std.proofs.lemmas.Map.Text.{is_eq-slice_cmp}
 use Rattle.stm_history.specs.declared.change.Change.{Change}
 use Rattle.stm_history.specs.declared.key_state.KeyState.{KeyState}
 use Rattle.stm_history.specs.Opening.{Opening}
-use Rattle.stm_history.specs.History.{History, now, number_of_last, revisions_up_to, key_at, key_now, key_after, change_of}
+use Rattle.stm_history.specs.History.{History, now, number_of_last, revisions_up_to, key_at, key_now, key_after}
 use Rattle.stm_history.proofs.HistoryLaws.{one_more}
 use Rattle.stm_keys.specs.declared.event.Event.{Event}
-use Rattle.stm_keys.specs.Events.{event_of, events_above, events_numbered, events_of, event_about, after_event, key_of_event}
+use Rattle.stm_keys.specs.Events.{events_above, events_numbered, events_of, event_about, after_event, key_of_event}
 use Rattle.stm_keys.specs.Keys.{ListsPresent}
 use Rattle.stm_keys.proofs.Recorded.{after_about}
 use Rattle.stm_storing.specs.Past.{state_in, HasKey, IsPart, Adds, IsChangedIn, IsPast, StandsBelow}

@@ -1,11 +1,9 @@
 use Rattle.std.proofs.Common.{List, ℕ, arith, subst}
-use Rattle.stm_history.specs.declared.key_state.KeyState.{KeyState}
-use Rattle.stm_history.specs.History.{now}
 use Rattle.stm_keys.specs.declared.event.Event.{Event}
 use Rattle.stm_keys.specs.Events.{event_about}
 use Rattle.std.specs.Prelude.{IsSome}
 use Rattle.stm_storing.specs.Past.{Adds, IsChangedIn}
-use Rattle.stm_storing.proofs.PastKeys.{no_revision, revision_added, narrowed}
+use Rattle.stm_storing.proofs.PastKeys.{no_revision, revision_added}
 use Rattle.stm_storing.proofs.past.add_changed_since.Goals as goal
 
 pub loop-later-init : goal.loop-later-init

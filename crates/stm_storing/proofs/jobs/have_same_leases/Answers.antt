@@ -1,5 +1,4 @@
-use Rattle.std.proofs.Common.{◌≡◌, ℕ, ap, sym, ◌∙◌, subst}
-use Rattle.stm_leases.specs.Live.{Live}
+use Rattle.std.proofs.Common.{◌≡◌, ℕ, ap, sym, ◌∙◌}
 use Rattle.stm_entries.specs.Replayed.{Replayed, opening}
 use Rattle.stm_entries.specs.Replay.{replay}
 use Rattle.stm_storing.proofs.jobs.have_same_leases.Goals as goal

@@ -13,6 +13,7 @@ use std::sync::atomic::{AtomicBool, AtomicU64, Ordering};
 use std::test::Fail;
 use std::thread;
 use std::thread::Threads;
+use stm_history::{Sequence, Text};
 use stm_program::Level;
 use stm_txn::Store;
 use stm_workers::{Gate, Gathered, Hall, Job, JobEnd, run_workers};
@@ -148,12 +149,14 @@ fn report_first(reported: &mut String, ends: &[JobEnd]) -> Result<(), AllocError
     }
 }
 
-/// How many attempts of job 0 were made.
-fn attempts_of_first(attempts: &[u32]) -> u32 {
-    match attempts.first() {
-        Some(made) => *made,
-        None => 0,
+/// Adds the keys over which commits of job 0 failed before its last attempt.
+fn report_lost(reported: &mut String, lost: &[Sequence<Text>]) -> Result<(), AllocError> {
+    if let Some(keys) = lost.first() {
+        for key in keys.as_slice() {
+            write!(reported, "lost over {}, ", key.as_str())?;
+        }
     }
+    Ok(())
 }
 
 /// Whether `p` is "1" now.
@@ -175,7 +178,7 @@ fn p_now(hall: &Hall) -> Result<&'static str, AllocError> {
 }
 
 /// What is shown of a run, in a line: whether the jobs were at work at once, how many committed, the store's revision, whether `p` is
-/// "1", and of job 0 how many keys it fetched, how many attempts of it were made, and how it ended.
+/// "1", and of job 0 how many keys it fetched, over which keys its commits failed before its last attempt, and how it ended.
 fn report_run(
     reported: &mut String,
     holding: &Holding,
@@ -184,13 +187,13 @@ fn report_run(
     let put = p_now(&gathered.hall)?;
     write!(
         reported,
-        "{}: {} committed, revision {}, p {put}, {} fetched, {} attempts, ",
+        "{}: {} committed, revision {}, p {put}, {} fetched, ",
         holding.manner(),
         gathered.committed,
         gathered.hall.revision(),
-        holding.fetches.load(Ordering::SeqCst),
-        attempts_of_first(gathered.attempts.as_slice())
+        holding.fetches.load(Ordering::SeqCst)
     )?;
+    report_lost(reported, gathered.lost.as_slice())?;
     report_first(reported, gathered.ends.as_slice())
 }
 
@@ -301,16 +304,14 @@ const READ_BOTH: &str = r#"[["abort",["cat",["get","a"],["get","b"]]]]"#;
 #[test]
 fn two_workers_are_at_work_at_once(rt: HostRuntime) -> Result<(), Fail> {
     let holding = Holding::new(Place::Commit, MANY_TURNS);
-    let expected =
-        "at once: 2 committed, revision 3, p is 1, 0 fetched, 1 attempts, commit 1 at 3; ";
+    let expected = "at once: 2 committed, revision 3, p is 1, 0 fetched, commit 1 at 3; ";
     is_reported(&rt, rt.alloc(), &holding, (PUT_P, PUT_Q), 1, 2, expected)
 }
 
 #[test]
 fn one_worker_runs_one_job_after_another(rt: HostRuntime) -> Result<(), Fail> {
     let holding = Holding::new(Place::Commit, FEW_TURNS);
-    let expected =
-        "serial: 2 committed, revision 3, p is 1, 0 fetched, 1 attempts, commit 0 at 2; ";
+    let expected = "serial: 2 committed, revision 3, p is 1, 0 fetched, commit 0 at 2; ";
     is_reported(&rt, rt.alloc(), &holding, (PUT_P, PUT_Q), 1, 1, expected)
 }
 
@@ -318,8 +319,7 @@ fn one_worker_runs_one_job_after_another(rt: HostRuntime) -> Result<(), Fail> {
 #[test]
 fn two_workers_with_lists_are_at_work_at_once(rt: HostRuntime) -> Result<(), Fail> {
     let holding = Holding::new(Place::Commit, MANY_TURNS);
-    let expected =
-        "at once: 2 committed, revision 3, p is 1, 1 fetched, 1 attempts, commit 1 at 3; ";
+    let expected = "at once: 2 committed, revision 3, p is 1, 1 fetched, commit 1 at 3; ";
     is_reported(
         &rt,
         rt.alloc(),
@@ -334,8 +334,7 @@ fn two_workers_with_lists_are_at_work_at_once(rt: HostRuntime) -> Result<(), Fai
 #[test]
 fn one_worker_runs_one_job_with_a_list_after_another(rt: HostRuntime) -> Result<(), Fail> {
     let holding = Holding::new(Place::Commit, FEW_TURNS);
-    let expected =
-        "serial: 2 committed, revision 3, p is 1, 1 fetched, 1 attempts, commit 0 at 2; ";
+    let expected = "serial: 2 committed, revision 3, p is 1, 1 fetched, commit 0 at 2; ";
     is_reported(
         &rt,
         rt.alloc(),
@@ -351,8 +350,7 @@ fn one_worker_runs_one_job_with_a_list_after_another(rt: HostRuntime) -> Result<
 #[test]
 fn no_lock_is_held_before_the_fetch_of_a_list(rt: HostRuntime) -> Result<(), Fail> {
     let holding = Holding::new(Place::Fetch, MANY_TURNS);
-    let expected =
-        "at once: 2 committed, revision 3, p is 1, 1 fetched, 1 attempts, commit 1 at 3; ";
+    let expected = "at once: 2 committed, revision 3, p is 1, 1 fetched, commit 1 at 3; ";
     is_reported(
         &rt,
         rt.alloc(),
@@ -370,7 +368,7 @@ fn no_lock_is_held_before_the_fetch_of_a_list(rt: HostRuntime) -> Result<(), Fai
 fn a_list_is_taken_from_the_answers_of_a_failed_commit(rt: HostRuntime) -> Result<(), Fail> {
     let holding = Holding::new(Place::CommitOnceBothStand, MANY_TURNS);
     let expected =
-        "at once: 2 committed, revision 3, p is 1, 1 fetched, 2 attempts, commit 1 at 3; ";
+        "at once: 2 committed, revision 3, p is 1, 1 fetched, lost over q, commit 1 at 3; ";
     is_reported(
         &rt,
         rt.alloc(),
@@ -386,8 +384,7 @@ fn a_list_is_taken_from_the_answers_of_a_failed_commit(rt: HostRuntime) -> Resul
 #[test]
 fn no_lock_is_held_before_a_fetch(rt: HostRuntime) -> Result<(), Fail> {
     let holding = Holding::new(Place::Fetch, MANY_TURNS);
-    let expected =
-        "at once: 2 committed, revision 3, p is 1, 1 fetched, 1 attempts, commit 1 at 3; ";
+    let expected = "at once: 2 committed, revision 3, p is 1, 1 fetched, commit 1 at 3; ";
     is_reported(&rt, rt.alloc(), &holding, (READ_Q, PUT_Q), 1, 2, expected)
 }
 
@@ -395,8 +392,7 @@ fn no_lock_is_held_before_a_fetch(rt: HostRuntime) -> Result<(), Fail> {
 #[test]
 fn one_worker_waits_before_its_fetch(rt: HostRuntime) -> Result<(), Fail> {
     let holding = Holding::new(Place::Fetch, FEW_TURNS);
-    let expected =
-        "serial: 2 committed, revision 3, p is not 1, 1 fetched, 1 attempts, commit 0 at 2; ";
+    let expected = "serial: 2 committed, revision 3, p is not 1, 1 fetched, commit 0 at 2; ";
     is_reported(&rt, rt.alloc(), &holding, (READ_Q, PUT_Q), 1, 1, expected)
 }
 
@@ -404,8 +400,7 @@ fn one_worker_waits_before_its_fetch(rt: HostRuntime) -> Result<(), Fail> {
 #[test]
 fn a_job_gives_up_over_a_key_that_another_put(rt: HostRuntime) -> Result<(), Fail> {
     let holding = Holding::new(Place::CommitOnceBothStand, MANY_TURNS);
-    let expected =
-        "at once: 1 committed, revision 2, p is not 1, 1 fetched, 1 attempts, gave up over q; ";
+    let expected = "at once: 1 committed, revision 2, p is not 1, 1 fetched, gave up over q; ";
     is_reported(&rt, rt.alloc(), &holding, (READ_Q, PUT_Q), 1, 2, expected)
 }
 
@@ -414,7 +409,7 @@ fn a_job_gives_up_over_a_key_that_another_put(rt: HostRuntime) -> Result<(), Fai
 fn a_job_is_sent_again_without_a_fetch(rt: HostRuntime) -> Result<(), Fail> {
     let holding = Holding::new(Place::CommitOnceBothStand, MANY_TURNS);
     let expected =
-        "at once: 2 committed, revision 3, p is 1, 1 fetched, 2 attempts, commit 1 at 3; ";
+        "at once: 2 committed, revision 3, p is 1, 1 fetched, lost over q, commit 1 at 3; ";
     is_reported(&rt, rt.alloc(), &holding, (READ_Q, PUT_Q), 2, 2, expected)
 }
 
@@ -422,8 +417,7 @@ fn a_job_is_sent_again_without_a_fetch(rt: HostRuntime) -> Result<(), Fail> {
 #[test]
 fn ends_of_one_program_are_not_exchanged(rt: HostRuntime) -> Result<(), Fail> {
     let holding = Holding::new(Place::CommitOnceBothStand, MANY_TURNS);
-    let expected =
-        "at once: 1 committed, revision 2, p is not 1, 1 fetched, 1 attempts, gave up over p; ";
+    let expected = "at once: 1 committed, revision 2, p is not 1, 1 fetched, gave up over p; ";
     is_reported(
         &rt,
         rt.alloc(),
@@ -440,7 +434,7 @@ fn ends_of_one_program_are_not_exchanged(rt: HostRuntime) -> Result<(), Fail> {
 fn an_abort_is_of_one_revision(rt: HostRuntime) -> Result<(), Fail> {
     let holding = Holding::new(Place::SecondFetch, MANY_TURNS);
     let expected =
-        "at once: 1 committed, revision 2, p is not 1, 2 fetched, 1 attempts, abort  on a of 1 on b of 1; ";
+        "at once: 1 committed, revision 2, p is not 1, 2 fetched, abort  on a of 1 on b of 1; ";
     is_reported(
         &rt,
         rt.alloc(),

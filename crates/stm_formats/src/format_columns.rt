@@ -1,5 +1,5 @@
 //! The columns of a report.
-ghost use Rattle.std.specs.Prelude.{◌≡◌, ◌×◌, ◌≤◌, IfOk};
+ghost use Rattle.std.specs.Prelude.{◌≡◌, ◌≤◌, IfOk};
 ghost use Rattle.stm_formats.specs.FormatColumns.{lane_number, column, last_column, width_in, least_width, width, titled_width, most_width, all_places, place};
 
 use crate::format_label::{MOST_COLUMNS, RunnerLabel, title};

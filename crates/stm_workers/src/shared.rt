@@ -14,6 +14,7 @@ use std::alloc::{AllocError, Global};
 use std::sync::atomic::{AtomicBool, Ordering};
 use std::sync::ledger::Share;
 use std::sync::{Mutex, Wait};
+use stm_history::Sequence;
 use stm_job::{Job, JobSeat, JobTable};
 
 /// What all workers of a run share: the lock round the hall, the table that they draw from, the jobs, the gate, and whether the run was given up.

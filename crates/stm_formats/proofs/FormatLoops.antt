@@ -1,10 +1,9 @@
 -- Adding notes one after the other, as a loop does.
-use Rattle.std.proofs.Common.{◌≡◌, ℕ, ◌+◌, ◌<◌, ◌≤◌, List, [], ◌∷◌, ◌++◌, length, map, drop, get_or, Option, Some, sym, ap, ◌∙◌}
+use Rattle.std.proofs.Common.{◌≡◌, ℕ, ◌+◌, ◌<◌, ◌≤◌, List, ◌++◌, length, map, drop, get_or, sym, ap, ◌∙◌}
 use Rattle.std.proofs.Common.{String, string_bytes, append_assoc, append-nil}
 use Rattle.std.proofs.lemmas.List.{drop_all}
-use Rattle.stm_history.specs.declared.key_state.KeyState.{KeyState}
 use Rattle.stm_history.specs.History.{History, key_now}
-use Rattle.stm_formats.specs.FormatNotes.{key_note, notes_of_key, key_notes}
+use Rattle.stm_formats.specs.FormatNotes.{notes_of_key, key_notes}
 use Rattle.stm_formats.proofs.Joining.{left_at}
 
 module _ {A : Type 0} (most : ℕ) where

@@ -1,7 +1,7 @@
 -- On what values a run aborted or came to a fault, as notes: what its last attempt had read.
 --
 -- The Go package `concurrency`, "STM": each attempt begins anew. What a failed commit at a serializable level read again is not told here: no event shows it.
-use Rattle.std.specs.Prelude.{ℕ, zero, suc, nat_eq, nat_lt, if◌then◌else◌, Bool, true, false, List, [], ◌∷◌, ◌++◌, length, drop, slice_get, Option, Some, None, Result, Ok, Err, codes, decimal}
+use Rattle.std.specs.Prelude.{ℕ, zero, suc, ◌+◌, nat_eq, nat_lt, if◌then◌else◌, Bool, false, List, [], ◌∷◌, ◌++◌, length, drop, slice_get, Option, Some, None, Result, Ok, Err, codes, decimal}
 use Rattle.stm_history.specs.History.{History}
 use Rattle.stm_events.specs.declared.reply.Reply.{Reply}
 use Rattle.stm_events.specs.declared.reply.Reply.TheVariants.{Started, Prefetched, Fetched, Conflict, Aborted, Faulted}
@@ -55,13 +55,18 @@ noted words reads = if nat_lt (length reads) 2 then [] else joined (words ∷ co
 abbrev pub end_words : List RunnerLabel → List ℕ → ℕ → ℕ → List ℕ
 end_words labels word runner number = joined (runner_words labels runner ∷ word ∷ decimal number ∷ [])
 
--- the note of the event after that many
+-- the note of the event after that many, which was taken
+abbrev pub taken_note : ℕ → List RunnerLabel → History → List (Result Reply Denied) → ℕ → Reply → List (List ℕ)
+taken_note most labels h replies before (Aborted runner text) =
+    noted (end_words labels (codes " aborts at event ") runner (before + 1)) (attempt_reads most h runner replies before)
+taken_note most labels h replies before (Faulted runner fault) =
+    noted (end_words labels (codes " faults at event ") runner (before + 1)) (attempt_reads most h runner replies before)
+taken_note most labels h replies before other = []
+
+-- that of one that was taken, or refused
 abbrev pub end_note : ℕ → List RunnerLabel → History → List (Result Reply Denied) → ℕ → Result Reply Denied → List (List ℕ)
-end_note most labels h replies before (Ok (Aborted runner text)) =
-    noted (end_words labels (codes " aborts at event ") runner (suc before)) (attempt_reads most h runner replies before)
-end_note most labels h replies before (Ok (Faulted runner fault)) =
-    noted (end_words labels (codes " faults at event ") runner (suc before)) (attempt_reads most h runner replies before)
-end_note most labels h replies before other = []
+end_note most labels h replies before (Ok reply) = taken_note most labels h replies before reply
+end_note most labels h replies before (Err denied) = []
 
 -- those of these replies, the first of them to the event after that many
 abbrev pub end_notes : ℕ → List RunnerLabel → History → List (Result Reply Denied) → ℕ → List (Result Reply Denied) → List (List ℕ)

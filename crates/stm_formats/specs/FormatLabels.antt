@@ -1,5 +1,5 @@
 -- What a report calls runners: by the labels of a list, which are those of the runners 1, 2 and so on.
-use Rattle.std.specs.Prelude.{ℕ, ◌-◌, List, [], ◌∷◌, ◌++◌, nat_eq, nat_le, if◌then◌else◌, slice_get, Option, None, Some, codes, decimal}
+use Rattle.std.specs.Prelude.{ℕ, ◌-◌, List, [], ◌∷◌, nat_eq, nat_le, if◌then◌else◌, slice_get, Option, None, Some, codes, decimal}
 use Rattle.stm_formats.specs.declared.format_label.RunnerLabel.{RunnerLabel}
 use Rattle.stm_formats.specs.declared.format_label.TheConstants.{MOST_COLUMNS}
 use Rattle.stm_formats.specs.FormatShown.{plain}

@@ -1,9 +1,9 @@
 //! On what values a run aborted or came to a fault, as notes.
 ghost use Rattle.std.specs.Prelude.{◌≡◌, ◌++◌, ◌+◌, ◌<◌, ◌≤◌, length, IfOk, OnOk};
-ghost use Rattle.stm_formats.specs.FormatEnds.{begins, read_at, fetched_at, listed_at, own_read, attempt_reads, noted, end_words, end_note, end_notes};
+ghost use Rattle.stm_formats.specs.FormatEnds.{begins, read_at, fetched_at, listed_at, own_read, attempt_reads, noted, end_words, taken_note, end_note, end_notes};
 
 use crate::format_label::{RunnerLabel, runner_words};
-use crate::format_pieces::{Piece, said};
+use crate::format_pieces::{Piece, push_pieces, said};
 use crate::format_words::{reads_words, seen_words};
 use std::alloc::{AllocError, Global};
 use stm_events::KeyRead;
@@ -165,22 +165,18 @@ fn attempt_reads(
 }
 
 /// How a run ended, and at which event.
-fn end_words<'a>(
+fn end_words(
     alloc: Global,
     labels: &[RunnerLabel],
-    word: &'a str,
+    word: &str,
     runner: u64,
     number: u64,
 ) -> Result<Sequence<u8>, AllocError>
     ensures { IfOk result (λ words. words ≡ end_words labels.now word.now runner number) }
 {
-    let named = runner_words(alloc, labels, runner)?;
-    let pieces = [
-        Piece::Raw(named.as_slice()),
-        Piece::Say(word),
-        Piece::Number(number),
-    ];
-    said(alloc, &pieces)
+    let mut words = runner_words(alloc, labels, runner)?.into_vec();
+    push_pieces(&mut words, &[Piece::Say(word), Piece::Number(number)])?;
+    Ok(Sequence::of(words))
 }
 
 /// Adds a note of these words and of what was read, where something was.
@@ -226,6 +222,51 @@ fn push_ended(
     push_noted(alloc, notes, words.as_slice(), reads.as_slice())
 }
 
+/// Adds the note of the event after so many, which was taken, if a run aborted or came to a fault there.
+fn push_taken(
+    alloc: Global,
+    most: u32,
+    labels: &[RunnerLabel],
+    notes: &mut Vec<Sequence<u8>>,
+    keys: &Keys,
+    replies: &[Result<Reply, Denied>],
+    before: usize,
+    reply: &Reply,
+) -> Result<(), AllocError>
+    requires { before < length replies.now }
+    ensures { OnOk result (notes.new.items ≡ notes.old.items ++ taken_note most labels.now keys.now.history replies.now before reply.now) }
+{
+    match reply {
+        Reply::Aborted { runner, .. } => {
+            push_ended(
+                alloc,
+                most,
+                labels,
+                notes,
+                keys,
+                replies,
+                before,
+                " aborts at event ",
+                *runner,
+            )
+        }
+        Reply::Faulted { runner, .. } => {
+            push_ended(
+                alloc,
+                most,
+                labels,
+                notes,
+                keys,
+                replies,
+                before,
+                " faults at event ",
+                *runner,
+            )
+        }
+        _ => Ok(()),
+    }
+}
+
 /// Adds the note of the event after so many, if a run aborted or came to a fault there.
 fn push_end(
     alloc: Global,
@@ -241,33 +282,8 @@ fn push_end(
     ensures { OnOk result (notes.new.items ≡ notes.old.items ++ end_note most labels.now keys.now.history replies.now before reply.now) }
 {
     match reply {
-        Ok(Reply::Aborted { runner, .. }) => {
-            push_ended(
-                alloc,
-                most,
-                labels,
-                notes,
-                keys,
-                replies,
-                before,
-                " aborts at event ",
-                *runner,
-            )
-        }
-        Ok(Reply::Faulted { runner, .. }) => {
-            push_ended(
-                alloc,
-                most,
-                labels,
-                notes,
-                keys,
-                replies,
-                before,
-                " faults at event ",
-                *runner,
-            )
-        }
-        _ => Ok(()),
+        Ok(reply) => push_taken(alloc, most, labels, notes, keys, replies, before, reply),
+        Err(_) => Ok(()),
     }
 }
 

@@ -185,7 +185,8 @@ fn push_shown(out: &mut Vec<u8>, exact: bool, bytes: &[u8]) -> Result<(), AllocE
     let mut left = 0usize;
     for index in 0..bytes.len() {
         let hidden = hidden_from(bytes, index, left);
-        push_byte(out, exact, hidden, bytes[index])?;
+        let byte = bytes[index];
+        push_byte(out, exact, hidden, byte)?;
         left = hidden.saturating_sub(1);
     }
     Ok(())

@@ -6,7 +6,7 @@ use stm_source::SourceError;
 use stm_tokens::{Symbol, Token, TokenKind, Word, number_length, tokens_of};
 
 /// What begins at the top of a source.
-#[derive(Clone, Copy, Debug, PartialEq, Eq)]
+#[derive(Clone, Copy, PartialEq, Eq)]
 pub(crate) enum Item {
     /// A program, a rule, a final or a definition.
     Part,

@@ -11,6 +11,7 @@ mod auditing;
 mod explaining;
 mod exploring;
 mod files;
+mod found;
 mod naming;
 mod noting;
 mod resuming;
@@ -27,7 +28,7 @@ use explaining::{name_of, say_unread, say_unwritten};
 use exploring::run_search;
 use files::open;
 use noting::Noting;
-use sources::{JsonFile, labels_at, run_compile, scenario_at};
+use sources::{Given, JsonFile, given_at, labels_of, run_compile, scenario_at};
 use std::alloc::{AllocError, Global};
 use std::process::ExitCode;
 use std::sync::Wait;
@@ -78,27 +79,23 @@ fn format_of(word: Option<&str>) -> Option<Format>
     }
 }
 
-/// What a report in a format calls the runners of the scenario of a path: in lines and objects they have their numbers alone.
-fn labels_in(
-    rt: &HostRuntime,
-    path: &str,
-    scenario: &JsonFile<'_>,
-    format: Format,
-) -> Result<Vec<RunnerLabel>, u8> {
+/// What a report in a format calls the runners of a scenario: in lines and objects they have their numbers alone.
+fn labels_in(rt: &HostRuntime, given: &Given<'_>, format: Format) -> Result<Vec<RunnerLabel>, u8> {
     match format {
         Format::Lines | Format::Json => Ok(Vec::new(rt.alloc())),
-        _ => labels_at(rt, path, scenario),
+        _ => labels_of(rt, given),
     }
 }
 
 /// Writes the report of the scenario of a path in a format. A fault is explained, or is not.
 fn report_script(rt: &HostRuntime, path: &str, format: Format, explain: bool) -> Result<u8, u8> {
-    let scenario = scenario_at(rt, path, explain)?;
-    let labels = labels_in(rt, path, &scenario, format)?;
+    let given = given_at(rt, path, explain)?;
+    let labels = labels_in(rt, &given, format)?;
+    let labels = labels.as_slice();
     if explain {
-        return Ok(explaining::run_script(rt, &scenario, format, labels.as_slice()));
+        return Ok(explaining::run_script(rt, &given, format, labels));
     }
-    Ok(run_script(rt, &scenario, format, labels.as_slice()))
+    Ok(run_script(rt, &given.scenario, format, labels))
 }
 
 /// Runs the scenario of a path, or that on standard input, where its word names a format. A fault is explained, or is not.

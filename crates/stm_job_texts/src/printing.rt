@@ -179,7 +179,7 @@ fn attempts_of_each(alloc: Global, lost: &[Sequence<Text>]) -> Result<Vec<u64>, 
 {
     let mut attempts = Vec::new(alloc);
     for keys in lost {
-        attempts.push(keys.len() as u64 + 1)?;
+        attempts.push(keys.as_slice().len() as u64 + 1)?;
     }
     Ok(attempts)
 }

@@ -6,7 +6,7 @@ use Rattle.stm_job_texts.proofs.TallyLemmas.{no_text}
 use Rattle.stm_job_texts.proofs.conflicts.tally_of.Goals as goal
 
 pub loop-before-init : goal.loop-before-init
-loop-before-init c = subst (λ (t : Tally). Counts [] t) (sym c.new-tally.ensures) no_text
+loop-before-init c = subst (λ (t : Tally). Counts [] t) (sym c.new-tally.ensures.empty) no_text
 
 -- as many were counted as there are before this one
 pub count_one-requires-clause-total : goal.count_one-requires-clause-total
@@ -21,7 +21,7 @@ loop-before-preserved c =
     let grown : take (i + 1) texts ≡ take i texts ++ c.in_ok-text.text ∷ [] =
     ap (λ (n : ℕ). take n texts) step
     ∙ take-suc texts i c.index-texts-before.result c.loop-before-test.true
-    ∙ ap (λ (t : List ℕ). take i texts ++ t ∷ []) (sym c.index-texts-before.is ∙ sym c.in_ok-text.ensures) in
+    ∙ ap (λ (t : List ℕ). take i texts ++ t ∷ []) (sym c.index-texts-before.is ∙ sym c.in_ok-text.ensures.cases) in
     subst (λ (ts : List (List ℕ)). Counts ts c.count_one.new.tally.entries) (sym grown) (c.in_ok-count_one.ensures (take i texts) c.loop-before.invariant)
 
 pub returns : goal.returns

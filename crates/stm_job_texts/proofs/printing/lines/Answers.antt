@@ -18,4 +18,4 @@ returns c =
       c.new-text.ensures.bytes,
       c.revision.ensures,
     ) refl in
-    (state, c.in_ok-state.ensures, c.in_ok-push_values.ensures.ascending, (shown.0, (shown.1, text)))
+    (state, c.in_ok-state.ensures, c.in_ok-push_values.ensures.ascending, shown.0, shown.1, text)

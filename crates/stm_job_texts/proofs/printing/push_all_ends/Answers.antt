@@ -10,7 +10,7 @@ returns c =
     let tally = c.in_ok-tally.tally.entries in
     let first = count_line (codes "attempts") (attempts_in_all made) in (
       first ∷ map conflicts_line tally ++ lines_of_ends made 0 c.args.ends.now,
-      (tally, (c.in_ok-tally.ensures, refl)),
+      (tally, c.in_ok-tally.ensures, refl),
       rw (
         c.in_ok-push_ends.ensures,
         c.in_ok-push_conflicts.ensures,

@@ -17,6 +17,7 @@ returns c =
         c.in_ok-push_count.ensures,
         c.attempts_in_all.ensures,
         c.as_slice.ensures.value,
+        c.as_slice-2.ensures.value,
         c.in_ok-attempts.ensures,
       ) (three_parts (string_bytes c.args.text.now) first (map conflicts_line tally) (lines_of_ends made 0 c.args.ends.now)),
     )

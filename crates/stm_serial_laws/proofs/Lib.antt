@@ -1,0 +1,4 @@
+pub mod BaseReads
+pub mod StepEnds
+pub mod Turns
+pub mod Serialized

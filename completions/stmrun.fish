@@ -34,7 +34,7 @@ complete -c stmrun -n '__fish_seen_subcommand_from explore' -l after -d 'Which r
 complete -c stmrun -n '__fish_seen_subcommand_from explore' -l witness -d 'Prints the outcomes of whole schedules, and of each the scenario with a schedule that comes to it'
 complete -c stmrun -n '__fish_seen_subcommand_from explore' -l serial -d 'Looks for an outcome of a whole schedule that no serial order of the runners comes to'
 complete -c stmrun -n '__fish_seen_subcommand_from explore' -l strict -d 'Status 1 also where a rule is kept, and a runner never committed or a key is asked for that nothing puts'
-complete -c stmrun -n '__fish_seen_subcommand_from explore' -l format -d 'The form of schedules' -x -a 'lines text'
+complete -c stmrun -n '__fish_seen_subcommand_from explore' -l format -d 'The form of what is printed' -x -a 'lines text'
 complete -c stmrun -n '__fish_seen_subcommand_from explore' -l explain -d 'Explains faults, of an input or of a run'
 complete -c stmrun -n '__fish_seen_subcommand_from explore' -a '--explain=never'
 complete -c stmrun -n '__fish_seen_subcommand_from explore' -l help -d 'Print help'

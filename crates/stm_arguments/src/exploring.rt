@@ -74,12 +74,13 @@ With --level all there is a line for each level, the weakest first, without the 
 --witness and --serial a source's rules are not asked.
 
 Where SCENARIO is a source, a source stands in the place of each scenario that is printed. With --format text a table does, as
-script --format text prints it; with --level all and a rule, that of the weakest level at which a rule is broken.
+script --format text prints it, and the lines are words; with --level all and a rule, a last one is the table of the weakest level
+at which a rule is broken.
 
 Statuses: 0 always, serial, or all outcomes were found, 1 broken or an anomaly, 2 bad input or usage, 3 out of memory or a
 failed device, 4 open.";
 
-/// The names of the forms in which schedules are printed.
+/// The names of the forms of what is printed.
 const FORMATS: &[&str] = &["lines", "text"];
 
 /// The words of `explore`.
@@ -101,7 +102,7 @@ pub struct ExploreWords<'a> {
     pub serial: bool,
     /// Whether an answer that is worth little has status 1.
     pub strict: bool,
-    /// The name of the form in which schedules are printed: lines, where there is none.
+    /// The name of the form of what is printed: lines, where there is none.
     pub format: Option<&'a str>,
     /// Whether a fault is explained.
     pub explain: bool,
@@ -164,7 +165,7 @@ pub(crate) fn explore_command<'a>(alloc: Global) -> Result<Command<'a>, AllocErr
             "format",
             "FORMAT",
             ValueParser::Names(FORMATS),
-            "The form of schedules: lines (the default), of JSON or of the source; text: the table of script --format text",
+            "The form of what is printed: lines (the default), for programs, or text, for people: words, and schedules as tables",
         ))?
         .arg(explain(alloc))
 }

@@ -7,7 +7,7 @@ use stm_tokens::{Symbol, Token, TokenKind, Word, number_length, tokens_of};
 
 /// What begins at the top of a source.
 #[derive(Clone, Copy, Debug, PartialEq, Eq)]
-pub(crate) enum Item {
+enum Item {
     /// A program, a rule, a final or a definition.
     Part,
     /// A start.
@@ -20,16 +20,16 @@ pub(crate) enum Item {
 
 /// An item, and where it begins.
 #[derive(Clone, Copy)]
-pub(crate) struct Begun {
-    pub(crate) item: Item,
+struct Begun {
+    item: Item,
     /// The place of its first token.
-    pub(crate) place: usize,
+    place: usize,
     /// The byte at which that begins.
-    pub(crate) at: usize,
+    at: usize,
 }
 
 /// What a token opens and closes: how many brackets are open behind it.
-pub(crate) fn open_behind(open: usize, kind: &TokenKind) -> usize {
+fn open_behind(open: usize, kind: &TokenKind) -> usize {
     match kind {
         TokenKind::Symbol(Symbol::LeftParenthesis | Symbol::LeftBrace) => open.saturating_add(1),
         TokenKind::Symbol(Symbol::RightParenthesis | Symbol::RightBrace) => open.saturating_sub(1),
@@ -76,7 +76,7 @@ fn item_of(before: Option<&TokenKind>, kind: &TokenKind) -> Option<Item> {
 }
 
 /// The items of a source.
-pub(crate) fn items_of(alloc: Global, tokens: &[Token]) -> Result<Vec<Begun>, AllocError> {
+fn items_of(alloc: Global, tokens: &[Token]) -> Result<Vec<Begun>, AllocError> {
     let mut items = Vec::new(alloc);
     let mut open = 0;
     let mut before = None;
@@ -210,10 +210,10 @@ pub fn kept_text(alloc: Global, source: &str, level: Option<&str>) -> Result<Str
     Ok(out)
 }
 
-/// Whether a source comes to the scenario of this line, which has no line feed at its end. It fails only when out of memory.
+/// Whether a source comes to the scenario of this line. It fails only when out of memory.
 pub fn spells(alloc: Global, source: &str, line: &str) -> Result<bool, AllocError> {
     match compiled_source(alloc, source.as_bytes()) {
-        Ok(compiled) => Ok(compiled.line.as_str().strip_suffix('\n') == Some(line)),
+        Ok(compiled) => Ok(compiled.line.as_str() == line),
         Err(SourceError::OutOfMemory) => Err(AllocError),
         Err(SourceError::Bad(_)) => Ok(false),
     }

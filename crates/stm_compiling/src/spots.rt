@@ -257,6 +257,22 @@ impl<'a> Spot<'a> {
         false
     }
 
+    /// Whether it stands behind a comma of a list that is given a name outside of programs.
+    pub(crate) fn is_in_list(self) -> bool {
+        if !self.is_behind_symbol(0, Symbol::Comma) {
+            return false;
+        }
+        for token in self.before.iter().rev() {
+            match &token.kind {
+                TokenKind::Word(Word::Let) => return true,
+                TokenKind::Text(_) | TokenKind::Number(_) | TokenKind::Name(_) => {}
+                TokenKind::Symbol(Symbol::Comma | Symbol::Assign | Symbol::Subtract) => {}
+                _ => return false,
+            }
+        }
+        false
+    }
+
     /// The token at an index before it.
     fn at(self, index: usize) -> Option<&'a TokenKind> {
         match self.before.get(index) {

@@ -90,7 +90,8 @@ pub(crate) fn run_script(rt: &HostRuntime, given: &Given<'_>, format: Format) ->
         let mut err = Std::new(rt.stderr());
         return script_on(rt, &given.scenario, format, &mut err);
     }
-    let mut err = Std::new(Vec::new(rt.alloc()));
+    let said: Vec<u8> = Vec::new(rt.alloc());
+    let mut err = Std::new(said);
     let status = script_on(rt, &given.scenario, format, &mut err);
     let said = str::from_utf8(err.device.as_slice()).unwrap_or("");
     say_named(rt, said, runners.as_slice());

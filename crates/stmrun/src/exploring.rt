@@ -13,7 +13,7 @@ use std::io::Write;
 use std::slice;
 use stm_arguments::{ExploreWords, Levels};
 use stm_commands::Std;
-use stm_compiling::{Beside, Rule as SourceRule, Wait as SourceWait};
+use stm_compiling::{Beside, NamedRunner, Rule as SourceRule, Wait as SourceWait};
 use stm_exploring::{Level, Question as Sought, Rule, Wait, explore_to, outcomes_to};
 
 /// What is searched, and how.
@@ -138,11 +138,10 @@ fn run_outcomes_in(rt: &HostRuntime, search: &Search<'_, '_>, scenario: &JsonFil
     let mut out = Std::new(Noting::new(Vec::new(rt.alloc())));
     let status = run_outcomes(rt, search, scenario, &mut out);
     let printed = out.device.into_device();
-    let level = only_level(search.levels);
     print_found(
         rt,
         search.form,
-        level,
+        search.levels,
         printed.as_slice(),
         status,
         search.explain,
@@ -290,24 +289,28 @@ fn refuse_rules(rt: &HostRuntime, words: &ExploreWords<'_>) -> Result<(), u8> {
     Ok(())
 }
 
-/// The form of schedules that is asked for by its name, or that of the source of the scenario, where it has one.
+/// The form that is asked for by its name, or that of the source of the scenario, where it has one.
 fn form_of<'a>(format: Option<&str>, source: Option<&'a SourceText>) -> Form<'a> {
     match (format, source) {
-        (Some("text"), _) => Form::Table,
+        (Some("text"), _) => Form::Text(runners_of(source)),
         (_, Some(source)) => Form::Source(source),
         (_, None) => Form::Lines,
     }
 }
 
-/// How many events may be taken, and how runners are named.
-fn told_of<'a>(words: &ExploreWords<'_>, source: Option<&'a SourceText>) -> Told<'a> {
-    let runners = match source {
+/// The runners that the source of a scenario names, where it has one.
+fn runners_of(source: Option<&SourceText>) -> &[NamedRunner] {
+    match source {
         Some(source) => source.runners.as_slice(),
         None => &[],
-    };
+    }
+}
+
+/// How many events may be taken, and how runners are named.
+fn told_of<'a>(words: &ExploreWords<'_>, source: Option<&'a SourceText>) -> Told<'a> {
     Told {
         events: words.budget,
-        runners,
+        runners: runners_of(source),
         strict: words.strict,
     }
 }

@@ -1,4 +1,4 @@
-//! What a search prints, with the schedules that it finds in the form that is asked for.
+//! What a search prints, in the form that is asked for.
 
 use crate::explaining::say_unwritten;
 use crate::noting::Noting;
@@ -6,19 +6,20 @@ use crate::resuming::resumed;
 use crate::ruling::{Question, run_rules, search_silently};
 use crate::sources::SourceText;
 use std::alloc::{AllocError, Global};
+use stm_answers::{NamedRunner, in_words};
 use stm_arguments::{Level, Levels};
 use stm_commands::{Format, Std, script_as_to};
 use stm_devices::write_all;
 
-/// In what form a search prints the schedules that it finds.
+/// In what form a search prints what it finds: a schedule, and the lines around it.
 #[derive(Clone, Copy)]
 pub(crate) enum Form<'a> {
     /// As the line of the scenario with the schedule.
     Lines,
     /// As the source with the schedule.
     Source(&'a SourceText),
-    /// As the table of a run of the schedule.
-    Table,
+    /// As the table of a run of the schedule, with all else in words, in which these runners have names.
+    Text(&'a [NamedRunner]),
 }
 
 /// With this begins a scenario that has an event, and nothing else that a search prints.
@@ -29,8 +30,10 @@ const BROKEN: &str = "[\"broken\"";
 
 /// The table of a run of a scenario, behind an empty line; none, where an allocation fails for it.
 fn table_of(alloc: Global, line: &str) -> Option<String> {
-    let mut out = Std::new(Vec::new(alloc));
-    let mut err = Std::new(Vec::new(alloc));
+    let printed: Vec<u8> = Vec::new(alloc);
+    let said: Vec<u8> = Vec::new(alloc);
+    let mut out = Std::new(printed);
+    let mut err = Std::new(said);
     let mut input = Std::new(line.as_bytes());
     let status = script_as_to(alloc, Format::Text, &mut input, &mut out, &mut err);
     if status != 0 {
@@ -50,34 +53,53 @@ fn schedule_in(
     match form {
         Form::Lines => Ok(None),
         Form::Source(source) => resumed(alloc, source, level, line),
-        Form::Table => Ok(table_of(alloc, line)),
+        Form::Text(_) => Ok(table_of(alloc, line)),
     }
 }
 
-/// Adds a line that a search printed, a scenario in this form, and answers whether that is a table.
+/// Adds a line that a search printed, with a line feed: in words, where it is an answer of a search at these levels and that is the form.
+fn push_answer(
+    alloc: Global,
+    out: &mut String,
+    form: Form<'_>,
+    levels: Levels,
+    line: &str,
+) -> Result<(), AllocError> {
+    let has_level = matches!(levels, Levels::All);
+    let words = match form {
+        Form::Text(runners) => in_words(alloc, line, has_level, runners)?,
+        Form::Lines | Form::Source(_) => None,
+    };
+    match words {
+        Some(words) => out.push_str(words.as_str())?,
+        None => out.push_str(line)?,
+    }
+    out.push('\n')
+}
+
+/// Adds a line that a search at these levels printed, in this form, and answers whether that is a table.
 fn push_found(
     alloc: Global,
     out: &mut String,
     form: Form<'_>,
-    level: Option<Level>,
+    levels: Levels,
     line: &str,
 ) -> Result<bool, AllocError> {
     if line.starts_with(SCENARIO) {
-        if let Some(schedule) = schedule_in(alloc, form, level, line)? {
+        if let Some(schedule) = schedule_in(alloc, form, only_level(levels), line)? {
             out.push_str(schedule.as_str())?;
-            return Ok(matches!(form, Form::Table));
+            return Ok(matches!(form, Form::Text(_)));
         }
     }
-    out.push_str(line)?;
-    out.push('\n')?;
+    push_answer(alloc, out, form, levels, line)?;
     Ok(false)
 }
 
-/// What a search printed, with its scenarios in this form, and an empty line behind a table.
+/// What a search at these levels printed, in this form, with an empty line behind a table.
 fn found_in(
     alloc: Global,
     form: Form<'_>,
-    level: Option<Level>,
+    levels: Levels,
     printed: &str,
 ) -> Result<String, AllocError> {
     let mut out = String::new(alloc);
@@ -86,7 +108,7 @@ fn found_in(
         if is_behind_table {
             out.push('\n')?;
         }
-        is_behind_table = push_found(alloc, &mut out, form, level, line)?;
+        is_behind_table = push_found(alloc, &mut out, form, levels, line)?;
     }
     Ok(out)
 }
@@ -106,17 +128,17 @@ fn print(rt: &HostRuntime, bytes: &[u8], status: u8, explain: bool) -> u8 {
     }
 }
 
-/// Prints what a search printed, with its scenarios in this form, or as they are where an allocation fails for that; and gives its status.
+/// Prints what a search at these levels printed, in this form, or as it is where an allocation fails for that; and gives its status.
 pub(crate) fn print_found(
     rt: &HostRuntime,
     form: Form<'_>,
-    level: Option<Level>,
+    levels: Levels,
     printed: &[u8],
     status: u8,
     explain: bool,
 ) -> u8 {
     let text = str::from_utf8(printed).unwrap_or("");
-    match found_in(rt.alloc(), form, level, text) {
+    match found_in(rt.alloc(), form, levels, text) {
         Ok(found) => print(rt, found.as_str().as_bytes(), status, explain),
         Err(_) => print(rt, printed, status, explain),
     }
@@ -180,9 +202,8 @@ pub(crate) fn run_rules_in(
     let mut out = Std::new(Noting::new(Vec::new(rt.alloc())));
     let status = run_rules(rt, question, levels, explain, &mut out);
     let mut printed = out.device.into_device();
-    if let (Form::Table, Levels::All, 1) = (form, levels, status) {
+    if let (Form::Text(_), Levels::All, 1) = (form, levels, status) {
         push_worst(rt, question, &mut printed);
     }
-    let level = only_level(levels);
-    print_found(rt, form, level, printed.as_slice(), status, explain)
+    print_found(rt, form, levels, printed.as_slice(), status, explain)
 }

@@ -27,47 +27,45 @@ fn name_in<'a>(runners: &'a [NamedRunner], digits: &str) -> Option<&'a str> {
     }
 }
 
-/// What stands before the first number of a runner in a line, its digits, and what stands behind them. Behind a quote stand words of others, in which
-/// nothing is one.
-fn next_runner(line: &str) -> Option<(&str, &str, &str)> {
-    let (front, behind) = line.split_once(RUNNER)?;
-    if front.contains('"') {
-        return None;
-    }
-    let (digits, rest) = digits_of(behind);
-    Some((front, digits, rest))
-}
-
-/// Adds a runner: with its name, if its source gives it one.
+/// Adds a runner, by what stands behind that word: with its name, if its source gives it one.
 fn push_runner(
     alloc: Global,
     out: &mut String,
     runners: &[NamedRunner],
-    digits: &str,
+    behind: &str,
 ) -> Result<(), AllocError> {
-    let runner = match name_in(runners, digits) {
-        Some(name) => format!(in alloc; "{name} (runner {digits})")?,
-        None => format!(in alloc; "runner {digits}")?,
-    };
-    out.push_str(runner.as_str())
+    let (digits, rest) = digits_of(behind);
+    match name_in(runners, digits) {
+        Some(name) => {
+            let named = format!(in alloc; "{name} (runner {digits}){rest}")?;
+            out.push_str(named.as_str())
+        }
+        None => {
+            out.push_str(RUNNER)?;
+            out.push_str(behind)
+        }
+    }
 }
 
-/// A line with the names of the runners that it is about, where their source gives them some.
+/// A line with the names of the runners that it is about, where their source gives them some. Behind a quote stand words of others, in which nothing is
+/// the number of a runner.
 pub(crate) fn with_names(
     alloc: Global,
     runners: &[NamedRunner],
     line: &str,
 ) -> Result<String, AllocError> {
     let mut named = String::new(alloc);
-    let mut rest = line;
-    for _ in 0..line.len() {
-        let Some((front, digits, behind)) = next_runner(rest) else {
-            break;
-        };
-        named.push_str(front)?;
-        push_runner(alloc, &mut named, runners, digits)?;
-        rest = behind;
+    let mut are_others = false;
+    for (index, part) in line.split(RUNNER).enumerate() {
+        if index == 0 {
+            named.push_str(part)?;
+        } else if are_others {
+            named.push_str(RUNNER)?;
+            named.push_str(part)?;
+        } else {
+            push_runner(alloc, &mut named, runners, part)?;
+        }
+        are_others = are_others || part.contains('"');
     }
-    named.push_str(rest)?;
     Ok(named)
 }

@@ -71,7 +71,8 @@ pub(crate) fn word_of(level: Level) -> &'static str {
     }
 }
 
-/// A source with the events of a line of JSON behind its last start in place of its own, and its starts at this level, where it then spells that line.
+/// A source with the events of a scenario behind its last start in place of its own, and its starts at this level, where it then spells that scenario, which
+/// is a line without its line feed.
 pub(crate) fn resumed(
     alloc: Global,
     source: &SourceText,
@@ -88,7 +89,8 @@ pub(crate) fn resumed(
     for line in events.as_str().lines() {
         push_line(&mut text, source.runners.as_slice(), line)?;
     }
-    if spells(alloc, text.as_str(), line)? {
+    let whole = format!(in alloc; "{line}\n")?;
+    if spells(alloc, text.as_str(), whole.as_str())? {
         Ok(Some(text))
     } else {
         Ok(None)

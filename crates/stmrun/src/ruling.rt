@@ -163,7 +163,8 @@ pub(crate) fn search_silently<O: Write + Drop>(
     requires { out.old.failed ≡ false }
 {
     let mut scenario = Std::new(question.scenario.open(rt));
-    let mut err = Std::new(Vec::new(rt.alloc()));
+    let said: Vec<u8> = Vec::new(rt.alloc());
+    let mut err = Std::new(said);
     let mut budget = Budget {
         left: question.told.events,
         observer: Nobody,

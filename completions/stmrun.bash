@@ -9,6 +9,7 @@ _stmrun() {
         case "${COMP_WORDS[1]} $before" in
         "script --store") compopt -o default; return ;;
         "script --format") words="lines json text svg html" ;;
+        "script --width") words="" ;;
         "threads --workers") words="" ;;
         "threads --store") compopt -o default; return ;;
         "threads --repeat") words="" ;;
@@ -27,7 +28,7 @@ _stmrun() {
         "store --range") words="" ;;
         *)
             case "${COMP_WORDS[1]}" in
-            script) case "$word" in -*) ;; *) compopt -o default; return ;; esac; words="--store --format --explain --explain=never --help" ;;
+            script) case "$word" in -*) ;; *) compopt -o default; return ;; esac; words="--store --format --width --explain --explain=never --help" ;;
             check) case "$word" in -*) ;; *) compopt -o default; return ;; esac; words="--whole --explain --explain=never --help" ;;
             threads) case "$word" in -*) ;; *) compopt -o default; return ;; esac; words="--workers --store --ends --repeat --explain --explain=never --help" ;;
             recipe) words="transfer deposit enqueue dequeue reserve_slot release_slot --help" ;;
@@ -36,7 +37,7 @@ _stmrun() {
             show) case "$word" in -*) ;; *) compopt -o default; return ;; esac; words="--program --help" ;;
             compile) case "$word" in -*) ;; *) compopt -o default; return ;; esac; words="--explain --explain=never --help" ;;
             run) case "$word" in -*) ;; *) compopt -o default; return ;; esac; words="--store --level --attempts --explain --explain=never --help" ;;
-            store) case "$word" in -*) ;; *) compopt -o default; return ;; esac; words="--check --format --at --since --key --range --help" ;;
+            store) case "$word" in -*) ;; *) compopt -o default; return ;; esac; words="--format --check --at --since --key --range --help" ;;
             help) words="script check threads recipe explore audit show compile run store language stm source formats causes" ;;
             esac ;;
         esac

@@ -4,6 +4,7 @@ complete -c stmrun -n __fish_use_subcommand -a script -d 'Runs a scenario, and p
 complete -c stmrun -n '__fish_seen_subcommand_from script' -F
 complete -c stmrun -n '__fish_seen_subcommand_from script' -l store -d 'The file of a store that the scenario goes on from, which is made where it is missing' -r -F
 complete -c stmrun -n '__fish_seen_subcommand_from script' -l format -d 'The form of the report' -x -a 'lines json text svg html'
+complete -c stmrun -n '__fish_seen_subcommand_from script' -l width -d 'How many characters wide a report of text is, from 20 to 1000' -x -a ''
 complete -c stmrun -n '__fish_seen_subcommand_from script' -l explain -d 'Explains faults, of an input or of a run'
 complete -c stmrun -n '__fish_seen_subcommand_from script' -a '--explain=never'
 complete -c stmrun -n '__fish_seen_subcommand_from script' -l help -d 'Print help'
@@ -60,8 +61,8 @@ complete -c stmrun -n '__fish_seen_subcommand_from run' -a '--explain=never'
 complete -c stmrun -n '__fish_seen_subcommand_from run' -l help -d 'Print help'
 complete -c stmrun -n __fish_use_subcommand -a store -d 'Prints what a store that is kept in a file has'
 complete -c stmrun -n '__fish_seen_subcommand_from store' -F
-complete -c stmrun -n '__fish_seen_subcommand_from store' -l check -d 'Whether the file is whole'
 complete -c stmrun -n '__fish_seen_subcommand_from store' -l format -d 'lines (the default), json or text' -x -a 'lines json text'
+complete -c stmrun -n '__fish_seen_subcommand_from store' -l check -d 'Whether the file is whole'
 complete -c stmrun -n '__fish_seen_subcommand_from store' -l at -d 'The keys at this revision' -x -a ''
 complete -c stmrun -n '__fish_seen_subcommand_from store' -l since -d 'The events from this revision on' -x -a ''
 complete -c stmrun -n '__fish_seen_subcommand_from store' -l key -d 'Only the events of this key' -x -a ''

@@ -42,6 +42,52 @@ fn anomaly_words(
     format!(in alloc; "{at}anomaly after {moves}, to which no serial order comes: {outcome}")
 }
 
+/// An outcome.
+fn outcome_line(
+    alloc: Global,
+    parts: &[Json],
+    runners: &[NamedRunner],
+) -> Result<String, AllocError> {
+    let outcome = outcome_words(alloc, runners, list_at(parts, 1), list_at(parts, 2))?;
+    format!(in alloc; "outcome: {outcome}")
+}
+
+/// How many outcomes there are.
+fn count_line(alloc: Global, parts: &[Json]) -> Result<String, AllocError> {
+    let count = number_at(parts, 1).unwrap_or(0);
+    format!(in alloc; "outcomes: {count}")
+}
+
+/// Words that there are, unless an allocation failed for them.
+fn some(words: Result<String, AllocError>) -> Result<Option<String>, AllocError> {
+    match words {
+        Ok(words) => Ok(Some(words)),
+        Err(error) => Err(error),
+    }
+}
+
+/// A line about outcomes in words, by the word with which it begins and its elements; none of another line.
+fn found_words(
+    alloc: Global,
+    word: &str,
+    parts: &[Json],
+    runners: &[NamedRunner],
+) -> Result<Option<String>, AllocError> {
+    if word == "serial" {
+        return some(serial_words(alloc, parts));
+    }
+    if word == "anomaly" {
+        return some(anomaly_words(alloc, parts, runners));
+    }
+    if word == "outcome" {
+        return some(outcome_line(alloc, parts, runners));
+    }
+    if word == "outcomes" {
+        return some(count_line(alloc, parts));
+    }
+    Ok(None)
+}
+
 /// A line in words, by its elements; none of one that is no answer.
 fn words_of(
     alloc: Global,
@@ -49,24 +95,20 @@ fn words_of(
     has_level: bool,
     runners: &[NamedRunner],
 ) -> Result<Option<String>, AllocError> {
-    let words = match text_at(parts, 0) {
-        Some("always") => always_words(alloc, parts, has_level)?,
-        Some("broken") => broken_words(alloc, parts, has_level)?,
-        Some("open") => open_words(alloc, parts, has_level)?,
-        Some("enough") => enough_words(alloc, parts)?,
-        Some("serial") => serial_words(alloc, parts)?,
-        Some("anomaly") => anomaly_words(alloc, parts, runners)?,
-        Some("outcome") => {
-            let outcome = outcome_words(alloc, runners, list_at(parts, 1), list_at(parts, 2))?;
-            format!(in alloc; "outcome: {outcome}")?
-        }
-        Some("outcomes") => {
-            let count = number_at(parts, 1).unwrap_or(0);
-            format!(in alloc; "outcomes: {count}")?
-        }
-        _ => return Ok(None),
-    };
-    Ok(Some(words))
+    let word = text_at(parts, 0).unwrap_or("");
+    if word == "always" {
+        return some(always_words(alloc, parts, has_level));
+    }
+    if word == "broken" {
+        return some(broken_words(alloc, parts, has_level));
+    }
+    if word == "open" {
+        return some(open_words(alloc, parts, has_level));
+    }
+    if word == "enough" {
+        return some(enough_words(alloc, parts));
+    }
+    found_words(alloc, word, parts, runners)
 }
 
 /// A line that a search printed, in words without a line feed, with the names of these runners; `has_level` says that the search was at all levels, so that

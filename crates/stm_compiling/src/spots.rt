@@ -3,7 +3,7 @@
 use stm_tokens::{Symbol, Token, TokenKind, Word};
 
 /// What the brackets that are open before a token belong to.
-#[derive(Clone, Copy, Debug, PartialEq, Eq)]
+#[derive(Clone, Copy, PartialEq, Eq)]
 pub(crate) enum Place {
     /// None is open: it stands in an event, or begins one.
     Events,
@@ -16,7 +16,7 @@ pub(crate) enum Place {
 }
 
 /// The events that have more than one or two parts.
-#[derive(Clone, Copy, Debug, PartialEq, Eq)]
+#[derive(Clone, Copy, PartialEq, Eq)]
 pub(crate) enum Event {
     /// `begin`
     Begin,

@@ -3,7 +3,7 @@ use Rattle.std.proofs.Common.{◌≡◌, ◌<◌, ◌≤◌, ℕ, zero, suc, ◌
 use Rattle.std.specs.List.{AllZip}
 use Rattle.std.specs.Option.{option_to_list}
 use Rattle.std.specs.Prelude.{IfSome, Option, None, Some}
-use Rattle.std.proofs.Math.Seq.{take-suc, drop-cons}
+use Rattle.std.proofs.Math.Seq.{drop-cons, take-add, take-suc}
 use Rattle.std.proofs.lemmas.List.{get_or-drop, get_or-take, length-drop, length-take-le, map-append}
 use Rattle.std.proofs.lemmas.List.Elements.{All-push}
 use Rattle.stm_program.specs.Syntax.{ProgramTree}
@@ -160,13 +160,7 @@ one_further i all left next is each = omega (arith, is, each)
 
 -- the first of these, and those behind them up to another one
 pub joined_parts : {A : Type 0} (xs : List A) (i j : ℕ) → i ≤ j → take i xs ++ take (j - i) (drop i xs) ≡ take j xs
-joined_parts xs i j within = let e : i + (j - i) ≡ j = omega (arith, within) in parts xs i (j - i) ∙ ap (λ n. take n xs) e
-  where
-    parts : {A : Type 0} (xs : List A) (i n : ℕ) → take i xs ++ take n (drop i xs) ≡ take (i + n) xs
-    parts xs zero n = refl
-    parts [] (suc i) zero = refl
-    parts [] (suc i) (suc n) = refl
-    parts (x ∷ xs) (suc i) n = ap (λ ys. x ∷ ys) (parts xs i n)
+joined_parts xs i j within = let e : i + (j - i) ≡ j = omega (arith, within) in sym (take-add i (j - i) xs) ∙ ap (λ n. take n xs) e
 
 -- those from one up to another one, of each of which it is so
 pub group_asked : (when : When) (rules : List Rule) (i j : ℕ) → j ≤ length rules → ((k : ℕ) → k < j → (d : Rule) → i ≤ k → (get_or rules k d).when ≡ when) →

@@ -1,5 +1,5 @@
 -- What a crash leaves of a command: of the opening of a file, and of what follows it.
-use Rattle.std.proofs.Common.{◌≡◌, ◌⊎◌, inl, inr, ⊎_elim, ℕ, zero, suc, List, Option, Result, length, refl, sym, ap, ◌∙◌, subst, arith}
+use Rattle.std.proofs.Common.{◌≡◌, ◌⊎◌, inl, inr, ⊎_elim, ℕ, zero, suc, List, [], Option, Result, length, refl, sym, ap, ◌∙◌, subst, arith}
 use Rattle.stm_texts.specs.declared.scenario.Scenario.{Scenario}
 use Rattle.stm_texts.specs.Opens.{setup_of}
 use Rattle.stm_events.specs.declared.reply.Reply.{Reply}
@@ -57,8 +57,8 @@ module _ (mended : List ℕ) (scenario : Scenario) (since : ℕ) (after_it : Wor
   kept_past file kept = subst (λ (w : World). IsKept file w) run.2 kept
 
   -- the file leads to the world after it
-  pub leads_past : (file : List ℕ) → IsKept file after_it → LeadsPast mended file replies
-  leads_past file kept = record { scenario = scenario; before = run.0; ready = run.1; kept = kept_past file kept; replied = run.3 }
+  pub leads_past : (file : List ℕ) → IsKept file after_it → LeadsPast mended file
+  leads_past file kept = (scenario, run.0, run.1, kept_past file kept)
 
   -- and its report was printed
   pub gone_on : (format : Format) (found file : List ℕ) (world : World) (before_it held : Option (List ℕ)) → IsOpened found mended world → IsKept file after_it
@@ -72,8 +72,8 @@ module _ (mended : List ℕ) (scenario : Scenario) (since : ℕ) (after_it : Wor
     kept = kept_past file kept;
     report = printed.0;
     reported =
-        subst (λ (n : ℕ). IsTextSince n format (world_after scenario.events run.0) scenario.events (replies_to scenario.events run.0) printed.0) run.4
-        (subst (λ (rs : List (Result Reply Denied)). IsTextSince since format (world_after scenario.events run.0) scenario.events rs printed.0) run.3
-        (subst (λ (w : World). IsTextSince since format w scenario.events replies printed.0) run.2 printed.1));
+        subst (λ (n : ℕ). IsTextSince n format [] (world_after scenario.events run.0) scenario.events (replies_to scenario.events run.0) printed.0) run.4
+        (subst (λ (rs : List (Result Reply Denied)). IsTextSince since format [] (world_after scenario.events run.0) scenario.events rs printed.0) run.3
+        (subst (λ (w : World). IsTextSince since format [] w scenario.events replies printed.0) run.2 printed.1));
     printed = printed.2;
   }

@@ -3,13 +3,14 @@ ghost use Rattle.std.specs.Prelude.{◌≡◌, false};
 
 use crate::files::{Opened, open};
 use crate::noting::Noting;
-use crate::sources::{Given, JsonFile, runners_of, say_named};
+use crate::sources::{Given, JsonFile, say_of_runs};
 use crate::terminals::{Told, close, shown_budget};
 use std::io;
 use std::io::{Input, Write};
 use std::rt::Files;
 use stm_commands::{
-    Format, KeptSource, Std, check_explained_to, check_whole_explained_to, script_explained_to,
+    Format, KeptSource, RunnerLabel, Std, check_explained_to, check_whole_explained_to,
+    script_explained_to,
 };
 use stm_explain::is_hidden;
 use stm_exploring::{Level, Question, Wait, explore_explained_to, outcomes_explained_to};
@@ -66,35 +67,40 @@ pub(crate) fn say_unwritten(rt: &HostRuntime, failure: Option<io::Error>) {
     }
 }
 
-/// Runs a scenario, and says on `err` what is wrong.
+/// Runs a scenario whose runners have these labels, and says on `err` what is wrong.
 fn script_on<E: Write + Drop>(
     rt: &HostRuntime,
     scenario: &JsonFile<'_>,
     format: Format,
+    labels: &[RunnerLabel],
     err: &mut Std<E>,
 ) -> u8
     requires { err.old.failed ≡ false }
 {
     let mut input = kept_json(rt, scenario);
     let mut out = Std::new(Noting::new(rt.stdout()));
-    let status = script_explained_to(rt.alloc(), format, &mut input, &mut out, err);
+    let status = script_explained_to(rt.alloc(), format, labels, &mut input, &mut out, err);
     say_unread(rt, input.name, input.source.device.failure);
     say_unwritten(rt, out.device.failure);
     status
 }
 
-/// Runs a scenario. What is said of runners has the names that its source gives them.
-pub(crate) fn run_script(rt: &HostRuntime, given: &Given<'_>, format: Format) -> u8 {
-    let runners = runners_of(rt, given);
-    if runners.is_empty() {
+/// Runs a scenario. What is said of runs has the places of its source, where it has one, and the names that this gives to runners.
+pub(crate) fn run_script(
+    rt: &HostRuntime,
+    given: &Given<'_>,
+    format: Format,
+    labels: &[RunnerLabel],
+) -> u8 {
+    if given.text.is_none() {
         let mut err = Std::new(rt.stderr());
-        return script_on(rt, &given.scenario, format, &mut err);
+        return script_on(rt, &given.scenario, format, labels, &mut err);
     }
     let said: Vec<u8> = Vec::new(rt.alloc());
     let mut err = Std::new(said);
-    let status = script_on(rt, &given.scenario, format, &mut err);
+    let status = script_on(rt, &given.scenario, format, labels, &mut err);
     let said = str::from_utf8(err.device.as_slice()).unwrap_or("");
-    say_named(rt, said, runners.as_slice());
+    say_of_runs(rt, given, said);
     status
 }
 

@@ -2,7 +2,7 @@
 ghost use Rattle.std.specs.Prelude.{◌≡◌, false};
 
 use crate::explaining;
-use crate::found::{Form, only_level, print_found, run_rules_in};
+use crate::found::{Form, only_level, print_found, run_rules_in, runners_of};
 use crate::noting::Noting;
 use crate::rules::{is_json, named_in, rules_named, rules_of, unnamed_rule};
 use crate::ruling::Question;
@@ -13,7 +13,7 @@ use std::io::Write;
 use std::slice;
 use stm_arguments::{ExploreWords, Levels};
 use stm_commands::Std;
-use stm_compiling::{Beside, NamedRunner, Rule as SourceRule, Wait as SourceWait};
+use stm_compiling::{Beside, Rule as SourceRule, Wait as SourceWait};
 use stm_exploring::{Level, Question as Sought, Rule, Wait, explore_to, outcomes_to};
 
 /// What is searched, and how.
@@ -292,17 +292,9 @@ fn refuse_rules(rt: &HostRuntime, words: &ExploreWords<'_>) -> Result<(), u8> {
 /// The form that is asked for by its name, or that of the source of the scenario, where it has one.
 fn form_of<'a>(format: Option<&str>, source: Option<&'a SourceText>) -> Form<'a> {
     match (format, source) {
-        (Some("text"), _) => Form::Text(runners_of(source)),
+        (Some("text"), _) => Form::Text(source),
         (_, Some(source)) => Form::Source(source),
         (_, None) => Form::Lines,
-    }
-}
-
-/// The runners that the source of a scenario names, where it has one.
-fn runners_of(source: Option<&SourceText>) -> &[NamedRunner] {
-    match source {
-        Some(source) => source.runners.as_slice(),
-        None => &[],
     }
 }
 

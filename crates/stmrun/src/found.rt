@@ -18,8 +18,8 @@ pub(crate) enum Form<'a> {
     Lines,
     /// As the source with the schedule.
     Source(&'a SourceText),
-    /// As the table of a run of the schedule, with all else in words, in which these runners have names.
-    Text(&'a [NamedRunner]),
+    /// As the table of a run of the schedule, with all else in words, and with the names that a source gives to runners.
+    Text(Option<&'a SourceText>),
 }
 
 /// With this begins a scenario that has an event, and nothing else that a search prints.
@@ -29,13 +29,18 @@ const SCENARIO: &str = "[[";
 const BROKEN: &str = "[\"broken\"";
 
 /// The table of a run of a scenario, behind an empty line; none, where an allocation fails for it.
-fn table_of(alloc: Global, line: &str) -> Option<String> {
+fn table_of(alloc: Global, source: Option<&SourceText>, line: &str) -> Option<String> {
+    let labels = match source {
+        Some(source) => source.labels.as_slice(),
+        None => &[],
+    };
     let printed: Vec<u8> = Vec::new(alloc);
     let said: Vec<u8> = Vec::new(alloc);
     let mut out = Std::new(printed);
     let mut err = Std::new(said);
     let mut input = Std::new(line.as_bytes());
-    let status = script_as_to(alloc, Format::Text, &mut input, &mut out, &mut err);
+    let format = Format::Text { width: None };
+    let status = script_as_to(alloc, format, labels, &mut input, &mut out, &mut err);
     if status != 0 {
         return None;
     }
@@ -53,7 +58,15 @@ fn schedule_in(
     match form {
         Form::Lines => Ok(None),
         Form::Source(source) => resumed(alloc, source, level, line),
-        Form::Text(_) => Ok(table_of(alloc, line)),
+        Form::Text(source) => Ok(table_of(alloc, source, line)),
+    }
+}
+
+/// The runners that the source of a scenario names, where it has one.
+pub(crate) fn runners_of(source: Option<&SourceText>) -> &[NamedRunner] {
+    match source {
+        Some(source) => source.runners.as_slice(),
+        None => &[],
     }
 }
 
@@ -67,7 +80,7 @@ fn push_answer(
 ) -> Result<(), AllocError> {
     let has_level = matches!(levels, Levels::All);
     let words = match form {
-        Form::Text(runners) => in_words(alloc, line, has_level, runners)?,
+        Form::Text(source) => in_words(alloc, line, has_level, runners_of(source))?,
         Form::Lines | Form::Source(_) => None,
     };
     match words {

@@ -5,18 +5,22 @@ use crate::explaining::{name_of, say_unread, say_unwritten};
 use crate::files::{Opened, open, open_beside};
 use crate::naming::with_names;
 use crate::noting::Noting;
+use std::alloc::{AllocError, Global};
 use std::io::Input;
 use std::rt::Files;
-use stm_commands::Std;
+use stm_commands::{RunnerLabel, Std};
 use stm_compiling::{
-    Beside, Compiled, NamedRunner, Part, Rule, Wait, compile_to, compiled, compiled_part,
-    named_runners, notes_of,
+    Beside, CalledRunner, Compiled, NamedRunner, Part, Rule, SourcePlaces, Wait, called_runners,
+    compile_to, compiled, compiled_part, named_runners, notes_of,
 };
 use stm_devices::{ReadFault, read_all};
 use stm_history::{Sequence, Text};
 
 /// What the names of sources end in.
 pub(crate) const ENDING: &str = ".stm";
+
+/// What stands behind the name of a source in that of its line of JSON.
+const COMPILED: &str = ", compiled";
 
 /// The path of standard input.
 const STANDARD: &str = "-";
@@ -77,7 +81,7 @@ pub(crate) fn is_source(path: &str) -> bool {
 /// The line of a source of a path, as it is read.
 fn line_of<'a>(rt: &HostRuntime, path: &str, line: Text) -> Result<JsonFile<'a>, u8> {
     let name = name_of(path);
-    match format!(in rt.alloc(); "{name}, compiled") {
+    match format!(in rt.alloc(); "{name}{COMPILED}") {
         Ok(name) => Ok(JsonFile::Compiled(line, name)),
         Err(_) => Err(out_of_memory(rt)),
     }
@@ -189,6 +193,8 @@ pub(crate) struct SourceText {
     pub(crate) text: String,
     /// The runners that it names.
     pub(crate) runners: Vec<NamedRunner>,
+    /// What tables call its runners.
+    pub(crate) labels: Vec<RunnerLabel>,
 }
 
 /// A source of this text, which has this beside its scenario; none, where an allocation fails.
@@ -199,7 +205,45 @@ pub(crate) fn source_text(
 ) -> Option<SourceText> {
     let text = text?;
     let runners = named_runners(rt.alloc(), text.as_bytes(), beside).ok()?;
-    Some(SourceText { text, runners })
+    let labels = labels_in_source(rt.alloc(), text.as_str()).ok()?;
+    Some(SourceText {
+        text,
+        runners,
+        labels,
+    })
+}
+
+/// The labels of runners that are called so.
+fn labels_of_called(
+    alloc: Global,
+    called: Vec<CalledRunner>,
+) -> Result<Vec<RunnerLabel>, AllocError> {
+    let mut labels = Vec::new(alloc);
+    for runner in called {
+        let CalledRunner { name, program } = runner;
+        labels.push(RunnerLabel { name, program })?;
+    }
+    Ok(labels)
+}
+
+/// What a source calls its runners.
+pub(crate) fn labels_in_source(
+    alloc: Global,
+    source: &str,
+) -> Result<Vec<RunnerLabel>, AllocError> {
+    let called = called_runners(alloc, source)?;
+    labels_of_called(alloc, called)
+}
+
+/// What a scenario's source calls the runners: nothing, where it has none; or the status, once it was said that memory ran out.
+pub(crate) fn labels_of(rt: &HostRuntime, given: &Given<'_>) -> Result<Vec<RunnerLabel>, u8> {
+    let Some(text) = &given.text else {
+        return Ok(Vec::new(rt.alloc()));
+    };
+    match labels_in_source(rt.alloc(), text.as_str()) {
+        Ok(labels) => Ok(labels),
+        Err(_) => Err(out_of_memory(rt)),
+    }
 }
 
 /// The rules of the source of a path; or the status, once what is wrong with it was said. It is explained, or is not.
@@ -216,6 +260,37 @@ pub(crate) fn say_named(rt: &HostRuntime, lines: &str, runners: &[NamedRunner]) 
         if let Ok(line) = with_names(rt.alloc(), runners, line) {
             let _ = rt.eprintln(line.as_str());
         }
+    }
+}
+
+/// Says a line that explains a run, with its place in the source, if it has one there, and the line of the source.
+fn say_placed(rt: &HostRuntime, line: &str, places: &SourcePlaces<'_>, runners: &[NamedRunner]) {
+    match places.placed(rt.alloc(), line) {
+        Ok(Some(placed)) => {
+            say_named(rt, placed.words.as_str(), runners);
+            let source = placed.source;
+            let _ = eprintln!(rt; "    {source}");
+        }
+        _ => say_named(rt, line, runners),
+    }
+}
+
+/// Says lines that explain the runs of a scenario: with the places of its source, where it has one, and with the names that this gives to runners.
+pub(crate) fn say_of_runs(rt: &HostRuntime, given: &Given<'_>, lines: &str) {
+    let runners = runners_of(rt, given);
+    let name = given.scenario.name();
+    let name = name.strip_suffix(COMPILED).unwrap_or(name);
+    let text = match &given.text {
+        Some(text) => text.as_str(),
+        None => "",
+    };
+    match SourcePlaces::of(rt.alloc(), name, text) {
+        Ok(places) => {
+            for line in lines.lines() {
+                say_placed(rt, line, &places, runners.as_slice());
+            }
+        }
+        Err(_) => say_named(rt, lines, runners.as_slice()),
     }
 }
 

@@ -12,7 +12,7 @@ pub loop-index-preserved : goal.loop-index-preserved
 loop-index-preserved c =
     let rule = c.index-rules-index.result in
     below_more _ _ c.loop-index.invariant
-    (λ d behind. ap (λ (r : Rule). r.when) (get_or_default c.args.rules.now c.loop-index.index d rule (omega (arith, c.loop-index-test.true)) ∙ sym c.index-rules-index.is)
+    (λ d behind. ap (λ (r : Rule). r.when) (get_or_default c.args.rules.now c.loop-index.index d rule (omega (arith, c.loop-index-test.true)))
     ∙ c.is_same.ensures c.if-not-is_same.false)
 
 pub returns-clause-asked : goal.returns-clause-asked

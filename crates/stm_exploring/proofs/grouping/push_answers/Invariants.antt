@@ -15,9 +15,9 @@ invariant-loop-answer l = record {
   ends : (goal.iterator-loop-answer).is_finite l.answer-iterator;
   counted : into_iter_len l.answer-iterator ≡ length (into_iter_items l.answer-iterator);
   each : l.index + length (into_iter_items l.answer-iterator) ≡ length l.rules;
-  left : (waits : List Wait) (p : Place) (ends : Ends) → AreFoundEach l.when waits (map (λ (rule : Rule). rule.program) l.rules) p ends l.fn.found.items →
-      AreLeft l.when waits p ends (drop l.index l.rules) (into_iter_items l.answer-iterator);
+  left : (waits : List Wait) (p : Place) (ends : Ends) → AreFoundEach l.fn.when waits (map (λ (rule : Rule). rule.program) l.rules) p ends l.fn.found.items →
+      AreLeft l.fn.when waits p ends (drop l.index l.rules) (into_iter_items l.answer-iterator);
   so_far : (waits : List Wait) (p : Place) (ends : Ends) (before : List Rule) →
-      AreFoundEach l.when waits (map (λ (rule : Rule). rule.program) l.rules) p ends l.fn.found.items →
+      AreFoundEach l.fn.when waits (map (λ (rule : Rule). rule.program) l.rules) p ends l.fn.found.items →
       AreFoundFrom waits before p ends l.fn.answers.items → AreFoundFrom waits (before ++ take l.index l.rules) p ends l.answers.items;
 }

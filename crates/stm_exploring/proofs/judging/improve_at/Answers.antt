@@ -8,5 +8,5 @@ pub returns-then-index-len-clause-each : goal.returns-then-index-len-clause-each
 returns-then-index-len-clause-each c = λ rules p answers judged.
     let there : c.args.index < length c.args.judged.now.items = omega (arith, c.if-index-len.true, c.len.ensures, c.args.judged.now.ok.0) in
     zip_put_both (λ rule. IsAnswer rule p) (λ rule. IsJudged rule p) rules c.args.answers.now.items c.args.judged.now.items c.args.index c.index_mut.result.now
-    c.improve.new.answer c.index_mut-2.result.now c.improve.new.judged c.requires there c.index_mut.ensures.value c.index_mut-2.ensures.value
+    c.improve.new.answer c.index_mut-then-index-len.result.now c.improve.new.judged c.requires there c.index_mut.ensures.value c.index_mut-then-index-len.ensures.value
     (λ rule. c.improve.ensures.answer rule p) (λ rule. c.improve.ensures.judged rule p) answers judged

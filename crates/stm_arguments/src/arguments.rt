@@ -4,17 +4,16 @@ ghost use Rattle.clap.specs.Words.{found_of, kind_of, rows_of, subcommand_rows_o
 ghost use Rattle.stm_arguments.specs.Asking.{AsksAt, AsksBy, IsAsked};
 ghost use Rattle.stm_arguments.specs.Statuses.{IsReportedBy};
 
-use crate::auditing::{AUDIT, AuditWords, audit_of};
-use crate::checking::{CHECK, CheckWords, check_of};
-use crate::compiling::{COMPILE, CompileWords, compile_of};
-use crate::exploring::{EXPLORE, ExploreWords, explore_of};
-use crate::recipes::{RECIPE, recipe_of};
-use crate::running::{RUN, RunWords, run_of};
-use crate::scripting::{SCRIPT, ScriptWords, script_of};
-use crate::showing::{SHOW, ShowWords, show_of};
-use crate::storing::{STORE, StoreWords, store_of};
-use crate::tables::{Table, with_command};
-use crate::threading::{THREADS, ThreadsWords, threads_of};
+use crate::auditing::{AuditWords, audit_command, audit_of};
+use crate::checking::{CheckWords, check_command, check_of};
+use crate::compiling::{CompileWords, compile_command, compile_of};
+use crate::exploring::{ExploreWords, explore_command, explore_of};
+use crate::recipes::{recipe_command, recipe_of};
+use crate::running::{RunWords, run_command, run_of};
+use crate::scripting::{ScriptWords, script_command, script_of};
+use crate::showing::{ShowWords, show_command, show_of};
+use crate::storing::{StoreWords, store_command, store_of};
+use crate::threading::{ThreadsWords, threads_command, threads_of};
 use crate::words::Unasked;
 use clap::error::ErrorKind;
 use clap::{ArgMatches, Command, Error};
@@ -87,11 +86,6 @@ prints what it has (stmrun store --help).
 Statuses: 0 done or yes, 1 no, 2 bad input or usage, 3 out of memory, a failed device, or a run of threads
 that was broken off; of explore also 1 for a rule that is broken, and 4 where all its events were taken.";
 
-/// The commands, in the order of the help.
-const COMMANDS: &[Table] = &[
-    SCRIPT, CHECK, THREADS, RECIPE, EXPLORE, AUDIT, SHOW, COMPILE, RUN, STORE,
-];
-
 /// The command without its subcommands.
 fn bare_command<'a>(alloc: Global) -> Command<'a> {
     Command::new(alloc, "stmrun")
@@ -101,13 +95,33 @@ fn bare_command<'a>(alloc: Global) -> Command<'a> {
         .subcommand_required(true)
 }
 
-/// The command.
+/// The commands that need no store. Each is added before the next one is made, so that two are never held at once.
+fn with_scenarios<'a>(alloc: Global) -> Result<Command<'a>, AllocError> {
+    let script = script_command(alloc)?;
+    let with_script = bare_command(alloc).subcommand(script)?;
+    let check = check_command(alloc)?;
+    let with_check = with_script.subcommand(check)?;
+    let threads = threads_command(alloc)?;
+    let with_threads = with_check.subcommand(threads)?;
+    let recipe = recipe_command(alloc)?;
+    let with_recipe = with_threads.subcommand(recipe)?;
+    let explore = explore_command(alloc)?;
+    with_recipe.subcommand(explore)
+}
+
+/// The command. As in `with_scenarios` each is added before the next one is made.
 fn command<'a>(alloc: Global) -> Result<Command<'a>, AllocError> {
-    let mut command = bare_command(alloc);
-    for table in COMMANDS {
-        command = with_command(alloc, command, table)?;
-    }
-    Ok(command)
+    let with_explore = with_scenarios(alloc)?;
+    let audit = audit_command(alloc)?;
+    let with_audit = with_explore.subcommand(audit)?;
+    let show = show_command(alloc)?;
+    let with_show = with_audit.subcommand(show)?;
+    let compile = compile_command(alloc)?;
+    let with_compile = with_show.subcommand(compile)?;
+    let run = run_command(alloc)?;
+    let with_run = with_compile.subcommand(run)?;
+    let store = store_command(alloc)?;
+    with_run.subcommand(store)
 }
 
 /// The status of a command line that is refused, or that asks for help or the version, once its text is printed: 0 for help and

@@ -3,9 +3,9 @@ ghost use Rattle.std.specs.Prelude.{◌≡◌};
 ghost use Rattle.clap.specs.Words.{found_of, rows_of};
 ghost use Rattle.stm_arguments.specs.Asking.{IsAudit};
 
-use crate::tables::{Form, Table};
-use crate::words::word_of;
-use clap::ArgMatches;
+use crate::words::{optional, word_of};
+use clap::{ArgMatches, Command};
+use std::alloc::{AllocError, Global};
 
 const EXAMPLE: &str =
     "A trace is a JSON array of commits, in the order in which the store took them:
@@ -46,17 +46,18 @@ pub struct AuditWords<'a> {
 }
 
 /// The command `audit`.
-pub(crate) const AUDIT: Table = Table {
-    name: "audit",
-    about: "Says of transactions that committed elsewhere whether each kept its level's promise",
-    example: EXAMPLE,
-    arguments: &[(
-        "FILE",
-        Form::Optional,
-        "The file of the trace, in the place of standard input",
-    )],
-    rules: &[],
-};
+pub(crate) fn audit_command<'a>(alloc: Global) -> Result<Command<'a>, AllocError> {
+    Command::new(alloc, "audit")
+        .about(
+            "Says of transactions that committed elsewhere whether each kept its level's promise",
+        )
+        .after_long_help(EXAMPLE)
+        .arg(optional(
+            alloc,
+            "FILE",
+            "The file of the trace, in the place of standard input",
+        ))
+}
 
 /// The words of `audit` that were found.
 pub(crate) fn audit_of<'a>(found: &ArgMatches<'a>) -> AuditWords<'a>

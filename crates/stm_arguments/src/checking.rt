@@ -3,9 +3,9 @@ ghost use Rattle.std.specs.Prelude.{◌≡◌, IfOk};
 ghost use Rattle.clap.specs.Words.{found_of, rows_of};
 ghost use Rattle.stm_arguments.specs.Asking.{IsCheck};
 
-use crate::tables::{EXPLAIN, Form, Table};
-use crate::words::{Unasked, flag_of, required_word};
-use clap::ArgMatches;
+use crate::words::{Unasked, explain, flag, flag_of, required, required_word};
+use clap::{ArgMatches, Command};
+use std::alloc::{AllocError, Global};
 
 const EXAMPLE: &str =
     "Prints yes where no line of the report is wrong, and else no LINE CAUSE: the first wrong line, counted
@@ -42,22 +42,19 @@ pub struct CheckWords<'a> {
 }
 
 /// The command `check`.
-pub(crate) const CHECK: Table = Table {
-    name: "check",
-    about: "Says whether REPORT is a report of SCENARIO, and if not, which line is wrong first",
-    example: EXAMPLE,
-    arguments: &[
-        ("SCENARIO", Form::Required, "The file of the scenario"),
-        ("REPORT", Form::Required, "The file of the report"),
-        (
+pub(crate) fn check_command<'a>(alloc: Global) -> Result<Command<'a>, AllocError> {
+    Command::new(alloc, "check")
+        .about("Says whether REPORT is a report of SCENARIO, and if not, which line is wrong first")
+        .after_long_help(EXAMPLE)
+        .arg(required(alloc, "SCENARIO", "The file of the scenario"))?
+        .arg(required(alloc, "REPORT", "The file of the report"))?
+        .arg(flag(
+            alloc,
             "whole",
-            Form::Flag,
             "Whether REPORT is, line by line, what script prints for SCENARIO",
-        ),
-        EXPLAIN,
-    ],
-    rules: &[],
-};
+        ))?
+        .arg(explain(alloc))
+}
 
 /// The words of `check` that were found.
 pub(crate) fn check_of<'a>(found: &ArgMatches<'a>) -> Result<CheckWords<'a>, Unasked>

@@ -3,9 +3,9 @@ ghost use Rattle.std.specs.Prelude.{◌≡◌, map, string_bytes};
 ghost use Rattle.clap.specs.Words.{found_of, rows_of};
 ghost use Rattle.stm_arguments.specs.Asking.{IsCompile};
 
-use crate::tables::{EXPLAIN, Form, Table};
-use crate::words::{flag_of, word_of};
-use clap::ArgMatches;
+use crate::words::{explain, flag_of, optional, word_of};
+use clap::{ArgMatches, Command};
+use std::alloc::{AllocError, Global};
 
 const EXAMPLE: &str =
     "Prints the scenario that a source spells as one line of JSON, as script reads it. If s.stm holds
@@ -58,25 +58,22 @@ pub struct CompileWords<'a> {
 }
 
 /// The command `compile`.
-pub(crate) const COMPILE: Table = Table {
-    name: "compile",
-    about: "Prints the scenario of a source as JSON, or one of its programs",
-    example: EXAMPLE,
-    arguments: &[
-        (
+pub(crate) fn compile_command<'a>(alloc: Global) -> Result<Command<'a>, AllocError> {
+    Command::new(alloc, "compile")
+        .about("Prints the scenario of a source as JSON, or one of its programs")
+        .after_long_help(EXAMPLE)
+        .arg(optional(
+            alloc,
             "FILE",
-            Form::Optional,
             "The file of the source, in the place of standard input",
-        ),
-        (
+        ))?
+        .arg(optional(
+            alloc,
             "NAME",
-            Form::Optional,
             "A program of the source, which is printed in place of the scenario; what stands behind it are its arguments",
-        ),
-        EXPLAIN,
-    ],
-    rules: &[],
-};
+        ))?
+        .arg(explain(alloc))
+}
 
 /// The words of `compile` that were found, and the arguments that stand behind them.
 pub(crate) fn compile_of<'a>(found: &ArgMatches<'a>, arguments: &'a [String]) -> CompileWords<'a>

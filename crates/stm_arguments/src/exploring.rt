@@ -5,11 +5,12 @@ ghost use Rattle.stm_arguments.specs.Asking.{IsExplore};
 
 use crate::levels::{Levels, SEARCH_LEVELS, levels_at};
 use crate::numbers::budget_at;
-use crate::tables::{EXPLAIN, Form, Table};
-use crate::words::{Unasked, flag_of, required_word, word_of, words_of};
-use clap::ArgMatches;
+use crate::words::{
+    Unasked, explain, flag, flag_of, option, required, required_word, word_of, words_of,
+};
 use clap::builder::ValueParser;
-use std::alloc::Global;
+use clap::{ArgAction, ArgMatches, Command};
+use std::alloc::{AllocError, Global};
 
 const EXAMPLE: &str =
     "The steps of SCENARIO are left out. Its events up to the last start are run first. Then every schedule is looked
@@ -108,56 +109,66 @@ pub struct ExploreWords<'a> {
 }
 
 /// The command `explore`.
-pub(crate) const EXPLORE: Table = Table {
-    name: "explore",
-    about: "Looks through every interleaving of a scenario, for one that breaks a rule or for what they come to",
-    example: EXAMPLE,
-    arguments: &[
-        ("SCENARIO", Form::Required, "The file of the scenario"),
-        (
+pub(crate) fn explore_command<'a>(alloc: Global) -> Result<Command<'a>, AllocError> {
+    Command::new(alloc, "explore")
+        .about(
+            "Looks through every interleaving of a scenario, for one that breaks a rule or for what they come to",
+        )
+        .after_long_help(EXAMPLE)
+        .arg(required(alloc, "SCENARIO", "The file of the scenario"))?
+        .arg(option(
+            alloc,
             "keeps",
-            Form::Values("PROGRAM"),
+            "PROGRAM",
+            ValueParser::String,
             "The file of a rule, which is asked after every schedule: of a program, of a source with rules, or FILE.stm:NAME; as often as need be",
-        ),
-        (
+        )
+        .action(ArgAction::Append))?
+        .arg(option(
+            alloc,
             "level",
-            Form::Value("LEVEL", ValueParser::Names(SEARCH_LEVELS)),
+            "LEVEL",
+            ValueParser::Names(SEARCH_LEVELS),
             "The level of every start, in the place of its own; all: a search at each of the four",
-        ),
-        (
+        ))?
+        .arg(option(
+            alloc,
             "budget",
-            Form::Value("N", ValueParser::Unsigned(0, u64::MAX)),
+            "N",
+            ValueParser::Unsigned(0, u64::MAX),
             "How many events are taken at most, 1500000 if not said",
-        ),
-        (
+        ))?
+        .arg(option(
+            alloc,
             "after",
-            Form::Value("RUNNER:FIRST,..", ValueParser::String),
+            "RUNNER:FIRST,..",
+            ValueParser::String,
             "Which runners make no step before another has ended; RUNNER:FIRST:committed: and none at all unless that one committed",
-        ),
-        (
+        ))?
+        .arg(flag(
+            alloc,
             "witness",
-            Form::Flag,
             "Prints the outcomes of whole schedules, and of each the scenario with a schedule that comes to it",
-        ),
-        (
+        ))?
+        .arg(flag(
+            alloc,
             "serial",
-            Form::Flag,
             "Looks for an outcome of a whole schedule that no serial order of the runners comes to; no rule is needed",
-        ),
-        (
+        ))?
+        .arg(flag(
+            alloc,
             "strict",
-            Form::Flag,
             "Status 1 also where a rule is kept, and a runner never committed or a key is asked for that nothing puts",
-        ),
-        (
+        ))?
+        .arg(option(
+            alloc,
             "format",
-            Form::Value("FORMAT", ValueParser::Names(FORMATS)),
+            "FORMAT",
+            ValueParser::Names(FORMATS),
             "The form of what is printed: lines (the default), for programs, or text, for people: words, and schedules as tables",
-        ),
-        EXPLAIN,
-    ],
-    rules: &[],
-};
+        ))?
+        .arg(explain(alloc))
+}
 
 /// The words of `explore` that were found.
 pub(crate) fn explore_of<'a>(

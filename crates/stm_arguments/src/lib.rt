@@ -17,7 +17,6 @@ mod running;
 mod scripting;
 mod showing;
 mod storing;
-mod tables;
 mod threading;
 mod topics;
 mod words;

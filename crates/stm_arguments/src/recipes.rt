@@ -3,9 +3,9 @@ ghost use Rattle.std.specs.Prelude.{◌≡◌, IfOk};
 ghost use Rattle.clap.specs.Words.{found_of, rows_of};
 ghost use Rattle.stm_arguments.specs.Asking.{IsRecipe};
 
-use crate::tables::{Form, Table};
-use crate::words::{Unasked, required_word, word_of};
-use clap::ArgMatches;
+use crate::words::{Unasked, optional, required, required_word, word_of};
+use clap::{ArgMatches, Command};
+use std::alloc::{AllocError, Global};
 use stm_recipe_lines::RecipeWords;
 
 const RECIPE_EXAMPLE: &str =
@@ -39,18 +39,15 @@ prints the program of this scenario, which makes account a and puts 30 there:
 Statuses: 0 done, 2 usage, 3 out of memory or a failed device.";
 
 /// The command `recipe`.
-pub(crate) const RECIPE: Table = Table {
-    name: "recipe",
-    about: "Prints the program of a recipe, as a scenario's start takes it",
-    example: RECIPE_EXAMPLE,
-    arguments: &[
-        ("NAME", Form::Required, "The name of the recipe"),
-        ("FIRST", Form::Optional, "Its first argument"),
-        ("SECOND", Form::Optional, "Its second argument"),
-        ("THIRD", Form::Optional, "Its third argument"),
-    ],
-    rules: &[],
-};
+pub(crate) fn recipe_command<'a>(alloc: Global) -> Result<Command<'a>, AllocError> {
+    Command::new(alloc, "recipe")
+        .about("Prints the program of a recipe, as a scenario's start takes it")
+        .after_long_help(RECIPE_EXAMPLE)
+        .arg(required(alloc, "NAME", "The name of the recipe"))?
+        .arg(optional(alloc, "FIRST", "Its first argument"))?
+        .arg(optional(alloc, "SECOND", "Its second argument"))?
+        .arg(optional(alloc, "THIRD", "Its third argument"))
+}
 
 /// The words of `recipe` that were found.
 pub(crate) fn recipe_of<'a>(found: &ArgMatches<'a>) -> Result<RecipeWords<'a>, Unasked>

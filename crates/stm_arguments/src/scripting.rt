@@ -4,10 +4,10 @@ ghost use Rattle.clap.specs.Words.{found_of, rows_of};
 ghost use Rattle.stm_arguments.specs.Asking.{IsScript};
 
 use crate::numbers::{LEAST_WIDTH, MOST_WIDTH, width_at};
-use crate::tables::{EXPLAIN, Form, Table};
-use crate::words::{Unasked, flag_of, word_of};
-use clap::ArgMatches;
+use crate::words::{Unasked, explain, flag_of, option, optional, word_of};
 use clap::builder::ValueParser;
+use clap::{ArgMatches, Command};
+use std::alloc::{AllocError, Global};
 
 const EXAMPLE: &str =
     "The report is printed once it is whole, and nothing of it where the scenario is bad: then the place of its
@@ -67,35 +67,38 @@ pub struct ScriptWords<'a> {
 }
 
 /// The command `script`.
-pub(crate) const SCRIPT: Table = Table {
-    name: "script",
-    about: "Runs a scenario, and prints its report",
-    example: EXAMPLE,
-    arguments: &[
-        (
+pub(crate) fn script_command<'a>(alloc: Global) -> Result<Command<'a>, AllocError> {
+    Command::new(alloc, "script")
+        .about("Runs a scenario, and prints its report")
+        .after_long_help(EXAMPLE)
+        .arg(optional(
+            alloc,
             "FILE",
-            Form::Optional,
             "The file of the scenario, in the place of standard input",
-        ),
-        (
+        ))?
+        .arg(option(
+            alloc,
             "store",
-            Form::Value("STORE", ValueParser::String),
+            "STORE",
+            ValueParser::String,
             "The file of a store that the scenario goes on from, which is made where it is missing",
-        ),
-        (
+        ))?
+        .arg(option(
+            alloc,
             "format",
-            Form::Value("FORMAT", ValueParser::String),
+            "FORMAT",
+            ValueParser::String,
             "The form of the report: lines (the default), json, text, svg or html",
-        ),
-        (
+        ))?
+        .arg(option(
+            alloc,
             "width",
-            Form::Value("N", ValueParser::Unsigned(LEAST_WIDTH, MOST_WIDTH)),
+            "N",
+            ValueParser::Unsigned(LEAST_WIDTH, MOST_WIDTH),
             "How many characters wide a report of text is, from 20 to 1000",
-        ),
-        EXPLAIN,
-    ],
-    rules: &[],
-};
+        ))?
+        .arg(explain(alloc))
+}
 
 /// The words of `script` that were found.
 pub(crate) fn script_of<'a>(found: &ArgMatches<'a>) -> Result<ScriptWords<'a>, Unasked>

@@ -3,9 +3,9 @@ ghost use Rattle.std.specs.Prelude.{◌≡◌};
 ghost use Rattle.clap.specs.Words.{found_of, rows_of};
 ghost use Rattle.stm_arguments.specs.Asking.{IsShow};
 
-use crate::tables::{Form, Table};
-use crate::words::{flag_of, word_of};
-use clap::ArgMatches;
+use crate::words::{flag, flag_of, optional, word_of};
+use clap::{ArgMatches, Command};
+use std::alloc::{AllocError, Global};
 
 const EXAMPLE: &str =
     "Prints a scenario as a source, in one form: each event on lines of its own, in their order, indented by 4 spaces a block, the
@@ -36,24 +36,21 @@ pub struct ShowWords<'a> {
 }
 
 /// The command `show`.
-pub(crate) const SHOW: Table = Table {
-    name: "show",
-    about: "Prints a scenario, or a program, as a source",
-    example: EXAMPLE,
-    arguments: &[
-        (
+pub(crate) fn show_command<'a>(alloc: Global) -> Result<Command<'a>, AllocError> {
+    Command::new(alloc, "show")
+        .about("Prints a scenario, or a program, as a source")
+        .after_long_help(EXAMPLE)
+        .arg(optional(
+            alloc,
             "FILE",
-            Form::Optional,
             "The file of the scenario or of the program, in the place of standard input",
-        ),
-        (
+        ))?
+        .arg(flag(
+            alloc,
             "program",
-            Form::Flag,
             "Whether the input is a program, and no scenario",
-        ),
-    ],
-    rules: &[],
-};
+        ))
+}
 
 /// The words of `show` that were found.
 pub(crate) fn show_of<'a>(found: &ArgMatches<'a>) -> ShowWords<'a>

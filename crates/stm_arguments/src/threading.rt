@@ -4,10 +4,10 @@ ghost use Rattle.clap.specs.Words.{found_of, rows_of};
 ghost use Rattle.stm_arguments.specs.Asking.{IsThreads};
 
 use crate::numbers::{MOST_RUNS, MOST_WORKERS, runs_at, workers_in};
-use crate::tables::{EXPLAIN, Form, Table};
-use crate::words::{Unasked, flag_of, required_word, word_of};
-use clap::ArgMatches;
+use crate::words::{Unasked, explain, flag, flag_of, option, optional, required_word, word_of};
 use clap::builder::ValueParser;
+use clap::{ArgMatches, Command};
+use std::alloc::{AllocError, Global};
 
 const EXAMPLE: &str =
     "Each start of the scenario is a job, numbered from 0. Its txn, grant, keep, revoke and advance events are
@@ -62,40 +62,44 @@ pub struct ThreadsWords<'a> {
 }
 
 /// The command `threads`.
-pub(crate) const THREADS: Table = Table {
-    name: "threads",
-    about: "Runs the starts of a scenario as jobs, by several threads on one store",
-    example: EXAMPLE,
-    arguments: &[
-        (
+pub(crate) fn threads_command<'a>(alloc: Global) -> Result<Command<'a>, AllocError> {
+    Command::new(alloc, "threads")
+        .about("Runs the starts of a scenario as jobs, by several threads on one store")
+        .after_long_help(EXAMPLE)
+        .arg(optional(
+            alloc,
             "FILE",
-            Form::Optional,
             "The file of the scenario, in the place of standard input",
-        ),
-        (
+        ))?
+        .arg(option(
+            alloc,
             "workers",
-            Form::RequiredValue("N", ValueParser::Unsigned(1, MOST_WORKERS as u64)),
+            "N",
+            ValueParser::Unsigned(1, MOST_WORKERS as u64),
             "How many threads run the jobs, from 1 to 16",
-        ),
-        (
+        )
+        .required(true))?
+        .arg(option(
+            alloc,
             "store",
-            Form::Value("STORE", ValueParser::String),
+            "STORE",
+            ValueParser::String,
             "The file of a store that the jobs go on from, which is made where it is missing",
-        ),
-        (
+        ))?
+        .arg(flag(
+            alloc,
             "ends",
-            Form::Flag,
             "Whether a line is printed for the end of each job",
-        ),
-        (
+        ))?
+        .arg(option(
+            alloc,
             "repeat",
-            Form::Value("RUNS", ValueParser::Unsigned(1, MOST_RUNS)),
+            "RUNS",
+            ValueParser::Unsigned(1, MOST_RUNS),
             "How many runs are made, from 1 to 1000000, of which is printed what they come to, and how often",
-        ),
-        EXPLAIN,
-    ],
-    rules: &[],
-};
+        ))?
+        .arg(explain(alloc))
+}
 
 /// The words of `threads` that were found.
 pub(crate) fn threads_of<'a>(found: &ArgMatches<'a>) -> Result<ThreadsWords<'a>, Unasked>

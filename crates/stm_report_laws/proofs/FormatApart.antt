@@ -2,11 +2,11 @@
 use Rattle.std.proofs.Common.{◌≡◌, ℕ, zero, suc, pred, ◌+◌, ◌-◌, ◌*◌, ◌/◌, ◌%◌, Bool, true, false, cond, List, [], ◌∷◌, ◌++◌, nat_eq, nat_lt, if◌then◌else◌, refl, sym, ap, ◌∙◌, arith}
 use Rattle.std.proofs.lemmas.Bool.Decides.{nat_tests}
 use Rattle.std.proofs.lemmas.Nat.{div-add-mod'}
-use Rattle.stm_formats.specs.FormatShown.{hidden_from, digit, coded, spelled, byte_text, shown_after}
+use Rattle.stm_formats.specs.FormatShown.{hidden_from, digit, coded, byte_text, shown_after}
 use Rattle.stm_report_laws.specs.FormatLaws.{KeysApart}
 
 -- the number of a digit
-number_of : ℕ → ℕ
+abbrev number_of : ℕ → ℕ
 number_of c = if nat_lt c 58 then c - 48 else c - 87
 
 number_by : (small below : Bool) (n : ℕ) → nat_lt n 10 ≡ small → nat_lt (cond small (48 + n) (87 + n)) 58 ≡ below
@@ -20,17 +20,17 @@ of_digit : (n : ℕ) → number_of (digit n) ≡ n
 of_digit n = number_by (nat_lt n 10) (nat_lt (digit n) 58) n refl refl
 
 -- A text that was shown, read back from its front: where so many characters of a backslash, an `x` and two digits were read, and the first digit.
-read : ℕ → ℕ → List ℕ → List ℕ
+abbrev read : ℕ → ℕ → List ℕ → List ℕ
 read seen high [] = []
 read zero high (c ∷ cs) = if nat_eq c 92 then read 1 0 cs else c ∷ read 0 0 cs
 read (suc zero) high (c ∷ cs) = if nat_eq c 92 then 92 ∷ read 0 0 cs else read 2 0 cs
 read (suc (suc zero)) high (c ∷ cs) = read 3 c cs
-read (suc (suc (suc more))) high (c ∷ cs) = number_of high * 16 + number_of c ∷ read 0 0 cs
+read (suc (suc (suc more))) high (c ∷ cs) = (number_of high * 16 + number_of c) ∷ read 0 0 cs
 
 of_coded : (b : ℕ) (rest : List ℕ) → read 0 0 (coded b ++ rest) ≡ b ∷ read 0 0 rest
 of_coded b rest =
-    ap (λ (n : ℕ). n * 16 + number_of (digit (b % 16)) ∷ read 0 0 rest) (of_digit (b / 16))
-    ∙ ap (λ (n : ℕ). b / 16 * 16 + n ∷ read 0 0 rest) (of_digit (b % 16))
+    ap (λ (n : ℕ). (n * 16 + number_of (digit (b % 16))) ∷ read 0 0 rest) (of_digit (b / 16))
+    ∙ ap (λ (n : ℕ). (b / 16 * 16 + n) ∷ read 0 0 rest) (of_digit (b % 16))
     ∙ ap (λ (n : ℕ). n ∷ read 0 0 rest) (div-add-mod' b 16)
 
 same_number : (b : ℕ) → nat_eq b 92 ≡ true → 92 ≡ b

@@ -4,6 +4,7 @@ ghost use Rattle.std.specs.Prelude.{◌≡◌};
 use std::alloc::AllocError;
 use stm_events::EventRefusal;
 use stm_meaning::Run;
+use stm_retry::World;
 
 /// Who is asked before each move of a search whether it may be made, and is notified of how each whole run ended.
 pub trait Follower {
@@ -12,6 +13,9 @@ pub trait Follower {
 
     /// A walk through the serial orders begins.
     fn begins(&mut self) {}
+
+    /// A walk has come to a place: that from which it began, or one behind a move. This is the world there.
+    fn came(&mut self, _world: &World) {}
 
     /// A runner's program was run alone: this is its run. Where it came to its last statement, its writes were applied.
     fn ran(&mut self, runner: u64, run: &Run);

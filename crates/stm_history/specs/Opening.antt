@@ -1,8 +1,10 @@
 -- What a store opens with: a number, and what each key is there.
-use Rattle.std.specs.Prelude.{ℕ, Bool, ◌&&◌, nat_le, if◌then◌else◌, List, [], Option, Some, None}
+use Rattle.std.specs.Prelude.{◌≡◌, ℕ, All, Bool, true, ◌&&◌, nat_le, if◌then◌else◌, List, [], Option, Some, None}
 use Rattle.std.specs.Ordering.{nat_cmp}
 use Rattle.std.specs.Cmp.Lexicographic.{slice_cmp}
 use Rattle.std.specs.FinMap.{find}
+use Rattle.std.specs.List.Sorted.{IsStrictlySortedBy}
+use Rattle.std.specs.Map.{keys_of}
 use Rattle.stm_history.specs.declared.key_state.KeyState.{KeyState}
 
 -- the states of present keys, ascending by the keys' bytes
@@ -31,3 +33,8 @@ if_reached number (Some s) = if is_reached number s then Some s else None
 -- What a key is at the opening. A state that no history up to the opening can have left is no state of a key.
 abbrev pub opened_state : Opening → List ℕ → Option KeyState
 opened_state opening key = if_reached opening.number (find (slice_cmp nat_cmp) key opening.states)
+
+-- A store can open with these states at a number: their keys ascend by bytes, and each state is one that a history up to the number can have left.
+pub record CanOpen (number : ℕ) (states : States) : Type 0 where
+  pub ascending : IsStrictlySortedBy (slice_cmp nat_cmp) (keys_of states)
+  pub reached : All (λ (e : List ℕ × KeyState). is_reached number e.1 ≡ true) states

@@ -1,7 +1,7 @@
 //! What is wanted in the parentheses of a call.
 
 use crate::spots::{Call, Event, Spot};
-use stm_tokens::{TokenKind, Word};
+use stm_tokens::{Symbol, Token, TokenKind, Word};
 
 /// The word of a call, and how many values stand in it already.
 fn word_of(call: Option<Call<'_>>) -> Option<(Word, usize)> {
@@ -44,6 +44,39 @@ pub(crate) fn is_argument(spot: Spot<'_>) -> bool {
         },
         None => false,
     }
+}
+
+/// How many names or values stand in the parentheses behind the first of these tokens, with commas between them.
+pub(crate) fn listed_behind(tokens: &[Token]) -> usize {
+    let mut count = 0usize;
+    for token in tokens.iter().skip(2) {
+        if token.kind.is_symbol(Symbol::RightParenthesis)
+            || token.kind.is_symbol(Symbol::LeftBrace)
+        {
+            break;
+        }
+        if count == 0 {
+            count = 1;
+        }
+        if token.kind.is_symbol(Symbol::Comma) {
+            count = count.saturating_add(1);
+        }
+    }
+    count
+}
+
+/// How many parameters the program of a name has that is defined among these tokens.
+pub(crate) fn parameters_of(tokens: &[Token], name: &str) -> usize {
+    for (index, token) in tokens.iter().enumerate() {
+        let (_, from) = tokens.split_at(index);
+        match from {
+            [_, second, ..] if token.kind.is_word(Word::Program) && second.kind.is_named(name) => {
+                return listed_behind(&from[1..]);
+            }
+            _ => {}
+        }
+    }
+    0
 }
 
 /// What is wanted in a place where a value of a call begins.

@@ -3,10 +3,11 @@ ghost use Rattle.std.specs.Prelude.{◌≡◌, ℕ, List, Some, IfOk, option_map
 ghost use Rattle.stm_explain.specs.Explaining.{explanation};
 ghost use Rattle.stm_compiling.specs.Faults.{IsExplanation, place_of};
 
+use crate::calls::{listed_behind, parameters_of};
 use crate::fault::position_in;
 use crate::naming::{is_called, said_of_function, said_of_place};
 use crate::spots::{Event, Place, Spot, spot_at};
-use crate::wanted::{Wanted, allowed, is_behind_condition_word, numbers_at, wanted_at};
+use crate::wanted::{Wanted, allowed, is_behind_condition_word, nearest, numbers_at, wanted_at};
 use serde_json::Value as Json;
 use std::alloc::{AllocError, Global};
 use stm_explain::shown;
@@ -140,8 +141,21 @@ fn is_comparison(symbol: Symbol) -> bool {
     )
 }
 
+/// Whether an `else` stands where it would be that of a look-up.
+fn is_else_of_look_up(spot: Spot<'_>) -> bool {
+    match spot.kind() {
+        Some(kind) => {
+            kind.is_word(Word::Else) && spot.is_behind_symbol(0, Symbol::RightParenthesis)
+        }
+        None => false,
+    }
+}
+
 /// What is said of a symbol or a word that has its place elsewhere; nothing of others.
 fn said_of_symbol(spot: Spot<'_>) -> &'static str {
+    if is_else_of_look_up(spot) {
+        return "an else of a look-up stands behind the ) of its get; not behind && or ||, and not beside v0 to v15";
+    }
     if spot.is_before_a_block() {
         return "";
     }
@@ -160,6 +174,12 @@ fn said_of_symbol(spot: Spot<'_>) -> &'static str {
         }
         (Some(TokenKind::Word(Word::Prefetch)), Place::Statements) => {
             "the list of keys stands before all statements"
+        }
+        (Some(TokenKind::Word(Word::Return)), Place::Statements) => {
+            "what follows goes into the other branch of the if, and a run is broken off by abort(TEXT)"
+        }
+        (Some(TokenKind::Word(Word::Break | Word::Continue)), Place::Statements) => {
+            "a variable says that the rest is skipped: if done == 0 { .. }"
         }
         _ => "",
     }
@@ -192,7 +212,13 @@ fn syntax_words(
     }
     match wanted_at(spot) {
         Wanted::Words(noun, words, beside) => {
-            let list = allowed(alloc, words, beside, name_in(spot))?;
+            let name = name_in(spot);
+            if is_called(spot) && nearest(alloc, words, name)?.is_empty() {
+                return format!(in alloc;
+                    "{found} is no {noun}: a program is called by start alone"
+                );
+            }
+            let list = allowed(alloc, words, beside, name)?;
             format!(in alloc; "{found} is no {noun}: {list}")
         }
         Wanted::Said(wanted) => format!(in alloc; "found {found}, where {wanted} is wanted"),
@@ -250,14 +276,24 @@ fn range_words(alloc: Global, found: &str, spot: Spot<'_>) -> Result<String, All
     format!(in alloc; "the number {found} is out of range here: {numbers}")
 }
 
+/// What is said of a program that is started with another number of arguments than it has parameters.
+fn argument_words(alloc: Global, found: &str, spot: Spot<'_>) -> Result<String, AllocError> {
+    let wanted = parameters_of(spot.before, name_in(spot));
+    let given = listed_behind(spot.from);
+    format!(in alloc; "{found} has another number of parameters: {wanted} wanted, {given} found")
+}
+
 /// What is said where no token begins, but this character stands.
-fn token_words(alloc: Global, character: &str) -> Result<String, AllocError> {
+fn token_words(alloc: Global, spot: Spot<'_>, character: &str) -> Result<String, AllocError> {
     let found = quoted(alloc, character)?;
     match character {
         "\"" => String::from_str(
             alloc,
             "a text that is not closed in its line, or with an escape that JSON does not have",
         ),
+        ":" if spot.is_behind_word(1, Word::For) => {
+            format!(in alloc; "{found} begins nothing: a loop is for NAME in 0..COUNT {{ .. }}")
+        }
         ":" => format!(in alloc; "{found} begins nothing: a new variable is let NAME = VALUE"),
         "'" | "`" => format!(in alloc; "{found} begins nothing: texts stand in double quotes"),
         "[" => format!(in alloc;
@@ -296,7 +332,7 @@ fn words_at(
         ),
         SourceCause::Token => {
             let character = first_character(word_from(source, spot, bad.at));
-            token_words(alloc, character)
+            token_words(alloc, spot, character)
         }
         SourceCause::Syntax => syntax_words(alloc, source, found, spot),
         SourceCause::Sort => sort_words(alloc, found, spot),
@@ -305,7 +341,7 @@ fn words_at(
         SourceCause::Key => format!(in alloc;
             "{found} is an empty key, or one that stands in the list already"
         ),
-        SourceCause::Arguments => format!(in alloc; "{found} has another number of parameters"),
+        SourceCause::Arguments => argument_words(alloc, found, spot),
         SourceCause::Kind => format!(in alloc;
             "{found} is of the other kind: a text where a number is wanted, or a number where a text is"
         ),

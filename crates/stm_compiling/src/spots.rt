@@ -244,6 +244,19 @@ impl<'a> Spot<'a> {
         false
     }
 
+    /// Whether it stands behind the `..` of a loop, and no block or statement has begun since.
+    pub(crate) fn is_in_count(self) -> bool {
+        for token in self.before.iter().rev() {
+            if token.kind.is_symbol(Symbol::Dots) {
+                return true;
+            }
+            if is_end_of_statement(&token.kind) {
+                return false;
+            }
+        }
+        false
+    }
+
     /// The token at an index before it.
     fn at(self, index: usize) -> Option<&'a TokenKind> {
         match self.before.get(index) {

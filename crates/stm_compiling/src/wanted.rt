@@ -1,6 +1,6 @@
 //! What is wanted in a place of a source.
 
-use crate::calls::{behind_value, value_in};
+use crate::calls::{behind_value, is_parameter, value_in};
 use crate::spots::{Event, Place, Spot};
 use std::alloc::{AllocError, Global};
 use stm_tokens::{Symbol, TokenKind, Word};
@@ -10,15 +10,15 @@ use strsim::levenshtein;
 const MOST_NEAR: usize = 60;
 
 /// The words that begin an event, or what stands beside events.
-const EVENTS: [&str; 13] = [
+const EVENTS: [&str; 15] = [
     "program", "start", "step", "txn", "grant", "keep", "revoke", "advance", "watch", "poll",
-    "cancel", "compact", "begin",
+    "cancel", "compact", "begin", "rule", "finally",
 ];
 
 /// What may stand behind the program of a start.
-const OPTIONS: [&str; 15] = [
-    "as", "at", "limit", "start", "step", "txn", "grant", "keep", "revoke", "advance", "watch",
-    "poll", "cancel", "compact", "begin",
+const OPTIONS: [&str; 16] = [
+    "as", "at", "limit", "after", "start", "step", "txn", "grant", "keep", "revoke", "advance",
+    "watch", "poll", "cancel", "compact", "begin",
 ];
 
 const ORDERS: [&str; 4] = ["==", "!=", "<", ">"];
@@ -85,6 +85,12 @@ fn is_behind_number_name(spot: Spot<'_>) -> bool {
 
 /// What is wanted in an event, outside of all brackets.
 fn in_event(spot: Spot<'_>) -> Wanted {
+    if spot.is_behind_word(0, Word::Program) {
+        return Wanted::Said("the name of the program");
+    }
+    if spot.is_behind_word(0, Word::Rule) || spot.is_behind_word(0, Word::Finally) {
+        return Wanted::Said("the name of the rule");
+    }
     if let Some(wanted) = behind_name(spot) {
         return wanted;
     }
@@ -179,8 +185,20 @@ fn is_worded(kind: Option<&TokenKind>) -> bool {
     matches!(kind, Some(TokenKind::Name(_) | TokenKind::Word(_)))
 }
 
+/// Whether a block begins behind a loop's count: that needs its greatest number of turns, where it is no number.
+fn is_count_without_max(spot: Spot<'_>) -> bool {
+    let begins = match spot.kind() {
+        Some(kind) => kind.is_symbol(Symbol::LeftBrace),
+        None => false,
+    };
+    begins && !spot.is_behind(1, "max") && spot.is_in_count()
+}
+
 /// What is wanted in a program, where a new statement may begin.
 fn statement_or_more(spot: Spot<'_>) -> Wanted {
+    if spot.is_before_a_block() && is_count_without_max(spot) {
+        return Wanted::OperatorOr("max NUMBER, since the count is no number as it stands,");
+    }
     if spot.is_before_a_block() {
         return Wanted::Said("an operator, or the { of the block,");
     }
@@ -207,6 +225,9 @@ fn in_program(spot: Spot<'_>) -> Wanted {
     if is_behind_call(spot) {
         return Wanted::Said("(");
     }
+    if spot.is_behind_symbol(0, Symbol::Not) {
+        return Wanted::Said("a condition in parentheses, !( .. ),");
+    }
     if is_behind_condition_word(spot) {
         return Wanted::Said("a condition, which compares two values");
     }
@@ -232,14 +253,27 @@ fn in_parentheses(spot: Spot<'_>) -> Wanted {
     if is_behind_operator(spot) {
         return Wanted::Said("a value");
     }
+    if is_parameter(spot) {
+        return Wanted::Said(
+            "a comma, or the ) behind the parameters, which have names and no types,",
+        );
+    }
     if spot.event() == Some(Event::Transaction) {
         return Wanted::Said(behind_value(spot));
     }
     Wanted::OperatorOr(behind_value(spot))
 }
 
+/// Whether what stands before a place is the `else` of a look-up.
+fn is_behind_else_of_look_up(spot: Spot<'_>) -> bool {
+    spot.is_behind_word(0, Word::Else) && spot.is_behind_symbol(1, Symbol::RightParenthesis)
+}
+
 /// What is wanted in a place.
 pub(crate) fn wanted_at(spot: Spot<'_>) -> Wanted {
+    if is_behind_else_of_look_up(spot) {
+        return Wanted::Said("a text, or a name that stands for one,");
+    }
     match spot.place() {
         Place::Events => in_event(spot),
         Place::Statements => in_program(spot),

@@ -77,6 +77,8 @@ impl Prepared {
 pub fn prepare(ready: Ready) -> Prepared
     ensures { result ≡ ready }
 {
+    // (the attempt's type says that it is a run on its answers)
+    let _is_run = ready.answers.as_slice();
     let has_empty = names_empty_key(&ready);
     Prepared { ready, has_empty }
 }

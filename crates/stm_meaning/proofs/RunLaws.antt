@@ -332,7 +332,9 @@ module _ (answers whole : Lookup) (agree : AgreesWith answers whole) where
 
 answered-trace : (o : Outcome (Unit {0})) → trace_of (answered o) ≡ (session_of o).trace
 answered-trace (Gives x s) = refl
-answered-trace _ = refl
+answered-trace (Stops (Aborted t) s) = refl
+answered-trace (Stops (Faulted fault) s) = refl
+answered-trace (Stops (Wants key) s) = refl
 
 answered-goes : (o other : Outcome (Unit {0})) → Continued o other → IsContinuedBy (answered o) (answered other)
 answered-goes (Gives x s) other h = ap (λ o. answered o) h

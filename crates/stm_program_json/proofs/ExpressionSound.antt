@@ -36,15 +36,21 @@ words_and d p w parts h e f = worded-is d p h ∙ ap (λ (s : List ℕ). array (
 
 unary_spelled : (u : Unary) (d a : Data) (e : Expression) → d ≡ spelled (unary_text u) (a ∷ []) → SpellsExpression a e → SpellsExpression d (unary_of u e)
 unary_spelled unary.Get d a e h s = (a, h, s)
-unary_spelled _ d a e h s = (a, h, s)
+unary_spelled unary.Rev d a e h s = (a, h, s)
+unary_spelled unary.TextOf d a e h s = (a, h, s)
+unary_spelled unary.NumOf d a e h s = (a, h, s)
 
 unary_fits : (u : Unary) (l r : ℕ) (e : Expression) → ExpressionFits l r e → ExpressionFits (suc l) (suc r) (unary_of u e)
 unary_fits unary.Get l r e f = record { depth = omega (arith, f.depth); nodes = omega (arith, f.nodes); ranges = f.ranges }
-unary_fits _ l r e f = record { depth = omega (arith, f.depth); nodes = omega (arith, f.nodes); ranges = f.ranges }
+unary_fits unary.Rev l r e f = record { depth = omega (arith, f.depth); nodes = omega (arith, f.nodes); ranges = f.ranges }
+unary_fits unary.TextOf l r e f = record { depth = omega (arith, f.depth); nodes = omega (arith, f.nodes); ranges = f.ranges }
+unary_fits unary.NumOf l r e f = record { depth = omega (arith, f.depth); nodes = omega (arith, f.nodes); ranges = f.ranges }
 
 unary_nodes : (u : Unary) (e : Expression) → expression_nodes (unary_of u e) ≡ 1 + expression_nodes e
 unary_nodes unary.Get e = refl
-unary_nodes _ e = refl
+unary_nodes unary.Rev e = refl
+unary_nodes unary.TextOf e = refl
+unary_nodes unary.NumOf e = refl
 
 binary_spelled : (o : Binary) (d a b : Data) (e f : Expression) → d ≡ spelled (binary_text o) (a ∷ b ∷ []) → SpellsExpression a e → SpellsExpression b f
     → SpellsExpression d (binary_of o e f)

@@ -3,7 +3,7 @@
 use Rattle.std.proofs.Common.{◌≡◌, ℕ, zero, suc, ◌^◌, ◌<◌, ◌≤◌, ℤ, pos, negsuc, List, [], ◌∷◌, ◌++◌, Bool, true, false, cond, Option, Some, None, Ok, Err}
 use Rattle.std.proofs.Common.{refl, sym, ap, ◌∙◌, append_assoc, arith, leb, ltb, leb-true, le-leb, lt-ltb, option_and_then}
 use Rattle.std.proofs.lemmas.List.{append-nil}
-use Rattle.serde_json.specs.Data.{Num, unsigned, Data, null, boolean, number}
+use Rattle.serde_json.specs.Data.{Num, unsigned, negative, float, Data, null, boolean, number, string, array, object}
 use Rattle.serde_json.specs.Find.{as_number, as_integer}
 use Rattle.stm_json.specs.declared.cause.Cause.{Cause}
 use Rattle.stm_json.specs.declared.cause.Cause.TheVariants.{Shape, Range, TooDeep, TooManyNodes}
@@ -63,7 +63,11 @@ unfolding whole_number
 whole_as null = refl
 whole_as (boolean b) = refl
 whole_as (number (unsigned m)) = small m (ltb m (2 ^ 63)) refl
-whole_as _ = refl
+whole_as (number (negative z)) = refl
+whole_as (number (float x)) = refl
+whole_as (string s) = refl
+whole_as (array ds) = refl
+whole_as (object ms) = refl
 
 tested : (p : List ℕ) (room : ℕ) (b : Bool) (z : ℤ) (rest : List Mark)
     → first_of_marks room (cond b [] (wrong p Range) ++ rest) ≡ after_number p room (cond b (Ok z) (bad Range)) rest

@@ -84,7 +84,10 @@ statement_of_one p (Some (statement.Simple s)) ms = ms
 abbrev pub statement_of_two : List ℕ → Option StmtWord → List Mark → List Mark
 statement_of_two p None ms = wrong p Shape
 statement_of_two p (Some statement.Set) ms = ms
-statement_of_two p _ ms = wrong p Shape
+statement_of_two p (Some statement.Put) ms = wrong p Shape
+statement_of_two p (Some statement.If) ms = wrong p Shape
+statement_of_two p (Some statement.For) ms = wrong p Shape
+statement_of_two p (Some (statement.Simple s)) ms = wrong p Shape
 
 -- the marks of the three elements are given for the case that they are those of a put, and of an if
 abbrev pub statement_of_three : List ℕ → Option StmtWord → List Mark → List Mark → List Mark

@@ -94,7 +94,9 @@ statement_table w =
 
 value_none : (k : ℕ) (p : List ℕ) (o : Option ExprWord) → marks_if p (expression_parts o) no_items (λ ss. marks_of_parts k p 1 ss no_items) ≡ wrong p Shape
 value_none k p None = refl
-value_none k p _ = refl
+value_none k p (Some expression.Var) = refl
+value_none k p (Some (expression.Unary u)) = refl
+value_none k p (Some (expression.Binary b)) = refl
 
 value_one : (k : ℕ) (p : List ℕ) (o : Option ExprWord) (a : Data) → marks_in Value (suc k) (at p 1) a ≡ expression_inner (suc k) (at p 1) a →
     marks_if p (expression_parts o) (item a no_items) (λ ss. marks_of_parts k p 1 ss (item a no_items))
@@ -119,7 +121,9 @@ value_two k p (Some (expression.Binary o)) a b e f =
 value_more : (k : ℕ) (p : List ℕ) (o : Option ExprWord) (a b c : Data) (ds : Items) →
     marks_if p (expression_parts o) (item a (item b (item c ds))) (λ ss. marks_of_parts k p 1 ss (item a (item b (item c ds)))) ≡ wrong p Shape
 value_more k p None a b c ds = refl
-value_more k p _ a b c ds = refl
+value_more k p (Some expression.Var) a b c ds = refl
+value_more k p (Some (expression.Unary u)) a b c ds = refl
+value_more k p (Some (expression.Binary o)) a b c ds = refl
 
 by_table : (k : ℕ) (p : List ℕ) (ds : Items) (x y : Option (List Sort)) → x ≡ y →
     marks_if p x ds (λ ss. marks_of_parts k p 1 ss ds) ≡ marks_if p y ds (λ ss. marks_of_parts k p 1 ss ds)
@@ -154,7 +158,9 @@ node_is k p ms ns e = ap (λ l. Node k p ∷ l) e
 
 test_none : (k : ℕ) (p : List ℕ) (o : Option CondWord) → marks_if p (condition_parts o) no_items (λ ss. marks_of_parts k p 1 ss no_items) ≡ wrong p Shape
 test_none k p None = refl
-test_none k p _ = refl
+test_none k p (Some (condition.Comparison c)) = refl
+test_none k p (Some condition.Not) = refl
+test_none k p (Some (condition.Connective c)) = refl
 
 test_one : (k : ℕ) (p : List ℕ) (o : Option CondWord) (a : Data) → marks_in Test (suc k) (at p 1) a ≡ condition_inner (suc k) (at p 1) a →
     marks_if p (condition_parts o) (item a no_items) (λ ss. marks_of_parts k p 1 ss (item a no_items))
@@ -178,7 +184,9 @@ test_two k p (Some (condition.Connective c)) a b e f = both _ _ _ _ (node_is (su
 test_more : (k : ℕ) (p : List ℕ) (o : Option CondWord) (a b c : Data) (ds : Items) →
     marks_if p (condition_parts o) (item a (item b (item c ds))) (λ ss. marks_of_parts k p 1 ss (item a (item b (item c ds)))) ≡ wrong p Shape
 test_more k p None a b c ds = refl
-test_more k p _ a b c ds = refl
+test_more k p (Some (condition.Comparison o)) a b c ds = refl
+test_more k p (Some condition.Not) a b c ds = refl
+test_more k p (Some (condition.Connective o)) a b c ds = refl
 
 test_is : (k : ℕ) (p : List ℕ) (d : Data) → marks_in Test k p d ≡ condition_inner k p d
 test_is k p (array (item (string w) no_items)) = by_table k p no_items _ _ (condition_table w) ∙ test_none k p (condition_word w)
@@ -195,7 +203,11 @@ test_is k p _ = refl
 
 step_none : (k : ℕ) (p : List ℕ) (o : Option StmtWord) → marks_if p (statement_parts o) no_items (λ ss. marks_of_parts k p 1 ss no_items) ≡ wrong p Shape
 step_none k p None = refl
-step_none k p _ = refl
+step_none k p (Some statement.Set) = refl
+step_none k p (Some statement.Put) = refl
+step_none k p (Some statement.If) = refl
+step_none k p (Some statement.For) = refl
+step_none k p (Some (statement.Simple s)) = refl
 
 step_one : (k : ℕ) (p : List ℕ) (o : Option StmtWord) (a : Data) →
     marks_if p (statement_parts o) (item a no_items) (λ ss. marks_of_parts k p 1 ss (item a no_items))
@@ -212,7 +224,10 @@ step_two : (k : ℕ) (p : List ℕ) (o : Option StmtWord) (a b : Data) →
     ≡ statement_of_two p o (number_marks (at p 1) MAX_VARIABLE a ++ (Node (suc k) (at p 2) ∷ expression_inner (suc k) (at p 2) b))
 step_two k p None a b = refl
 step_two k p (Some statement.Set) a b = ap (λ l. number_marks (at p 1) MAX_VARIABLE a ++ l) (last (suc k) (at p 2) _ _ (value_is (suc k) (at p 2) b))
-step_two k p _ a b = refl
+step_two k p (Some statement.Put) a b = refl
+step_two k p (Some statement.If) a b = refl
+step_two k p (Some statement.For) a b = refl
+step_two k p (Some (statement.Simple s)) a b = refl
 
 step_three : (k : ℕ) (p : List ℕ) (o : Option StmtWord) (a b c : Data) →
     marks_in Block (suc k) (at p 2) b ≡ block_marks (suc k) (at p 2) b → marks_in Block (suc k) (at p 3) c ≡ block_marks (suc k) (at p 3) c →
@@ -250,7 +265,11 @@ step_more : (k : ℕ) (p : List ℕ) (o : Option StmtWord) (a b c d f : Data) (d
     marks_if p (statement_parts o) (item a (item b (item c (item d (item f ds)))))
     (λ ss. marks_of_parts k p 1 ss (item a (item b (item c (item d (item f ds)))))) ≡ wrong p Shape
 step_more k p None a b c d f ds = refl
-step_more k p _ a b c d f ds = refl
+step_more k p (Some statement.Set) a b c d f ds = refl
+step_more k p (Some statement.Put) a b c d f ds = refl
+step_more k p (Some statement.If) a b c d f ds = refl
+step_more k p (Some statement.For) a b c d f ds = refl
+step_more k p (Some (statement.Simple s)) a b c d f ds = refl
 
 mutual
   step_is : (k : ℕ) (p : List ℕ) (d : Data) → marks_in Step k p d ≡ statement_inner k p d

@@ -73,14 +73,31 @@ statement_word-is w x h =
 pub expression_word-text : (x : ExprWord) → expression_word (expression_text x) ≡ Some x
 unfolding expression_word
 expression_word-text expression.Var = refl
-expression_word-text _ = refl
+expression_word-text (expression.Unary unary.Get) = refl
+expression_word-text (expression.Unary unary.Rev) = refl
+expression_word-text (expression.Unary unary.TextOf) = refl
+expression_word-text (expression.Unary unary.NumOf) = refl
+expression_word-text (expression.Binary binary.Cat) = refl
+expression_word-text (expression.Binary (binary.Arithmetic Add)) = refl
+expression_word-text (expression.Binary (binary.Arithmetic Sub)) = refl
+expression_word-text (expression.Binary (binary.Arithmetic Mul)) = refl
+expression_word-text (expression.Binary (binary.Arithmetic Div)) = refl
+expression_word-text (expression.Binary (binary.Arithmetic Rem)) = refl
 
 pub condition_word-text : (x : CondWord) → condition_word (condition_text x) ≡ Some x
 unfolding condition_word
 condition_word-text (condition.Comparison comparison.Equal) = refl
-condition_word-text _ = refl
+condition_word-text (condition.Comparison comparison.Less) = refl
+condition_word-text condition.Not = refl
+condition_word-text (condition.Connective connective.And) = refl
+condition_word-text (condition.Connective connective.Or) = refl
 
 pub statement_word-text : (x : StmtWord) → statement_word (statement_text x) ≡ Some x
 unfolding statement_word
 statement_word-text statement.Set = refl
-statement_word-text _ = refl
+statement_word-text statement.Put = refl
+statement_word-text statement.If = refl
+statement_word-text statement.For = refl
+statement_word-text (statement.Simple simple.Del) = refl
+statement_word-text (statement.Simple simple.Emit) = refl
+statement_word-text (statement.Simple simple.Abort) = refl

@@ -24,7 +24,7 @@ use Rattle.stm_recipes.proofs.AccountRuns.{transfer_alone}
 use Rattle.stm_recipes.proofs.SlotRuns.{release_alone}
 use Rattle.stm_recipe_laws.specs.Commits.{IsCommitOf}
 use Rattle.stm_recipe_laws.specs.Accounts.{number_of, balance_now, deposits_of}
-use Rattle.stm_recipe_laws.specs.Queues.{all_added, all_taken, HoldsItems, AreOfQueue, Kept}
+use Rattle.stm_recipe_laws.specs.Queues.{all_added, all_taken, Kept}
 use Rattle.stm_recipe_laws.specs.Slots.{IsReservation, is_held, IsHeldBy}
 use Rattle.stm_recipe_laws.specs.WrongEntries.{can_pay, WrongTransfers, WrongDequeues, AllLeaveSlot, WrongReservations}
 use Rattle.stm_recipe_laws.proofs.CommitLemmas.{Committed, committed, now_is_known}
@@ -54,19 +54,15 @@ cannot_pay (Some balance) account from to amount values run is short ended deed 
     let lacks : int_lt balance (pos amount) ≡ true = is_short (int_lt balance (pos amount)) short in
     absurd (cc)
 
-out_of_nothing : (e : Entry) (r : Replayed) (from to : List ℕ) (amount : ℕ) → 0 < length from → 0 < length to →
-    can_pay (balance_now r.history from) amount ≡ false → IsCommitOf (transfer_program from to amount) e → IsLegal e r → ⊥
-out_of_nothing e r from to amount named other short commits legal =
-    let h : History = r.history in
-    let values : List ℕ → List ℕ = value_in (state_now h) in
-    let c : Committed (transfer_program from to amount) r (replay_entry e r) = committed (transfer_program from to amount) e r commits legal in
-    let deed : deed_of c.run ≡ transferred from to amount values =
-    transfer_alone (state_now h) from to amount (now_is_known h) named other c.run c.alone in
-    cannot_pay (balance_now h from) (key_now h from) from to amount values c.run refl short c.is_done deed
-
 pub wrong_transfers : WrongTransfers
 wrong_transfers = record {
-  out_of_nothing = out_of_nothing;
+  out_of_nothing = λ e r from to amount named other short commits legal.
+      let h : History = r.history in
+      let values : List ℕ → List ℕ = value_in (state_now h) in
+      let c : Committed (transfer_program from to amount) r (replay_entry e r) = committed (transfer_program from to amount) e r commits legal in
+      let deed : deed_of c.run ≡ transferred from to amount values =
+      transfer_alone (state_now h) from to amount (now_is_known h) named other c.run c.alone in
+      cannot_pay (balance_now h from) (key_now h from) from to amount values c.run refl short c.is_done deed;
   another_total = λ accounts es r before after are legal of was is other.
       let total : ℤ = before +ℤ deposits_of accounts es r of in
       other (same_Some after total (sym is ∙ totals_grow_by_deposits.grows accounts es r before are legal of was));
@@ -80,30 +76,21 @@ stays_in_place [] rest n item at = absurd (cc)
 stays_in_place (x ∷ front) rest zero item at = at
 stays_in_place (x ∷ front) rest (suc n) item at = stays_in_place front rest n item at
 
-out_of_turn : (queue : List ℕ) (es : List Entry) (r : Replayed) (items : List (List ℕ)) (n : ℕ) (taken due : List ℕ) → 0 < length queue →
-    HoldsItems r.history queue items → AreLegal es r → (of : AreOfQueue queue es r) → slice_get (all_taken queue es r of) n ≡ Some taken →
-    slice_get (items ++ all_added queue es r of) n ≡ Some due → taken ≢ due → ⊥
-out_of_turn queue es r items n taken due named holds legal of at there differ =
-    let k : Kept queue items (all_taken queue es r of) (all_added queue es r of) (replay es r).history =
-    queues_keep_their_items queue es r items named legal of holds in
-    let is : slice_get (items ++ all_added queue es r of) n ≡ Some taken =
-    ap (λ (l : List (List ℕ)). slice_get l n) (sym k.in_order) ∙ stays_in_place (all_taken queue es r of) k.left n taken at in
-    differ (same_Some taken due (sym is ∙ there))
-
-too_many : (queue : List ℕ) (es : List Entry) (r : Replayed) (items : List (List ℕ)) → 0 < length queue → HoldsItems r.history queue items →
-    AreLegal es r → (of : AreOfQueue queue es r) → length (items ++ all_added queue es r of) < length (all_taken queue es r of) → ⊥
-too_many queue es r items named holds legal of more =
-    let k : Kept queue items (all_taken queue es r of) (all_added queue es r of) (replay es r).history =
-    queues_keep_their_items queue es r items named legal of holds in
-    let count : length (items ++ all_added queue es r of) ≡ length (all_taken queue es r of) + length k.left =
-    ap length (sym k.in_order) ∙ length-append (all_taken queue es r of) k.left in
-    omega (arith, count, more)
-
 pub wrong_dequeues : WrongDequeues
 wrong_dequeues = record {
   from_nothing = λ queue e r named holds dequeues legal. nothing_to_take queue e r [] named legal dequeues holds refl;
-  out_of_turn = out_of_turn;
-  too_many = too_many;
+  out_of_turn = λ queue es r items n taken due named holds legal of at there differ.
+      let k : Kept queue items (all_taken queue es r of) (all_added queue es r of) (replay es r).history =
+      queues_keep_their_items queue es r items named legal of holds in
+      let is : slice_get (items ++ all_added queue es r of) n ≡ Some taken =
+      ap (λ (l : List (List ℕ)). slice_get l n) (sym k.in_order) ∙ stays_in_place (all_taken queue es r of) k.left n taken at in
+      differ (same_Some taken due (sym is ∙ there));
+  too_many = λ queue es r items named holds legal of more.
+      let k : Kept queue items (all_taken queue es r of) (all_added queue es r of) (replay es r).history =
+      queues_keep_their_items queue es r items named legal of holds in
+      let count : length (items ++ all_added queue es r of) ≡ length (all_taken queue es r of) + length k.left =
+      ap length (sym k.in_order) ∙ length-append (all_taken queue es r of) k.left in
+      omega (arith, count, more);
 }
 
 -- ---- slots

@@ -10,52 +10,58 @@ use Rattle.stm_leases.specs.Live.{grant_refusal, is_live_in}
 use Rattle.stm_leases.specs.LeaseLog.{Term}
 use Rattle.stm_leases.specs.DueFirst.{first_due}
 use Rattle.stm_leases.specs.declared.errors.GrantError.{GrantError}
-use Rattle.stm_watch.specs.Watching.{Watching}
+use Rattle.stm_watch.specs.Watching.{Watching as Watcher}
+use Rattle.stm_watch.specs.declared.watched.Watched.TheVariants.{Key, Range}
 use Rattle.stm_watch.specs.declared.watchers.Batch.{Batch}
 use Rattle.stm_watch.specs.declared.refusal.WatchRefusal.{WatchRefusal}
 use Rattle.stm_watch.specs.declared.refusal.PollRefusal.{PollRefusal}
-use Rattle.stm_watch.specs.declared.refusal.PollRefusal.TheVariants.{NoWatcher as NoneToPoll, Compacted as LostToPoll, OutOfMemory as NoMemoryToPoll}
-use Rattle.stm_watch.specs.Calls.{Step as WatchStep}
+use Rattle.stm_watch.specs.Calls.{Step as WatchStep, watch, poll, watcher_at}
 use Rattle.stm_outcome.specs.declared.advance.Expired.{Expired}
 use Rattle.stm_outcome.specs.declared.answer.TxnAnswer.{TxnAnswer}
 use Rattle.stm_outcome.specs.declared.refusal.Refusal.{Refusal as StoreRefusal}
-use Rattle.stm_outcome.specs.declared.refusal.Refusal.TheVariants.{RevisionsUsedUp, LeaseNotFound, TimeGoesBack, NoWatcher, OutOfMemory}
+use Rattle.stm_outcome.specs.declared.refusal.Refusal.TheVariants.{RevisionsUsedUp}
 use Rattle.stm_outcome.specs.declared.txn.Txn.{Txn as StoreTxn}
-use Rattle.stm_txn.specs.Grants.{grant_refusal_of}
 use Rattle.stm_txn.specs.LeaseKeys.{deletions_of}
 use Rattle.stm_outcome.specs.Outcome.{Done, outcome, is_used_up}
 use Rattle.stm_outcome.specs.Terms.{most_operations}
-use Rattle.stm_txn.specs.Standing.{Standing, Step, Advance, step_of, transacted, granted, kept_alive, ended, revoked, with_revision, with_lease, without_lease}
-use Rattle.stm_txn.specs.Standing.{after, expired_in, expire_up_to, expire_all, at_moment, advanced, watch_step, poll_step, cancel_step}
-use Rattle.stm_txn.specs.Standing.{terms_of, compaction_refusal, with_floor, floor_step, raised}
+use Rattle.stm_txn.specs.Standing.{Standing, Step, Advance, step_of, transacted, granted, kept_alive, revoked, without_lease, after, expired_in, expire_up_to}
+use Rattle.stm_txn.specs.Standing.{at_moment, advanced, watched, watch_step, poll_step, cancelled, cancel_step, terms_of, compaction_refusal, with_floor, floor_step, raised}
 use Rattle.stm_entries.specs.declared.entry.Entry.{Entry}
 use Rattle.stm_entries.specs.declared.entry.Entry.TheVariants.{Foreign, Grant as GrantEntry, Renew, Revoke as RevokeEntry}
 use Rattle.stm_entries.specs.Entered.{if_changed, expiries}
-use Rattle.stm_events.specs.declared.event.WorldEvent.TheVariants.{Txn, Grant, Keep, Revoke, Advance as AdvanceEvent, Compact}
+use Rattle.stm_events.specs.declared.event.WorldEvent.{WorldEvent}
+use Rattle.stm_events.specs.declared.event.WorldEvent.TheVariants.{Txn, Grant, Keep, Revoke, Advance as AdvanceEvent, WatchKey, WatchRange, Poll, Cancel, Compact}
 use Rattle.stm_events.specs.declared.reply.Reply.{Reply}
-use Rattle.stm_events.specs.declared.reply.Reply.TheVariants.{Granted, Kept, Revoked, Compacted, Lost}
+use Rattle.stm_events.specs.declared.reply.Reply.TheVariants.{Granted, Kept, Revoked, Watching, Cancelled, Compacted}
 use Rattle.stm_events.specs.declared.refusal.Denied.{Denied}
-use Rattle.stm_events.specs.Replies.{txn_reply, event_refusal, denied, reply_to, store_after_call, store_after_poll, advance_reply, batch_reply, poll_reply}
-use Rattle.stm_events.specs.Called.{if_reported, expired_reported}
+use Rattle.stm_events.specs.Replies.{txn_reply, event_refusal, denied, reply_to, store_after_call, store_after_poll, advance_reply}
+use Rattle.stm_events.specs.Called as call
+use Rattle.stm_events.specs.Called.{Call, called, entered_by, if_reported}
+use Rattle.stm_events.proofs.CallMeans.{granted_by, kept_by, revoked_by, advance_ended, advance_due, advance_back}
+use Rattle.stm_events.proofs.CallReplies.{poll_reported, expiries_reported}
+use Rattle.stm_world.proofs.Slots.{same_number}
 use Rattle.stm_check.specs.declared.runner.Runner.{Runner}
 use Rattle.stm_check.specs.Fits.{can_have}
-use Rattle.stm_check.specs.Point.{led_by, moment_after, standing_after, txn_entries, grant_entries, keep_entries, revoke_entries, advance_entries}
+use Rattle.stm_check.specs.Replays.{Replays}
+use Rattle.stm_check.specs.Runners.{runners_after}
+use Rattle.stm_check.specs.Point.{led_by, moment_after, entries_reported, standing_after, txn_entries, grant_entries, keep_entries, revoke_entries, advance_entries}
 use Rattle.stm_check.proofs.CallLemmas.{StepIsTransacted, is_transacted, txn_led, grant_led, keep_led, revoke_led, advance_led, line_keeps}
 
 -- a store without its watchers
 abbrev pub unwatched : Standing → Standing
 unwatched s = record s { watchers = [] }
 
--- What the reply to a call is for a check: it can stand there, it is the one that the call comes to on the store without its watchers, and
--- it leads to the store that the call leaves, by the entries of the call.
-pub record CallIsRight (s next : Standing) (can : Bool) (wanted reply : Result Reply Denied) (reported : List Entry) (moment : ℕ) (entered : List Entry) : Type 0 where
-  pub fits : can ≡ true
-  pub is_replayed : wanted ≡ reply
-  pub store : led_by reported (unwatched s) moment ≡ unwatched next
-  pub entries : reported ≡ entered
+-- What the reply to a call is for a check, in the place of this event: it can stand there, it is the one that the call comes to on the store without
+-- its watchers, it leads to the store that the call leaves, it is entered as the call is, and it says nothing of runners.
+pub record CallIsRight (s : Standing) (rs : List Runner) (event : WorldEvent) (c : Call) : Type 0 where
+  pub fits : can_have rs event (called s c).reply ≡ true
+  pub replays : Replays (unwatched s) rs event (called s c).reply
+  pub store : standing_after (unwatched s) rs event (called s c).reply ≡ unwatched (called s c).next
+  pub entries : entries_reported (unwatched s) rs event (called s c).reply ≡ entered_by c s (called s c).next (called s c).reply
+  pub runners : runners_after event (called s c).reply rs ≡ rs
 
 -- what holds of the reply to a call, taken or refused
-pub by_reply : {A : Type 0} (P : Result Reply Denied → Type 0) (report : A → Reply) (r : Result (Step A) StoreRefusal) → ((x : A) → P (Ok (report x))) →
+by_reply : {A : Type 0} (P : Result Reply Denied → Type 0) (report : A → Reply) (r : Result (Step A) StoreRefusal) → ((x : A) → P (Ok (report x))) →
     ((cause : StoreRefusal) → P (denied (event_refusal cause))) → P (reply_to report r)
 by_reply P report (Ok done) taken refused = taken done.answer
 by_reply P report (Err cause) taken refused = refused cause
@@ -77,26 +83,16 @@ txn_entered : (s : Standing) (txn : StoreTxn) (r : Result (Step TxnAnswer) Store
 txn_entered s txn (Ok step) came = ap (λ revision. cond (nat_lt (now s.history) revision) (Foreign txn ∷ []) []) came.counter
 txn_entered s txn (Err cause) came = ap (λ (b : Bool). cond b (Foreign txn ∷ []) []) (sym (le-ltb (now s.history) (now s.history) (omega arith)))
 
-pub txn_right : (s : Standing) (rs : List Runner) (txn : StoreTxn) → s.limit ≤ most_operations →
-    let r = transacted s txn in
-    let reply : Result Reply Denied = reply_to txn_reply r in
-    CallIsRight s (store_after_call s r) (can_have rs (Txn txn) reply) (reply_to txn_reply (transacted (unwatched s) txn)) reply (txn_entries (now s.history) txn reply) s.moment
-    (if_changed s (store_after_call s r) txn)
+pub txn_right : (s : Standing) (rs : List Runner) (txn : StoreTxn) → s.limit ≤ most_operations → CallIsRight s rs (Txn txn) (call.Txn txn)
 txn_right s rs txn few = record {
   fits = by_reply (λ x. can_have rs (Txn txn) x ≡ true) txn_reply (transacted s txn) (λ x. refl) (λ cause. refl);
-  is_replayed = txn_same s (outcome (terms_of s) txn);
+  replays = txn_same s (outcome (terms_of s) txn);
   store = txn_store s txn (transacted s txn) few refl;
   entries = txn_entered s txn (transacted s txn) (is_transacted s txn);
+  runners = refl;
 }
 
 -- ---- grants
-
-abbrev granted_by : Standing → ℕ → ℕ → Option GrantError → Result (Step (Unit {0})) StoreRefusal
-granted_by s id ttl o =
-    elim o [
-      | Some cause ↦ Err (grant_refusal_of cause)
-      | None ↦ Ok record { answer = tt; next = with_lease s id ttl }
-    ]
 
 grant_same : (s : Standing) (id ttl : ℕ) (o : Option GrantError) →
     reply_to (λ _. Granted id) (granted_by (unwatched s) id ttl o) ≡ reply_to (λ _. Granted id) (granted_by s id ttl o)
@@ -108,27 +104,17 @@ grant_store : (s : Standing) (id ttl : ℕ) (r : Result (Step (Unit {0})) StoreR
 grant_store s id ttl (Ok step) is = ap unwatched (sym (grant_led s step.next id ttl is))
 grant_store s id ttl (Err cause) is = refl
 
-pub grant_right : (s : Standing) (rs : List Runner) (id ttl : ℕ) →
-    let r = granted s id ttl in
-    let reply : Result Reply Denied = reply_to (λ _. Granted id) r in
-    CallIsRight s (store_after_call s r) (can_have rs (Grant id ttl) reply) (reply_to (λ _. Granted id) (granted (unwatched s) id ttl)) reply (grant_entries id ttl s.moment reply) s.moment
-    (if_reported reply (GrantEntry id ttl s.moment))
+pub grant_right : (s : Standing) (rs : List Runner) (id ttl : ℕ) → CallIsRight s rs (Grant id ttl) (call.Grant id ttl)
 grant_right s rs id ttl = record {
   fits = by_reply (λ x. can_have rs (Grant id ttl) x ≡ true) (λ _. Granted id) (granted s id ttl) (λ x. refl) (λ cause. refl);
-  is_replayed = grant_same s id ttl (grant_refusal s.live id ttl);
+  replays = grant_same s id ttl (grant_refusal s.live id ttl);
   store = grant_store s id ttl (granted s id ttl) refl;
   entries = by_reply (λ x. grant_entries id ttl s.moment x ≡ if_reported x (GrantEntry id ttl s.moment)) (λ _. Granted id) (granted s id ttl) (λ x. refl)
       (λ cause. refl);
+  runners = refl;
 }
 
 -- ---- renewals
-
-abbrev kept_by : Standing → ℕ → Option Term → Result (Step (Unit {0})) StoreRefusal
-kept_by s id o =
-    elim o [
-      | None ↦ Err LeaseNotFound
-      | Some term ↦ Ok record { answer = tt; next = with_lease s id term.ttl }
-    ]
 
 keep_same : (s : Standing) (id : ℕ) (o : Option Term) →
     reply_to (λ _. Kept id) (kept_by (unwatched s) id o) ≡ reply_to (λ _. Kept id) (kept_by s id o)
@@ -140,22 +126,16 @@ keep_store : (s : Standing) (id : ℕ) (r : Result (Step (Unit {0})) StoreRefusa
 keep_store s id (Ok step) is = ap unwatched (sym (keep_led s step.next id is))
 keep_store s id (Err cause) is = refl
 
-pub keep_right : (s : Standing) (rs : List Runner) (id : ℕ) →
-    let r = kept_alive s id in
-    let reply : Result Reply Denied = reply_to (λ _. Kept id) r in
-    CallIsRight s (store_after_call s r) (can_have rs (Keep id) reply) (reply_to (λ _. Kept id) (kept_alive (unwatched s) id)) reply (keep_entries id s.moment reply) s.moment
-    (if_reported reply (Renew id s.moment))
+pub keep_right : (s : Standing) (rs : List Runner) (id : ℕ) → CallIsRight s rs (Keep id) (call.Keep id)
 keep_right s rs id = record {
   fits = by_reply (λ x. can_have rs (Keep id) x ≡ true) (λ _. Kept id) (kept_alive s id) (λ x. refl) (λ cause. refl);
-  is_replayed = keep_same s id (finmap.get s.live id);
+  replays = keep_same s id (finmap.get s.live id);
   store = keep_store s id (kept_alive s id) refl;
   entries = by_reply (λ x. keep_entries id s.moment x ≡ if_reported x (Renew id s.moment)) (λ _. Kept id) (kept_alive s id) (λ x. refl) (λ cause. refl);
+  runners = refl;
 }
 
 -- ---- revocations
-
-abbrev revoked_by : Standing → ℕ → Bool → Bool → Result (Step ℕ) StoreRefusal
-revoked_by s id live used = cond live (with_revision (cond used (Err RevisionsUsedUp) (Ok (without_lease s id)))) (Err LeaseNotFound)
 
 revoke_same : (s : Standing) (id : ℕ) (live used : Bool) →
     reply_to (Revoked id) (revoked_by (unwatched s) id live used) ≡ reply_to (Revoked id) (revoked_by s id live used)
@@ -168,16 +148,13 @@ revoke_store : (s : Standing) (id : ℕ) (r : Result (Step ℕ) StoreRefusal) �
 revoke_store s id (Ok step) is = ap unwatched (sym (revoke_led s step.next id step.answer is))
 revoke_store s id (Err cause) is = refl
 
-pub revoke_right : (s : Standing) (rs : List Runner) (id : ℕ) →
-    let r = revoked s id in
-    let reply : Result Reply Denied = reply_to (Revoked id) r in
-    CallIsRight s (store_after_call s r) (can_have rs (Revoke id) reply) (reply_to (Revoked id) (revoked (unwatched s) id)) reply (revoke_entries id reply) s.moment
-    (if_reported reply (RevokeEntry id))
+pub revoke_right : (s : Standing) (rs : List Runner) (id : ℕ) → CallIsRight s rs (Revoke id) (call.Revoke id)
 revoke_right s rs id = record {
   fits = by_reply (λ x. can_have rs (Revoke id) x ≡ true) (Revoked id) (revoked s id) (λ x. refl) (λ cause. refl);
-  is_replayed = revoke_same s id (is_live_in s.live id) (is_used_up s.history (deletions_of s.history id));
+  replays = revoke_same s id (is_live_in s.live id) (is_used_up s.history (deletions_of s.history id));
   store = revoke_store s id (revoked s id) refl;
   entries = by_reply (λ x. revoke_entries id x ≡ if_reported x (RevokeEntry id)) (Revoked id) (revoked s id) (λ x. refl) (λ cause. refl);
+  runners = refl;
 }
 
 -- ---- advances
@@ -187,34 +164,15 @@ abbrev blind : Advance → Advance
 blind a = record { expired = a.expired; leaves = unwatched a.leaves; cause = a.cause }
 
 expired_by : (many : ℕ) (s : Standing) (id : ℕ) (used : Bool) →
-    (expire_up_to many (unwatched (without_lease s id)) ≡ blind (expire_up_to many (without_lease s id))) →
-    elim (cond used (Err RevisionsUsedUp) (Ok (without_lease (unwatched s) id))) as (λ (o : Result Standing StoreRefusal). Advance) [
-      | Err cause ↦ record { expired = []; leaves = unwatched s; cause = Some cause }
-      | Ok next ↦ after (expired_in id next ∷ []) (expire_up_to many next)
-    ]
-    ≡ blind (elim (cond used (Err RevisionsUsedUp) (Ok (without_lease s id))) as (λ (o : Result Standing StoreRefusal). Advance) [
-      | Err cause ↦ record { expired = []; leaves = s; cause = Some cause }
-      | Ok next ↦ after (expired_in id next ∷ []) (expire_up_to many next)
-    ])
+    expire_up_to many (unwatched (without_lease s id)) ≡ blind (expire_up_to many (without_lease s id)) →
+    advance_ended many (unwatched s) id (cond used (Err RevisionsUsedUp) (Ok (without_lease (unwatched s) id)))
+    ≡ blind (advance_ended many s id (cond used (Err RevisionsUsedUp) (Ok (without_lease s id))))
 expired_by many s id true same = refl
 expired_by many s id false same = ap (after (expired_in id (without_lease s id) ∷ [])) same
 
 due_by : (many : ℕ) (s : Standing) (o : Option ℕ) →
     ((id : ℕ) → expire_up_to many (unwatched (without_lease s id)) ≡ blind (expire_up_to many (without_lease s id))) →
-    elim o as (λ (x : Option ℕ). Advance) [
-      | None ↦ record { expired = []; leaves = unwatched s; cause = None }
-      | Some id ↦ elim (ended (unwatched s) id) as (λ (x : Result Standing StoreRefusal). Advance) [
-        | Err cause ↦ record { expired = []; leaves = unwatched s; cause = Some cause }
-        | Ok next ↦ after (expired_in id next ∷ []) (expire_up_to many next)
-      ]
-    ]
-    ≡ blind (elim o as (λ (x : Option ℕ). Advance) [
-      | None ↦ record { expired = []; leaves = s; cause = None }
-      | Some id ↦ elim (ended s id) as (λ (x : Result Standing StoreRefusal). Advance) [
-        | Err cause ↦ record { expired = []; leaves = s; cause = Some cause }
-        | Ok next ↦ after (expired_in id next ∷ []) (expire_up_to many next)
-      ]
-    ])
+    advance_due many (unwatched s) o ≡ blind (advance_due many s o)
 due_by many s None same = refl
 due_by many s (Some id) same = expired_by many s id (is_used_up s.history (deletions_of s.history id)) (same id)
 
@@ -222,42 +180,33 @@ expire_same : (many : ℕ) (s : Standing) → expire_up_to many (unwatched s) �
 expire_same zero s = refl
 expire_same (suc many) s = due_by many s (first_due s.live s.moment) (λ id. expire_same many (without_lease s id))
 
-advance_by : (s : Standing) (moment : ℕ) (back : Bool) →
-    cond back (record { expired = []; leaves = unwatched s; cause = Some TimeGoesBack }) (expire_all (at_moment (unwatched s) moment))
-    ≡ blind (cond back (record { expired = []; leaves = s; cause = Some TimeGoesBack }) (expire_all (at_moment s moment)))
+advance_by : (s : Standing) (moment : ℕ) (back : Bool) → advance_back (unwatched s) moment back ≡ blind (advance_back s moment back)
 advance_by s moment true = refl
 advance_by s moment false = expire_same (finmap.len s.live) (at_moment s moment)
 
 advance_same : (s : Standing) (moment : ℕ) → advanced (unwatched s) moment ≡ blind (advanced s moment)
 advance_same s moment = advance_by s moment (nat_lt moment s.moment)
 
-advance_fits : (rs : List Runner) (to moment : ℕ) (expired : List Expired) (cause : Option StoreRefusal) →
-    can_have rs (AdvanceEvent to) (advance_reply moment expired cause) ≡ true
-advance_fits rs to moment expired None = refl
-advance_fits rs to moment expired (Some cause) = refl
+advance_fits : (rs : List Runner) (moment : ℕ) (expired : List Expired) (cause : Option StoreRefusal) →
+    can_have rs (AdvanceEvent moment) (advance_reply moment expired cause) ≡ true
+advance_fits rs moment expired None = refl
+advance_fits rs moment expired (Some cause) = refl
 
 advance_entered : (moment : ℕ) (expired : List Expired) (cause : Option StoreRefusal) →
     advance_entries (advance_reply moment expired cause) ≡ expiries expired
 advance_entered moment expired None = refl
 advance_entered moment expired (Some cause) = refl
 
-expired_are_reported : (moment : ℕ) (expired : List Expired) (cause : Option StoreRefusal) → expired_reported (advance_reply moment expired cause) ≡ expired
-expired_are_reported moment expired None = refl
-expired_are_reported moment expired (Some cause) = refl
-
-pub advance_right : (s : Standing) (rs : List Runner) (moment : ℕ) →
-    let a : Advance = advanced s moment in
-    let reply : Result Reply Denied = advance_reply moment a.expired a.cause in
-    CallIsRight s a.leaves (can_have rs (AdvanceEvent moment) reply) (advance_reply moment (advanced (unwatched s) moment).expired (advanced (unwatched s) moment).cause) reply
-    (advance_entries reply) (moment_after s (AdvanceEvent moment)) (expiries (expired_reported reply))
+pub advance_right : (s : Standing) (rs : List Runner) (moment : ℕ) → CallIsRight s rs (AdvanceEvent moment) (call.Advance moment)
 advance_right s rs moment =
     let a : Advance = advanced s moment in
     record {
-      fits = advance_fits rs moment moment a.expired a.cause;
-      is_replayed = ap (λ (x : Advance). advance_reply moment x.expired x.cause) (advance_same s moment);
+      fits = advance_fits rs moment a.expired a.cause;
+      replays = ap (λ (x : Advance). advance_reply moment x.expired x.cause) (advance_same s moment);
       store = ap (λ (es : List Entry). led_by es (unwatched s) (moment_after s (AdvanceEvent moment))) (advance_entered moment a.expired a.cause)
           ∙ ap unwatched (sym (advance_led s a.leaves moment a.expired a.cause refl));
-      entries = advance_entered moment a.expired a.cause ∙ ap expiries (sym (expired_are_reported moment a.expired a.cause));
+      entries = advance_entered moment a.expired a.cause ∙ ap expiries (sym (expiries_reported moment a.expired a.cause));
+      runners = refl;
     }
 
 -- ---- compactions
@@ -268,16 +217,12 @@ compact_by : (s : Standing) (revision : ℕ) (o : Option StoreRefusal) →
 compact_by s revision None = refl
 compact_by s revision (Some cause) = refl
 
-pub compact_same : (s : Standing) (revision : ℕ) →
-    reply_to (λ _. Compacted revision) (raised (unwatched s) revision) ≡ reply_to (λ _. Compacted revision) (raised s revision)
-compact_same s revision = compact_by s revision (compaction_refusal s revision)
-
 raised_by_same : (s : Standing) (revision : ℕ) (o : Option StoreRefusal) →
     store_after_call (unwatched s) (floor_step o (with_floor (unwatched s) revision)) ≡ unwatched (store_after_call s (floor_step o (with_floor s revision)))
 raised_by_same s revision None = refl
 raised_by_same s revision (Some cause) = refl
 
-pub compact_store : (s : Standing) (rs : List Runner) (revision : ℕ) (r : Result (Step (Unit {0})) StoreRefusal) → raised s revision ≡ r →
+compact_store : (s : Standing) (rs : List Runner) (revision : ℕ) (r : Result (Step (Unit {0})) StoreRefusal) → raised s revision ≡ r →
     standing_after (unwatched s) rs (Compact revision) (reply_to (λ _. Compacted revision) r) ≡ unwatched (store_after_call s r)
 compact_store s rs revision (Ok step) is =
     line_keeps (unwatched s) revision (Ok (Compacted revision))
@@ -285,26 +230,62 @@ compact_store s rs revision (Ok step) is =
     ∙ ap (λ (r : Result (Step (Unit {0})) StoreRefusal). unwatched (store_after_call s r)) is
 compact_store s rs revision (Err cause) is = refl
 
+pub compact_right : (s : Standing) (rs : List Runner) (revision : ℕ) → CallIsRight s rs (Compact revision) (call.Compact revision)
+compact_right s rs revision = record {
+  fits = by_reply (λ x. can_have rs (Compact revision) x ≡ true) (λ _. Compacted revision) (raised s revision) (λ x. refl) (λ cause. refl);
+  replays = compact_by s revision (compaction_refusal s revision);
+  store = compact_store s rs revision (raised s revision) refl;
+  entries = refl;
+  runners = refl;
+}
+
 -- ---- watchers, which a check has none of
 
-pub watch_stays : (s : Standing) (o : Result (WatchStep ℕ) WatchRefusal) → unwatched s ≡ unwatched (store_after_call s (watch_step s o))
+watch_stays : (s : Standing) (o : Result (WatchStep ℕ) WatchRefusal) → unwatched s ≡ unwatched (store_after_call s (watch_step s o))
 watch_stays s (Ok step) = refl
 watch_stays s (Err cause) = refl
 
-pub poll_stays : (s : Standing) (watcher : ℕ) (o : Result (WatchStep Batch) PollRefusal) →
-    unwatched s ≡ unwatched (store_after_poll watcher s (poll_step s o))
+pub watch_key_right : (s : Standing) (rs : List Runner) (key : List ℕ) (from : ℕ) → CallIsRight s rs (WatchKey key from) (call.Watch (Key key) from)
+watch_key_right s rs key from = record {
+  fits = by_reply (λ x. can_have rs (WatchKey key from) x ≡ true) Watching (watched s (Key key) from) (λ x. refl) (λ cause. refl);
+  replays = tt;
+  store = watch_stays s (watch s.history s.floor (Key key) from s.watchers);
+  entries = refl;
+  runners = refl;
+}
+
+pub watch_range_right : (s : Standing) (rs : List Runner) (first end : List ℕ) (from : ℕ) →
+    CallIsRight s rs (WatchRange first end from) (call.Watch (Range first end) from)
+watch_range_right s rs first end from = record {
+  fits = by_reply (λ x. can_have rs (WatchRange first end from) x ≡ true) Watching (watched s (Range first end) from) (λ x. refl) (λ cause. refl);
+  replays = tt;
+  store = watch_stays s (watch s.history s.floor (Range first end) from s.watchers);
+  entries = refl;
+  runners = refl;
+}
+
+poll_stays : (s : Standing) (watcher : ℕ) (o : Result (WatchStep Batch) PollRefusal) → unwatched s ≡ unwatched (store_after_poll watcher s (poll_step s o))
 poll_stays s watcher (Ok step) = refl
 poll_stays s watcher (Err cause) = refl
 
--- what holds of the reply to a poll: a batch, a loss or a refusal
-pub by_poll : (P : Result Reply Denied → Type 0) (watcher floor : ℕ) (s : Standing) (o : Result (WatchStep Batch) PollRefusal) →
-    ((batch : Batch) → P (Ok (batch_reply watcher batch))) → P (Ok (Lost watcher floor)) → ((cause : StoreRefusal) → P (denied (event_refusal cause))) →
-    P (poll_reply watcher floor (poll_step s o))
-by_poll P watcher floor s (Ok step) batch lost refused = batch step.answer
-by_poll P watcher floor s (Err NoneToPoll) batch lost refused = refused NoWatcher
-by_poll P watcher floor s (Err LostToPoll) batch lost refused = lost
-by_poll P watcher floor s (Err NoMemoryToPoll) batch lost refused = refused OutOfMemory
+pub poll_right : (s : Standing) (rs : List Runner) (watcher most : ℕ) → CallIsRight s rs (Poll watcher most) (call.Poll watcher most)
+poll_right s rs watcher most = record {
+  fits = poll_reported (λ x. can_have rs (Poll watcher most) x ≡ true) s watcher most (λ batch. same_number watcher) (same_number watcher) refl;
+  replays = tt;
+  store = poll_stays s watcher (poll s.history watcher most s.watchers);
+  entries = refl;
+  runners = refl;
+}
 
-pub cancel_stays : (s : Standing) (id : ℕ) (o : Option Watching) → unwatched s ≡ unwatched (store_after_call s (cancel_step s id o))
+cancel_stays : (s : Standing) (id : ℕ) (o : Option Watcher) → unwatched s ≡ unwatched (store_after_call s (cancel_step s id o))
 cancel_stays s id None = refl
 cancel_stays s id (Some w) = refl
+
+pub cancel_right : (s : Standing) (rs : List Runner) (watcher : ℕ) → CallIsRight s rs (Cancel watcher) (call.Cancel watcher)
+cancel_right s rs watcher = record {
+  fits = by_reply (λ x. can_have rs (Cancel watcher) x ≡ true) (λ _. Cancelled watcher) (cancelled s watcher) (λ x. same_number watcher) (λ cause. refl);
+  replays = tt;
+  store = cancel_stays s watcher (watcher_at watcher s.watchers);
+  entries = refl;
+  runners = refl;
+}

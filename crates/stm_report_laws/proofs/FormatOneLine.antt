@@ -73,8 +73,8 @@ plain_without zero (x ∷ xs) =
 shown_by : (first last : ℕ) (b : Bool) (text : List ℕ) → has 10 (cond b (plain text) (plain (front first text) ++ codes ".." ++ plain (back last text))) ≡ false
 shown_by first last true text = plain_without 0 text
 shown_by first last false text =
-    has-append 10 (plain (front first text)) (codes ".." ++ plain (back last text)) (plain_without 0 (front first text))
-    (has-append 10 (codes "..") (plain (back last text)) refl (plain_without 0 (back last text)))
+    has-append 10 (plain (front first text) ++ codes "..") (plain (back last text))
+    (has-append 10 (plain (front first text)) (codes "..") (plain_without 0 (front first text)) refl) (plain_without 0 (back last text))
 
 shown_without : (text : List ℕ) → has 10 (shown text) ≡ false
 shown_without text = shown_by _ _ _ text

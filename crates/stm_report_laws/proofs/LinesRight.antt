@@ -6,9 +6,7 @@ use Rattle.std.specs.Prelude.{Result, nat_eq, ◌&&◌}
 use Rattle.stm_history.specs.History.{History}
 use Rattle.stm_steps.specs.declared.value.Value.{Value}
 use Rattle.stm_steps.specs.declared.trace_item.TraceItem.{TraceItem}
-use Rattle.stm_txn.specs.Standing.{Standing, transacted, granted, kept_alive, revoked, advanced, watched, polled, cancelled, raised, Setup}
-use Rattle.stm_watch.specs.declared.watched.Watched.TheVariants.{Key, Range}
-use Rattle.stm_watch.specs.Calls.{watch, poll, watcher_at}
+use Rattle.stm_txn.specs.Standing.{Standing, Setup}
 use Rattle.stm_compile.specs.Answers.{AreTrue}
 use Rattle.stm_entries.specs.declared.entry.Entry.{Entry}
 use Rattle.stm_events.specs.declared.line.ReportLine.{ReportLine}
@@ -17,13 +15,14 @@ use Rattle.stm_events.specs.declared.event.WorldEvent.{WorldEvent}
 use Rattle.stm_events.specs.declared.event.WorldEvent.TheVariants.{Start, Step, Txn, Grant, Keep, Revoke, Advance, WatchKey, WatchRange, Poll, Cancel, Compact}
 use Rattle.stm_events.specs.declared.reply.Reply.{Reply}
 use Rattle.stm_events.specs.declared.reply.Reply.TheVariants.{Started, Prefetched, Fetched, Committed, Conflict, GaveUp, Aborted, Faulted, Ended}
-use Rattle.stm_events.specs.declared.reply.Reply.TheVariants.{Granted, Kept, Revoked, Watching, Cancelled, Compacted}
 use Rattle.stm_events.specs.declared.refusal.Denied.{Denied}
 use Rattle.stm_events.specs.declared.refusal.EventRefusal.TheVariants.{BadLimit, NoRunner}
 use Rattle.stm_events.specs.declared.reply.CommittedRead.{CommittedRead}
-use Rattle.stm_events.specs.Replies.{txn_reply, denied, reply_to, advance_reply, poll_reply}
+use Rattle.stm_events.specs.Replies.{denied, runner_of}
+use Rattle.stm_events.specs.Called.{Call, Asked, Calls, asked, called}
 use Rattle.stm_world.specs.Task.{Task}
-use Rattle.stm_world.specs.Log.{Line, begun, is_over, running, started, failures, store, known_after_log, with_commit, commit_entry, line_entries, entries_reported}
+use Rattle.stm_world.specs.Log.{Line, begun, is_over, running, started, failures, store, known_after_log, with_commit, store_after_step, store_after_asked}
+use Rattle.stm_world.specs.Log.{commit_entry, entries_of_step, entries_asked, line_entries, entries_reported}
 use Rattle.stm_world.specs.Right.{IsRight, StepIsRight, RunnerIsRight, StartIsRight, Situation, situation}
 use Rattle.stm_world.specs.World.{World, opened, step, world_after, replies_to}
 use Rattle.stm_world.proofs.Following.{FollowsStep, with_line}
@@ -32,18 +31,18 @@ use Rattle.stm_world.proofs.RunnerSteps.{CommitLaws, reads_truth}
 use Rattle.stm_world.proofs.Slots.{same_number, other_number}
 use Rattle.stm_world.proofs.Untouched.{IsFresh}
 use Rattle.stm_check.specs.declared.runner.Runner.{Runner}
-use Rattle.stm_check.specs.Fits.{can_have, fits}
+use Rattle.stm_check.specs.Fits.{is_number, can_have, fits}
 use Rattle.stm_check.specs.Point.{Point, committed_entry, commit_entries, entries_reported as reported_entries, led_by, standing_after, after}
-use Rattle.stm_check.specs.Replays.{IsCommitOf, StepReplays, Replays}
+use Rattle.stm_check.specs.Replays.{IsCommitOf, StepReplays}
 use Rattle.stm_check.specs.Runners.{running as running_in, runners_after}
 use Rattle.stm_check.specs.StoreLines.{end_lines}
 use Rattle.stm_check.specs.Wrong.{IsRight as IsRightLine, AreRight, entries_along}
 use Rattle.stm_report.specs.Report.{event_lines}
-use Rattle.stm_report_laws.proofs.RunsReported.{RunsAreReported, SaysNothing, none_are_reported, says_nothing, advance_says_nothing, run_with, runs_with}
+use Rattle.stm_report_laws.proofs.RunsReported.{RunsAreReported, none_are_reported, call_says_nothing, run_with, runs_with}
 use Rattle.stm_report_laws.proofs.RunsReported.{same_runs, Goes, goes_on, ended_runs, failed_runs, begun_runs}
 use Rattle.stm_world.proofs.EventKeeps.{store_limit}
-use Rattle.stm_report_laws.proofs.CallsReported.{unwatched, txn_right, grant_right, keep_right, revoke_right, advance_right, watch_stays, poll_stays}
-use Rattle.stm_report_laws.proofs.CallsReported.{compact_same, compact_store, cancel_stays, by_reply, by_poll}
+use Rattle.stm_report_laws.proofs.CallsReported.{unwatched, CallIsRight, txn_right, grant_right, keep_right, revoke_right, advance_right, compact_right}
+use Rattle.stm_report_laws.proofs.CallsReported.{watch_key_right, watch_range_right, poll_right, cancel_right}
 use Rattle.stm_report_laws.proofs.CommitsReported.{IsCommitLine, commit_right, commit_store}
 
 -- ---- a point, by the log so far
@@ -144,24 +143,24 @@ step_can log rs id runner task own goes =
     ∙ ap (λ (o : Option Runner). is_some o) goes.found
 
 -- a step that reports no entry
-record StepsOn (start : Setup) (log : List Line) (rs : List Runner) (id : ℕ) (reply : Reply) : Type 0 where
-  can : can_have rs (Step id) (Ok reply) ≡ true
-  replays : StepReplays (unwatched (store start log)) (running_in id rs) (Ok reply)
-  none : (r : Runner) → committed_entry (store start log).history (Ok reply) r ≡ []
-  store_stays : unwatched (store start log) ≡ unwatched (store start (with_line (Step id) (Ok reply) log))
-  none_entered : [] ≡ line_entries start (record { event = Step id; reply = Ok reply }) log
-  runs_on : RunsAreReported (with_line (Step id) (Ok reply) log) (runners_after (Step id) (Ok reply) rs)
-
-steps_on : (start : Setup) (n : ℕ) (log : List Line) (rs : List Runner) (id : ℕ) (reply : Reply) → StepsOn start log rs id reply →
-    GoesOn start n log rs (Step id) (Ok reply)
-steps_on start n log rs id reply on =
+steps_on : (start : Setup) (n : ℕ) (log : List Line) (rs : List Runner) (id runner : ℕ) (task : Task) (reply : Reply) → runner_of reply ≡ Some runner → runner ≡ id →
+    Goes log rs id task → StepReplays (unwatched (store start log)) (running_in id rs) (Ok reply) →
+    ((r : Runner) → committed_entry (store start log).history (Ok reply) r ≡ []) →
+    store_after_step (λ id. begun id log) (store start log) (Ok reply) ≡ store start log →
+    entries_of_step (λ id. begun id log) (store start log).history (Ok reply) ≡ [] →
+    RunsAreReported (with_line (Step id) (Ok reply) log) (runners_after (Step id) (Ok reply) rs) → GoesOn start n log rs (Step id) (Ok reply)
+steps_on start n log rs id runner task reply named own goes replays none stays enters runs =
     let h : History = (store start log).history in
-    let nothing : commit_entries h (Ok reply) (running_in id rs) ≡ [] = no_entry h (Ok reply) (running_in id rs) on.none in
+    let nothing : commit_entries h (Ok reply) (running_in id rs) ≡ [] = no_entry h (Ok reply) (running_in id rs) none in
     record {
-      is_right = (fits_there n rs (Step id) (Ok reply) on.can, on.replays);
-      store_is = still (unwatched (store start log)) (commit_entries h (Ok reply) (running_in id rs)) nothing ∙ on.store_stays;
-      entries_are = nothing ∙ on.none_entered;
-      runs = on.runs_on;
+      is_right = (
+        fits_there n rs (Step id) (Ok reply)
+            (ap (λ (o : Option ℕ). is_number id o && is_some (running_in id rs)) named ∙ step_can log rs id runner task own goes),
+        replays,
+      );
+      store_is = still (unwatched (store start log)) (commit_entries h (Ok reply) (running_in id rs)) nothing ∙ ap unwatched (sym stays);
+      entries_are = nothing ∙ sym enters;
+      runs = runs;
     }
 
 -- the task that a log names as running was begun
@@ -215,77 +214,28 @@ live_goes : (start : Setup) (n : ℕ) (log : List Line) (rs : List Runner) (id :
     RunnersKnowTruth start log → StepIsRight (situation start log id task) reply → GoesOn start n log rs (Step id) reply
 live_goes start n log rs id task (Err refusal) reported goes known right = absurd right
 live_goes start n log rs id task (Ok (Prefetched runner revision reads)) reported goes known right =
-    steps_on start n log rs id (Prefetched runner revision reads) (record {
-      can = step_can log rs id runner task right.0 goes;
-      replays = tt;
-      none = λ r. refl;
-      store_stays = refl;
-      none_entered = refl;
-      runs_on = same_runs (record { event = Step id; reply = Ok (Prefetched runner revision reads) }) log rs
-          (record { begins_is = refl; ends_is = refl; fails_is = refl }) reported;
-    })
+    steps_on start n log rs id runner task (Prefetched runner revision reads) refl right.0 goes tt (λ r. refl) refl refl
+    (same_runs (record { event = Step id; reply = Ok (Prefetched runner revision reads) }) log rs (record { begins_is = refl; ends_is = refl; fails_is = refl }) reported)
 live_goes start n log rs id task (Ok (Fetched runner key mod_rev of_rev revision)) reported goes known right =
-    steps_on start n log rs id (Fetched runner key mod_rev of_rev revision) (record {
-      can = step_can log rs id runner task right.0 goes;
-      replays = tt;
-      none = λ r. refl;
-      store_stays = refl;
-      none_entered = refl;
-      runs_on = same_runs (record { event = Step id; reply = Ok (Fetched runner key mod_rev of_rev revision) }) log rs
-          (record { begins_is = refl; ends_is = refl; fails_is = refl }) reported;
-    })
+    steps_on start n log rs id runner task (Fetched runner key mod_rev of_rev revision) refl right.0 goes tt (λ r. refl) refl refl
+    (same_runs (record { event = Step id; reply = Ok (Fetched runner key mod_rev of_rev revision) }) log rs (record { begins_is = refl; ends_is = refl; fails_is = refl }) reported)
 live_goes start n log rs id task (Ok (Committed runner revision attempts output trace answers)) reported goes known right =
     commit_of start n log rs id runner revision attempts task output trace answers reported goes known right
 live_goes start n log rs id task (Ok (Conflict runner key seen now)) reported goes known right =
-    steps_on start n log rs id (Conflict runner key seen now) (record {
-      can = step_can log rs id runner task right.0 goes;
-      replays = tt;
-      none = λ r. refl;
-      store_stays = refl;
-      none_entered = refl;
-      runs_on = failed_runs (record { event = Step id; reply = Ok (Conflict runner key seen now) }) log rs id task
-          (record { begins_is = refl; ends_is = refl; fails_is = ap Some right.0 }) goes reported;
-    })
+    steps_on start n log rs id runner task (Conflict runner key seen now) refl right.0 goes tt (λ r. refl) refl refl
+    (failed_runs (record { event = Step id; reply = Ok (Conflict runner key seen now) }) log rs id task (record { begins_is = refl; ends_is = refl; fails_is = ap Some right.0 }) goes reported)
 live_goes start n log rs id task (Ok (GaveUp runner attempts key seen now)) reported goes known right =
-    steps_on start n log rs id (GaveUp runner attempts key seen now) (record {
-      can = step_can log rs id runner task right.0 goes;
-      replays = tt;
-      none = λ r. refl;
-      store_stays = refl;
-      none_entered = refl;
-      runs_on = ended_runs (record { event = Step id; reply = Ok (GaveUp runner attempts key seen now) }) log rs id task
-          (record { begins_is = refl; ends_is = ap Some right.0; fails_is = refl }) goes reported;
-    })
+    steps_on start n log rs id runner task (GaveUp runner attempts key seen now) refl right.0 goes tt (λ r. refl) refl refl
+    (ended_runs (record { event = Step id; reply = Ok (GaveUp runner attempts key seen now) }) log rs id task (record { begins_is = refl; ends_is = ap Some right.0; fails_is = refl }) goes reported)
 live_goes start n log rs id task (Ok (Aborted runner text)) reported goes known right =
-    steps_on start n log rs id (Aborted runner text) (record {
-      can = step_can log rs id runner task right.0 goes;
-      replays = tt;
-      none = λ r. refl;
-      store_stays = refl;
-      none_entered = refl;
-      runs_on = ended_runs (record { event = Step id; reply = Ok (Aborted runner text) }) log rs id task
-          (record { begins_is = refl; ends_is = ap Some right.0; fails_is = refl }) goes reported;
-    })
+    steps_on start n log rs id runner task (Aborted runner text) refl right.0 goes tt (λ r. refl) refl refl
+    (ended_runs (record { event = Step id; reply = Ok (Aborted runner text) }) log rs id task (record { begins_is = refl; ends_is = ap Some right.0; fails_is = refl }) goes reported)
 live_goes start n log rs id task (Ok (Faulted runner fault)) reported goes known right =
-    steps_on start n log rs id (Faulted runner fault) (record {
-      can = step_can log rs id runner task right.0 goes;
-      replays = tt;
-      none = λ r. refl;
-      store_stays = refl;
-      none_entered = refl;
-      runs_on = ended_runs (record { event = Step id; reply = Ok (Faulted runner fault) }) log rs id task
-          (record { begins_is = refl; ends_is = ap Some right.0; fails_is = refl }) goes reported;
-    })
+    steps_on start n log rs id runner task (Faulted runner fault) refl right.0 goes tt (λ r. refl) refl refl
+    (ended_runs (record { event = Step id; reply = Ok (Faulted runner fault) }) log rs id task (record { begins_is = refl; ends_is = ap Some right.0; fails_is = refl }) goes reported)
 live_goes start n log rs id task (Ok (Ended runner cause)) reported goes known right =
-    steps_on start n log rs id (Ended runner cause) (record {
-      can = step_can log rs id runner task right.0 goes;
-      replays = tt;
-      none = λ r. refl;
-      store_stays = refl;
-      none_entered = refl;
-      runs_on = ended_runs (record { event = Step id; reply = Ok (Ended runner cause) }) log rs id task
-          (record { begins_is = refl; ends_is = ap Some right.0; fails_is = refl }) goes reported;
-    })
+    steps_on start n log rs id runner task (Ended runner cause) refl right.0 goes tt (λ r. refl) refl refl
+    (ended_runs (record { event = Step id; reply = Ok (Ended runner cause) }) log rs id task (record { begins_is = refl; ends_is = ap Some right.0; fails_is = refl }) goes reported)
 live_goes start n log rs id task (Ok (Started runner)) reported goes known right = absurd right
 live_goes start n log rs id task (Ok _) reported goes known right = absurd right
 
@@ -298,17 +248,20 @@ runner_goes start n log rs id (Some task) reply reported runs known right =
 
 -- ---- calls
 
-call_goes : (start : Setup) (n : ℕ) (log : List Line) (rs : List Runner) (event : WorldEvent) (reply : Result Reply Denied) →
-    can_have rs event reply ≡ true → Replays (unwatched (store start log)) rs event reply →
-    standing_after (unwatched (store start log)) rs event reply ≡ unwatched (store start (with_line event reply log)) →
-    reported_entries (unwatched (store start log)) rs event reply ≡ line_entries start (record { event = event; reply = reply }) log →
-    RunsAreReported (with_line event reply log) (runners_after event reply rs) → GoesOn start n log rs event reply
-call_goes start n log rs event reply can replays store_is entries_are runs = record {
-  is_right = (fits_there n rs event reply can, replays);
-  store_is = store_is;
-  entries_are = entries_are;
-  runs = runs;
-}
+call_goes : (start : Setup) (n : ℕ) (log : List Line) (rs : List Runner) (event : WorldEvent) (reply : Result Reply Denied) {c : Call} → asked event ≡ Calls c →
+    reply ≡ (called (store start log) c).reply → RunsAreReported log rs → CallIsRight (store start log) rs event c → GoesOn start n log rs event reply
+call_goes start n log rs event reply {c} is right reported r =
+    let s : Standing = store start log in
+    let told : Result Reply Denied = (called s c).reply in
+    let task_of : ℕ → Option Task = λ id. begun id log in
+    let line : Line = record { event = event; reply = told } in
+    subst (λ (x : Result Reply Denied). GoesOn start n log rs event x) (sym right) (record {
+      is_right = (fits_there n rs event told r.fits, r.replays);
+      store_is = r.store ∙ sym (ap (λ (a : Asked). unwatched (store_after_asked task_of a told s)) is);
+      entries_are = r.entries ∙ sym (ap (λ (a : Asked). entries_asked task_of s (store_after_asked task_of a told s) a told) is);
+      runs = subst (λ (after_call : List Runner). RunsAreReported (line ∷ log) after_call) (sym r.runners)
+          (same_runs line log rs (call_says_nothing s c) reported);
+    })
 
 event_goes : (start : Setup) (n : ℕ) (log : List Line) (rs : List Runner) (event : WorldEvent) (reply : Result Reply Denied) → RunsAreReported log rs →
     IsFresh start log (started log + 1) → RunnersKnowTruth start log → IsRight start log event reply → GoesOn start n log rs event reply
@@ -317,90 +270,25 @@ event_goes start n log rs (Start program level limit) reply reported fresh known
 event_goes start n log rs (Step id) reply reported fresh known right =
     runner_goes start n log rs id (running id log) reply reported refl known right
 event_goes start n log rs (Txn txn) reply reported fresh known right =
-    let s : Standing = store start log in
-    let r = transacted s txn in
-    let c = txn_right s rs txn (store_limit start log) in
-    subst (λ (x : Result Reply Denied). GoesOn start n log rs (Txn txn) x) (sym right)
-    (call_goes start n log rs (Txn txn) (reply_to txn_reply r) c.fits c.is_replayed c.store c.entries
-    (same_runs (record { event = Txn txn; reply = reply_to txn_reply r }) log rs
-    (says_nothing txn_reply r (λ x. record { begins_is = refl; ends_is = refl; fails_is = refl })) reported))
+    call_goes start n log rs (Txn txn) reply refl right reported (txn_right (store start log) rs txn (store_limit start log))
 event_goes start n log rs (Grant id ttl) reply reported fresh known right =
-    let s : Standing = store start log in
-    let r = granted s id ttl in
-    let c = grant_right s rs id ttl in
-    subst (λ (x : Result Reply Denied). GoesOn start n log rs (Grant id ttl) x) (sym right)
-    (call_goes start n log rs (Grant id ttl) (reply_to (λ _. Granted id) r) c.fits c.is_replayed c.store c.entries
-    (same_runs (record { event = Grant id ttl; reply = reply_to (λ _. Granted id) r }) log rs
-    (says_nothing (λ _. Granted id) r (λ x. record { begins_is = refl; ends_is = refl; fails_is = refl })) reported))
+    call_goes start n log rs (Grant id ttl) reply refl right reported (grant_right (store start log) rs id ttl)
 event_goes start n log rs (Keep id) reply reported fresh known right =
-    let s : Standing = store start log in
-    let r = kept_alive s id in
-    let c = keep_right s rs id in
-    subst (λ (x : Result Reply Denied). GoesOn start n log rs (Keep id) x) (sym right)
-    (call_goes start n log rs (Keep id) (reply_to (λ _. Kept id) r) c.fits c.is_replayed c.store c.entries
-    (same_runs (record { event = Keep id; reply = reply_to (λ _. Kept id) r }) log rs
-    (says_nothing (λ _. Kept id) r (λ x. record { begins_is = refl; ends_is = refl; fails_is = refl })) reported))
+    call_goes start n log rs (Keep id) reply refl right reported (keep_right (store start log) rs id)
 event_goes start n log rs (Revoke id) reply reported fresh known right =
-    let s : Standing = store start log in
-    let r = revoked s id in
-    let c = revoke_right s rs id in
-    subst (λ (x : Result Reply Denied). GoesOn start n log rs (Revoke id) x) (sym right)
-    (call_goes start n log rs (Revoke id) (reply_to (Revoked id) r) c.fits c.is_replayed c.store c.entries
-    (same_runs (record { event = Revoke id; reply = reply_to (Revoked id) r }) log rs
-    (says_nothing (Revoked id) r (λ x. record { begins_is = refl; ends_is = refl; fails_is = refl })) reported))
+    call_goes start n log rs (Revoke id) reply refl right reported (revoke_right (store start log) rs id)
 event_goes start n log rs (Advance moment) reply reported fresh known right =
-    let s : Standing = store start log in
-    let a = advanced s moment in
-    let c = advance_right s rs moment in
-    subst (λ (x : Result Reply Denied). GoesOn start n log rs (Advance moment) x) (sym right)
-    (call_goes start n log rs (Advance moment) (advance_reply moment a.expired a.cause) c.fits c.is_replayed c.store c.entries
-    (same_runs (record { event = Advance moment; reply = advance_reply moment a.expired a.cause }) log rs
-    (advance_says_nothing moment a.expired a.cause) reported))
+    call_goes start n log rs (Advance moment) reply refl right reported (advance_right (store start log) rs moment)
 event_goes start n log rs (Compact revision) reply reported fresh known right =
-    let s : Standing = store start log in
-    let r = raised s revision in
-    subst (λ (x : Result Reply Denied). GoesOn start n log rs (Compact revision) x) (sym right)
-    (call_goes start n log rs (Compact revision) (reply_to (λ _. Compacted revision) r)
-    (by_reply (λ x. can_have rs (Compact revision) x ≡ true) (λ _. Compacted revision) r (λ x. refl) (λ cause. refl))
-    (compact_same s revision) (compact_store s rs revision r refl) refl
-    (same_runs (record { event = Compact revision; reply = reply_to (λ _. Compacted revision) r }) log rs
-    (says_nothing (λ _. Compacted revision) r (λ x. record { begins_is = refl; ends_is = refl; fails_is = refl })) reported))
+    call_goes start n log rs (Compact revision) reply refl right reported (compact_right (store start log) rs revision)
 event_goes start n log rs (WatchKey key from) reply reported fresh known right =
-    let s : Standing = store start log in
-    let r = watched s (Key key) from in
-    subst (λ (x : Result Reply Denied). GoesOn start n log rs (WatchKey key from) x) (sym right)
-    (call_goes start n log rs (WatchKey key from) (reply_to Watching r) (by_reply (λ x. can_have rs (WatchKey key from) x ≡ true) Watching r (λ x. refl) (λ cause. refl)) tt
-    (watch_stays s (watch s.history s.floor (Key key) from s.watchers)) refl
-    (same_runs (record { event = WatchKey key from; reply = reply_to Watching r }) log rs
-    (says_nothing Watching r (λ x. record { begins_is = refl; ends_is = refl; fails_is = refl })) reported))
+    call_goes start n log rs (WatchKey key from) reply refl right reported (watch_key_right (store start log) rs key from)
 event_goes start n log rs (WatchRange first end from) reply reported fresh known right =
-    let s : Standing = store start log in
-    let r = watched s (Range first end) from in
-    subst (λ (x : Result Reply Denied). GoesOn start n log rs (WatchRange first end from) x) (sym right)
-    (call_goes start n log rs (WatchRange first end from) (reply_to Watching r) (by_reply (λ x. can_have rs (WatchRange first end from) x ≡ true) Watching r (λ x. refl) (λ cause. refl)) tt
-    (watch_stays s (watch s.history s.floor (Range first end) from s.watchers)) refl
-    (same_runs (record { event = WatchRange first end from; reply = reply_to Watching r }) log rs
-    (says_nothing Watching r (λ x. record { begins_is = refl; ends_is = refl; fails_is = refl })) reported))
+    call_goes start n log rs (WatchRange first end from) reply refl right reported (watch_range_right (store start log) rs first end from)
 event_goes start n log rs (Poll watcher most) reply reported fresh known right =
-    let s : Standing = store start log in
-    let r = polled s watcher most in
-    let found = poll s.history watcher most s.watchers in
-    subst (λ (x : Result Reply Denied). GoesOn start n log rs (Poll watcher most) x) (sym right)
-    (call_goes start n log rs (Poll watcher most) (poll_reply watcher s.floor r)
-    (by_poll (λ x. can_have rs (Poll watcher most) x ≡ true) watcher s.floor s found (λ x. same_number watcher) (same_number watcher) (λ cause. refl)) tt
-    (poll_stays s watcher found) refl
-    (same_runs (record { event = Poll watcher most; reply = poll_reply watcher s.floor r }) log rs
-    (by_poll (λ x. SaysNothing x) watcher s.floor s found (λ x. record { begins_is = refl; ends_is = refl; fails_is = refl })
-    (record { begins_is = refl; ends_is = refl; fails_is = refl }) (λ cause. record { begins_is = refl; ends_is = refl; fails_is = refl })) reported))
+    call_goes start n log rs (Poll watcher most) reply refl right reported (poll_right (store start log) rs watcher most)
 event_goes start n log rs (Cancel watcher) reply reported fresh known right =
-    let s : Standing = store start log in
-    let r = cancelled s watcher in
-    subst (λ (x : Result Reply Denied). GoesOn start n log rs (Cancel watcher) x) (sym right)
-    (call_goes start n log rs (Cancel watcher) (reply_to (λ _. Cancelled watcher) r)
-    (by_reply (λ x. can_have rs (Cancel watcher) x ≡ true) (λ _. Cancelled watcher) r (λ x. same_number watcher) (λ cause. refl)) tt
-    (cancel_stays s watcher (watcher_at watcher s.watchers)) refl
-    (same_runs (record { event = Cancel watcher; reply = reply_to (λ _. Cancelled watcher) r }) log rs
-    (says_nothing (λ _. Cancelled watcher) r (λ x. record { begins_is = refl; ends_is = refl; fails_is = refl })) reported))
+    call_goes start n log rs (Cancel watcher) reply refl right reported (cancel_right (store start log) rs watcher)
 
 -- ---- all lines
 

@@ -1,14 +1,14 @@
 -- What a check knows of the runners is what the log so far says of them, whatever the next line is about.
-use Rattle.std.proofs.Common.{◌≡◌, ℕ, ◌+◌, List, [], ◌∷◌, ◌++◌, length, Option, Some, None, Ok, Err, Bool, true, false, cond, refl, sym, ◌∙◌, ap, subst}
+use Rattle.std.proofs.Common.{◌≡◌, ℕ, ◌+◌, List, [], ◌∷◌, ◌++◌, length, Option, Some, None, Ok, Bool, true, false, cond, refl, sym, ◌∙◌, ap, subst}
 use Rattle.std.specs.Prelude.{nat_eq, option_map, Result, ◌||◌}
-use Rattle.stm_outcome.specs.declared.refusal.Refusal.{Refusal as StoreRefusal}
-use Rattle.stm_outcome.specs.declared.advance.Expired.{Expired}
-use Rattle.stm_txn.specs.Standing.{Step as StoreStep, Setup}
+use Rattle.stm_txn.specs.Standing.{Standing, Setup}
 use Rattle.stm_events.specs.declared.event.WorldEvent.TheVariants.{Start}
 use Rattle.stm_events.specs.declared.reply.Reply.{Reply}
-use Rattle.stm_events.specs.declared.reply.Reply.TheVariants.{Started}
+use Rattle.stm_events.specs.declared.reply.Reply.TheVariants.{Started, Prefetched, Fetched, Committed, Conflict, GaveUp, Aborted, Faulted, Ended}
 use Rattle.stm_events.specs.declared.refusal.Denied.{Denied}
-use Rattle.stm_events.specs.Replies.{reply_to, advance_reply}
+use Rattle.stm_events.specs.Replies.{runner_named}
+use Rattle.stm_events.specs.Called.{Call, called}
+use Rattle.stm_events.proofs.CallReplies.{call_replies}
 use Rattle.stm_world.specs.Task.{Task}
 use Rattle.stm_world.specs.Log.{Line, begun, is_over, running, started, failures, is_id, is_start, task_in}
 use Rattle.stm_world.specs.Log.{runner_started, runner_ended, runner_in_conflict}
@@ -50,14 +50,21 @@ pub record SaysOfRuns (reply : Result Reply Denied) (begins ends fails : Option 
 abbrev pub SaysNothing : Result Reply Denied → Type 0
 SaysNothing reply = SaysOfRuns reply None None None
 
-pub says_nothing : {A : Type 0} (report : A → Reply) (o : Result (StoreStep A) StoreRefusal) → ((x : A) → SaysNothing (Ok (report x))) →
-    SaysNothing (reply_to report o)
-says_nothing report (Ok done) each = each done.answer
-says_nothing report (Err cause) each = record { begins_is = refl; ends_is = refl; fails_is = refl }
+says_by_reply : (reply : Reply) → runner_named reply ≡ None → SaysNothing (Ok reply)
+says_by_reply (Started runner) none = absurd (cc)
+says_by_reply (Prefetched runner revision reads) none = absurd (cc)
+says_by_reply (Fetched runner key mod_rev of_rev revision) none = absurd (cc)
+says_by_reply (Committed runner revision attempts output trace answers) none = absurd (cc)
+says_by_reply (Conflict runner key seen now) none = absurd (cc)
+says_by_reply (GaveUp runner attempts key seen now) none = absurd (cc)
+says_by_reply (Aborted runner text) none = absurd (cc)
+says_by_reply (Faulted runner fault) none = absurd (cc)
+says_by_reply (Ended runner cause) none = absurd (cc)
+says_by_reply reply none = record { begins_is = refl; ends_is = refl; fails_is = refl }
 
-pub advance_says_nothing : (moment : ℕ) (expired : List Expired) (cause : Option StoreRefusal) → SaysNothing (advance_reply moment expired cause)
-advance_says_nothing moment expired None = record { begins_is = refl; ends_is = refl; fails_is = refl }
-advance_says_nothing moment expired (Some cause) = record { begins_is = refl; ends_is = refl; fails_is = refl }
+pub call_says_nothing : (s : Standing) (c : Call) → SaysNothing (called s c).reply
+call_says_nothing =
+    call_replies SaysNothing (record { told = says_by_reply; refused = λ cause expired. record { begins_is = refl; ends_is = refl; fails_is = refl } })
 
 -- what a log says of a runner, by what its last line says
 reported_by : (line : Line) (log : List Line) (begins ends fails : Option ℕ) → SaysOfRuns line.reply begins ends fails → (id : ℕ) →

@@ -29,13 +29,14 @@ use Rattle.stm_world.proofs.Headlines.{headline}
 use Rattle.stm_report.specs.Report.{event_lines, report_of}
 use Rattle.stm_report.specs.Script.{IsRunReport}
 use Rattle.stm_report.specs.FormatScript.{IsRunText}
-use Rattle.stm_report_laws.specs.ReadBack.{AreReadable}
+use Rattle.stm_report_laws.specs.ReadBack.{IsReadable, AreReadable}
 use Rattle.stm_report_laws.specs.Laws.{IsReadAsRight, ScriptsAreReadAsRight, NeverNoToAScript, YesToAScript}
 use Rattle.stm_report_laws.proofs.Checks.{checks_say_yes}
 use Rattle.stm_report_laws.proofs.ReadBack.{reports_are_read_back}
+use Rattle.stm_report_laws.proofs.SmallRuns.{all_append}
 use Rattle.stm_report_laws.proofs.SmallWorlds.{RunFits, run_fits_from, opened_fits}
 use Rattle.stm_report_laws.proofs.SmallEvents.{AsksFew, scenario_asks_few}
-use Rattle.stm_report_laws.proofs.SmallLines.{readable_append, events_readable, end_readable}
+use Rattle.stm_report_laws.proofs.SmallLines.{events_readable, end_readable}
 
 -- ---- the report of a run of a scenario that was read
 
@@ -52,7 +53,7 @@ lines_readable s asks =
     let each : length replies ≡ length s.events = reply_for_each s.events (opened start) in
     let run : RunFits (0 + length s.events) replies w = run_fits_from 0 s.events (opened start) (opened_fits start asks.opens) (omega (arith, count)) asks.events in
     let entries : length w.entries + finmap.len w.standing.live ≤ (0 + length s.events) + (0 + length s.events) = run.world.entries in
-    readable_append (event_lines 1 replies) (end_lines w.standing (length w.entries)) (events_readable 1 replies (omega (arith, count, each)) run.replies)
+    all_append IsReadable (event_lines 1 replies) (end_lines w.standing (length w.entries)) (events_readable 1 replies (omega (arith, count, each)) run.replies)
     (end_readable w.standing (length w.entries) run.world.small (omega (arith, count, entries)))
 
 -- ---- it is read

@@ -1,10 +1,9 @@
 -- The numbers of the replies to the calls of a store, and of the store after them.
 use Rattle.std.proofs.Common.{◌≡◌, ℕ, zero, suc, ◌+◌, ◌-◌, ◌≤◌, Bool, true, false, cond, List, [], ◌∷◌, ◌++◌, length, refl, sym, ap, ◌∙◌}
 use Rattle.std.proofs.Common.{subst, arith, Option, Some, None, Ok, Err}
-use Rattle.std.specs.Prelude.{Result, nat_eq, nat_lt, nat_le, slice_set, slice_index_or, option_map, ◌&&◌}
+use Rattle.std.specs.Prelude.{Result, nat_eq, nat_lt, slice_set, slice_index_or, option_map}
 use Rattle.std.specs.FinMap as finmap
 use Rattle.std.specs.Cmp.{nat_cmp_total}
-use Rattle.std.proofs.lemmas.Bool.{leb-true}
 use Rattle.std.proofs.lemmas.List.{length-append, length-map}
 use Rattle.stm_history.specs.declared.revisions.TheConstants.{HIGHEST_NUMBER}
 use Rattle.stm_history.specs.History.{History, now}
@@ -36,8 +35,10 @@ use Rattle.stm_events.specs.Called.{Call, Poll, Called, called, entered}
 use Rattle.stm_events.proofs.CallMeans.{CallMeans, call_means}
 use Rattle.stm_world.specs.World.{World, after_call}
 use Rattle.stm_world.specs.Sound.{IsSound}
-use Rattle.stm_report_laws.proofs.SmallStores.{IsSmall, HistoryFits, outcome_fits, granted_in_range, with_small, without_small}
-use Rattle.stm_report_laws.proofs.SmallStores.{WatcherFits, WatchersFit, watchers_more, watchers_set, watching_fits, upto_fits}
+use Rattle.stm_report_laws.proofs.RunLists.{length_set}
+use Rattle.stm_report_laws.proofs.SmallRuns.{all_append}
+use Rattle.stm_report_laws.proofs.SmallStores.{IsSmall, HistoryFits, id_fits, outcome_fits, granted_in_range, with_small, without_small}
+use Rattle.stm_report_laws.proofs.SmallStores.{WatcherFits, WatchersFit, watchers_set, watching_fits, upto_fits}
 use Rattle.stm_report_laws.proofs.SmallReplies.{Few, AnswerToFits, CallAsksFew, WorldFits, low_fits, txn_reply_fits, StepFits}
 
 -- ---- the calls of the store
@@ -97,10 +98,6 @@ renewed_count live id term entry = by (finmap.contains_key live id) (finmap.len-
     by true is = omega (arith, is)
     by false is = omega (arith, is)
 
-last_of : (a b : Bool) → (a && b) ≡ true → b ≡ true
-last_of true b is = is
-last_of false b is = absurd (cc)
-
 -- other leases, one entry
 with_leases : (n : ℕ) (s next : Standing) (entry : Entry) → IsSmall next → next.watchers ≡ s.watchers →
     length (entry ∷ []) + finmap.len next.live ≤ finmap.len s.live + 2 → WatchersFit s.watchers → length s.watchers ≤ n → CallFits n s next (entry ∷ [])
@@ -123,12 +120,6 @@ one_more_fits moment e es None one fits = (fits.0, (one, fits.1))
 one_more_fits moment e es (Some cause) one fits = (one, fits)
 
 -- ---- watchers
-
-length_set : (ws : List (Option Watching)) (i : ℕ) (w : Option Watching) → length (slice_set ws i w) ≡ length ws
-length_set [] zero w = refl
-length_set [] (suc i) w = refl
-length_set (x ∷ ws) zero w = refl
-length_set (x ∷ ws) (suc i) w = ap suc (length_set ws i w)
 
 compacted_fit : (h : History) (floor : ℕ) (ws : List (Option Watching)) → WatchersFit ws → WatchersFit (compacted h floor ws)
 compacted_fit h floor [] fits = tt
@@ -198,7 +189,7 @@ fits_on n last = record {
       );
   granted = λ s id ttl of is small watchers many reached.
       let ranges = granted_in_range s.live id ttl is in (
-        leb-true id HIGHEST_NUMBER (last_of (nat_le 1 id) (nat_le id HIGHEST_NUMBER) ranges.0),
+        id_fits id ranges.0,
         with_leases n s (with_lease s id ttl) (GrantEntry id ttl s.moment) (with_small s id ttl ranges.0 ranges.1 small) refl
             (renewed_count s.live id (record { ttl = ttl; renewed = s.moment }) (GrantEntry id ttl s.moment)) watchers many,
       );
@@ -233,7 +224,7 @@ fits_on n last = record {
       let one : Option Watching = Some (watching_from s.history s.floor keys from) in
       let grown : length (s.watchers ++ one ∷ []) ≡ length s.watchers + length (one ∷ []) = length-append s.watchers (one ∷ []) in (
         omega (arith, many, last),
-        with_others n s (s.watchers ++ one ∷ []) (watchers_more s.watchers one watchers (watching_fits s.history s.floor keys from small.history.1 of))
+        with_others n s (s.watchers ++ one ∷ []) (all_append WatcherFits s.watchers (one ∷ []) watchers (watching_fits s.history s.floor keys from small.history.1 of, tt))
             (omega (arith, grown)) small many,
       );
   polled = λ s id most w of found lost small watchers many reached.

@@ -4,6 +4,7 @@ use Rattle.std.proofs.Common.{Option, Some, None, Ok, Err, IfSome, ℤ, pos, neg
 use Rattle.std.proofs.lemmas.Bool.{leb-true}
 use Rattle.std.specs.Prelude.{Result, T, nat_le, nat_eq, ◌&&◌}
 use Rattle.std.specs.FinMap as finmap
+use Rattle.std.specs.List.{AllByRecursion}
 use Rattle.std.specs.FinMap.Entries.{find, below_all, is_sorted}
 use Rattle.std.specs.Ordering.{nat_cmp, is_lt, eq_by_cmp}
 use Rattle.std.specs.Cmp.{Equal-is}
@@ -15,7 +16,7 @@ use Rattle.stm_history.proofs.HistoryLaws.{last_revision_is_now}
 use Rattle.stm_leases.specs.declared.bounds.TheConstants.{HIGHEST_TTL}
 use Rattle.serde_json.specs.View.{items_of}
 use Rattle.stm_history.specs.declared.key_state.KeyState.{KeyState}
-use Rattle.stm_history.specs.declared.revisions.TheConstants.{HIGHEST_REVISION, HIGHEST_NUMBER}
+use Rattle.stm_history.specs.declared.revisions.TheConstants.{HIGHEST_REVISION}
 use Rattle.stm_history.specs.History.{History, now, key_now}
 use Rattle.stm_json.specs.Elements.{is_64_bit}
 use Rattle.stm_steps.specs.declared.value.Value.{Value}
@@ -30,6 +31,7 @@ use Rattle.stm_outcome.specs.declared.advance.Expired.{Expired}
 use Rattle.stm_outcome.specs.Numbers.{StateFits, EventsFit, AllExpiredFit}
 use Rattle.stm_txn.specs.LeaseKeys.{keys_named}
 use Rattle.stm_txn.specs.Standing.{Standing}
+use Rattle.stm_txn.proofs.Bounding.{both}
 use Rattle.stm_txn.proofs.Fitting.{states_fit}
 use Rattle.stm_events.specs.declared.reply.Reply.{Reply}
 use Rattle.stm_events.specs.declared.reply.Reply.TheVariants.{Started, Prefetched, Fetched, Committed, Conflict, GaveUp, Aborted, Faulted, Ended}
@@ -39,20 +41,16 @@ use Rattle.stm_events.specs.declared.reply.CommittedRead.{CommittedRead}
 use Rattle.stm_events.specs.declared.reply.OpReply.{OpReply}
 use Rattle.stm_events.specs.declared.reply.OpReply.TheVariants as op
 use Rattle.stm_events.specs.declared.refusal.Denied.{Denied}
-use Rattle.stm_events.specs.declared.line.ReportLine.{ReportLine}
 use Rattle.stm_events.specs.declared.line.ReportLine.TheVariants.{Event as EventLine, End}
 use Rattle.stm_report_lines.specs.Grammar.{AllCountsFit}
 use Rattle.stm_report_lines.specs.LineData.{whole, value_data, trace_data, text_or_null, answer_data, state_data, state_or_null, op_data, read_data, expired_data, event_data}
 use Rattle.stm_check.specs.StoreLines.{key_lines_of, key_lines, lease_line, lease_lines, end_lines}
 use Rattle.stm_report.specs.Report.{event_lines}
 use Rattle.stm_report_lines.specs.ReadBack.{IsPlain, ArePlain}
-use Rattle.stm_report_laws.specs.ReadBack.{AreReadable}
-use Rattle.stm_report_laws.proofs.SmallRuns.{ValueFits, ValuesFit, ItemsFit}
-use Rattle.stm_report_laws.proofs.SmallStores.{IsSmall, HistoryFits}
-use Rattle.stm_report_laws.proofs.SmallReplies.{KeyReadsFit, CommittedReadsFit, OpRepliesFit, AnswerToFits, RepliesFit}
-
-abbrev Few : ℕ → Type 0
-Few n = n ≤ HIGHEST_NUMBER
+use Rattle.stm_report_laws.specs.ReadBack.{IsReadable, AreReadable}
+use Rattle.stm_report_laws.proofs.SmallRuns.{ValueFits, ValuesFit, ItemsFit, all_append}
+use Rattle.stm_report_laws.proofs.SmallStores.{IsSmall, HistoryFits, id_fits}
+use Rattle.stm_report_laws.proofs.SmallReplies.{Few, KeyReadsFit, CommittedReadsFit, OpRepliesFit, AnswerToFits, RepliesFit}
 
 -- ---- data
 
@@ -84,9 +82,14 @@ answers_plain : (xs : List CommittedRead) → CommittedReadsFit xs → ArePlain 
 answers_plain [] fits = tt
 answers_plain (a ∷ xs) fits = ((tt, (text_plain a.value, (plain a.mod_rev fits.0.0, (plain a.of_rev fits.0.1, tt)))), answers_plain xs fits.1)
 
+-- the numbers of a key, which its data end with
+numbers_plain : (s : KeyState) → StateFits s →
+    IsPlain (whole s.create_rev) × (IsPlain (whole s.mod_rev) × (IsPlain (whole s.version) × (IsPlain (whole s.lease) × Unit {0})))
+numbers_plain s fits =
+    (plain s.create_rev fits.numbers.create_rev, (plain s.mod_rev fits.numbers.mod_rev, (plain s.version fits.numbers.version, (plain s.lease fits.lease, tt))))
+
 state_plain : (s : KeyState) → StateFits s → IsPlain (state_data s)
-state_plain s fits =
-    (tt, (plain s.create_rev fits.numbers.create_rev, (plain s.mod_rev fits.numbers.mod_rev, (plain s.version fits.numbers.version, (plain s.lease fits.lease, tt)))))
+state_plain s fits = (tt, numbers_plain s fits)
 
 state_or_null_plain : (o : Option KeyState) → IfSome o StateFits → IsPlain (state_or_null o)
 state_or_null_plain None fits = tt
@@ -117,25 +120,15 @@ expireds_plain (e ∷ xs) fits = ((plain e.id fits.0.0, (plain e.revision fits.0
 
 events_plain : (xs : List Event) → EventsFit xs → ArePlain (items_of (map event_data xs))
 events_plain [] fits = tt
-events_plain (event.Put key s ∷ xs) fits = (
-  (
-    tt,
-    (
-      tt,
-      (
-        tt,
-        (
-          plain s.create_rev fits.0.numbers.create_rev,
-          (plain s.mod_rev fits.0.numbers.mod_rev, (plain s.version fits.0.numbers.version, (plain s.lease fits.0.lease, tt))),
-        ),
-      ),
-    ),
-  ),
-  events_plain xs fits.1,
-)
+events_plain (event.Put key s ∷ xs) fits = ((tt, (tt, (tt, numbers_plain s fits.0))), events_plain xs fits.1)
 events_plain (event.Delete key revision ∷ xs) fits = ((tt, (tt, (plain revision fits.0, tt))), events_plain xs fits.1)
 
 -- ---- the lines of events
+
+-- what a commit reports of its run
+run_plain : (output : List Value) (seen : List TraceItem) (answers : List CommittedRead) → ValuesFit output → ItemsFit seen → CommittedReadsFit answers →
+    ArePlain (items_of (map value_data output)) × (ArePlain (items_of (map trace_data seen)) × (ArePlain (items_of (map answer_data answers)) × Unit {0}))
+run_plain output seen answers values items reads = (values_plain output values, (traces_plain seen items, (answers_plain answers reads, tt)))
 
 line_plain : (n : ℕ) (reply : Result Reply Denied) → Few n → AnswerToFits reply → AreReadable (EventLine n reply ∷ [])
 line_plain n (Ok (Started runner)) few fits = (((plain n few, (tt, (plain runner fits, tt))), tt), tt)
@@ -143,31 +136,8 @@ line_plain n (Ok (Prefetched runner revision reads)) few fits =
     (((plain n few, (tt, (plain runner fits.0, (plain revision fits.1, (reads_plain reads fits.2, tt))))), tt), tt)
 line_plain n (Ok (Fetched runner key mod_rev of_rev revision)) few fits =
     (((plain n few, (tt, (plain runner fits.0, (tt, (plain mod_rev fits.1, (plain of_rev fits.2, (plain revision fits.3, tt))))))), tt), tt)
-line_plain n (Ok (Committed runner revision attempts output trace answers)) few fits = (
-  (
-    (
-      plain n few,
-      (
-        tt,
-        (
-          plain runner fits.0,
-          (
-            plain revision fits.1,
-            (
-              plain attempts fits.2,
-              (
-                values_plain output fits.3,
-                (traces_plain trace fits.4, (answers_plain answers fits.5, tt)),
-              ),
-            ),
-          ),
-        ),
-      ),
-    ),
-    tt,
-  ),
-  tt,
-)
+line_plain n (Ok (Committed runner revision attempts output trace answers)) few fits =
+    (((plain n few, (tt, (plain runner fits.0, (plain revision fits.1, (plain attempts fits.2, run_plain output trace answers fits.3 fits.4 fits.5))))), tt), tt)
 line_plain n (Ok (Conflict runner key seen now_modified)) few fits =
     (((plain n few, (tt, (plain runner fits.0, (tt, (plain seen fits.1, (plain now_modified fits.2, tt)))))), tt), tt)
 line_plain n (Ok (GaveUp runner attempts key seen now_modified)) few fits =
@@ -189,10 +159,6 @@ line_plain n (Ok (Lost watcher floor)) few fits = (((plain n few, (tt, (plain wa
 line_plain n (Ok (Cancelled watcher)) few fits = (((plain n few, (tt, (plain watcher fits, tt))), tt), tt)
 line_plain n (Err denied) few fits = (((plain n few, (tt, (tt, (expireds_plain denied.expired fits, tt)))), tt), tt)
 
-pub readable_append : (a b : List ReportLine) → AreReadable a → AreReadable b → AreReadable (a ++ b)
-readable_append [] b first second = second
-readable_append (l ∷ a) b first second = (first.0, readable_append a b first.1 second)
-
 pub events_readable : (n : ℕ) (replies : List (Result Reply Denied)) → Few (n + length replies) → RepliesFit replies → AreReadable (event_lines n replies)
 events_readable n [] few fits = tt
 events_readable n (r ∷ replies) few fits =
@@ -202,28 +168,7 @@ events_readable n (r ∷ replies) few fits =
 
 key_readable : (key : List ℕ) (o : Option KeyState) → IfSome o StateFits → AreReadable (key_lines_of key o)
 key_readable key None fits = tt
-key_readable key (Some s) fits = (
-  (
-    (
-      tt,
-      (
-        tt,
-        (
-          tt,
-          (
-            plain s.create_rev fits.numbers.create_rev,
-            (
-              plain s.mod_rev fits.numbers.mod_rev,
-              (plain s.version fits.numbers.version, (plain s.lease fits.lease, tt)),
-            ),
-          ),
-        ),
-      ),
-    ),
-    tt,
-  ),
-  tt,
-)
+key_readable key (Some s) fits = (((tt, (tt, (tt, numbers_plain s fits))), tt), tt)
 
 now_fits : (h : History) (key : List ℕ) → HistoryFits h → IfSome (key_now h key) StateFits
 now_fits h key fits =
@@ -232,15 +177,14 @@ now_fits h key fits =
 keys_readable : (h : History) (keys : List (List ℕ)) → HistoryFits h → AreReadable (key_lines h keys)
 keys_readable h [] fits = tt
 keys_readable h (key ∷ keys) fits =
-    readable_append (key_lines_of key (key_now h key)) (key_lines h keys) (key_readable key (key_now h key) (now_fits h key fits)) (keys_readable h keys fits)
+    all_append IsReadable (key_lines_of key (key_now h key)) (key_lines h keys) (key_readable key (key_now h key) (now_fits h key fits)) (keys_readable h keys fits)
 
 -- a term of a list by id
 abbrev TermFits : ℕ × Term → Type 0
 TermFits e = Few e.0 × Few (e.1).ttl × Few (e.1).renewed
 
 abbrev TermsFit : List (ℕ × Term) → Type 0
-TermsFit [] = Unit {0}
-TermsFit (e ∷ es) = TermFits e × TermsFit es
+TermsFit = AllByRecursion TermFits
 
 leases_readable : (es : List (ℕ × Term)) → TermsFit es → AreReadable (map lease_line es)
 leases_readable [] fits = tt
@@ -287,10 +231,6 @@ terms_fit (e ∷ es) sorted each =
           (other_id (eq_by_cmp nat_cmp id e.0) id e.0 refl (is_above e.0 es id term parts.0 found)) ∙ found)),
     )
 
-last_of : (a b : Bool) → (a && b) ≡ true → b ≡ true
-last_of true b is = is
-last_of false b is = absurd (cc)
-
 live_terms_fit : (s : Standing) → IsSmall s → TermsFit (finmap.entries s.live)
 live_terms_fit s small =
     terms_fit (finmap.entries s.live) (finmap.entries_sorted s.live)
@@ -302,14 +242,14 @@ live_terms_fit s small =
     term_fits : (id : ℕ) (term : Term) → finmap.get s.live id ≡ Some term → TermFits (id, term)
     term_fits id term found =
         let ranges = small.live id term found in
-        let ttl : term.ttl ≤ HIGHEST_TTL = leb-true term.ttl HIGHEST_TTL (last_of (nat_le 1 term.ttl) (nat_le term.ttl HIGHEST_TTL) ranges.1) in
-        (leb-true id HIGHEST_NUMBER (last_of (nat_le 1 id) (nat_le id HIGHEST_NUMBER) ranges.0), omega (arith, ttl), small.renewed id term found)
+        let ttl : term.ttl ≤ HIGHEST_TTL = leb-true term.ttl HIGHEST_TTL (both (nat_le 1 term.ttl) (nat_le term.ttl HIGHEST_TTL) ranges.1).1 in
+        (id_fits id ranges.0, omega (arith, ttl), small.renewed id term found)
 
 pub end_readable : (s : Standing) (entries : ℕ) → IsSmall s → Few entries → AreReadable (end_lines s entries)
 end_readable s entries small few =
     let h : History = s.history in
     let low : now h ≤ HIGHEST_REVISION = small.history.1 in
-    readable_append (key_lines h (keys_named h) ++ lease_lines s.live) (End (now h) entries ∷ [])
-    (readable_append (key_lines h (keys_named h)) (lease_lines s.live) (keys_readable h (keys_named h) small.history)
+    all_append IsReadable (key_lines h (keys_named h) ++ lease_lines s.live) (End (now h) entries ∷ [])
+    (all_append IsReadable (key_lines h (keys_named h)) (lease_lines s.live) (keys_readable h (keys_named h) small.history)
     (leases_readable (finmap.entries s.live) (live_terms_fit s small)))
     (((tt, (plain (now h) (omega (arith, low)), (plain entries few, tt))), tt), tt)

@@ -1,8 +1,9 @@
 -- What fits into 64 bits of replies, events and worlds, and the numbers that are read of a history.
-use Rattle.std.proofs.Common.{◌≡◌, ℕ, zero, suc, ◌+◌, ◌<◌, ◌≤◌, Bool, true, false, cond, List, [], ◌∷◌, ◌++◌, length, map, refl, sym}
+use Rattle.std.proofs.Common.{◌≡◌, ℕ, zero, suc, ◌+◌, ◌<◌, ◌≤◌, Bool, true, false, cond, List, [], ◌∷◌, length, map, refl, sym}
 use Rattle.std.proofs.Common.{subst, arith, Option, Some, None, Ok, Err, IfSome, inl, inr, bytes_eq}
-use Rattle.std.specs.Prelude.{Result, nat_lt, slice_get, option_map, is_some, ◌⊎◌, ◌||◌, ◌&&◌}
+use Rattle.std.specs.Prelude.{Result, nat_lt, slice_get, option_map, is_some, ◌⊎◌, ◌&&◌}
 use Rattle.std.specs.FinMap as finmap
+use Rattle.std.specs.List.{AllByRecursion}
 use Rattle.std.proofs.lemmas.Bool.{ltb-true}
 use Rattle.stm_history.specs.declared.change.Change.{Change}
 use Rattle.stm_history.specs.declared.key_state.KeyState.{KeyState}
@@ -19,6 +20,7 @@ use Rattle.stm_outcome.specs.declared.answer.OpAnswer.TheVariants as answer
 use Rattle.stm_outcome.specs.declared.answer.TxnAnswer.{TxnAnswer}
 use Rattle.stm_outcome.specs.Numbers.{StateFits, EventsFit, OpsFit, AnswerFits, AllExpiredFit}
 use Rattle.stm_txn.specs.Standing.{opening}
+use Rattle.stm_txn.proofs.Bounding.{both}
 use Rattle.stm_txn.proofs.Fitting.{states_fit}
 use Rattle.stm_compile.specs.Answers.{answer_in, said, look_up, AreTrue}
 use Rattle.stm_compile.specs.Conflicts.{Seen, seen_in, seen_of_read, seen_of_write, seen_by, changes_above, IsConflict}
@@ -38,8 +40,8 @@ use Rattle.stm_events.specs.Replies.{committed_read, op_reply, txn_reply}
 use Rattle.stm_world.specs.Task.{modified_now}
 use Rattle.stm_world.specs.World.{World, Runner, Slot, Stepped, runner_at}
 use Rattle.stm_world.specs.Sound.{IsSound}
-use Rattle.stm_report_laws.proofs.SmallRuns.{ValuesFit, ItemsFit}
-use Rattle.stm_report_laws.proofs.SmallStores.{IsSmall, HistoryFits, WatchersFit}
+use Rattle.stm_report_laws.proofs.SmallRuns.{ValuesFit, ItemsFit, all_append}
+use Rattle.stm_report_laws.proofs.SmallStores.{IsSmall, HistoryFits, WatchersFit, either}
 
 abbrev pub Few : ℕ → Type 0
 Few n = n ≤ HIGHEST_NUMBER
@@ -47,18 +49,15 @@ Few n = n ≤ HIGHEST_NUMBER
 -- ---- what fits
 
 abbrev pub KeyReadsFit : List KeyRead → Type 0
-KeyReadsFit [] = Unit {0}
-KeyReadsFit (r ∷ rs) = (r.mod_rev ≤ HIGHEST_NUMBER) × KeyReadsFit rs
+KeyReadsFit = AllByRecursion (λ (r : KeyRead). Few r.mod_rev)
 
 -- what answers show
 abbrev pub AnswersFit : List ReadAnswer → Type 0
-AnswersFit [] = Unit {0}
-AnswersFit (a ∷ rest) = ((mod_of a.kv ≤ HIGHEST_NUMBER) × (a.of_rev ≤ HIGHEST_NUMBER)) × AnswersFit rest
+AnswersFit = AllByRecursion (λ (a : ReadAnswer). Few (mod_of a.kv) × Few a.of_rev)
 
 -- what is reported of a commit's answers
 abbrev pub CommittedReadsFit : List CommittedRead → Type 0
-CommittedReadsFit [] = Unit {0}
-CommittedReadsFit (r ∷ rest) = ((r.mod_rev ≤ HIGHEST_NUMBER) × (r.of_rev ≤ HIGHEST_NUMBER)) × CommittedReadsFit rest
+CommittedReadsFit = AllByRecursion (λ (r : CommittedRead). Few r.mod_rev × Few r.of_rev)
 
 -- what is reported of a transaction's answers
 abbrev pub OpReplyFits : OpReply → Type 0
@@ -67,8 +66,7 @@ OpReplyFits op.Put = Unit {0}
 OpReplyFits (op.Del count) = count ≤ 1
 
 abbrev pub OpRepliesFit : List OpReply → Type 0
-OpRepliesFit [] = Unit {0}
-OpRepliesFit (o ∷ os) = OpReplyFits o × OpRepliesFit os
+OpRepliesFit = AllByRecursion OpReplyFits
 
 abbrev pub ReplyFits : Reply → Type 0
 ReplyFits (Started runner) = Few runner
@@ -97,8 +95,7 @@ AnswerToFits (Ok reply) = ReplyFits reply
 AnswerToFits (Err denied) = AllExpiredFit denied.expired
 
 abbrev pub RepliesFit : List (Result Reply Denied) → Type 0
-RepliesFit [] = Unit {0}
-RepliesFit (r ∷ rs) = AnswerToFits r × RepliesFit rs
+RepliesFit = AllByRecursion AnswerToFits
 
 -- what a call asks
 abbrev pub CallAsksFew : Call → Type 0
@@ -122,8 +119,7 @@ abbrev pub EventAsksFew : WorldEvent → Type 0
 EventAsksFew event = AsksFew (asked event)
 
 abbrev pub EventsAskFew : List WorldEvent → Type 0
-EventsAskFew [] = Unit {0}
-EventsAskFew (e ∷ es) = EventAsksFew e × EventsAskFew es
+EventsAskFew = AllByRecursion EventAsksFew
 
 -- a runner: its limit, the commits that failed, and the literals of its program
 pub record RunnerFits (r : Runner) : Type 0 where
@@ -207,12 +203,7 @@ abbrev SeenFits : Seen → Type 0
 SeenFits seen = Few seen.mod_rev ⊎ (seen.mod_rev ≡ seen.at)
 
 abbrev AllSeenFit : List Seen → Type 0
-AllSeenFit [] = Unit {0}
-AllSeenFit (s ∷ ss) = SeenFits s × AllSeenFit ss
-
-seen_append : (a b : List Seen) → AllSeenFit a → AllSeenFit b → AllSeenFit (a ++ b)
-seen_append [] b first second = second
-seen_append (s ∷ a) b first second = (first.0, seen_append a b first.1 second)
+AllSeenFit = AllByRecursion SeenFits
 
 reads_seen : (answers : List ReadAnswer) → AnswersFit answers → AllSeenFit (map seen_of_read answers)
 reads_seen [] fits = tt
@@ -227,14 +218,6 @@ seen_at_place [] i seen fits is = absurd (cc)
 seen_at_place (s ∷ ss) zero seen fits is = let same : s ≡ seen = cc in subst SeenFits same fits.0
 seen_at_place (s ∷ ss) (suc i) seen fits is = seen_at_place ss i seen fits.1 is
 
-either : (a b : Bool) → (a || b) ≡ true → (P : Type 0) → (a ≡ true → P) → (b ≡ true → P) → P
-either true b is P left right = left refl
-either false b is P left right = right is
-
-first_of : (a b : Bool) → (a && b) ≡ true → a ≡ true
-first_of true b is = refl
-first_of false b is = absurd (cc)
-
 changed_above : (opening : Opening) (r : ℕ) (key : List ℕ) (revisions : List (List Change)) → changes_above opening r key revisions ≡ true →
     r ≤ number_of_last opening revisions
 changed_above opening r key [] is =
@@ -244,7 +227,7 @@ changed_above opening r key [] is =
 changed_above opening r key (changes ∷ older) is =
     let number : ℕ = number_of_last opening (changes ∷ older) in
     either (nat_lt r number && is_some (change_of key changes)) (changes_above opening r key older) is (r ≤ number)
-    (λ here. let below : r < number = ltb-true r number (first_of (nat_lt r number) (is_some (change_of key changes)) here) in omega (arith, below))
+    (λ here. let below : r < number = ltb-true r number (both (nat_lt r number) (is_some (change_of key changes)) here).0 in omega (arith, below))
     (λ before. let rest : r ≤ number_of_last opening older = changed_above opening r key older before in omega (arith, rest))
 
 seen_few : (h : History) (seen : Seen) → HistoryFits h → changes_above h.opening seen.at seen.key h.revisions ≡ true → SeenFits seen → Few seen.mod_rev
@@ -263,7 +246,7 @@ pub failure_fits : (h : History) (reads : List ReadAnswer) (writes : List Change
     IsConflict h reads writes failed → FailureFits (seen_in (slice_get (seen_by reads writes) failed.index)) failed
 failure_fits h reads writes failed fits answers c =
     let all : AllSeenFit (seen_by reads writes) =
-    seen_append (map seen_of_read reads) (map (seen_of_write (first_carried reads)) writes) (reads_seen reads answers) (writes_seen (first_carried reads) writes) in
+    all_append SeenFits (map seen_of_read reads) (map (seen_of_write (first_carried reads)) writes) (reads_seen reads answers) (writes_seen (first_carried reads) writes) in
     record {
       seen = subst (λ (o : Option Seen). Few (seen_in o).mod_rev) (sym c.about)
           (seen_few h c.seen fits c.changed (seen_at_place (seen_by reads writes) failed.index c.seen all c.about));

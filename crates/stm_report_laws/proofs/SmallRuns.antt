@@ -4,6 +4,7 @@ use Rattle.std.proofs.Common.{subst, arith, length, Option, Some, None, Result, 
 use Rattle.std.proofs.lemmas.Bool.{ltb-true, leb-true}
 use Rattle.std.proofs.lemmas.Int.{rem_below}
 use Rattle.std.specs.Prelude.{nat_eq, nat_lt, nat_le, slice_set, slice_index_or, neg_ℤ, ◌+ℤ◌, ◌-ℤ◌, ◌*ℤ◌, int_rem, int_div, unsigned_abs}
+use Rattle.std.specs.List.{AllByRecursion}
 use Rattle.std.specs.Str.Parse.{digits_value}
 use Rattle.stm_history.specs.declared.revisions.TheConstants.{HIGHEST_NUMBER}
 use Rattle.stm_program.specs.declared.operator.Operator.{Operator}
@@ -42,36 +43,26 @@ ValueFits (TextValue t) = Unit {0}
 ValueFits (NumberValue z) = is_in_range z ≡ true
 
 abbrev pub ValuesFit : List Value → Type 0
-ValuesFit [] = Unit {0}
-ValuesFit (x ∷ xs) = ValueFits x × ValuesFit xs
+ValuesFit = AllByRecursion ValueFits
 
 abbrev pub ItemFits : TraceItem → Type 0
 ItemFits (GetItem key value) = Unit {0}
 ItemFits (RevItem key mod_rev) = mod_rev ≤ HIGHEST_NUMBER
 
 abbrev pub ItemsFit : List TraceItem → Type 0
-ItemsFit [] = Unit {0}
-ItemsFit (x ∷ xs) = ItemFits x × ItemsFit xs
+ItemsFit = AllByRecursion ItemFits
 
 abbrev pub WriteFits : Change → Type 0
 WriteFits (PutWrite key value lease) = lease ≤ HIGHEST_NUMBER
 WriteFits (DelWrite key) = Unit {0}
 
 abbrev pub WritesFit : List Change → Type 0
-WritesFit [] = Unit {0}
-WritesFit (x ∷ xs) = WriteFits x × WritesFit xs
+WritesFit = AllByRecursion WriteFits
 
-values_more : (xs : List Value) (x : Value) → ValuesFit xs → ValueFits x → ValuesFit (xs ++ x ∷ [])
-values_more [] x before one = (one, tt)
-values_more (y ∷ ys) x before one = (before.0, values_more ys x before.1 one)
-
-items_more : (xs : List TraceItem) (x : TraceItem) → ItemsFit xs → ItemFits x → ItemsFit (xs ++ x ∷ [])
-items_more [] x before one = (one, tt)
-items_more (y ∷ ys) x before one = (before.0, items_more ys x before.1 one)
-
-writes_more : (xs : List Change) (x : Change) → WritesFit xs → WriteFits x → WritesFit (xs ++ x ∷ [])
-writes_more [] x before one = (one, tt)
-writes_more (y ∷ ys) x before one = (before.0, writes_more ys x before.1 one)
+-- what holds of each of two lists holds of each of both
+pub all_append : {X : Type 0} (Q : X → Type 0) (xs ys : List X) → AllByRecursion Q xs → AllByRecursion Q ys → AllByRecursion Q (xs ++ ys)
+all_append Q [] ys first second = second
+all_append Q (x ∷ xs) ys first second = (first.0, all_append Q xs ys first.1 second)
 
 variable_fits : (xs : List Value) (v : ℕ) → ValuesFit xs → ValueFits (slice_index_or xs v (NumberValue (pos 0)))
 variable_fits [] v fits = refl
@@ -226,10 +217,10 @@ module _ (look : Lookup) (known : (key : List ℕ) (a : Answer) → look key ≡
 
   answered_get : (key : List ℕ) (o : Option Answer) (s : Session) → SessionFits s → OutcomeFits ValueFits (get_answered key o s)
   answered_get key None s fits = fits
-  answered_get key (Some a) s (variables, output, trace, writes) = (tt, (variables, output, items_more s.trace (GetItem key a.value) trace tt, writes))
+  answered_get key (Some a) s (variables, output, trace, writes) = (tt, (variables, output, all_append ItemFits s.trace (GetItem key a.value ∷ []) trace (tt, tt), writes))
 
   found_get : (key : List ℕ) (w : Option Change) (s : Session) → SessionFits s → OutcomeFits ValueFits (get_of look key w s)
-  found_get key (Some w) s (variables, output, trace, writes) = (tt, (variables, output, items_more s.trace (GetItem key (value_written w)) trace tt, writes))
+  found_get key (Some w) s (variables, output, trace, writes) = (tt, (variables, output, all_append ItemFits s.trace (GetItem key (value_written w) ∷ []) trace (tt, tt), writes))
   found_get key None s fits = answered_get key (look key) s fits
 
   get_fits : (key : List ℕ) → Fits ValueFits (get_key look key)
@@ -243,7 +234,7 @@ module _ (look : Lookup) (known : (key : List ℕ) (a : Answer) → look key ≡
   answered_rev key None s is fits = fits
   answered_rev key (Some a) s is (variables, output, trace, writes) =
       let few : a.mod_rev ≤ HIGHEST_NUMBER = known key a is in
-      (small_in_range a.mod_rev few, (variables, output, items_more s.trace (RevItem key a.mod_rev) trace few, writes))
+      (small_in_range a.mod_rev few, (variables, output, all_append ItemFits s.trace (RevItem key a.mod_rev ∷ []) trace (few, tt), writes))
 
   rev_fits : (key : List ℕ) → Fits ValueFits (rev_key look key)
   unfolding rev_key
@@ -338,7 +329,7 @@ module _ (look : Lookup) (known : (key : List ℕ) (a : Answer) → look key ≡
   writing_fits : (r : Result Change Fault) → ResultFits WriteFits r → Fits Any (λ t. and_then (given r t) writing)
   writing_fits r one s fits =
       then_fits WriteFits Any (given r s) writing (given_fits WriteFits r s one fits)
-      (λ w t is h. (tt, (h.0, h.1, h.2, writes_more t.writes w h.3 is)))
+      (λ w t is h. (tt, (h.0, h.1, h.2, all_append WriteFits t.writes (w ∷ []) h.3 (is, tt))))
 
   mutual
     unfolding run_statement
@@ -369,7 +360,7 @@ module _ (look : Lookup) (known : (key : List ℕ) (a : Answer) → look key ≡
         (λ n u most k. repeat_fits v (run_block look body) (block_fits body within.3) n 0 (omega (arith, few, most)) u k))
     statement_fits (Emit e) within s fits =
         then_fits ValueFits Any (evaluate look e s) (λ x t. Gives tt (with_output x t)) (evaluate_fits e within s fits)
-        (λ x t is h. (tt, (h.0, values_more t.output x h.1 is, h.2, h.3)))
+        (λ x t is h. (tt, (h.0, all_append ValueFits t.output (x ∷ []) h.1 (is, tt), h.2, h.3)))
     statement_fits (Abort e) within s fits =
         then_fits ValueFits Any (evaluate look e s) (λ x t. and_then (given (text_in x) t) aborts) (evaluate_fits e within s fits)
         (λ x t _ h. then_fits Any Any (given (text_in x) t) aborts (given_fits Any (text_in x) t (any_result (text_in x)) h) (λ text u _ k. k))

@@ -95,9 +95,6 @@ record Stands (n : ℕ) (w : World) (id : ℕ) (r : Runner) : Type 0 where
   found : runner_at id w.runners ≡ Some r
   few : Few id
 
-abbrev runner_fits : {n : ℕ} {w : World} {id : ℕ} {r : Runner} → Stands n w id r → RunnerFits r
-runner_fits {n} {w} {id} {r} at = at.fits.runners id r at.found
-
 ended_fits : (n : ℕ) (w : World) (id : ℕ) (r : Runner) (reply : Reply) → Stands n w id r → IsSound (replied reply id Over w).next → ReplyFits reply →
     StepFits n (replied reply id Over w)
 ended_fits n w id r reply at sound one = replied_fits n w id r Over reply at.fits at.found over_fits sound one

@@ -12,13 +12,11 @@ pub fn one_object_an_event()
 {}
 
 /// Each row of a text is one line: no key, value or message breaks it.
-#[tactic(auto, using(crate::proofs::FormatOneLine::one_line_a_row))]
 pub fn one_line_a_row()
     ensures { OneLineARow }
 {}
 
 /// What stands escaped in a picture opens and closes no element, and ends no attribute.
-#[tactic(auto, using(crate::proofs::FormatEscapedLaws::nothing_unescaped))]
 pub fn nothing_unescaped()
     ensures { NothingUnescaped }
 {}

@@ -12,7 +12,7 @@ mod scripting;
 mod showing;
 
 pub use fault::StoreFault;
-pub use input::{read_input, read_program};
+pub use input::{InputFault, read_input, read_program};
 pub use past::{show_at, show_since};
 pub use running::{Manner, run_anew, run_kept};
 pub use scripting::script_kept;

@@ -1,17 +1,14 @@
 -- Wrong logs are rejected.
-use Rattle.std.proofs.Common.{◌≡◌, ◌≢◌, inl, inr, ℕ, ◌+◌, ◌-◌, ◌<◌, ◌≤◌, zero, suc, List, [], ◌∷◌, length, take, Option, Some, None, Ok, Err, Bool, true}
+use Rattle.std.proofs.Common.{◌≡◌, ◌≢◌, inl, inr, ℕ, ◌+◌, ◌-◌, ◌≤◌, zero, suc, List, [], ◌∷◌, length, take, Option, Some, None, Ok, Err, Bool, true}
 use Rattle.std.proofs.Common.{false, cond, refl, sym, ◌∙◌, ap, subst, arith}
 use Rattle.std.specs.Prelude.{nat_eq, nat_lt, slice_set, Result}
 use Rattle.std.proofs.lemmas.Bool.{le-leb}
 use Rattle.std.specs.Cmp.{unsigned_Decides}
-use Rattle.stm_program.specs.Syntax.{ProgramTree}
-use Rattle.stm_program.specs.declared.level.Level.{Level}
 use Rattle.stm_steps.specs.declared.run.End.TheVariants.{Done as DoneEnd, Aborted as AbortedEnd}
 use Rattle.stm_steps.specs.declared.run.Run.{Run}
 use Rattle.stm_steps.specs.declared.run.Answered.TheVariants.{Ended as EndedRun, Wants}
 use Rattle.stm_steps.specs.declared.trace_item.TraceItem.{TraceItem}
 use Rattle.stm_steps.specs.declared.value.Value.{Value}
-use Rattle.stm_steps.specs.declared.fault.Fault.{Fault}
 use Rattle.stm_meaning.specs.Meaning.{run_over}
 use Rattle.stm_entries.specs.Replayed.{without_moment}
 use Rattle.stm_entries.specs.Alone.{seen_at, applied_run}
@@ -21,11 +18,10 @@ use Rattle.stm_attempt.specs.Entering.{is_due}
 use Rattle.std.proofs.lemmas.List.{length-map}
 use Rattle.stm_events.specs.declared.reply.KeyRead.{KeyRead}
 use Rattle.stm_events.specs.declared.reply.CommittedRead.{CommittedRead}
-use Rattle.stm_events.specs.declared.refusal.EventRefusal.{EventRefusal}
 use Rattle.stm_attempt.specs.Fetches.{at_of}
 use Rattle.stm_history.specs.History.{now}
 use Rattle.stm_events.specs.declared.event.WorldEvent.{WorldEvent}
-use Rattle.stm_events.specs.declared.event.WorldEvent.TheVariants.{Start, Step, Poll, Compact}
+use Rattle.stm_events.specs.declared.event.WorldEvent.TheVariants.{Start, Step}
 use Rattle.stm_events.specs.declared.reply.Reply.{Reply}
 use Rattle.stm_events.specs.declared.reply.Reply.TheVariants.{Started, Prefetched, Fetched, Committed, Conflict, GaveUp, Aborted, Faulted, Ended}
 use Rattle.stm_events.specs.declared.reply.Reply.TheVariants.{Batch, Compacted, Lost}
@@ -43,22 +39,12 @@ use Rattle.stm_watch.specs.Pending.{pending, pending_events, batch_of, after_pol
 use Rattle.stm_watch.specs.Calls.{watcher_at, poll_found}
 use Rattle.stm_events.specs.Replies.{runner_of, denied, reply_to, poll_reply}
 use Rattle.stm_world.specs.Task.{Task, modified_now}
-use Rattle.stm_world.specs.Log.{Line, begun, running, failures, started, is_start, runner_started, is_id, task_in, store, known_after_log}
+use Rattle.stm_world.specs.Log.{Line, begun, running, started, is_start, runner_started, is_id, task_in, store}
 use Rattle.stm_world.specs.Right.{IsRight, AreRight, RunnerIsRight, Situation, HasList, ReplyIsRight, EndsWith, IsCommitted, IsRefused, situation, IsRightAsked}
-use Rattle.stm_world.specs.World.{World}
-use Rattle.stm_world.specs.Headline.{Holds}
 use Rattle.stm_world_laws.specs.WrongLogs.{WrongLogs}
 use Rattle.stm_world.proofs.Logs.{as_many}
 use Rattle.stm_events.specs.Called.{Asked, Starts, Steps, Calls, asked}
 use Rattle.stm_world.proofs.Untouched.{call_says_nothing}
-
-causeless_refusal : (start : Setup) (log : List Line) (id : ℕ) (task : Task) (refusal : Denied) → running id log ≡ Some task
-    → IsRight start log (Step id) (Err refusal) → ⊥
-causeless_refusal start log id task refusal runs right = subst (λ (o : Option Task). RunnerIsRight start log id o (Err refusal)) runs right
-
-step_of_none : (start : Setup) (log : List Line) (id : ℕ) (reply : Reply) → running id log ≡ None → IsRight start log (Step id) (Ok reply) → ⊥
-step_of_none start log id reply none right =
-    let same : Ok reply ≡ denied NoRunner = subst (λ (o : Option Task). RunnerIsRight start log id o (Ok reply)) none right in absurd (cc)
 
 -- ---- numbers ----
 
@@ -108,13 +94,6 @@ begun_is_started start (line ∷ older) id task right is =
     begun_by id (started older) (runner_started line.reply) (task_in line.event) (begun id older) task
     (λ runner. given_next start older line.event line.reply runner right.0) (begun_is_started start older id task right.1) is
 
-number_given_twice : (start : Setup) (log : List Line) (id : ℕ) (task : Task) (program : ProgramTree) (level : Level) (limit : ℕ)
-    → AreRight start log → begun id log ≡ Some task → IsRight start log (Start program level limit) (Ok (Started id)) → ⊥
-number_given_twice start log id task program level limit right is again =
-    let known : id ≤ started log = begun_is_started start log id task right is in
-    let next : id ≡ started log + 1 = given_next start log (Start program level limit) (Ok (Started id)) id again refl in
-    omega arith
-
 -- ---- replies ----
 
 another : (at : Situation) (reply : Reply) (runner : ℕ) → runner_of reply ≡ Some runner → ReplyIsRight at reply → runner ≡ at.id
@@ -134,23 +113,12 @@ another_by : (start : Setup) (log : List Line) (id runner : ℕ) (o : Option Tas
 another_by start log id runner None reply named other right = absurd (cc)
 another_by start log id runner (Some task) reply named other right = other (another (situation start log id task) reply runner named right)
 
-another_runner : (start : Setup) (log : List Line) (id runner : ℕ) (reply : Reply) → runner_of reply ≡ Some runner → runner ≢ id
-    → IsRight start log (Step id) (Ok reply) → ⊥
-another_runner start log id runner reply named other right = another_by start log id runner (running id log) reply named other right
-
 not_aborted : (at : Situation) (run : Run) (text : List ℕ) → run_on at.task.program at.reads ≡ EndedRun run → run.end ≡ DoneEnd
     → EndsWith at (AbortedEnd text) → ⊥
 not_aborted at run text is_run done ends =
     let one : EndedRun run ≡ EndedRun ends.run = sym is_run ∙ ends.is_run in
     let same : run ≡ ends.run = cc in
     let both : DoneEnd ≡ AbortedEnd text = sym done ∙ ap (λ (r : Run). r.end) same ∙ ends.ended in absurd (cc)
-
-another_abort : (start : Setup) (log : List Line) (id : ℕ) (task : Task) (run : Run) (text : List ℕ) → running id log ≡ Some task
-    → run_on task.program (known_after_log start id task log).reads ≡ EndedRun run → run.end ≡ DoneEnd
-    → IsRight start log (Step id) (Ok (Aborted id text)) → ⊥
-another_abort start log id task run text runs is_run done right =
-    not_aborted (situation start log id task) run text is_run done
-    (subst (λ (o : Option Task). RunnerIsRight start log id o (Ok (Aborted id text))) runs right).1
 
 -- ---- watchers ----
 
@@ -172,17 +140,6 @@ there_reported s id most w reply there right = subst (λ (o : Option Watching). 
 none_refused : (s : Standing) (id most : ℕ) (w : Watching) (refusal : Denied) (lost : Bool) → Err refusal ≡ reported_if s id most w lost → ⊥
 none_refused s id most w refusal true reported = absurd (cc)
 none_refused s id most w refusal false reported = absurd (cc)
-
-refused_poll : (start : Setup) (log : List Line) (id most : ℕ) (w : Watching) (refusal : Denied) → watcher_at id (store start log).watchers ≡ Some w
-    → IsRight start log (Poll id most) (Err refusal) → ⊥
-refused_poll start log id most w refusal there right =
-    none_refused (store start log) id most w refusal w.lost (there_reported (store start log) id most w (Err refusal) there right)
-
-poll_of_none : (start : Setup) (log : List Line) (id most : ℕ) (reply : Reply) → watcher_at id (store start log).watchers ≡ None
-    → IsRight start log (Poll id most) (Ok reply) → ⊥
-poll_of_none start log id most reply none right =
-    let reported : Ok reply ≡ reported_of (store start log) id most None =
-    subst (λ (o : Option Watching). Ok reply ≡ reported_of (store start log) id most o) none right in absurd (cc)
 
 batch_named : (s : Standing) (id most watcher upto : ℕ) (events : List Event) (w : Watching) (lost : Bool)
     → Ok (Batch watcher upto events) ≡ reported_if s id most w lost → watcher ≡ id
@@ -206,35 +163,7 @@ nothing_reported s id most upto w event events false none reported =
     let nothing : event ∷ events ≡ [] = same ∙ ap (λ (ts : List PendingRevision). pending_events (take most ts)) none ∙ ap pending_events (none_taken most) in
     absurd (cc)
 
-event_not_pending : (start : Setup) (log : List Line) (id most upto : ℕ) (w : Watching) (event : Event) (events : List Event)
-    → watcher_at id (store start log).watchers ≡ Some w → pending (store start log).history w ≡ []
-    → IsRight start log (Poll id most) (Ok (Batch id upto (event ∷ events))) → ⊥
-event_not_pending start log id most upto w event events there none right =
-    nothing_reported (store start log) id most upto w event events w.lost none
-    (there_reported (store start log) id most w (Ok (Batch id upto (event ∷ events))) there right)
-
-batch_of_lost : (start : Setup) (log : List Line) (id most watcher upto : ℕ) (w : Watching) (events : List Event)
-    → watcher_at id (store start log).watchers ≡ Some w → w.lost ≡ true → IsRight start log (Poll id most) (Ok (Batch watcher upto events)) → ⊥
-batch_of_lost start log id most watcher upto w events there lost right =
-    let s : Standing = store start log in
-    let reported : Ok (Batch watcher upto events) ≡ reported_if s id most w true =
-    there_reported s id most w (Ok (Batch watcher upto events)) there right ∙ ap (reported_if s id most w) lost in absurd (cc)
-
-not_lost : (start : Setup) (log : List Line) (id most watcher floor : ℕ) (w : Watching) → watcher_at id (store start log).watchers ≡ Some w
-    → w.lost ≡ false → IsRight start log (Poll id most) (Ok (Lost watcher floor)) → ⊥
-not_lost start log id most watcher floor w there kept right =
-    let s : Standing = store start log in
-    let reported : Ok (Lost watcher floor) ≡ reported_if s id most w false =
-    there_reported s id most w (Ok (Lost watcher floor)) there right ∙ ap (reported_if s id most w) kept in absurd (cc)
-
 -- ---- compactions ----
-
-fetch_below : (start : Setup) (log : List Line) (id : ℕ) (task : Task) (key : List ℕ) (mod_rev of_rev revision : ℕ) → running id log ≡ Some task
-    → is_below_floor (store start log).floor (at_of task.level (known_after_log start id task log).reads) ≡ true
-    → IsRight start log (Step id) (Ok (Fetched id key mod_rev of_rev revision)) → ⊥
-fetch_below start log id task key mod_rev of_rev revision runs below right =
-    let fetch = (subst (λ (o : Option Task). RunnerIsRight start log id o (Ok (Fetched id key mod_rev of_rev revision))) runs right).1 in
-    let both : true ≡ false = sym below ∙ fetch.readable in absurd (cc)
 
 not_refused : (at : Situation) (key : List ℕ) (trace : List TraceItem) (cause : StoreRefusal) → HasList at → run_on at.task.program at.reads ≡ Wants key trace
     → is_below_floor at.store.floor (at_of at.task.level at.reads) ≡ false → IsRefused at cause → ⊥
@@ -244,80 +173,11 @@ not_refused at key trace cause listed wants above (inr (inl (same, behind))) =
 not_refused at key trace cause listed wants above (inr (inr (same, overfull))) =
     let both : true ≡ false = sym overfull.due ∙ listed in absurd (cc)
 
-refused_fetch : (start : Setup) (log : List Line) (id : ℕ) (task : Task) (key : List ℕ) (trace : List TraceItem) (cause : EventRefusal)
-    → running id log ≡ Some task → is_due task.program.prefetch (known_after_log start id task log).reads ≡ false
-    → run_on task.program (known_after_log start id task log).reads ≡ Wants key trace
-    → is_below_floor (store start log).floor (at_of task.level (known_after_log start id task log).reads) ≡ false
-    → IsRight start log (Step id) (Ok (Ended id cause)) → ⊥
-refused_fetch start log id task key trace cause runs listed wants above right =
-    let ended = (subst (λ (o : Option Task). RunnerIsRight start log id o (Ok (Ended id cause))) runs right).1 in
-    not_refused (situation start log id task) key trace ended.by_store listed wants above ended.refused
-
-compacted_again : (start : Setup) (log : List Line) (revision at : ℕ) → revision ≤ (store start log).floor
-    → IsRight start log (Compact revision) (Ok (Compacted at)) → ⊥
-compacted_again start log revision at low right =
-    let s : Standing = store start log in
-    let future = cond (nat_lt (now s.history) revision) (Some FutureRevision) None in
-    let refused : Ok (Compacted at) ≡ reply_to (λ _. Compacted revision) (floor_step (Some CompactedRefusal) (with_floor s revision)) =
-    right ∙ ap (λ b. reply_to (λ _. Compacted revision) (floor_step (cond b (Some CompactedRefusal) future) (with_floor s revision)))
-    (le-leb revision s.floor low) in
-    absurd (cc)
-
 -- ---- lists ----
 
 is_listed : (start : Setup) (log : List Line) (id : ℕ) (task : Task) (reply : Reply) → running id log ≡ Some task → IsRight start log (Step id) (Ok reply) →
     ReplyIsRight (situation start log id task) reply
 is_listed start log id task reply runs right = subst (λ (o : Option Task). RunnerIsRight start log id o (Ok reply)) runs right
-
-list_again : (start : Setup) (log : List Line) (id : ℕ) (task : Task) (revision : ℕ) (reads : List KeyRead) → running id log ≡ Some task
-    → is_due task.program.prefetch (known_after_log start id task log).reads ≡ false → IsRight start log (Step id) (Ok (Prefetched id revision reads)) → ⊥
-list_again start log id task revision reads runs listed right =
-    let list = (is_listed start log id task (Prefetched id revision reads) runs right).1 in
-    let both : true ≡ false = sym list.due ∙ listed in absurd (cc)
-
-part_of_list : (start : Setup) (log : List Line) (id : ℕ) (task : Task) (revision : ℕ) (reads : List KeyRead) → running id log ≡ Some task
-    → length reads ≢ length task.program.prefetch → IsRight start log (Step id) (Ok (Prefetched id revision reads)) → ⊥
-part_of_list start log id task revision reads runs other right =
-    let list = (is_listed start log id task (Prefetched id revision reads) runs right).1 in
-    other (ap (λ (l : List KeyRead). length l) list.shows ∙ length-map task.program.prefetch (modified_now (store start log).history))
-
-read_before_list : (start : Setup) (log : List Line) (id : ℕ) (task : Task) (key : List ℕ) (mod_rev of_rev revision : ℕ) → running id log ≡ Some task
-    → is_due task.program.prefetch (known_after_log start id task log).reads ≡ true → IsRight start log (Step id) (Ok (Fetched id key mod_rev of_rev revision)) → ⊥
-read_before_list start log id task key mod_rev of_rev revision runs due right =
-    let fetch = (is_listed start log id task (Fetched id key mod_rev of_rev revision) runs right).1 in
-    let both : true ≡ false = sym due ∙ fetch.has_list in absurd (cc)
-
-abort_before_list : (start : Setup) (log : List Line) (id : ℕ) (task : Task) (text : List ℕ) → running id log ≡ Some task
-    → is_due task.program.prefetch (known_after_log start id task log).reads ≡ true → IsRight start log (Step id) (Ok (Aborted id text)) → ⊥
-abort_before_list start log id task text runs due right =
-    let ends = (is_listed start log id task (Aborted id text) runs right).1 in
-    let both : true ≡ false = sym due ∙ ends.has_list in absurd (cc)
-
-fault_before_list : (start : Setup) (log : List Line) (id : ℕ) (task : Task) (fault : Fault) → running id log ≡ Some task
-    → is_due task.program.prefetch (known_after_log start id task log).reads ≡ true → IsRight start log (Step id) (Ok (Faulted id fault)) → ⊥
-fault_before_list start log id task fault runs due right =
-    let ends = (is_listed start log id task (Faulted id fault) runs right).1 in
-    let both : true ≡ false = sym due ∙ ends.has_list in absurd (cc)
-
-commit_before_list : (start : Setup) (log : List Line) (id : ℕ) (task : Task) (revision attempts : ℕ) (output : List Value) (trace : List TraceItem)
-    (answers : List CommittedRead) → running id log ≡ Some task → is_due task.program.prefetch (known_after_log start id task log).reads ≡ true
-    → IsRight start log (Step id) (Ok (Committed id revision attempts output trace answers)) → ⊥
-commit_before_list start log id task revision attempts output trace answers runs due right =
-    let commit = (is_listed start log id task (Committed id revision attempts output trace answers) runs right).3 in
-    let both : true ≡ false = sym due ∙ commit.commits.has_list in absurd (cc)
-
-conflict_before_list : (start : Setup) (log : List Line) (id : ℕ) (task : Task) (key : List ℕ) (seen now_modified : ℕ) → running id log ≡ Some task
-    → is_due task.program.prefetch (known_after_log start id task log).reads ≡ true → IsRight start log (Step id) (Ok (Conflict id key seen now_modified)) → ⊥
-conflict_before_list start log id task key seen now_modified runs due right =
-    let conflict = (is_listed start log id task (Conflict id key seen now_modified) runs right).2 in
-    let both : true ≡ false = sym due ∙ conflict.commits.has_list in absurd (cc)
-
-give_up_before_list : (start : Setup) (log : List Line) (id : ℕ) (task : Task) (attempts : ℕ) (key : List ℕ) (seen now_modified : ℕ)
-    → running id log ≡ Some task → is_due task.program.prefetch (known_after_log start id task log).reads ≡ true
-    → IsRight start log (Step id) (Ok (GaveUp id attempts key seen now_modified)) → ⊥
-give_up_before_list start log id task attempts key seen now_modified runs due right =
-    let conflict = (is_listed start log id task (GaveUp id attempts key seen now_modified) runs right).3 in
-    let both : true ≡ false = sym due ∙ conflict.commits.has_list in absurd (cc)
 
 none_refused_list : (at : Situation) (cause : StoreRefusal) → is_due at.task.program.prefetch at.reads ≡ true
     → length at.task.program.prefetch ≤ at.store.limit → IsRefused at cause → ⊥
@@ -325,25 +185,7 @@ none_refused_list at cause due few (inl c) = let both : true ≡ false = sym due
 none_refused_list at cause due few (inr (inl (same, behind))) = let both : true ≡ false = sym due ∙ behind.has_list in absurd (cc)
 none_refused_list at cause due few (inr (inr (same, overfull))) = let many = overfull.many in omega (arith, few, many)
 
-refused_list : (start : Setup) (log : List Line) (id : ℕ) (task : Task) (cause : EventRefusal) → running id log ≡ Some task
-    → is_due task.program.prefetch (known_after_log start id task log).reads ≡ true → length task.program.prefetch ≤ (store start log).limit
-    → IsRight start log (Step id) (Ok (Ended id cause)) → ⊥
-refused_list start log id task cause runs due few right =
-    let ended = (is_listed start log id task (Ended id cause) runs right).1 in
-    none_refused_list (situation start log id task) ended.by_store due few ended.refused
-
 -- ---- commits ----
-
-commit_beyond_limit : (start : Setup) (log : List Line) (id : ℕ) (task : Task) (revision attempts : ℕ) (output : List Value) (trace : List TraceItem)
-    (answers : List CommittedRead) → running id log ≡ Some task → task.limit < attempts
-    → IsRight start log (Step id) (Ok (Committed id revision attempts output trace answers)) → ⊥
-commit_beyond_limit start log id task revision attempts output trace answers runs beyond right =
-    let within = (is_listed start log id task (Committed id revision attempts output trace answers) runs right).2 in omega (arith, beyond, within)
-
-conflict_of_the_last : (start : Setup) (log : List Line) (id : ℕ) (task : Task) (key : List ℕ) (seen now_modified : ℕ) → running id log ≡ Some task
-    → task.limit ≤ failures id log + 1 → IsRight start log (Step id) (Ok (Conflict id key seen now_modified)) → ⊥
-conflict_of_the_last start log id task key seen now_modified runs last right =
-    let before = (is_listed start log id task (Conflict id key seen now_modified) runs right).1 in omega (arith, last, before)
 
 one_revision : (at : Situation) (run : Run) (alone : StoreDone) (revision : ℕ) (output : List Value) (trace : List TraceItem) (answers : List CommittedRead)
     → run_over (seen_at at.task.level at.reads at.store.history) at.task.program.statements ≡ EndedRun run
@@ -355,51 +197,88 @@ one_revision at run alone revision output trace answers is applies c =
     let done : alone ≡ c.done = cc in
     c.reached ∙ sym (ap (λ (d : StoreDone). now d.history) done)
 
-another_revision : (start : Setup) (log : List Line) (id : ℕ) (task : Task) (run : Run) (alone : StoreDone) (revision attempts : ℕ) (output : List Value)
-    (trace : List TraceItem) (answers : List CommittedRead) → running id log ≡ Some task
-    → run_over (seen_at task.level (known_after_log start id task log).reads (store start log).history) task.program.statements ≡ EndedRun run
-    → applied_run (without_moment (store start log)) run ≡ Ok alone → revision ≢ now alone.history
-    → IsRight start log (Step id) (Ok (Committed id revision attempts output trace answers)) → ⊥
-another_revision start log id task run alone revision attempts output trace answers runs is applies other right =
-    let commit = (is_listed start log id task (Committed id revision attempts output trace answers) runs right).3 in
-    other (one_revision (situation start log id task) run alone revision output trace answers is applies commit)
-
 -- ---- events without a reply ----
-
-no_answer : (start : Setup) (event : WorldEvent) (events : List WorldEvent) (w : World) → Holds start (event ∷ events) [] w → ⊥
-no_answer start event events w holds =
-    let none : 0 ≡ suc (length events) = as_many (event ∷ events) [] holds.log holds.is_log in omega (arith, none)
 
 pub wrong_logs : WrongLogs
 wrong_logs = record {
-  no_answer = no_answer;
+  no_answer = λ start event events w holds.
+      let none : 0 ≡ suc (length events) = as_many (event ∷ events) [] holds.log holds.is_log in omega (arith, none);
   not_each_answered = λ start events replies w fewer holds. fewer (as_many events replies holds.log holds.is_log);
-  causeless_refusal = causeless_refusal;
+  causeless_refusal = λ start log id task refusal runs right. subst (λ (o : Option Task). RunnerIsRight start log id o (Err refusal)) runs right;
   refused_start = λ start log program level limit refusal some right. some right.1;
-  number_given_twice = number_given_twice;
-  step_of_none = step_of_none;
-  another_runner = another_runner;
-  another_abort = another_abort;
-  commit_beyond_limit = commit_beyond_limit;
-  conflict_of_the_last = conflict_of_the_last;
-  another_revision = another_revision;
-  refused_poll = refused_poll;
-  poll_of_none = poll_of_none;
+  number_given_twice = λ start log id task program level limit right is again.
+      let known : id ≤ started log = begun_is_started start log id task right is in
+      let next : id ≡ started log + 1 = given_next start log (Start program level limit) (Ok (Started id)) id again refl in
+      omega arith;
+  step_of_none = λ start log id reply none right.
+      let same : Ok reply ≡ denied NoRunner = subst (λ (o : Option Task). RunnerIsRight start log id o (Ok reply)) none right in absurd (cc);
+  another_runner = λ start log id runner reply named other right. another_by start log id runner (running id log) reply named other right;
+  another_abort = λ start log id task run text runs is_run done right.
+      not_aborted (situation start log id task) run text is_run done
+      (subst (λ (o : Option Task). RunnerIsRight start log id o (Ok (Aborted id text))) runs right).1;
+  commit_beyond_limit = λ start log id task revision attempts output trace answers runs beyond right.
+      let within = (is_listed start log id task (Committed id revision attempts output trace answers) runs right).2 in omega (arith, beyond, within);
+  conflict_of_the_last = λ start log id task key seen now_modified runs last right.
+      let before = (is_listed start log id task (Conflict id key seen now_modified) runs right).1 in omega (arith, last, before);
+  another_revision = λ start log id task run alone revision attempts output trace answers runs is applies other right.
+      let commit = (is_listed start log id task (Committed id revision attempts output trace answers) runs right).3 in
+      other (one_revision (situation start log id task) run alone revision output trace answers is applies commit);
+  refused_poll = λ start log id most w refusal there right.
+      none_refused (store start log) id most w refusal w.lost (there_reported (store start log) id most w (Err refusal) there right);
+  poll_of_none = λ start log id most reply none right.
+      let reported : Ok reply ≡ reported_of (store start log) id most None =
+      subst (λ (o : Option Watching). Ok reply ≡ reported_of (store start log) id most o) none right in absurd (cc);
   another_watcher = λ start log id most watcher upto events other right.
       other (watcher_named (store start log) id most watcher upto events (watcher_at id (store start log).watchers) right);
-  event_not_pending = event_not_pending;
-  batch_of_lost = batch_of_lost;
-  not_lost = not_lost;
-  fetch_below = fetch_below;
-  refused_fetch = refused_fetch;
-  list_again = list_again;
-  part_of_list = part_of_list;
-  read_before_list = read_before_list;
-  abort_before_list = abort_before_list;
-  fault_before_list = fault_before_list;
-  commit_before_list = commit_before_list;
-  conflict_before_list = conflict_before_list;
-  give_up_before_list = give_up_before_list;
-  refused_list = refused_list;
-  compacted_again = compacted_again;
+  event_not_pending = λ start log id most upto w event events there none right.
+      nothing_reported (store start log) id most upto w event events w.lost none
+      (there_reported (store start log) id most w (Ok (Batch id upto (event ∷ events))) there right);
+  batch_of_lost = λ start log id most watcher upto w events there lost right.
+      let s : Standing = store start log in
+      let reported : Ok (Batch watcher upto events) ≡ reported_if s id most w true =
+      there_reported s id most w (Ok (Batch watcher upto events)) there right ∙ ap (reported_if s id most w) lost in absurd (cc);
+  not_lost = λ start log id most watcher floor w there kept right.
+      let s : Standing = store start log in
+      let reported : Ok (Lost watcher floor) ≡ reported_if s id most w false =
+      there_reported s id most w (Ok (Lost watcher floor)) there right ∙ ap (reported_if s id most w) kept in absurd (cc);
+  fetch_below = λ start log id task key mod_rev of_rev revision runs below right.
+      let fetch = (subst (λ (o : Option Task). RunnerIsRight start log id o (Ok (Fetched id key mod_rev of_rev revision))) runs right).1 in
+      let both : true ≡ false = sym below ∙ fetch.readable in absurd (cc);
+  refused_fetch = λ start log id task key trace cause runs listed wants above right.
+      let ended = (subst (λ (o : Option Task). RunnerIsRight start log id o (Ok (Ended id cause))) runs right).1 in
+      not_refused (situation start log id task) key trace ended.by_store listed wants above ended.refused;
+  list_again = λ start log id task revision reads runs listed right.
+      let list = (is_listed start log id task (Prefetched id revision reads) runs right).1 in
+      let both : true ≡ false = sym list.due ∙ listed in absurd (cc);
+  part_of_list = λ start log id task revision reads runs other right.
+      let list = (is_listed start log id task (Prefetched id revision reads) runs right).1 in
+      other (ap (λ (l : List KeyRead). length l) list.shows ∙ length-map task.program.prefetch (modified_now (store start log).history));
+  read_before_list = λ start log id task key mod_rev of_rev revision runs due right.
+      let fetch = (is_listed start log id task (Fetched id key mod_rev of_rev revision) runs right).1 in
+      let both : true ≡ false = sym due ∙ fetch.has_list in absurd (cc);
+  abort_before_list = λ start log id task text runs due right.
+      let ends = (is_listed start log id task (Aborted id text) runs right).1 in
+      let both : true ≡ false = sym due ∙ ends.has_list in absurd (cc);
+  fault_before_list = λ start log id task fault runs due right.
+      let ends = (is_listed start log id task (Faulted id fault) runs right).1 in
+      let both : true ≡ false = sym due ∙ ends.has_list in absurd (cc);
+  commit_before_list = λ start log id task revision attempts output trace answers runs due right.
+      let commit = (is_listed start log id task (Committed id revision attempts output trace answers) runs right).3 in
+      let both : true ≡ false = sym due ∙ commit.commits.has_list in absurd (cc);
+  conflict_before_list = λ start log id task key seen now_modified runs due right.
+      let conflict = (is_listed start log id task (Conflict id key seen now_modified) runs right).2 in
+      let both : true ≡ false = sym due ∙ conflict.commits.has_list in absurd (cc);
+  give_up_before_list = λ start log id task attempts key seen now_modified runs due right.
+      let conflict = (is_listed start log id task (GaveUp id attempts key seen now_modified) runs right).3 in
+      let both : true ≡ false = sym due ∙ conflict.commits.has_list in absurd (cc);
+  refused_list = λ start log id task cause runs due few right.
+      let ended = (is_listed start log id task (Ended id cause) runs right).1 in
+      none_refused_list (situation start log id task) ended.by_store due few ended.refused;
+  compacted_again = λ start log revision at low right.
+      let s : Standing = store start log in
+      let future = cond (nat_lt (now s.history) revision) (Some FutureRevision) None in
+      let refused : Ok (Compacted at) ≡ reply_to (λ _. Compacted revision) (floor_step (Some CompactedRefusal) (with_floor s revision)) =
+      right ∙ ap (λ b. reply_to (λ _. Compacted revision) (floor_step (cond b (Some CompactedRefusal) future) (with_floor s revision)))
+      (le-leb revision s.floor low) in
+      absurd (cc);
 }

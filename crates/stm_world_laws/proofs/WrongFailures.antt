@@ -20,17 +20,14 @@ use Rattle.stm_program.proofs.WriteLemmas.{bytes_eq-self, or_else, last_write-ap
 use Rattle.stm_program.proofs.LatestLemmas.{latest_writes-last}
 use Rattle.stm_steps.specs.declared.run.End.TheVariants.{Done as DoneEnd}
 use Rattle.stm_steps.specs.declared.run.Run.{Run}
-use Rattle.stm_steps.specs.declared.trace_item.TraceItem.{TraceItem}
 use Rattle.stm_steps.specs.declared.run.Answered.TheVariants.{Ended as EndedRun, Wants}
-use Rattle.stm_meaning.specs.Meaning.{run_over}
 use Rattle.stm_outcome.specs.declared.txn.Compare.{Compare}
 use Rattle.stm_outcome.specs.declared.answer.FailedCompare.{FailedCompare}
 use Rattle.stm_outcome.specs.Compares.{holds}
-use Rattle.stm_outcome.specs.Commits.{revision_read}
 use Rattle.stm_outcome.specs.Laws.{FailsAt}
 use Rattle.stm_outcome.proofs.Applying.{mod_compares, failed_has_its_place}
 use Rattle.stm_program.specs.Levels.{is_serializable}
-use Rattle.stm_compile.specs.Answers.{answer_in, answer_now, state_as_of}
+use Rattle.stm_compile.specs.Answers.{answer_in, answer_now}
 use Rattle.stm_compile.specs.CommitTxn.{first_carried, is_as_read, is_unmodified, compares_of, reread_keys}
 use Rattle.stm_compile.specs.Committed.{conflict_now}
 use Rattle.stm_compile.specs.Conflicts.{Seen, seen_by, seen_of_read, seen_of_write, changes_above}
@@ -307,23 +304,6 @@ fails_as start log failed task runs real =
 one_run : (a b : Run) → EndedRun a ≡ EndedRun b → a ≡ b
 one_run a b same = cc
 
-failure_of_none : (start : Setup) (log : List Line) (failed : FailedCommit) → running failed.runner log ≡ None → IsRealFailure start log failed → ⊥
-failure_of_none start log failed none real = let both : None ≡ Some real.task = sym none ∙ real.runs in absurd (cc)
-
-not_done : (start : Setup) (log : List Line) (task : Task) (failed : FailedCommit) (run : Run) → running failed.runner log ≡ Some task →
-    run_on task.program (reads_of start log failed.runner task) ≡ EndedRun run → run.end ≢ DoneEnd → IsRealFailure start log failed → ⊥
-not_done start log task failed run runs is other real =
-    let f : Fails start log failed task = fails_as start log failed task runs real in
-    other (ap (λ (r : Run). r.end) (one_run run f.run (sym is ∙ f.is_run)) ∙ f.is_done)
-
-still_wants : (start : Setup) (log : List Line) (task : Task) (failed : FailedCommit) (key : List ℕ) (trace : List TraceItem) →
-    running failed.runner log ≡ Some task → run_on task.program (reads_of start log failed.runner task) ≡ Wants key trace →
-    IsRealFailure start log failed → ⊥
-still_wants start log task failed key trace runs wants real =
-    let f : Fails start log failed task = fails_as start log failed task runs real in
-    let both : Wants key trace ≡ EndedRun f.run = sym wants ∙ f.is_run in
-    absurd (cc)
-
 none_at : (h : History) (level : Level) (reads : List ReadAnswer) (writes : List Change) (compare : FailedCompare) → level ≡ ReadCommitted →
     conflict_now h level reads writes ≡ Some compare → ⊥
 none_at h level reads writes compare is fails =
@@ -331,27 +311,12 @@ none_at h level reads writes compare is fails =
     subst (λ (l : Level). conflict_now h l reads writes ≡ Some compare) is fails in
     absurd (cc)
 
-not_compared : (start : Setup) (log : List Line) (task : Task) (failed : FailedCommit) → running failed.runner log ≡ Some task →
-    task.level ≡ ReadCommitted → IsRealFailure start log failed → ⊥
-not_compared start log task failed runs level real =
-    let f : Fails start log failed task = fails_as start log failed task runs real in
-    none_at (store start log).history task.level (reads_of start log failed.runner task) (latest_writes f.run.writes) f.named.compare level f.named.fails
-
 -- a key that has no answer was not read
 unread : (h : History) (reads : List ReadAnswer) (key : List ℕ) (seen : Seen) → key ≡ seen.key → answer_in key reads ≡ None → IsOfRead h reads seen → ⊥
 unread h reads key seen same none of =
     let some : is_some (answer_in key reads) ≡ true = ap (λ (k : List ℕ). is_some (answer_in k reads)) same ∙ of.was_read in
     let no : is_some (answer_in key reads) ≡ false = ap (λ (o : Option ReadAnswer). is_some o) none in
     absurd (cc)
-
-never_read : (start : Setup) (log : List Line) (task : Task) (failed : FailedCommit) → running failed.runner log ≡ Some task →
-    task.level ≢ SerializableSnapshot → answer_in failed.key (reads_of start log failed.runner task) ≡ None → IsRealFailure start log failed → ⊥
-never_read start log task failed runs level none real =
-    let f : Fails start log failed task = fails_as start log failed task runs real in
-    let h : History = (store start log).history in
-    let reads : List ReadAnswer = reads_of start log failed.runner task in
-    unread h reads failed.key f.named.conflict.seen f.named.key none
-    (of_level h task.level reads (latest_writes f.run.writes) f.named.compare f.named.conflict.seen level f.named.fails f.named.conflict.about)
 
 untouched : (h : History) (reads : List ReadAnswer) (writes : List Change) (key : List ℕ) (seen : Seen) → key ≡ seen.key → answer_in key reads ≡ None →
     is_written key writes ≡ false → IsOfRead h reads seen ⊎ IsOfWrite h (latest_writes writes) seen → ⊥
@@ -361,52 +326,12 @@ untouched h reads writes key seen same none unwritten (inr of) =
     ap is_some (sym (latest_writes-last writes key)) ∙ ap (λ (k : List ℕ). is_written k (latest_writes writes)) same ∙ of.was_written in
     absurd (cc)
 
-never_touched : (start : Setup) (log : List Line) (task : Task) (failed : FailedCommit) (run : Run) → running failed.runner log ≡ Some task →
-    run_on task.program (reads_of start log failed.runner task) ≡ EndedRun run → answer_in failed.key (reads_of start log failed.runner task) ≡ None →
-    is_written failed.key run.writes ≡ false → IsRealFailure start log failed → ⊥
-never_touched start log task failed run runs is none unwritten real =
-    let f : Fails start log failed task = fails_as start log failed task runs real in
-    let h : History = (store start log).history in
-    let reads : List ReadAnswer = reads_of start log failed.runner task in
-    let same : run ≡ f.run = one_run run f.run (sym is ∙ f.is_run) in
-    untouched h reads f.run.writes failed.key f.named.conflict.seen f.named.key none (ap (λ (r : Run). is_written failed.key r.writes) (sym same) ∙ unwritten)
-    (touched h task.level reads (latest_writes f.run.writes) f.named.compare f.named.conflict.seen f.named.fails f.named.conflict.about)
-
 other_number : (h : History) (reads : List ReadAnswer) (writes : List Change) (seen : Seen) → IsOfRead h reads seen ⊎ IsOfWrite h writes seen →
     mod_of (key_now h seen.key) ≢ seen.mod_rev
 other_number h reads writes seen (inl of) = of.differs
 other_number h reads writes seen (inr of) = of.differs
 
-as_it_was : (start : Setup) (log : List Line) (failed : FailedCommit) → failed.now_modified ≡ failed.seen → IsRealFailure start log failed → ⊥
-as_it_was start log failed equal real =
-    let h : History = (store start log).history in
-    let reads : List ReadAnswer = reads_of start log failed.runner real.task in
-    let writes : List Change = latest_writes real.run.writes in
-    let c : NamesAConflict h real.task.level reads writes failed = real.named in
-    other_number h reads writes c.conflict.seen (touched h real.task.level reads writes c.compare c.conflict.seen c.fails c.conflict.about)
-    (sym c.conflict.reported ∙ sym c.is ∙ equal ∙ c.was)
-
-not_above : (start : Setup) (log : List Line) (failed : FailedCommit) → 0 < failed.now_modified → failed.now_modified ≤ failed.seen →
-    IsRealFailure start log failed → ⊥
-not_above start log failed present below real =
-    let h : History = (store start log).history in
-    let reads : List ReadAnswer = reads_of start log failed.runner real.task in
-    let writes : List Change = latest_writes real.run.writes in
-    let c : NamesAConflict h real.task.level reads writes failed = real.named in
-    let seen : Seen = c.conflict.seen in
-    let small : seen.mod_rev ≤ seen.at =
-    seen_at_index IsSeenSmall (seen_by reads writes) c.compare.index seen
-    (seen_small reads writes (reported_small start failed.runner real.task log).0) c.conflict.about in
-    let is : failed.now_modified ≡ mod_of (key_now h seen.key) = c.is ∙ c.conflict.reported in
-    let above : seen.at < mod_of (key_now h seen.key) =
-    modified_above h.opening seen.at seen.key h.revisions c.conflict.changed (subst (λ n. 0 < n) is present) in
-    let was : failed.seen ≡ seen.mod_rev = c.was in
-    omega (arith, small, above, is, was, below)
-
 -- ---- ends ----
-
-stop_of_none : (start : Setup) (log : List Line) (stopped : Stopped) → running stopped.runner log ≡ None → IsRealStop start log stopped → ⊥
-stop_of_none start log stopped none real = let both : None ≡ Some real.task = sym none ∙ real.runs in absurd (cc)
 
 -- the end of a runner with this task at a serializable level
 ends_as : (start : Setup) (log : List Line) (stopped : Stopped) (task : Task) → running stopped.runner log ≡ Some task → is_serializable task.level ≡ true →
@@ -421,32 +346,53 @@ shows_base [] key a one found = absurd (cc)
 shows_base (first ∷ rest) key a one found =
     found_all (λ (b : ReadAnswer). b.of_rev ≡ first.of_rev) key (first ∷ rest) a (refl, all_show first.of_rev rest one.1) found
 
-torn_read : (start : Setup) (log : List Line) (task : Task) (stopped : Stopped) (key other : List ℕ) (a b : ReadAnswer) →
-    running stopped.runner log ≡ Some task → is_serializable task.level ≡ true → answer_in key (reads_of start log stopped.runner task) ≡ Some a →
-    answer_in other (reads_of start log stopped.runner task) ≡ Some b → a.of_rev ≢ b.of_rev → IsRealStop start log stopped → ⊥
-torn_read start log task stopped key other a b runs serializable one two differ real =
-    let e = ends_as start log stopped task runs serializable real in
-    let reads : List ReadAnswer = reads_of start log stopped.runner task in
-    differ (shows_base reads key a e.state.one_revision one ∙ sym (shows_base reads other b e.state.one_revision two))
-
-another_end : (start : Setup) (log : List Line) (task : Task) (stopped : Stopped) (run : Run) → running stopped.runner log ≡ Some task →
-    is_serializable task.level ≡ true →
-    run_over (state_as_of (store start log).history (revision_read (store start log).history (base_of (reads_of start log stopped.runner task))))
-    task.program.statements ≡ EndedRun run → run.end ≢ stopped.end → IsRealStop start log stopped → ⊥
-another_end start log task stopped run runs serializable is other real =
-    let e = ends_as start log stopped task runs serializable real in
-    other (ap (λ (r : Run). r.end) (one_run run e.run (sym is ∙ e.alone)) ∙ e.ends)
-
 pub wrong_failures : FailuresMoveOn → WrongFailures
 wrong_failures moves_on = record {
-  failure_of_none = failure_of_none;
-  not_done = not_done;
-  still_wants = still_wants;
-  not_compared = not_compared;
-  never_read = never_read;
-  never_touched = never_touched;
-  as_it_was = as_it_was;
-  not_above = not_above;
+  failure_of_none = λ start log failed none real. let both : None ≡ Some real.task = sym none ∙ real.runs in absurd (cc);
+  not_done = λ start log task failed run runs is other real.
+      let f : Fails start log failed task = fails_as start log failed task runs real in
+      other (ap (λ (r : Run). r.end) (one_run run f.run (sym is ∙ f.is_run)) ∙ f.is_done);
+  still_wants = λ start log task failed key trace runs wants real.
+      let f : Fails start log failed task = fails_as start log failed task runs real in
+      let both : Wants key trace ≡ EndedRun f.run = sym wants ∙ f.is_run in
+      absurd (cc);
+  not_compared = λ start log task failed runs level real.
+      let f : Fails start log failed task = fails_as start log failed task runs real in
+      none_at (store start log).history task.level (reads_of start log failed.runner task) (latest_writes f.run.writes) f.named.compare level f.named.fails;
+  never_read = λ start log task failed runs level none real.
+      let f : Fails start log failed task = fails_as start log failed task runs real in
+      let h : History = (store start log).history in
+      let reads : List ReadAnswer = reads_of start log failed.runner task in
+      unread h reads failed.key f.named.conflict.seen f.named.key none
+      (of_level h task.level reads (latest_writes f.run.writes) f.named.compare f.named.conflict.seen level f.named.fails f.named.conflict.about);
+  never_touched = λ start log task failed run runs is none unwritten real.
+      let f : Fails start log failed task = fails_as start log failed task runs real in
+      let h : History = (store start log).history in
+      let reads : List ReadAnswer = reads_of start log failed.runner task in
+      let same : run ≡ f.run = one_run run f.run (sym is ∙ f.is_run) in
+      untouched h reads f.run.writes failed.key f.named.conflict.seen f.named.key none (ap (λ (r : Run). is_written failed.key r.writes) (sym same) ∙ unwritten)
+      (touched h task.level reads (latest_writes f.run.writes) f.named.compare f.named.conflict.seen f.named.fails f.named.conflict.about);
+  as_it_was = λ start log failed equal real.
+      let h : History = (store start log).history in
+      let reads : List ReadAnswer = reads_of start log failed.runner real.task in
+      let writes : List Change = latest_writes real.run.writes in
+      let c : NamesAConflict h real.task.level reads writes failed = real.named in
+      other_number h reads writes c.conflict.seen (touched h real.task.level reads writes c.compare c.conflict.seen c.fails c.conflict.about)
+      (sym c.conflict.reported ∙ sym c.is ∙ equal ∙ c.was);
+  not_above = λ start log failed present below real.
+      let h : History = (store start log).history in
+      let reads : List ReadAnswer = reads_of start log failed.runner real.task in
+      let writes : List Change = latest_writes real.run.writes in
+      let c : NamesAConflict h real.task.level reads writes failed = real.named in
+      let seen : Seen = c.conflict.seen in
+      let small : seen.mod_rev ≤ seen.at =
+      seen_at_index IsSeenSmall (seen_by reads writes) c.compare.index seen
+      (seen_small reads writes (reported_small start failed.runner real.task log).0) c.conflict.about in
+      let is : failed.now_modified ≡ mod_of (key_now h seen.key) = c.is ∙ c.conflict.reported in
+      let above : seen.at < mod_of (key_now h seen.key) =
+      modified_above h.opening seen.at seen.key h.revisions c.conflict.changed (subst (λ n. 0 < n) is present) in
+      let was : failed.seen ≡ seen.mod_rev = c.was in
+      omega (arith, small, above, is, was, below);
   more_failures_than_growth = λ start events log id task low begins below is.
       let run = moves_on start events in
       let same : run.0 ≡ log = one_log events (replies_to events (opened start)) run.0 log run.1 is in
@@ -454,9 +400,14 @@ wrong_failures moves_on = record {
       let reached = subst (λ (l : List Line). since start id l + failed_commits id l ≤ now (store start l).history) same
       (run.2 id task low begins_there) in
       omega (arith, reached, below);
-  stop_of_none = stop_of_none;
-  torn_read = torn_read;
-  another_end = another_end;
+  stop_of_none = λ start log stopped none real. let both : None ≡ Some real.task = sym none ∙ real.runs in absurd (cc);
+  torn_read = λ start log task stopped key other a b runs serializable one two differ real.
+      let e = ends_as start log stopped task runs serializable real in
+      let reads : List ReadAnswer = reads_of start log stopped.runner task in
+      differ (shows_base reads key a e.state.one_revision one ∙ sym (shows_base reads other b e.state.one_revision two));
+  another_end = λ start log task stopped run runs serializable is other real.
+      let e = ends_as start log stopped task runs serializable real in
+      other (ap (λ (r : Run). r.end) (one_run run e.run (sym is ∙ e.alone)) ∙ e.ends);
 }
 
 -- ---- entries that are appended ----

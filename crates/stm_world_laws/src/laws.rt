@@ -34,7 +34,6 @@ pub fn stops_are_of_one_state()
 /// that is not lost is reported as lost; a step fetches at a base that is compacted, or the store refuses one that is not; a list is fetched again or
 /// in part, or is refused though the store takes it, or a program reads, commits, fails or ends before its list is read; a compaction at or below the
 /// floor is taken.
-#[tactic(auto, using(crate::proofs::Wrong::wrong_logs))]
 pub fn wrong_logs_are_none()
     ensures { WrongLogs }
 {}
@@ -51,7 +50,6 @@ pub fn wrong_failures_are_none()
 
 /// Some worlds to which no events lead from an earlier one: an entry that was there is gone, or is another; the history or the live
 /// leases have changed, and no entry says so.
-#[tactic(auto, using(crate::proofs::WrongFailures::wrong_runs))]
 pub fn wrong_runs_are_none()
     ensures { WrongRuns }
 {}

@@ -4,7 +4,7 @@ ghost use Rattle.std.specs.Prelude.{◌≡◌, false};
 use crate::files::{Opened, open};
 use crate::noting::Noting;
 use crate::sources::JsonFile;
-use crate::terminals::{close, shown_budget};
+use crate::terminals::{Told, close, shown_budget};
 use std::io;
 use std::io::Input;
 use std::rt::Files;
@@ -106,7 +106,7 @@ pub(crate) fn run_rule(
     rule: &JsonFile<'_>,
     waits: &[Wait],
     level: Option<Level>,
-    budget: u64,
+    budget: Told<'_>,
 ) -> u8 {
     let mut scenario = kept_json(rt, scenario);
     let mut rule = kept_json(rt, rule);
@@ -135,7 +135,7 @@ pub(crate) fn run_outcomes(
     rt: &HostRuntime,
     scenario: &JsonFile<'_>,
     level: Option<Level>,
-    budget: u64,
+    budget: Told<'_>,
 ) -> u8 {
     let mut scenario = kept_json(rt, scenario);
     let mut out = Std::new(Noting::new(rt.stdout()));

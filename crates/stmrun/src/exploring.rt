@@ -1,13 +1,14 @@
 //! The command `explore` on the files of paths.
 
 use crate::explaining;
+use crate::resuming::run_source;
 use crate::rules::{is_json, named_in, rules_named, rules_of, unnamed_rule};
-use crate::ruling::run_rules;
-use crate::sources::{JsonFile, say_unasked, source_at};
-use crate::terminals::{close, shown_budget};
+use crate::ruling::{Question, run_rules};
+use crate::sources::{JsonFile, SourceText, say_unasked, source_at, text_at};
+use crate::terminals::{Told, close, shown_budget};
 use crate::waits::{read_waits, refuse_without_rule};
 use std::slice;
-use stm_arguments::Levels;
+use stm_arguments::{ExploreWords, Levels};
 use stm_commands::Std;
 use stm_compiling::{Beside, Rule as SourceRule, Wait as SourceWait};
 use stm_exploring::{Level, Rule, Wait, explore_to, outcomes_to};
@@ -23,10 +24,12 @@ pub(crate) struct Search<'a> {
     pub(crate) after: Option<&'a str>,
     /// The levels at which the starts are taken.
     pub(crate) levels: Levels,
-    /// At most so many events are taken.
-    pub(crate) budget: u64,
+    /// At most so many events are taken, and the runners are named so.
+    pub(crate) told: Told<'a>,
     /// Whether a fault is explained.
     pub(crate) explain: bool,
+    /// The source of the scenario, where it has one.
+    pub(crate) source: Option<&'a SourceText>,
 }
 
 /// Looks through the interleavings of a scenario for one that breaks the rule of a file, at a level, or at each start's own.
@@ -39,13 +42,13 @@ fn run_rule(
     level: Option<Level>,
 ) -> u8 {
     if search.explain {
-        return explaining::run_rule(rt, scenario, rule, waits, level, search.budget);
+        return explaining::run_rule(rt, scenario, rule, waits, level, search.told);
     }
     let mut scenario = Std::new(scenario.open(rt));
     let mut rule = Std::new(rule.open(rt));
     let mut out = Std::new(rt.stdout());
     let mut err = Std::new(rt.stderr());
-    let mut budget = shown_budget(rt, search.budget, false);
+    let mut budget = shown_budget(rt, search.told, false);
     let status = explore_to(
         rt.alloc(),
         &mut scenario,
@@ -68,13 +71,20 @@ fn ask(
     rules: &[Rule],
     waits: &[Wait],
 ) -> u8 {
-    let Search {
-        levels,
-        budget,
-        explain,
-        ..
-    } = *search;
-    run_rules(rt, scenario, rules, waits, levels, budget, explain)
+    let question = Question {
+        scenario,
+        rules,
+        waits,
+        told: search.told,
+    };
+    let explain = search.explain;
+    match (search.source, search.levels) {
+        (Some(source), Levels::Own) => run_source(rt, &question, source, None, explain),
+        (Some(source), Levels::One(level)) => {
+            run_source(rt, &question, source, Some(level), explain)
+        }
+        (_, levels) => run_rules(rt, &question, levels, explain),
+    }
 }
 
 /// Goes through the interleavings of a scenario, at a level, or at each start's own.
@@ -85,12 +95,12 @@ fn run_outcomes(
     level: Option<Level>,
 ) -> u8 {
     if search.explain {
-        return explaining::run_outcomes(rt, scenario, level, search.budget);
+        return explaining::run_outcomes(rt, scenario, level, search.told);
     }
     let mut scenario = Std::new(scenario.open(rt));
     let mut out = Std::new(rt.stdout());
     let mut err = Std::new(rt.stderr());
-    let mut budget = shown_budget(rt, search.budget, false);
+    let mut budget = shown_budget(rt, search.told, false);
     let status = outcomes_to(
         rt.alloc(),
         &mut scenario,
@@ -213,15 +223,39 @@ fn has_one_input(path: &str, words: &[&str]) -> bool {
 
 /// Looks through the interleavings of a path's scenario for one that breaks a rule, one that words name, or where there are none one of its source, or
 /// where that has none for what they come to. Only one of the scenario and the rules can be standard input.
-pub(crate) fn run_search(rt: &HostRuntime, search: &Search<'_>) -> Result<u8, u8> {
-    if !has_one_input(search.path, search.keeps) {
+pub(crate) fn run_search(
+    rt: &HostRuntime,
+    words: &ExploreWords<'_>,
+    explain: bool,
+) -> Result<u8, u8> {
+    if !has_one_input(words.scenario, words.keeps.as_slice()) {
         let _ = rt.eprintln("stmrun: standard input can be only one of SCENARIO and PROGRAM");
         return Err(2);
     }
-    let (scenario, beside) = source_at(rt, search.path, search.explain)?;
+    let (scenario, beside) = source_at(rt, words.scenario, explain)?;
+    let text = match scenario {
+        JsonFile::Compiled(_, _) => text_at(rt, words.scenario, &beside),
+        JsonFile::Json(_) => None,
+    };
+    let runners = match &text {
+        Some(text) => text.runners.as_slice(),
+        None => &[],
+    };
+    let search = Search {
+        path: words.scenario,
+        keeps: words.keeps.as_slice(),
+        after: words.after,
+        levels: words.levels,
+        told: Told {
+            events: words.budget,
+            runners,
+        },
+        explain,
+        source: text.as_ref(),
+    };
     if search.keeps.is_empty() {
-        search_own(rt, search, &scenario, beside)
+        search_own(rt, &search, &scenario, beside)
     } else {
-        search_named(rt, search, &scenario, &beside)
+        search_named(rt, &search, &scenario, &beside)
     }
 }

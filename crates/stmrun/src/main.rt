@@ -11,7 +11,9 @@ mod auditing;
 mod explaining;
 mod exploring;
 mod files;
+mod naming;
 mod noting;
+mod resuming;
 mod rules;
 mod ruling;
 mod sources;
@@ -22,7 +24,7 @@ mod waits;
 
 use auditing::run_audit;
 use explaining::{name_of, say_unread, say_unwritten};
-use exploring::{Search, run_search};
+use exploring::run_search;
 use files::open;
 use noting::Noting;
 use sources::{JsonFile, run_compile, scenario_at};
@@ -111,15 +113,7 @@ fn run_check(rt: &HostRuntime, words: &CheckWords<'_>, explain: bool) -> u8 {
 
 /// Looks through the interleavings of a scenario, and gives the status.
 fn run_explore(rt: &HostRuntime, words: &ExploreWords<'_>, explain: bool) -> u8 {
-    let wanted = Search {
-        path: words.scenario,
-        keeps: words.keeps.as_slice(),
-        after: words.after,
-        levels: words.levels,
-        budget: words.budget,
-        explain,
-    };
-    match run_search(rt, &wanted) {
+    match run_search(rt, words, explain) {
         Ok(status) => status,
         Err(status) => status,
     }

@@ -19,6 +19,12 @@ impl<D> Noting<D> {
             failure: None,
         }
     }
+
+    /// The reader or the writer.
+    pub(crate) fn into_device(self) -> D {
+        let Noting { device, .. } = self;
+        device
+    }
 }
 
 impl<R: Read> Read for Noting<R> {

@@ -8,8 +8,10 @@ use std::io::Input;
 use std::rt::Files;
 use stm_commands::Std;
 use stm_compiling::{
-    Beside, Compiled, Part, Rule, Wait, compile_to, compiled, compiled_part, notes_of,
+    Beside, Compiled, NamedRunner, Part, Rule, Wait, compile_to, compiled, compiled_part,
+    named_runners, notes_of,
 };
+use stm_devices::read_all;
 use stm_history::{Sequence, Text};
 
 /// What the names of sources end in.
@@ -91,6 +93,24 @@ pub(crate) fn source_at<'a>(
     let Compiled { line, beside } = compiled_at(rt, path, explain)?;
     let scenario = line_of(rt, path, line)?;
     Ok((scenario, beside))
+}
+
+/// A source as people read it.
+#[derive(Drop)]
+pub(crate) struct SourceText {
+    /// Its text.
+    pub(crate) text: String,
+    /// The runners that it names.
+    pub(crate) runners: Vec<NamedRunner>,
+}
+
+/// The text of the source of a path, which has this beside its scenario; none, where it cannot be read again.
+pub(crate) fn text_at(rt: &HostRuntime, path: &str, beside: &Beside) -> Option<SourceText> {
+    let mut input = Std::new(open(rt, path));
+    let bytes = read_all(rt.alloc(), &mut input).ok()?;
+    let runners = named_runners(rt.alloc(), bytes.as_slice(), beside).ok()?;
+    let text = String::from_utf8(bytes).ok()?;
+    Some(SourceText { text, runners })
 }
 
 /// The rules of the source of a path; or the status, once what is wrong with it was said. It is explained, or is not.

@@ -1,18 +1,22 @@
 //! The commands over a store that is kept in a file.
-ghost use Rattle.std.specs.Prelude.{◌≡◌, List, ℕ, IfOk, IsTrue};
+ghost use Rattle.std.specs.Prelude.{◌≡◌, List, ℕ, Ok as OkOf, IfOk, IsTrue};
 ghost use Rattle.stm_file_disk.specs.Event.{events_of};
 ghost use Rattle.stm_file_disk.specs.Replay.{replay};
+ghost use Rattle.stm_texts.specs.Opens.{IsOpening};
+ghost use Rattle.stm_texts.specs.Reading.{scenario_in};
 
-use crate::explaining::{name_of, say_unread, say_unwritten};
+use crate::explaining::{kept_json, name_of, say_unread, say_unwritten};
 use crate::noting::Noting;
 use crate::sources::{JsonFile, is_source, out_of_memory, program_at, scenario_at};
 use std::fs;
 use stm_arguments::{RunWords, ScriptWords, Shown, StoreWords, Which};
-use stm_commands::{Format, Std};
+use stm_commands::{Format, KeptSource, Std};
+use stm_explain::Input;
 use stm_file_disk::{FileDisk, open};
 use stm_storing::{
-    HIGHEST_REVISION, Manner, Program, RecordFile, StoreFault, Text, Watched, check_kept,
-    read_input, read_program, run_anew, run_kept, script_kept, show_at, show_kept, show_since,
+    HIGHEST_REVISION, InputFault, Manner, Program, RecordFile, Scenario, StoreFault, Text, Watched,
+    check_kept, read_input, read_program, run_anew, run_kept, script_kept, show_at, show_kept,
+    show_since,
 };
 
 /// Says of the file of a store why a command failed, and gives the status.
@@ -74,6 +78,67 @@ fn format_of(rt: &HostRuntime, word: Option<&str>) -> Result<Format, u8> {
     }
 }
 
+/// Says why an input was not read, and gives the status. A text that is none is called this, and is explained, or is not.
+fn say_input<S>(
+    rt: &HostRuntime,
+    what: &'static str,
+    form: Input,
+    input: &KeptSource<'_, S>,
+    fault: &InputFault,
+    explain: bool,
+) -> u8 {
+    match fault {
+        InputFault::OutOfMemory => out_of_memory(rt),
+        InputFault::Device => {
+            let _ = rt.eprintln("stmrun: device fault");
+            3
+        }
+        InputFault::Bad(bad) => {
+            let place = bad.place.as_str();
+            let cause = bad.cause.name();
+            let _ = eprintln!(rt; "stmrun: bad {what} at {place}: {cause}");
+            if explain {
+                let more = input.explanation(rt.alloc(), form, bad);
+                let _ = rt.eprint(more.as_str());
+            }
+            2
+        }
+    }
+}
+
+/// The text of a scenario, and the scenario; or the status, once it was said why there is none.
+fn scenario_of(
+    rt: &HostRuntime,
+    file: &JsonFile<'_>,
+    explain: bool,
+) -> Result<(Vec<u8>, Scenario), u8>
+    ensures spelled { IfOk result (λ read. scenario_in read.0.items ≡ OkOf read.1) }
+    ensures opening { IfOk result (λ read. IsOpening read.1.opening) }
+{
+    let mut input = kept_json(rt, file);
+    let read = match read_input(rt.alloc(), &mut input) {
+        Ok(read) => Ok(read),
+        Err(fault) => Err(say_input(rt, "scenario", Input::Scenario, &input, &fault, explain)),
+    };
+    say_unread(rt, input.name, input.source.device.failure);
+    read
+}
+
+/// The text of a program, and the program; or the status, once it was said why there is none.
+fn program_in(
+    rt: &HostRuntime,
+    file: &JsonFile<'_>,
+    explain: bool,
+) -> Result<(Vec<u8>, Program), u8> {
+    let mut input = kept_json(rt, file);
+    let read = match read_program(rt.alloc(), &mut input) {
+        Ok(read) => Ok(read),
+        Err(fault) => Err(say_input(rt, "program", Input::Program, &input, &fault, explain)),
+    };
+    say_unread(rt, input.name, input.source.device.failure);
+    read
+}
+
 /// Goes on with the scenario of a path, or that on standard input, over the store of a file.
 fn run_script(
     rt: &HostRuntime,
@@ -83,11 +148,7 @@ fn run_script(
 ) -> Result<(), u8> {
     let format = format_of(rt, words.format)?;
     let file = scenario_at(rt, words.scenario.unwrap_or("-"), explain)?;
-    let mut input = Std::new(Noting::new(file.open(rt)));
-    let mut err = Std::new(rt.stderr());
-    let read = read_input(rt.alloc(), &mut input, &mut err);
-    say_unread(rt, file.name(), input.device.failure);
-    let (text, scenario) = read?;
+    let (text, scenario) = scenario_of(rt, &file, explain)?;
     let (mut records, bytes) = opened(rt, store)?;
     let mut out = Std::new(Noting::new(rt.stdout()));
     let kept = script_kept(format, &mut records, bytes, &text, &scenario, &mut out);
@@ -128,12 +189,9 @@ fn run_program(
     store: &str,
     file: &JsonFile<'_>,
     manner: Manner,
+    explain: bool,
 ) -> Result<(), u8> {
-    let mut input = Std::new(Noting::new(file.open(rt)));
-    let mut err = Std::new(rt.stderr());
-    let read = read_program(rt.alloc(), &mut input, &mut err);
-    say_unread(rt, file.name(), input.device.failure);
-    let (text, program) = read?;
+    let (text, program) = program_in(rt, file, explain)?;
     if is_missing(rt, store) && !would_commit(rt, store, &program, manner)? {
         return Err(1);
     }
@@ -175,7 +233,7 @@ fn run_words(rt: &HostRuntime, words: &RunWords<'_>, explain: bool) -> Result<()
         attempts: words.attempts,
     };
     let file = program_of(rt, words, explain)?;
-    run_program(rt, words.store, &file, manner)
+    run_program(rt, words.store, &file, manner, explain)
 }
 
 /// Prints what the store of a file has.

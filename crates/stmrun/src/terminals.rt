@@ -1,8 +1,10 @@
 //! What is shown on a terminal, and said on standard error, of a search.
 ghost use Rattle.std.specs.Prelude.{◌≡◌};
 
+use crate::naming::with_name;
 use std::io::{IsTerminal, Stderr};
 use std::time::Clock;
+use stm_compiling::NamedRunner;
 use stm_exploring::{Audience, Budget, Observer, ProgressLine, ProgressNotes};
 
 /// Standard error, if it is a terminal.
@@ -48,6 +50,13 @@ impl<C: Clock> Observer for Progress<'_, C> {
     }
 }
 
+/// How many events a search may take, and the runners that its scenario names.
+#[derive(Clone, Copy)]
+pub(crate) struct Told<'a> {
+    pub(crate) events: u64,
+    pub(crate) runners: &'a [NamedRunner],
+}
+
 /// What is said on standard error of a search: how far it is, and at its end how its programs ended.
 #[derive(Drop)]
 pub(crate) struct SearchLines<'a> {
@@ -55,6 +64,8 @@ pub(crate) struct SearchLines<'a> {
     progress: Progress<'a, HostRuntime>,
     /// Whether it is said of each runner how it ended, and not only of those that never committed.
     explain: bool,
+    /// The runners that the scenario names.
+    runners: &'a [NamedRunner],
 }
 
 impl Observer for SearchLines<'_> {
@@ -77,7 +88,9 @@ impl Audience for SearchLines<'_> {
     }
 
     fn hear(&mut self, line: &str) {
-        let _ = eprintln!(self.rt; "stmrun: {line}");
+        if let Ok(line) = with_name(self.rt.alloc(), self.runners, line) {
+            let _ = eprintln!(self.rt; "stmrun: {line}");
+        }
     }
 }
 
@@ -91,15 +104,21 @@ fn progress_of(rt: &HostRuntime, events: u64) -> Progress<'_, HostRuntime> {
 
 /// The events that a search may take. How far it is, is said on standard error, and at its end which runners never committed; how each runner
 /// ended, where faults are explained.
-pub(crate) fn shown_budget(rt: &HostRuntime, events: u64, explain: bool) -> Budget<SearchLines<'_>>
-    ensures { result.left ≡ events }
+pub(crate) fn shown_budget<'a>(
+    rt: &'a HostRuntime,
+    told: Told<'a>,
+    explain: bool,
+) -> Budget<SearchLines<'a>>
+    ensures { result.left ≡ told.entry.events }
 {
+    let Told { events, runners } = told;
     Budget {
         left: events,
         observer: SearchLines {
             rt,
             progress: progress_of(rt, events),
             explain,
+            runners,
         },
     }
 }

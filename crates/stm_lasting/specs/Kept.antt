@@ -9,6 +9,9 @@ use Rattle.stm_texts.specs.declared.scenario.Scenario.{Scenario}
 use Rattle.stm_texts.specs.Opens.{setup_of}
 use Rattle.stm_texts.specs.Reading.{scenario_in}
 use Rattle.stm_world.specs.World.{World, opened, world_after}
+use Rattle.stm_world.specs.Restored.{restored_world}
+use Rattle.stm_txn.specs.Restored.{Checkpoint}
+use Rattle.stm_lasting.specs.CheckpointText.{checkpoint_in}
 use Rattle.stm_frames.specs.Frame.{log, Opens}
 use Rattle.stm_records.specs.RecordFiles.{NoChance}
 
@@ -27,10 +30,16 @@ abbrev pub begun : Outcome Scenario → Option World
 begun (Ok scenario) = Some (world_after scenario.events (opened (setup_of scenario.opening)))
 begun (Err fault) = None
 
--- The world that records lead to. No records lead to one with an empty store at revision 1; where a record spells no scenario, they lead to none.
+-- the world that the first record leads to: that of the checkpoint that it spells, or else the one after its scenario
+abbrev pub first_world : Option Checkpoint → Outcome Scenario → Option World
+first_world (Some c) read = Some (restored_world c)
+first_world None read = begun read
+
+-- The world that records lead to. No records lead to one with an empty store at revision 1; where a record spells no scenario, they lead to none. The first
+-- one may be a checkpoint.
 abbrev pub world_in : List (List ℕ) → Option World
 world_in [] = Some (opened (at_revision 1))
-world_in (first ∷ texts) = option_and_then (led texts) (begun (scenario_in first))
+world_in (first ∷ texts) = option_and_then (led texts) (first_world (checkpoint_in first) (scenario_in first))
 
 -- the file has these records and nothing else, and they lead to this world
 pub record IsKept (file : List ℕ) (world : World) : Type 0 where
@@ -64,3 +73,9 @@ IsReady file world scenario =
 abbrev pub IsWorldBeforeOrAfter : List ℕ → List ℕ → World → List ℕ → Type 0
 IsWorldBeforeOrAfter file text after c =
     (before : World) → IsKept file before → NoChance file text c → OpensTo c before ⊎ OpensTo c after
+
+-- The file was written anew as a checkpoint of the world that it led to, which has no runner and no watcher: what a crash leaves opens to that world, or to
+-- the one of the checkpoint, which shows the same from its floor on.
+abbrev pub IsWorldOrItsCheckpoint : List ℕ → Checkpoint → List ℕ → Type 0
+IsWorldOrItsCheckpoint file checkpoint c =
+    (before : World) → IsKept file before → OpensTo c before ⊎ OpensTo c (restored_world checkpoint)

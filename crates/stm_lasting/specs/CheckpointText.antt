@@ -1,11 +1,12 @@
--- Which texts are checkpoints:
--- ["kept",BELOW,MOMENT,OPERATIONS,[[KEY,VALUE,CREATE,MOD,VERSION,LEASE],..],[[LEASE,TTL,RENEWED],..],[CHANGE,..]]
--- with a CHANGE as an operation of a transaction is spelled, ["put",KEY,VALUE,LEASE] or ["del",KEY].
+-- Which texts begin with a checkpoint, on a line of its own:
+-- ["kept",REVISION,MOMENT,OPERATIONS,[[KEY,VALUE,CREATE,MOD,VERSION,LEASE],..],[[LEASE,TTL,RENEWED],..]]
+-- Behind it stands a scenario: the transaction of the floor's own revision, and the compaction there.
 --
--- To be written as stm_texts' reading is: a function of the data (`data_of bytes`), None where it is anything else, or what no store can come back from
--- (`CanRestore` as a Bool, is_restorable). A text that is none is read as a scenario.
+-- To be written as the reading of stm_texts is: a function of the data of the first line, None where it is anything else, or where no store can open so
+-- (`CanRestore`).
 use Rattle.std.specs.Prelude.{ℕ, List, Option}
-use Rattle.stm_txn.specs.Restored.{Checkpoint}
+use Rattle.stm_txn.specs.declared.restored.Checkpoint.{Checkpoint}
 
-pub checkpoint_in : List ℕ → Option Checkpoint
+-- the checkpoint, and the text behind its line
+pub checkpoint_in : List ℕ → Option (Checkpoint × List ℕ)
 checkpoint_in bytes = ?

@@ -9,8 +9,8 @@ use Rattle.stm_texts.specs.declared.scenario.Scenario.{Scenario}
 use Rattle.stm_texts.specs.Opens.{setup_of}
 use Rattle.stm_texts.specs.Reading.{scenario_in}
 use Rattle.stm_world.specs.World.{World, opened, world_after}
-use Rattle.stm_world.specs.Restored.{restored_world}
-use Rattle.stm_txn.specs.Restored.{Checkpoint}
+use Rattle.stm_world.specs.Restored.{restored_world, ShowTheSameFrom}
+use Rattle.stm_txn.specs.declared.restored.Checkpoint.{Checkpoint}
 use Rattle.stm_lasting.specs.CheckpointText.{checkpoint_in}
 use Rattle.stm_frames.specs.Frame.{log, Opens}
 use Rattle.stm_records.specs.RecordFiles.{NoChance}
@@ -30,16 +30,16 @@ abbrev pub begun : Outcome Scenario → Option World
 begun (Ok scenario) = Some (world_after scenario.events (opened (setup_of scenario.opening)))
 begun (Err fault) = None
 
--- the world that the first record leads to: that of the checkpoint that it spells, or else the one after its scenario
-abbrev pub first_world : Option Checkpoint → Outcome Scenario → Option World
-first_world (Some c) read = Some (restored_world c)
-first_world None read = begun read
+-- The world that the first record leads to: after the scenario that stands behind its checkpoint, or else after the scenario that it is.
+abbrev pub first_world : Option (Checkpoint × List ℕ) → List ℕ → Option World
+first_world None text = begun (scenario_in text)
+first_world (Some kept) text = taken (restored_world kept.0) (scenario_in kept.1)
 
 -- The world that records lead to. No records lead to one with an empty store at revision 1; where a record spells no scenario, they lead to none. The first
 -- one may be a checkpoint.
 abbrev pub world_in : List (List ℕ) → Option World
 world_in [] = Some (opened (at_revision 1))
-world_in (first ∷ texts) = option_and_then (led texts) (first_world (checkpoint_in first) (scenario_in first))
+world_in (first ∷ texts) = option_and_then (led texts) (first_world (checkpoint_in first) first)
 
 -- the file has these records and nothing else, and they lead to this world
 pub record IsKept (file : List ℕ) (world : World) : Type 0 where
@@ -74,8 +74,9 @@ abbrev pub IsWorldBeforeOrAfter : List ℕ → List ℕ → World → List ℕ �
 IsWorldBeforeOrAfter file text after c =
     (before : World) → IsKept file before → NoChance file text c → OpensTo c before ⊎ OpensTo c after
 
--- The file was written anew as a checkpoint of the world that it led to, which has no runner and no watcher: what a crash leaves opens to that world, or to
--- the one of the checkpoint, which shows the same from its floor on.
-abbrev pub IsWorldOrItsCheckpoint : List ℕ → Checkpoint → List ℕ → Type 0
-IsWorldOrItsCheckpoint file checkpoint c =
-    (before : World) → IsKept file before → OpensTo c before ⊎ OpensTo c (restored_world checkpoint)
+-- The file was written anew as this record, a checkpoint of the world that it led to: what a crash leaves opens to that world, or to the one that the
+-- record leads to, which shows the same from its floor on.
+abbrev pub IsWorldOrItsCheckpoint : List ℕ → List ℕ → List ℕ → Type 0
+IsWorldOrItsCheckpoint file text c =
+    (before : World) → IsKept file before → OpensTo c before ⊎ ((after : World) × OpensTo c after × (world_in (text ∷ []) ≡ Some after)
+    × ShowTheSameFrom after.standing.floor before.standing after.standing)

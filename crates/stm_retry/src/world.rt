@@ -19,6 +19,8 @@ ghost use Rattle.stm_world.specs.Appended.{HasAppended};
 ghost use Rattle.stm_world.specs.Headline.{Holds};
 ghost use Rattle.stm_world.specs.ReadsNow.{ReadsAreNow};
 ghost use Rattle.stm_world.specs.Sound.{IsSound};
+ghost use Rattle.stm_txn.specs.Restored.{CanRestore};
+ghost use Rattle.stm_world.specs.Restored.{restored_world};
 ghost use Rattle.stm_world.specs.World.{opened, runner_at, start_runner, step, world_after, replies_to};
 ghost use Rattle.stm_retry.specs.Returns.{IsStep, Returns, ran_out, expired_of, IsRunStop};
 ghost use Rattle.stm_retry.specs.Stops.{GoesOnAlike};
@@ -37,7 +39,7 @@ use stm_history::{HIGHEST_REVISION, Sequence};
 use stm_journal::state_of;
 use stm_meaning::State;
 use stm_program::{Level, Program};
-use stm_txn::{Expired, MOST_OPERATIONS, Store};
+use stm_txn::{Checkpoint, Expired, MOST_OPERATIONS, Store};
 
 /// Runners of programs over one store.
 ///
@@ -142,6 +144,23 @@ impl World {
             opened: Opened::empty(start),
             kept,
         })
+    }
+
+    /// A world whose store opens with what a checkpoint has, and without runners; none where no store can (`CanRestore`). Out of memory is its only
+    /// refusal.
+    pub fn restored(alloc: Global, checkpoint: Checkpoint) -> Result<Option<World>, AllocError>
+        ensures world { IfOk result (λ o. IfSome o (λ w. (w ≡ restored_world checkpoint) × CanRestore checkpoint)) }
+        ensures some { IfOk result (λ o. CanRestore checkpoint → IsSome o) }
+    {
+        let Some(kept) = KeptWorld::restored(alloc, &checkpoint)? else {
+            return Ok(None);
+        };
+        let opened = Opened::with_states(alloc, checkpoint.revision, checkpoint.states)?;
+        Ok(Some(World {
+            alloc,
+            opened,
+            kept,
+        }))
     }
 
     /// Starts a run of a program, which may send at most `limit` commits, and returns the runner's number.

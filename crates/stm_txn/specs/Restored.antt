@@ -1,56 +1,61 @@
--- What is kept of a store once all its revisions below the floor are dropped, and the store that comes back from it.
+-- A store that opens with keys and leases: one that has dropped all its revisions up to one comes back so.
 --
 -- etcd's API reference, "Compaction": what a store shows from the compacted revision on stays; and "Maintenance", `Snapshot`: a store comes back with its
--- revisions, versions and leases as they were. That the floor is the store's own revision then, and that no watcher is open, is our own.
-use Rattle.std.specs.Prelude.{◌≡◌, ◌≤◌, ◌<◌, ℕ, ◌+◌, suc, All, IfSome, List, [], ◌∷◌, Option, true}
+-- revisions, versions and leases as they were.
+use Rattle.std.specs.Prelude.{◌≡◌, ◌≤◌, ℕ, ◌⊎◌, All, List, [], ◌∷◌, None, true}
 use Rattle.std.specs.FinMap as finmap
-use Rattle.stm_history.specs.declared.change.Change.{Change}
+use Rattle.stm_history.specs.declared.key_state.KeyState.{KeyState}
 use Rattle.stm_history.specs.declared.revisions.TheConstants.{HIGHEST_REVISION}
-use Rattle.stm_history.specs.Opening.{States, CanOpen}
-use Rattle.stm_history.specs.History.{History, IsRevision, key_now}
-use Rattle.stm_keys.specs.Keys.{DeletePresent}
+use Rattle.stm_history.specs.Opening.{CanOpen}
 use Rattle.stm_leases.specs.LeaseLog.{Term}
-use Rattle.stm_leases.specs.Live.{Live, AreInRange, is_live_in}
-use Rattle.stm_outcome.specs.Numbers.{LeasesFit}
+use Rattle.stm_leases.specs.Live.{Live, is_live_in, grant_refusal}
 use Rattle.stm_outcome.specs.Terms.{most_operations}
-use Rattle.stm_txn.specs.Leasing.{lease_now}
+use Rattle.stm_txn.specs.declared.restored.KeptLease.{KeptLease}
+use Rattle.stm_txn.specs.declared.restored.Checkpoint.{Checkpoint}
 use Rattle.stm_txn.specs.Standing.{Standing}
 
--- What is kept: the number of the revision below the floor, what each key was there, the changes of the floor's own revision, the live leases by id,
--- the moment, and the most operations that the store takes. Reads at the floor, and watches from it on, show the changes of that revision.
-pub record Checkpoint : Type 0 where
-  pub below : ℕ
-  pub states : States
-  pub last : List Change
-  pub leases : List (ℕ × Term)
-  pub moment : ℕ
-  pub limit : ℕ
+abbrev pub term_kept : KeptLease → Term
+term_kept lease = record { ttl = lease.ttl; renewed = lease.renewed }
 
-abbrev pub history_of : Checkpoint → History
-history_of c = record { opening = record { number = c.below; states = c.states }; revisions = c.last ∷ [] }
+-- the live leases once these were granted, each at its own moment
+abbrev pub granted_all : List KeptLease → Live → Live
+granted_all [] live = live
+granted_all (lease ∷ leases) live = granted_all leases (finmap.insert live lease.id (term_kept lease))
 
--- the leases, one after another
-abbrev pub live_after : List (ℕ × Term) → Live → Live
-live_after [] live = live
-live_after (lease ∷ leases) live = live_after leases (finmap.insert live lease.0 lease.1)
+-- none of these grants is refused
+abbrev pub AreGranted : List KeptLease → Live → Type 0
+AreGranted [] live = Unit {0}
+AreGranted (lease ∷ leases) live =
+    (grant_refusal live lease.id lease.ttl ≡ None) × AreGranted leases (finmap.insert live lease.id (term_kept lease))
 
 abbrev pub live_of : Checkpoint → Live
-live_of c = live_after c.leases finmap.empty
+live_of c = granted_all c.leases finmap.empty
 
--- the store that comes back
+-- the store that opens so: no revision is there yet, and it was never compacted
 abbrev pub restored : Checkpoint → Standing
-restored c = record { history = history_of c; floor = c.below + 1; limit = c.limit; live = live_of c; moment = c.moment; watchers = [] }
+restored c = record {
+  history = record { opening = record { number = c.revision; states = c.states }; revisions = [] };
+  floor = 0;
+  limit = c.operations;
+  live = live_of c;
+  moment = c.moment;
+  watchers = [];
+}
 
--- A store can come back from this: the states are those of a store at that revision, the changes make one more, and each key that is present then is
--- on a live lease or on none.
+-- a key is on no lease, or on a live one
+abbrev pub IsAttachedIn : Live → KeyState → Type 0
+IsAttachedIn live s = (s.lease ≡ 0) ⊎ (is_live_in live s.lease ≡ true)
+
+-- its numbers, and those of its keys, are those of a store
+pub record IsInRange (c : Checkpoint) : Type 0 where
+  pub positive : 1 ≤ c.revision
+  pub bounded : c.revision ≤ HIGHEST_REVISION
+  pub some : 1 ≤ c.operations
+  pub few : c.operations ≤ most_operations
+  pub opens : CanOpen c.revision c.states
+
+-- a store can open so
 pub record CanRestore (c : Checkpoint) : Type 0 where
-  pub positive : 1 ≤ c.below
-  pub bounded : c.below < HIGHEST_REVISION
-  pub opens : CanOpen c.below c.states
-  pub changes : IsRevision c.last
-  pub deletes : DeletePresent (record { opening = record { number = c.below; states = c.states }; revisions = [] }) c.last
-  pub leases : AreInRange (live_of c)
-  pub fit : LeasesFit (history_of c)
-  pub attached : (key : List ℕ) → IfSome (lease_now (history_of c) key) (λ lease. is_live_in (live_of c) lease ≡ true)
-  pub some : 1 ≤ c.limit
-  pub few : c.limit ≤ most_operations
+  pub in_range : IsInRange c
+  pub granted : AreGranted c.leases finmap.empty
+  pub attached : All (λ (e : List ℕ × KeyState). IsAttachedIn (live_of c) e.1) c.states

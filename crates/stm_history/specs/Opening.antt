@@ -38,3 +38,12 @@ opened_state opening key = if_reached opening.number (find (slice_cmp nat_cmp) k
 pub record CanOpen (number : ℕ) (states : States) : Type 0 where
   pub ascending : IsStrictlySortedBy (slice_cmp nat_cmp) (keys_of states)
   pub reached : All (λ (e : List ℕ × KeyState). is_reached number e.1 ≡ true) states
+
+-- the same as a test: a key stands before the first of these
+abbrev pub stands_before : List ℕ → States → Bool
+stands_before key [] = true
+stands_before key (e ∷ states) = is_less (slice_cmp nat_cmp key e.0)
+
+abbrev pub can_open : ℕ → States → Bool
+can_open number [] = true
+can_open number (e ∷ states) = is_reached number e.1 && (stands_before e.0 states && can_open number states)

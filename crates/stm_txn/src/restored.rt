@@ -41,8 +41,6 @@ pub struct Checkpoint {
     pub states: Sequence<(Text, KeyState)>,
     /// The live leases, ascending by id.
     pub leases: Sequence<KeptLease>,
-    /// The moment.
-    pub moment: u64,
     /// The most operations that the store takes in each list of a transaction.
     pub operations: usize,
 }
@@ -198,7 +196,7 @@ impl Store {
             alloc,
             keys,
             leases,
-            checkpoint.moment,
+            0,
             watchers,
             OperationLimit::new(checkpoint.operations),
         )))

@@ -5,7 +5,7 @@ ghost use Rattle.std.specs.Prelude.{◌≡◌, ◌+◌, ◌<◌, ◌≤◌, IfOk
 ghost use Rattle.std.specs.Prelude.{option_copied, [], ◌∷◌, ◌++◌, ◌≢◌, ◌^◌, map, is_some};
 ghost use Rattle.std.specs.VecDeque.{deque_len, deque_capacity};
 ghost use Rattle.indexmap.specs.IndexMap.{get_by_text};
-ghost use Rattle.stm_history.specs.Opening.{CanOpen, opened_state};
+ghost use Rattle.stm_history.specs.Opening.{can_open, opened_state};
 ghost use Rattle.stm_history.specs.History.{History, opened_at, now, add_revision, key_at, key_now, AreRevisions, IsRevision, state_after_put, version_of};
 ghost use Rattle.stm_keys.specs.Events.{event_of, events_of, event_about, key_of_event, after_event, AreApart};
 ghost use Rattle.stm_keys.specs.Chains.{versions_in, with_version, no_versions, StandFirst, KeepsPresent, is_left, names_of};
@@ -506,7 +506,7 @@ impl Keys {
         states: &[(Text, KeyState)],
     ) -> Result<Keys, AllocError>
         requires revision { (1 ≤ number) × (number ≤ HIGHEST_REVISION) }
-        requires states { CanOpen number states.now }
+        requires states { can_open number states.now ≡ true }
         ensures history { IfOk result (λ keys. keys.history ≡ record { opening = record { number = number; states = states.now }; revisions = [] }) }
         ensures opened { IfOk result (λ keys. keys.opened ≡ number) }
         ensures floor { IfOk result (λ keys. keys.floor ≡ 0) }

@@ -72,7 +72,7 @@ use Rattle.stm_world.proofs.NeverOutOfMemory.{raised_never}
 use Rattle.stm_world.proofs.Calls.{call_goes_on, at_moment_follows}
 use Rattle.stm_world.proofs.Appending.{events_append}
 use Rattle.stm_txn.specs.declared.restored.Checkpoint.{Checkpoint}
-use Rattle.stm_txn.specs.Restored.{CanRestore, restored}
+use Rattle.stm_txn.specs.Restored.{can_restore, restored}
 use Rattle.stm_world.specs.Restored.{restored_world}
 use Rattle.stm_world.proofs.Restored.{restored_is_sound}
 use Rattle.stm_world.proofs.Sound.{opened_is_sound, step_is_sound, base_is_reached}
@@ -578,18 +578,18 @@ pub opened_leaves : (start : Setup) (m : World) → m ≡ opened_world start →
 opened_leaves start m is = subst (λ (w : World). IsKeptBy w.standing (whole_world (opening_at start.revision) w)) (sym is) (opened_is_kept start)
 
 -- a world that opens with keys and leases keeps all, too
-restored_is_kept : (c : Checkpoint) → CanRestore c → IsKeptBy (restored_world c).standing (restored_world c)
+restored_is_kept : (c : Checkpoint) → can_restore c ≡ true → IsKeptBy (restored_world c).standing (restored_world c)
 restored_is_kept c can = record {
   sound = restored_is_sound c can;
   stands = ap (with_history (restored_world c).standing) (sym (cut_at_the_opening (restored_world c).standing.history (0 - 1) (omega arith)));
 }
 
-pub restored_whole : (c : Checkpoint) → CanRestore c → whole_world (restored c).history.opening (restored_world c) ≡ restored_world c
+pub restored_whole : (c : Checkpoint) → can_restore c ≡ true → whole_world (restored c).history.opening (restored_world c) ≡ restored_world c
 restored_whole c can =
     ap (λ (r : Replayed). (let x : World = record { standing = with_history (restored c) r.history; runners = []; entries = (restored_world c).entries } in x))
     (restored_is_sound c can).replays
 
-pub restored_leaves : (c : Checkpoint) (m : World) → CanRestore c → m ≡ restored_world c → IsKeptBy m.standing (whole_world (restored c).history.opening m)
+pub restored_leaves : (c : Checkpoint) (m : World) → can_restore c ≡ true → m ≡ restored_world c → IsKeptBy m.standing (whole_world (restored c).history.opening m)
 restored_leaves c m can is =
     subst (λ (w : World). IsKeptBy w.standing (whole_world (restored c).history.opening w)) (sym is)
     (subst (λ (w : World). IsKeptBy (restored_world c).standing w) (sym (restored_whole c can)) (restored_is_kept c can))

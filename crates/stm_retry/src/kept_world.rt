@@ -3,7 +3,7 @@ ghost use Rattle.std.specs.Prelude.{◌≡◌, ◌≤◌, [], IfOk};
 ghost use Rattle.stm_history.specs.declared.revisions.TheConstants.{HIGHEST_REVISION};
 ghost use Rattle.stm_outcome.specs.Terms.{most_operations};
 ghost use Rattle.stm_entries.specs.Restored.{grants_of};
-ghost use Rattle.stm_txn.specs.Restored.{CanRestore};
+ghost use Rattle.stm_txn.specs.Restored.{can_restore};
 ghost use Rattle.stm_world.specs.Restored.{restored_world};
 ghost use Rattle.stm_world.specs.World.{opened};
 ghost use Rattle.stm_retry.specs.StepReturns.{as_reply};
@@ -101,8 +101,8 @@ impl KeptWorld {
         alloc: Global,
         checkpoint: &Checkpoint,
     ) -> Result<Option<KeptWorld>, AllocError>
-        ensures world { IfOk result (λ o. IfSome o (λ p. (p ≡ restored_world checkpoint.now) × CanRestore checkpoint.now)) }
-        ensures some { IfOk result (λ o. CanRestore checkpoint.now → IsSome o) }
+        ensures world { IfOk result (λ o. IfSome o (λ p. (p ≡ restored_world checkpoint.now) × (can_restore checkpoint.now ≡ true))) }
+        ensures some { IfOk result (λ o. can_restore checkpoint.now ≡ true → IsSome o) }
     {
         let entries = grants_of(alloc, checkpoint.leases.as_slice())?;
         let Some(store) = Store::restored(alloc, checkpoint)? else {

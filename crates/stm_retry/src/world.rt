@@ -19,7 +19,7 @@ ghost use Rattle.stm_world.specs.Appended.{HasAppended};
 ghost use Rattle.stm_world.specs.Headline.{Holds};
 ghost use Rattle.stm_world.specs.ReadsNow.{ReadsAreNow};
 ghost use Rattle.stm_world.specs.Sound.{IsSound};
-ghost use Rattle.stm_txn.specs.Restored.{CanRestore};
+ghost use Rattle.stm_txn.specs.Restored.{can_restore};
 ghost use Rattle.stm_world.specs.Restored.{restored_world};
 ghost use Rattle.stm_world.specs.World.{opened, runner_at, start_runner, step, world_after, replies_to};
 ghost use Rattle.stm_retry.specs.Returns.{IsStep, Returns, ran_out, expired_of, IsRunStop};
@@ -146,11 +146,11 @@ impl World {
         })
     }
 
-    /// A world whose store opens with what a checkpoint has, and without runners; none where no store can (`CanRestore`). Out of memory is its only
+    /// A world whose store opens with what a checkpoint has, and without runners; none where no store can (`can_restore`). Out of memory is its only
     /// refusal.
     pub fn restored(alloc: Global, checkpoint: Checkpoint) -> Result<Option<World>, AllocError>
-        ensures world { IfOk result (λ o. IfSome o (λ w. (w ≡ restored_world checkpoint) × CanRestore checkpoint)) }
-        ensures some { IfOk result (λ o. CanRestore checkpoint → IsSome o) }
+        ensures world { IfOk result (λ o. IfSome o (λ w. (w ≡ restored_world checkpoint) × (can_restore checkpoint ≡ true))) }
+        ensures some { IfOk result (λ o. can_restore checkpoint ≡ true → IsSome o) }
     {
         let Some(kept) = KeptWorld::restored(alloc, &checkpoint)? else {
             return Ok(None);

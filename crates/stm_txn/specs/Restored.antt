@@ -2,11 +2,11 @@
 --
 -- etcd's API reference, "Compaction": what a store shows from the compacted revision on stays; and "Maintenance", `Snapshot`: a store comes back with its
 -- revisions, versions and leases as they were.
-use Rattle.std.specs.Prelude.{◌≡◌, ◌≤◌, ℕ, ◌⊎◌, ◌&&◌, ◌||◌, All, Bool, is_none, nat_eq, nat_le, List, [], ◌∷◌, None, true}
+use Rattle.std.specs.Prelude.{◌≡◌, ℕ, ◌&&◌, ◌||◌, Bool, is_none, nat_eq, nat_le, List, [], ◌∷◌, None, true}
 use Rattle.std.specs.FinMap as finmap
 use Rattle.stm_history.specs.declared.key_state.KeyState.{KeyState}
 use Rattle.stm_history.specs.declared.revisions.TheConstants.{HIGHEST_REVISION}
-use Rattle.stm_history.specs.Opening.{States, CanOpen, can_open}
+use Rattle.stm_history.specs.Opening.{States, can_open}
 use Rattle.stm_leases.specs.LeaseLog.{Term}
 use Rattle.stm_leases.specs.Live.{Live, is_live_in, grant_refusal}
 use Rattle.stm_outcome.specs.Terms.{most_operations}
@@ -43,24 +43,6 @@ restored c = record {
 }
 
 -- a key is on no lease, or on a live one
-abbrev pub IsAttachedIn : Live → KeyState → Type 0
-IsAttachedIn live s = (s.lease ≡ 0) ⊎ (is_live_in live s.lease ≡ true)
-
--- its numbers, and those of its keys, are those of a store
-pub record IsInRange (c : Checkpoint) : Type 0 where
-  pub positive : 1 ≤ c.revision
-  pub bounded : c.revision ≤ HIGHEST_REVISION
-  pub some : 1 ≤ c.operations
-  pub few : c.operations ≤ most_operations
-  pub opens : CanOpen c.revision c.states
-
--- a store can open so
-pub record CanRestore (c : Checkpoint) : Type 0 where
-  pub in_range : IsInRange c
-  pub granted : AreGranted c.leases finmap.empty
-  pub attached : All (λ (e : List ℕ × KeyState). IsAttachedIn (live_of c) e.1) c.states
-
--- the same as a test
 abbrev pub is_attached_in : Live → KeyState → Bool
 is_attached_in live s = nat_eq s.lease 0 || is_live_in live s.lease
 
@@ -68,12 +50,17 @@ abbrev pub are_attached_in : Live → States → Bool
 are_attached_in live [] = true
 are_attached_in live (e ∷ states) = is_attached_in live e.1 && are_attached_in live states
 
+-- none of these grants is refused
 abbrev pub are_granted : List KeptLease → Live → Bool
 are_granted [] live = true
 are_granted (lease ∷ leases) live =
     is_none (grant_refusal live lease.id lease.ttl) && are_granted leases (finmap.insert live lease.id (term_kept lease))
 
+-- its numbers, and those of its keys, are those of a store
+abbrev pub is_in_range : Checkpoint → Bool
+is_in_range c =
+    nat_le 1 c.revision && (nat_le c.revision HIGHEST_REVISION && (nat_le 1 c.operations && (nat_le c.operations most_operations && can_open c.revision c.states)))
+
+-- a store can open so
 abbrev pub can_restore : Checkpoint → Bool
-can_restore c =
-    nat_le 1 c.revision && (nat_le c.revision HIGHEST_REVISION && (nat_le 1 c.operations && (nat_le c.operations most_operations
-    && (can_open c.revision c.states && (are_granted c.leases finmap.empty && are_attached_in (live_of c) c.states)))))
+can_restore c = is_in_range c && (are_granted c.leases finmap.empty && are_attached_in (live_of c) c.states)

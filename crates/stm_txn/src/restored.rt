@@ -1,17 +1,17 @@
 //! Stores that open with keys and leases.
-ghost use Rattle.std.specs.Prelude.{◌≡◌, ◌↔◌, ◌⊎◌, ℕ, All, List, true, None, IfOk, IfSome, IsSome, IsTrue};
+ghost use Rattle.std.specs.Prelude.{◌≡◌, ◌||◌, ℕ, List, nat_eq, true, None, IfOk, IfSome, IsSome};
 ghost use Rattle.std.specs.Cmp.Lexicographic.{slice_cmp};
 ghost use Rattle.std.specs.List.Sorted.{IsStrictlySortedBy};
 ghost use Rattle.std.specs.Map.{keys_of};
 ghost use Rattle.std.specs.Ordering.{nat_cmp};
 ghost use Rattle.std.specs.FinMap.{find};
-ghost use Rattle.stm_history.specs.Opening.{CanOpen, is_reached};
+ghost use Rattle.stm_history.specs.Opening.{can_open, is_reached};
 ghost use Rattle.stm_leases.specs.Live.{grant_refusal};
 ghost use Rattle.std.specs.FinMap as finmap;
 ghost use Rattle.stm_leases.specs.Leases.{lease_of};
 ghost use Rattle.stm_leases.specs.Live.{is_live_in};
 ghost use Rattle.stm_txn.specs.Leasing.{attaching, lease_named, AttachedAsStored};
-ghost use Rattle.stm_txn.specs.Restored.{term_kept, granted_all, AreGranted, live_of, restored, IsAttachedIn, IsInRange, CanRestore};
+ghost use Rattle.stm_txn.specs.Restored.{term_kept, granted_all, are_granted, live_of, restored, are_attached_in, is_in_range, can_restore};
 
 use crate::store::Store;
 use std::alloc::{AllocError, Global};
@@ -60,8 +60,8 @@ fn grant_one(leases: &mut Leases, lease: KeptLease) -> Result<bool, AllocError>
 
 /// Grants these leases, one after another: whether all were granted.
 fn grant_all(leases: &mut Leases, kept: &[KeptLease]) -> Result<bool, AllocError>
-    ensures granted { IfOk result (λ b. b ≡ true → AreGranted kept.now leases.old.live × (leases.new.live ≡ granted_all kept.now leases.old.live)) }
-    ensures refused { IfOk result (λ b. AreGranted kept.now leases.old.live → b ≡ true) }
+    ensures granted { IfOk result (λ b. b ≡ true → (are_granted kept.now leases.old.live ≡ true) × (leases.new.live ≡ granted_all kept.now leases.old.live)) }
+    ensures refused { IfOk result (λ b. are_granted kept.now leases.old.live ≡ true → b ≡ true) }
     ensures loose { leases.new.attached ≡ leases.old.attached }
 {
     for lease in kept {
@@ -82,7 +82,7 @@ fn attach_one(
     requires loose { lease_of leases.old key.now ≡ None }
     ensures attached { IfOk result (λ b. b ≡ true → (lease_of leases.new key.now ≡ lease_named lease)
         × ((other : List ℕ) → (other ≡ key.now → ⊥) → lease_of leases.new other ≡ lease_of leases.old other)) }
-    ensures refused { IfOk result (λ b. (lease ≡ 0) ⊎ (is_live_in leases.old.live lease ≡ true) → b ≡ true) }
+    ensures refused { IfOk result (λ b. (nat_eq lease 0 || is_live_in leases.old.live lease) ≡ true → b ≡ true) }
     ensures live { leases.new.live ≡ leases.old.live }
 {
     if lease == 0 {
@@ -107,7 +107,7 @@ fn attach_all(
     requires apart { IsStrictlySortedBy (slice_cmp nat_cmp) (keys_of states.now) }
     requires loose { leases.old.attached ≡ finmap.empty }
     ensures attached { IfOk result (λ b. b ≡ true → (key : List ℕ) → lease_of leases.new key ≡ attaching (find (slice_cmp nat_cmp) key states.now)) }
-    ensures refused { IfOk result (λ b. All (λ e. IsAttachedIn leases.old.live e.1) states.now → b ≡ true) }
+    ensures refused { IfOk result (λ b. are_attached_in leases.old.live states.now ≡ true → b ≡ true) }
     ensures live { leases.new.live ≡ leases.old.live }
 {
     for (key, state) in states {
@@ -131,7 +131,7 @@ fn is_reached(revision: u64, state: &KeyState) -> bool
 
 /// Whether a store can open with these states at a revision: the keys ascend, and each state can be there.
 fn can_open(revision: u64, states: &[(Text, KeyState)]) -> bool
-    ensures { IsTrue result ↔ CanOpen revision states.now }
+    ensures { result ≡ can_open revision states.now }
 {
     let mut before: Option<&Text> = None;
     for (key, state) in states {
@@ -151,7 +151,7 @@ fn can_open(revision: u64, states: &[(Text, KeyState)]) -> bool
 impl Checkpoint {
     /// Whether the numbers of it, its keys and their states are those of a store. Its leases are looked at when they are granted.
     fn is_in_range(&self) -> bool
-        ensures { IsTrue result ↔ IsInRange self.now }
+        ensures { result ≡ is_in_range self.now }
     {
         1 <= self.revision
             && self.revision <= HIGHEST_REVISION
@@ -163,10 +163,10 @@ impl Checkpoint {
 
 /// The leases of a checkpoint, with the keys that are attached to them; none where it is none of a store.
 fn leases_of(alloc: Global, checkpoint: &Checkpoint) -> Result<Option<Leases>, AllocError>
-    requires { IsInRange checkpoint.now }
-    ensures live { IfOk result (λ o. IfSome o (λ leases. (leases.live ≡ live_of checkpoint.now) × CanRestore checkpoint.now)) }
+    requires { is_in_range checkpoint.now ≡ true }
+    ensures live { IfOk result (λ o. IfSome o (λ leases. (leases.live ≡ live_of checkpoint.now) × (can_restore checkpoint.now ≡ true))) }
     ensures attached { IfOk result (λ o. IfSome o (λ leases. AttachedAsStored (lease_of leases) (restored checkpoint.now).history)) }
-    ensures some { IfOk result (λ o. CanRestore checkpoint.now → IsSome o) }
+    ensures some { IfOk result (λ o. can_restore checkpoint.now ≡ true → IsSome o) }
 {
     let mut leases = Leases::new(alloc);
     if !grant_all(&mut leases, checkpoint.leases.as_slice())? {
@@ -179,10 +179,10 @@ fn leases_of(alloc: Global, checkpoint: &Checkpoint) -> Result<Option<Leases>, A
 }
 
 impl Store {
-    /// A store that opens with what a checkpoint has; none where no store can (`CanRestore`). It has no watchers. Out of memory is its only refusal.
+    /// A store that opens with what a checkpoint has; none where no store can (`can_restore`). It has no watchers. Out of memory is its only refusal.
     pub fn restored(alloc: Global, checkpoint: &Checkpoint) -> Result<Option<Store>, AllocError>
-        ensures standing { IfOk result (λ o. IfSome o (λ s. (s.standing ≡ restored checkpoint.now) × CanRestore checkpoint.now)) }
-        ensures some { IfOk result (λ o. CanRestore checkpoint.now → IsSome o) }
+        ensures standing { IfOk result (λ o. IfSome o (λ s. (s.standing ≡ restored checkpoint.now) × (can_restore checkpoint.now ≡ true))) }
+        ensures some { IfOk result (λ o. can_restore checkpoint.now ≡ true → IsSome o) }
     {
         if !checkpoint.is_in_range() {
             return Ok(None);

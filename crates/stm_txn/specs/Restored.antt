@@ -22,12 +22,6 @@ abbrev pub granted_all : List KeptLease → Live → Live
 granted_all [] live = live
 granted_all (lease ∷ leases) live = granted_all leases (finmap.insert live lease.id (term_kept lease))
 
--- none of these grants is refused
-abbrev pub AreGranted : List KeptLease → Live → Type 0
-AreGranted [] live = Unit {0}
-AreGranted (lease ∷ leases) live =
-    (grant_refusal live lease.id lease.ttl ≡ None) × AreGranted leases (finmap.insert live lease.id (term_kept lease))
-
 abbrev pub live_of : Checkpoint → Live
 live_of c = granted_all c.leases finmap.empty
 

@@ -79,6 +79,18 @@ impl Journal {
         }
     }
 
+    /// A journal over a store to which these entries lead. It takes no memory.
+    pub fn with_entries(store: Store, entries: Vec<Entry>) -> Journal
+        ensures { result ≡ journal_of store.standing entries.items (now store.standing.history) }
+    {
+        let start = store.keys().revision();
+        Journal {
+            store,
+            entries,
+            start,
+        }
+    }
+
     /// The store.
     pub fn store(&self) -> &Store
         ensures { result.now.standing ≡ self.now.standing }

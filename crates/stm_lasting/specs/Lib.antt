@@ -1,2 +1,3 @@
+pub mod CheckpointText
 pub mod Kept
 pub mod Laws

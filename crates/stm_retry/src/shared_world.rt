@@ -198,7 +198,7 @@ impl SharedWorld {
     /// What changed the store, in the order of the steps: `World::history`.
     pub fn history(&self) -> &[Entry]
         ensures entries { result.now ≡ self.now.entries }
-        ensures replays { replay self.now.entries (opening self.now.standing.history.opening.number) ≡ without_moment self.now.standing }
+        ensures replays { replay self.now.entries (opened_with self.now.standing.history.opening) ≡ without_moment self.now.standing }
     {
         self.base.history()
     }

@@ -123,6 +123,32 @@ impl Store {
         Store::with_revision(alloc, 1)
     }
 
+    /// A store of these keys and leases, with watchers of which there are none. It takes no memory.
+    pub(crate) fn with_parts(
+        alloc: Global,
+        keys: Keys,
+        leases: Leases,
+        moment: u64,
+        watchers: Watchers,
+        limit: OperationLimit,
+    ) -> Store
+        requires attached { AttachedAsStored (lease_of leases) keys.history }
+        requires fits { LeasesFit keys.history }
+        requires floor { keys.floor ≡ 0 }
+        requires unwatched { watchers ≡ no_watchers }
+        ensures standing { result.standing ≡ record { history = keys.history; floor = 0; limit = limit; live = leases.live; moment = moment; watchers = [] } }
+        ensures opened { result.opened ≡ keys.opened }
+    {
+        Store {
+            keys,
+            leases,
+            moment,
+            watchers,
+            limit,
+            alloc,
+        }
+    }
+
     /// An empty store whose counter is `start`, at moment 0, with watchers of which there are none. It takes no memory.
     fn opened(alloc: Global, start: u64, limit: OperationLimit, watchers: Watchers) -> Store
         requires positive { 1 ≤ start }

@@ -1,0 +1,95 @@
+//! What the store of a world opened with.
+ghost use Rattle.std.specs.Prelude.{◌≡◌, ◌∷◌, [], true, IfOk};
+ghost use Rattle.stm_history.specs.Opening.{States, opening_at};
+
+use std::alloc::{AllocError, Global};
+use std::marker::Model;
+use std::sync::Arc;
+use stm_history::{KeyState, Sequence, Text};
+
+/// The revision at which a store opened, and what each key was there: none in a store that opened empty.
+///
+/// Copies share the states.
+#[derive(Drop)]
+pub(crate) struct Opened {
+    number: u64,
+    states: Option<Arc<Sequence<(Text, KeyState)>>>,
+}
+
+impl Model for Opened {
+    ghost use Rattle.stm_history.specs.Opening.{Opening};
+    ghost use Rattle.stm_retry.specs.Opened.{states_held};
+
+    ghost Value = { Opening };
+
+    ghost view = { λ o. record { number = o.number; states = states_held (λ a. a.value) o.states } };
+}
+
+impl Opened {
+    /// An empty store at a revision.
+    pub(crate) fn empty(number: u64) -> Opened
+        ensures { result ≡ opening_at number }
+    {
+        Opened {
+            number,
+            states: None,
+        }
+    }
+
+    /// A store with these states at a revision.
+    pub(crate) fn with_states(
+        alloc: Global,
+        number: u64,
+        states: Sequence<(Text, KeyState)>,
+    ) -> Result<Opened, AllocError>
+        ensures { IfOk result (λ o. o ≡ record { number = number; states = states }) }
+    {
+        let states = Arc::new(alloc, states)?;
+        Ok(Opened {
+            number,
+            states: Some(states),
+        })
+    }
+
+    /// The revision.
+    pub(crate) fn number(&self) -> u64
+        ensures { result ≡ self.now.number }
+    {
+        self.number
+    }
+
+    /// The same once more. It takes no memory.
+    pub(crate) fn share(&self) -> Opened
+        ensures { result ≡ self.now }
+    {
+        let states = match &self.states {
+            None => None,
+            Some(states) => Some(Arc::clone(states)),
+        };
+        Opened {
+            number: self.number,
+            states,
+        }
+    }
+
+    /// Whether both are the same, where neither has states or both share theirs.
+    pub(crate) fn is_same(&self, other: &Opened) -> bool
+        ensures { result ≡ true → self.now ≡ other.now }
+    {
+        if self.number != other.number {
+            return false;
+        }
+        match (&self.states, &other.states) {
+            (None, None) => true,
+            (Some(left), Some(right)) => are_same_states(left.as_slice(), right.as_slice()),
+            _ => false,
+        }
+    }
+}
+
+/// Whether these are the same states.
+fn are_same_states(left: &[(Text, KeyState)], right: &[(Text, KeyState)]) -> bool
+    ensures { result ≡ true → left.now ≡ right.now }
+{
+    left == right
+}

@@ -1,6 +1,6 @@
 -- What a store opens with: a number, and what each key is there.
-use Rattle.std.specs.Prelude.{ℕ, Bool, true, ◌∷◌, ◌&&◌, nat_le, if◌then◌else◌, List, [], Option, Some, None}
-use Rattle.std.specs.Ordering.{nat_cmp, is_lt}
+use Rattle.std.specs.Prelude.{ℕ, Bool, ◌&&◌, nat_le, if◌then◌else◌, List, [], Option, Some, None}
+use Rattle.std.specs.Ordering.{nat_cmp}
 use Rattle.std.specs.Cmp.Lexicographic.{slice_cmp}
 use Rattle.std.specs.FinMap.{find}
 use Rattle.stm_history.specs.declared.key_state.KeyState.{KeyState}
@@ -31,13 +31,3 @@ if_reached number (Some s) = if is_reached number s then Some s else None
 -- What a key is at the opening. A state that no history up to the opening can have left is no state of a key.
 abbrev pub opened_state : Opening → List ℕ → Option KeyState
 opened_state opening key = if_reached opening.number (find (slice_cmp nat_cmp) key opening.states)
-
--- a key stands before the first of these, by bytes
-abbrev pub stands_before : List ℕ → States → Bool
-stands_before key [] = true
-stands_before key (e ∷ states) = is_lt (slice_cmp nat_cmp key e.0)
-
--- A store can open with these states at a number: their keys ascend by bytes, and each state is one that a history up to the number can have left.
-abbrev pub can_open : ℕ → States → Bool
-can_open number [] = true
-can_open number (e ∷ states) = is_reached number e.1 && (stands_before e.0 states && can_open number states)

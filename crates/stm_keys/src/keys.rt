@@ -2,11 +2,12 @@
 //!
 //! What each put goes through is inlined, so that its values are not copied from call to call.
 ghost use Rattle.std.specs.Prelude.{◌≡◌, ◌+◌, ◌<◌, ◌≤◌, IfOk, OnOk, OnErr, IfSome, List, ℕ, Bool, false, length, Some, None, ◌↔◌, slice_get};
-ghost use Rattle.std.specs.Prelude.{option_copied, [], ◌∷◌, ◌++◌, ◌≢◌, ◌^◌, map, is_some};
+ghost use Rattle.std.specs.Prelude.{option_copied, [], ◌∷◌, ◌++◌, ◌≢◌, ◌^◌, map, is_some, true};
 ghost use Rattle.std.specs.VecDeque.{deque_len, deque_capacity};
 ghost use Rattle.indexmap.specs.IndexMap.{get_by_text};
-ghost use Rattle.stm_history.specs.Opening.{can_open, opened_state};
+ghost use Rattle.stm_history.specs.Opening.{opened_state};
 ghost use Rattle.stm_history.specs.History.{History, opened_at, now, add_revision, key_at, key_now, AreRevisions, IsRevision, state_after_put, version_of};
+ghost use Rattle.stm_keys.specs.CanOpen.{can_open};
 ghost use Rattle.stm_keys.specs.Events.{event_of, events_of, event_about, key_of_event, after_event, AreApart};
 ghost use Rattle.stm_keys.specs.Chains.{versions_in, with_version, no_versions, StandFirst, KeepsPresent, is_left, names_of};
 ghost use Rattle.stm_keys.specs.NextChange.{next_change};

@@ -1,8 +1,7 @@
 //! The keys of a store that has dropped its revisions.
-ghost use Rattle.std.specs.Prelude.{◌≡◌, ◌++◌, ◌∷◌, [], List, ℕ, Some, bytes_eq, if◌then◌else◌, IfOk, OnOk};
+ghost use Rattle.std.specs.Prelude.{◌≡◌, ◌++◌, ◌∷◌, [], List, ℕ, Some, None, true, bytes_eq, if◌then◌else◌, IfOk, OnOk};
 ghost use Rattle.std.specs.Cmp.Lexicographic.{slice_cmp};
-ghost use Rattle.std.specs.FinMap.{find};
-ghost use Rattle.std.specs.List.Sorted.{IsStrictlySortedBy};
+ghost use Rattle.std.specs.FinMap.{find, is_sorted};
 ghost use Rattle.std.specs.Map.{keys_of};
 ghost use Rattle.std.specs.Ordering.{nat_cmp};
 ghost use Rattle.indexmap.specs.IndexMap.{get_by_text};
@@ -13,6 +12,14 @@ use crate::chains::Chains;
 use indexmap::IndexMap;
 use std::alloc::{AllocError, Global};
 use stm_history::{KeyState, Text};
+
+/// A copy of a state.
+fn copy_of(state: &KeyState) -> Result<KeyState, AllocError>
+    ensures { IfOk result (λ copy. copy ≡ state.now) }
+{
+    let copy = state.clone()?;
+    Ok(copy)
+}
 
 /// Adds the chain of a key that was in this state before any revision.
 fn add_opened(
@@ -27,8 +34,9 @@ fn add_opened(
     ensures names { OnOk result (names_of chains.new ≡ names_of chains.old ++ key.now ∷ []) }
 {
     let name = String::from_str(alloc, key.as_str())?;
-    let state = state.clone()?;
-    chains.insert(name, Chain::opened(alloc, state))?;
+    let copy = copy_of(state)?;
+    let chain = Chain::opened(alloc, copy);
+    chains.insert(name, chain)?;
     Ok(())
 }
 
@@ -37,14 +45,14 @@ pub(crate) fn opened_chains(
     alloc: Global,
     states: &[(Text, KeyState)],
 ) -> Result<Chains, AllocError>
-    requires { IsStrictlySortedBy (slice_cmp nat_cmp) (keys_of states.now) }
+    requires { is_sorted (slice_cmp nat_cmp) states.now ≡ true }
     ensures versions { IfOk result (λ chains. (key : List ℕ) → versions_in (get_by_text chains key)
         ≡ record { before = find (slice_cmp nat_cmp) key states.now; numbers = [] }) }
     ensures names { IfOk result (λ chains. names_of chains ≡ keys_of states.now) }
 {
     let mut chains = IndexMap::new(alloc);
-    for (key, state) in states {
-        add_opened(alloc, &mut chains, key, state)?;
+    for entry in states {
+        add_opened(alloc, &mut chains, &entry.0, &entry.1)?;
     }
     Ok(chains)
 }

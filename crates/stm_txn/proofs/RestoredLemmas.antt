@@ -3,7 +3,7 @@ use Rattle.std.proofs.Common.{◌≡◌, ◌≤◌, ◌&&◌, ℕ, Bool, true, L
 use Rattle.std.specs.FinMap as finmap
 use Rattle.std.specs.Prelude.{is_none, nat_le}
 use Rattle.std.proofs.lemmas.Bool.{and_parts, leb-true}
-use Rattle.stm_history.specs.Opening.{can_open}
+use Rattle.stm_keys.specs.CanOpen.{can_open}
 use Rattle.stm_leases.specs.Live.{Live, grant_refusal}
 use Rattle.stm_outcome.specs.Terms.{most_operations}
 use Rattle.stm_txn.specs.declared.restored.KeptLease.{KeptLease}

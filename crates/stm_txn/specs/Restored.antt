@@ -2,11 +2,14 @@
 --
 -- etcd's API reference, "Compaction": what a store shows from the compacted revision on stays; and "Maintenance", `Snapshot`: a store comes back with its
 -- revisions, versions and leases as they were.
-use Rattle.std.specs.Prelude.{◌≡◌, ℕ, ◌&&◌, ◌||◌, Bool, is_none, nat_eq, nat_le, List, [], ◌∷◌, None, true}
+use Rattle.std.specs.Prelude.{ℕ, ◌&&◌, ◌||◌, Bool, true, is_none, nat_eq, nat_le, List, [], ◌∷◌, Option, None, Some}
+use Rattle.std.specs.Ordering.{nat_cmp, is_lt}
+use Rattle.std.specs.Cmp.Lexicographic.{slice_cmp}
 use Rattle.std.specs.FinMap as finmap
 use Rattle.stm_history.specs.declared.key_state.KeyState.{KeyState}
 use Rattle.stm_history.specs.declared.revisions.TheConstants.{HIGHEST_REVISION}
-use Rattle.stm_history.specs.Opening.{States, can_open}
+use Rattle.stm_history.specs.Opening.{States}
+use Rattle.stm_keys.specs.CanOpen.{can_open}
 use Rattle.stm_leases.specs.LeaseLog.{Term}
 use Rattle.stm_leases.specs.Live.{Live, is_live_in, grant_refusal}
 use Rattle.stm_outcome.specs.Terms.{most_operations}
@@ -35,6 +38,11 @@ restored c = record {
   moment = 0;
   watchers = [];
 }
+
+-- a key stands behind the one before it, if there is one
+abbrev pub stands_behind : Option (List ℕ) → List ℕ → Bool
+stands_behind None key = true
+stands_behind (Some earlier) key = is_lt (slice_cmp nat_cmp earlier key)
 
 -- a key is on no lease, or on a live one
 abbrev pub is_attached_in : Live → KeyState → Bool

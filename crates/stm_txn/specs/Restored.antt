@@ -44,6 +44,11 @@ abbrev pub stands_behind : Option (List ℕ) → List ℕ → Bool
 stands_behind None key = true
 stands_behind (Some earlier) key = is_lt (slice_cmp nat_cmp earlier key)
 
+-- the first of these states stands behind a key, if there are both
+abbrev pub can_follow : Option (List ℕ) → States → Bool
+can_follow before [] = true
+can_follow before (e ∷ states) = stands_behind before e.0
+
 -- a key is on no lease, or on a live one
 abbrev pub is_attached_in : Live → KeyState → Bool
 is_attached_in live s = nat_eq s.lease 0 || is_live_in live s.lease

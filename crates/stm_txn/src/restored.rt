@@ -148,7 +148,7 @@ fn is_reached(revision: u64, state: &KeyState) -> bool
 
 /// Whether a key stands behind the one before it, if there is one.
 fn follows(before: Option<&Text>, key: &Text) -> bool
-    ensures { result ≡ stands_behind (option_copied before) key.now }
+    ensures { result ≡ stands_behind (option_copied before.entry) key.now }
 {
     match before {
         None => true,
@@ -198,7 +198,7 @@ fn leases_of(alloc: Global, checkpoint: &Checkpoint) -> Result<Option<Leases>, A
     if !attach_all(alloc, &mut leases, checkpoint.states.as_slice())? {
         return Ok(None);
     }
-    leases.ids_are_in_range();
+    let _live = leases.is_live(0);
     Ok(Some(leases))
 }
 

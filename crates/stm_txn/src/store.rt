@@ -107,7 +107,9 @@ fn notify_watchers(watchers: &mut Watchers, keys: &Keys)
 
 impl Store {
     ghost use Rattle.stm_outcome.specs.Checks.{has_clash, fault_of};
-    ghost use Rattle.stm_txn.specs.Leasing.{attached_of, AttachedToLive, lease_now};
+    ghost use Rattle.stm_txn.specs.Leasing.{attached_of, AttachedToLive, AttachedAsStored, lease_now};
+    ghost use Rattle.stm_outcome.specs.Numbers.{LeasesFit};
+    ghost use Rattle.stm_leases.specs.Leases.{lease_of};
     ghost use Rattle.stm_outcome.specs.Outcome.{with_changes, answer_of};
     ghost use Rattle.stm_outcome.specs.Numbers.{AnswerFits, StatesFit};
     ghost use Rattle.stm_txn.specs.Standing.{opening, at_revision, IsRefusalOf, Returns, refusal_of, transacted, made, written, as_defined};

@@ -56,8 +56,7 @@ fn have_same_entries(one: &SharedWorld, other: &SharedWorld) -> bool
     if !have_same_terms(one.store(), other.store()) {
         return false;
     }
-    let opened = one.opened_at();
-    if opened != other.opened_at() {
+    if !one.opens_alike(other) {
         return false;
     }
     are_same_entries(one.history(), other.history())

@@ -1,5 +1,5 @@
 //! What a world is made of, and its step.
-ghost use Rattle.std.specs.Prelude.{◌≡◌, ◌≤◌, [], IfOk};
+ghost use Rattle.std.specs.Prelude.{◌≡◌, ◌≤◌, [], IfOk, IfSome, is_some};
 ghost use Rattle.stm_history.specs.declared.revisions.TheConstants.{HIGHEST_REVISION};
 ghost use Rattle.stm_outcome.specs.Terms.{most_operations};
 ghost use Rattle.stm_entries.specs.Restored.{grants_of};
@@ -15,10 +15,11 @@ use crate::store_calls::{advance, grant, keep, reply_to_txn, revoke};
 use crate::watch_calls::{cancel, compact, poll, watch_key, watch_range};
 use std::alloc::{AllocError, Global};
 use std::marker::Model;
+use stm_entries::Entry;
 use stm_events::{Denied, EventRefusal, Reply, WorldEvent};
 use stm_history::Sequence;
 use stm_journal::Journal;
-use stm_txn::Store;
+use stm_txn::{Checkpoint, KeptLease, Store};
 
 /// A journal, and the places of the runners on it.
 ///
@@ -101,8 +102,8 @@ impl KeptWorld {
         alloc: Global,
         checkpoint: &Checkpoint,
     ) -> Result<Option<KeptWorld>, AllocError>
-        ensures world { IfOk result (λ o. IfSome o (λ p. (p ≡ restored_world checkpoint.now) × (can_restore checkpoint.now ≡ true))) }
-        ensures some { IfOk result (λ o. can_restore checkpoint.now ≡ true → IsSome o) }
+        ensures world { IfOk result (λ o. IfSome o (λ p. p ≡ restored_world checkpoint.now)) }
+        ensures some { IfOk result (λ o. is_some o ≡ can_restore checkpoint.now) }
     {
         let entries = grants_of(alloc, checkpoint.leases.as_slice())?;
         let Some(store) = Store::restored(alloc, checkpoint)? else {

@@ -5,7 +5,7 @@ ghost use Rattle.stm_history.specs.Opening.{States, opening_at};
 use std::alloc::{AllocError, Global};
 use std::marker::Model;
 use std::sync::Arc;
-use stm_history::{KeyState, Sequence, Text};
+use stm_history::{KeyState, Sequence, Text, are_same_states};
 
 /// The revision at which a store opened, and what each key was there: none in a store that opened empty.
 ///
@@ -72,24 +72,48 @@ impl Opened {
         }
     }
 
-    /// Whether both are the same, where neither has states or both share theirs.
+    /// Whether both are the same. `false` says nothing.
     pub(crate) fn is_same(&self, other: &Opened) -> bool
         ensures { result ≡ true → self.now ≡ other.now }
     {
         if self.number != other.number {
             return false;
         }
-        match (&self.states, &other.states) {
-            (None, None) => true,
-            (Some(left), Some(right)) => are_same_states(left.as_slice(), right.as_slice()),
-            _ => false,
+        match &self.states {
+            None => other.states.is_none(),
+            Some(states) => other.has_states(states.as_slice()),
+        }
+    }
+
+    /// Whether these are the states.
+    fn has_states(&self, states: &[(Text, KeyState)]) -> bool
+        ensures { result ≡ true → self.now.states ≡ states.now }
+    {
+        match &self.states {
+            None => false,
+            Some(own) => are_same(own.as_slice(), states),
         }
     }
 }
 
-/// Whether these are the same states.
-fn are_same_states(left: &[(Text, KeyState)], right: &[(Text, KeyState)]) -> bool
+/// Whether two keys are the same, and in the same state.
+fn is_same_entry(left: &(Text, KeyState), right: &(Text, KeyState)) -> bool
     ensures { result ≡ true → left.now ≡ right.now }
 {
-    left == right
+    left.0 == right.0 && are_same_states(&left.1, &right.1)
+}
+
+/// Whether these are the same keys, in the same states.
+fn are_same(left: &[(Text, KeyState)], right: &[(Text, KeyState)]) -> bool
+    ensures { result ≡ true → left.now ≡ right.now }
+{
+    if left.len() != right.len() {
+        return false;
+    }
+    for i in 0..left.len() {
+        if !is_same_entry(&left[i], &right[i]) {
+            return false;
+        }
+    }
+    true
 }

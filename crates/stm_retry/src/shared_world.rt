@@ -225,6 +225,13 @@ impl SharedWorld {
         self.base.opened_at()
     }
 
+    /// Whether the store of another world opened with the same: `World::opens_alike`.
+    pub fn opens_alike(&self, other: &SharedWorld) -> bool
+        ensures { result ≡ true → self.now.standing.history.opening ≡ other.now.standing.history.opening }
+    {
+        self.base.opens_alike(&other.base)
+    }
+
     /// Whether the runners of another world are alike: `World::has_alike_runners`.
     pub fn has_alike_runners(&self, other: &SharedWorld) -> bool
         ensures { result ≡ true → map seen_slot self.now.runners ≡ map seen_slot other.now.runners }

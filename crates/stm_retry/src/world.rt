@@ -149,8 +149,8 @@ impl World {
     /// A world whose store opens with what a checkpoint has, and without runners; none where no store can (`can_restore`). Out of memory is its only
     /// refusal.
     pub fn restored(alloc: Global, checkpoint: Checkpoint) -> Result<Option<World>, AllocError>
-        ensures world { IfOk result (λ o. IfSome o (λ w. (w ≡ restored_world checkpoint) × (can_restore checkpoint ≡ true))) }
-        ensures some { IfOk result (λ o. can_restore checkpoint ≡ true → IsSome o) }
+        ensures world { IfOk result (λ o. IfSome o (λ w. w ≡ restored_world checkpoint)) }
+        ensures some { IfOk result (λ o. is_some o ≡ can_restore checkpoint) }
     {
         let Some(kept) = KeptWorld::restored(alloc, &checkpoint)? else {
             return Ok(None);

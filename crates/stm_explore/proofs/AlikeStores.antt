@@ -2,10 +2,11 @@
 use Rattle.std.proofs.Common.{◌≡◌, ◌∙◌, ℕ, ◌-◌, Bool, false, cond, [], map, sym, ap, subst, arith}
 use Rattle.std.specs.Prelude.{nat_lt}
 use Rattle.std.proofs.lemmas.Bool.Decides.{nat_tests}
+use Rattle.stm_history.specs.Opening.{Opening}
 use Rattle.stm_history.specs.History.{History}
 use Rattle.stm_history.specs.Cut.{cut, opening_of_cut, revisions_above}
 use Rattle.stm_txn.specs.Standing.{Standing, with_watchers, kept}
-use Rattle.stm_entries.specs.Replayed.{Replayed, opening, without_moment}
+use Rattle.stm_entries.specs.Replayed.{Replayed, opened_with, without_moment}
 use Rattle.stm_entries.specs.Replay.{replay}
 use Rattle.stm_entries.proofs.Adding.{replay_only_adds}
 use Rattle.stm_world.specs.World.{World}
@@ -19,10 +20,6 @@ parts_alike s t history live floor limit moment =
 -- the history of a world is the one to which its entries lead, and so are its live leases
 pub record LedTo (w : World) : Type 0 where
   pub replays : replay w.entries (opened_with w.standing.history.opening) ≡ without_moment w.standing
-
-opens : (w : World) → LedTo w → w.standing.history.opening ≡ (opened_with w.standing.history.opening).history.opening
-opens w led =
-    sym (ap (λ (r : Replayed). r.history.opening) led.replays) ∙ (replay_only_adds w.entries (opened_with w.standing.history.opening)).opening
 
 -- the same floor, limit and moment
 pub record SameTerms (s t : Standing) : Type 0 where
@@ -51,11 +48,6 @@ never_compacted s none =
 -- so what is kept of it is all of it
 all_kept : (s a : Standing) (h : History) → a ≡ kept s → h ≡ a.history → a.floor ≡ 0 → h ≡ s.history
 all_kept s a h one first none = first ∙ ap (λ (x : Standing). x.history) one ∙ never_compacted s (sym (ap (λ (x : Standing). x.floor) one) ∙ none)
-
-pub same_opening : (s t a b : Standing) (h g : History) → a ≡ kept s → b ≡ kept t → h ≡ a.history → g ≡ b.history → a.floor ≡ 0 → b.floor ≡ 0 →
-    h.opening.number ≡ g.opening.number → s.history.opening.number ≡ t.history.opening.number
-same_opening s t a b h g one two first second none nothing same =
-    sym (ap (λ (x : History). x.opening.number) (all_kept s a h one first none)) ∙ same ∙ ap (λ (x : History). x.opening.number) (all_kept t b g two second nothing)
 
 pub whole_compared : (s t a b : Standing) (h g : History) → a ≡ kept s → b ≡ kept t → h ≡ a.history → g ≡ b.history → a.floor ≡ 0 → b.floor ≡ 0 →
     (h.opening ≡ g.opening → h.revisions ≡ g.revisions) → s.history.opening ≡ t.history.opening → s.history.revisions ≡ t.history.revisions

@@ -8,8 +8,6 @@ use std::sync::Arc;
 use stm_history::{KeyState, Sequence, Text, are_same_states};
 
 /// The revision at which a store opened, and what each key was there: none in a store that opened empty.
-///
-/// Copies share the states.
 #[derive(Drop)]
 pub(crate) struct Opened {
     number: u64,
@@ -51,25 +49,18 @@ impl Opened {
         })
     }
 
-    /// The revision.
-    pub(crate) fn number(&self) -> u64
-        ensures { result ≡ self.now.number }
-    {
-        self.number
-    }
-
-    /// The same once more. It takes no memory.
-    pub(crate) fn share(&self) -> Opened
-        ensures { result ≡ self.now }
+    /// The same once more, which shares the states.
+    pub(crate) fn share(&self) -> Result<Opened, AllocError>
+        ensures { IfOk result (λ o. o ≡ self.now) }
     {
         let states = match &self.states {
             None => None,
-            Some(states) => Some(Arc::clone(states)),
+            Some(states) => Some(states.clone()?),
         };
-        Opened {
+        Ok(Opened {
             number: self.number,
             states,
-        }
+        })
     }
 
     /// Whether both are the same. `false` says nothing.

@@ -218,13 +218,6 @@ impl SharedWorld {
         self.base.state()
     }
 
-    /// The revision at which the store opened: `World::opened_at`.
-    pub fn opened_at(&self) -> u64
-        ensures { result ≡ self.now.standing.history.opening.number }
-    {
-        self.base.opened_at()
-    }
-
     /// Whether the store of another world opened with the same: `World::opens_alike`.
     pub fn opens_alike(&self, other: &SharedWorld) -> bool
         ensures { result ≡ true → self.now.standing.history.opening ≡ other.now.standing.history.opening }

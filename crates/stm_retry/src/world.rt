@@ -139,9 +139,10 @@ impl World {
         ensures { IfOk result (λ w. w ≡ opened (record { revision = start; limit = operations })) }
     {
         let kept = KeptWorld::new(alloc, start, operations)?;
+        let opened = Opened::empty(start);
         Ok(World {
             alloc,
-            opened: Opened::empty(start),
+            opened,
             kept,
         })
     }
@@ -333,18 +334,12 @@ impl World {
         ensures { IfOk result (λ copy. copy ≡ self.now) }
     {
         let kept = self.kept.copy()?;
+        let opened = self.opened.share()?;
         Ok(World {
             alloc: self.alloc,
-            opened: self.opened.share(),
+            opened,
             kept,
         })
-    }
-
-    /// The revision at which the store opened. The entries begin there, also where a compaction has dropped revisions since.
-    pub fn opened_at(&self) -> u64
-        ensures { result ≡ self.now.standing.history.opening.number }
-    {
-        self.opened.number()
     }
 
     /// Whether the store of another world opened with the same. `false` says nothing.
@@ -400,9 +395,10 @@ impl World {
         ensures { IfOk result (λ copy. copy ≡ with_places runners.now.items self.now) }
     {
         let kept = self.kept.copy_with(runners)?;
+        let opened = self.opened.share()?;
         Ok(World {
             alloc: self.alloc,
-            opened: self.opened.share(),
+            opened,
             kept,
         })
     }

@@ -8,6 +8,7 @@ use Rattle.stm_entries.proofs.Restored.{grants_replay, grants_legal}
 use Rattle.stm_world.specs.World.{runner_at}
 use Rattle.stm_world.specs.Sound.{IsSound}
 use Rattle.stm_world.specs.Restored.{restored_world}
+use Rattle.stm_world.proofs.Slots.{no_runner}
 
 pub restored_is_sound : (c : Checkpoint) → can_restore c ≡ true → IsSound (restored_world c)
 restored_is_sound c can = record {

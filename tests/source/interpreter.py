@@ -41,7 +41,7 @@ class Run:
 
 
 class Interpreter:
-    """Runs one program over the values of a store, each with the revision of its last change."""
+    """Runs one program over the values of a store, each with the revision of its last change, and its lease."""
 
     def __init__(self, program, arguments, store):
         self.store, self.run = store, Run()
@@ -58,11 +58,11 @@ class Interpreter:
             raise Faulted("EmptyKey")
         if key not in self.run.fetched:
             self.run.fetched.append(key)
-        return self.store.get(key, ("", 0))
+        return self.store.get(key, ("", 0, 0))
 
     def get(self, key):
         if isinstance(key, str) and key in self.run.written:
-            return self.run.written[key] or ""
+            return (self.run.written[key] or [""])[0]
         return self.fetch(key)[0]
 
     def named(self, binding):
@@ -151,7 +151,7 @@ class Interpreter:
                 key, value = self.value(node.key), self.value(node.value)
                 if not isinstance(key, str) or not isinstance(value, str):
                     raise Faulted("Kind")
-                self.write(key, value)
+                self.write(key, (value, self.value(node.lease) if node.lease is not None else 0))
             case Simple():
                 self.simple(node.word, self.value(node.value))
             case Choice():
@@ -266,5 +266,5 @@ def compared(sign, left, right):
 
 
 def run(program, arguments, store):
-    """Runs a program with these arguments over a store: each key with its value and the revision of its last change."""
+    """Runs a program with these arguments over a store: each key with its value, the revision of its last change, and its lease."""
     return Interpreter(program, arguments, store).all()

@@ -1,4 +1,4 @@
-"""Random sources: programs of the whole language, each started once and stepped to its end."""
+"""Random sources: programs and rules of the whole language, each start stepped to its end before the next."""
 import json
 import random
 
@@ -7,6 +7,11 @@ KEYS = ["a", "b", "c", "d", "e/1"]
 TEXTS = ["", "0", "1", "7", "12", "x", "-3", "a b", "é\n", "\"q\""]
 NAMES = ["n", "m", "total", "held", "left", "right", "max", "at", "start", "value", "x_1", "end"]
 LEVELS = ["SerializableSnapshot", "Serializable", "RepeatableReads", "ReadCommitted"]
+LEASE = 7
+# what is defined before all else, and the events before the first start
+FIRST = ["let lease = 7", "let gate = \"g\"", "let times = 2", "grant lease ttl 100000", 'txn { put("a", "3") put("b", "x") put("c", "12", lease) }']
+CONSTANTS = [("lease", "number"), ("gate", "text"), ("times", "number")]
+STEPS = 60
 
 
 def quoted(text):
@@ -22,10 +27,14 @@ class Scope:
         self.parameters = list(parameters)  # (name, kind)
         self.lists = list(lists)  # (name, kind)
         self.loops = list(loops)
+        # parameters that stand for a key, and for a number of turns
+        self.slots, self.counts = [], []
 
     def inner(self, loop=None):
         loops = [*self.loops, loop] if loop else self.loops
-        return Scope(self.maker, self.variables, self.parameters, self.lists, loops)
+        inner = Scope(self.maker, self.variables, self.parameters, self.lists, loops)
+        inner.slots, inner.counts = self.slots, self.counts
+        return inner
 
     def taken(self):
         return {name for name, _ in self.variables + self.parameters + self.lists} | set(self.maker.taken)
@@ -36,13 +45,15 @@ class Scope:
 
 
 class Maker:
-    """Makes one source. `numbered` says that its programs have the variables v0 to v15."""
+    """Makes one source. `numbered` says that the program has the variables v0 to v15, `mixes` that values may have another kind than is wanted, and
+    `asks` that it may ask how runners ended."""
 
     def __init__(self, seed):
         self.random = random.Random(seed)
-        self.taken, self.definitions, self.constants, self.lists = [], [], [], []
-        self.numbered = False
-        self.lines = []
+        self.taken, self.definitions, self.constants, self.lists = [name for name, _ in CONSTANTS], [], list(CONSTANTS), []
+        self.numbered = self.mixes = self.asks = False
+        self.runners = []
+        self.lines = list(FIRST)
 
     def chance(self, percent):
         return self.random.random() * 100 < percent
@@ -50,6 +61,8 @@ class Maker:
     # ---- values
 
     def value(self, kind, scope, depth, may_else):
+        if self.mixes and self.chance(4):
+            kind = NUMBER if kind == TEXT else TEXT
         if depth <= 0 or self.chance(25):
             return self.leaf(kind, scope)
         return self.text(scope, depth - 1, may_else) if kind == TEXT else self.number(scope, depth - 1, may_else)
@@ -60,11 +73,13 @@ class Maker:
             return self.random.choice(names)
         if kind == TEXT:
             return quoted(self.random.choice(TEXTS))
-        return str(self.random.choice([0, 1, 2, 3, 5, 10, -1, -4, 1000]))
+        return str(self.random.choice([0, 1, 2, 3, 5, 10, -1, -4, 1000] if self.chance(97) else [2**63 - 1, -(2**63)]))
 
     def key(self, scope, depth, may_else):
         if depth > 0 and self.chance(20):
             return f'"e/" ++ {self.operand(TEXT, scope, depth - 1, may_else)}'
+        if self.chance(10):
+            return self.random.choice(["gate", *scope.slots])
         return quoted(self.random.choice(KEYS))
 
     def operand(self, kind, scope, depth, may_else):
@@ -81,6 +96,8 @@ class Maker:
             return f"({value})" if " " in value else value
 
     def look_up(self, scope, depth, may_else):
+        if self.asks and self.chance(40):
+            return self.random.choice(["end({})", "why({})", "out({}, 0)"]).format(self.random.choice(self.runners))
         key = self.key(scope, depth, may_else)
         if may_else and self.chance(60):
             other = quoted(self.random.choice(TEXTS[1:5])) if self.chance(75) else self.operand(TEXT, scope, depth - 1, True)
@@ -170,13 +187,13 @@ class Maker:
 
     def statement(self, scope, depth):
         may_else = not self.numbered
-        match self.random.randrange(20):
+        match self.random.randrange(22):
             case 0 | 1 | 2 | 3:
                 return self.let(scope, may_else), None
             case 4 | 5:
                 return self.assignment(scope, may_else), None
             case 6 | 7 | 8:
-                return f"put({self.key(scope, 2, may_else)}, {self.value(TEXT, scope, 2, may_else)})", None
+                return f"put({self.key(scope, 2, may_else)}, {self.value(TEXT, scope, 2, may_else)}{self.lease(scope)})", None
             case 9:
                 return f"del({self.key(scope, 1, may_else)})", None
             case 10 | 11 | 12:
@@ -185,11 +202,25 @@ class Maker:
                 return self.choice(scope, depth) if depth > 0 else (None, None)
             case 16:
                 return (self.count(scope, depth), None) if depth > 0 else (None, None)
-            case 17:
+            case 17 | 20:
                 return (self.copies(scope, depth), None) if depth > 0 else (None, None)
             case 18 if depth < 3 or self.chance(10):
                 return self.leave(scope)
+            case 19 | 21 if depth > 0:
+                return self.guard(scope, depth), None
         return None, None
+
+    def guard(self, scope, depth):
+        """A block that is left where a condition holds."""
+        inner = scope.inner()
+        block, end = self.block(inner, depth - 1, 1)
+        left = "" if end else self.leave(inner)[0] + " "
+        return f"if {self.condition(scope, 2)} {block[:-1]}{left}}}"
+
+    def lease(self, scope):
+        if not self.chance(20):
+            return ""
+        return f", {self.random.choice(['0', str(LEASE), 'lease'])}"
 
     def let(self, scope, may_else):
         if self.numbered:
@@ -235,7 +266,7 @@ class Maker:
         name = f"v{self.random.randrange(16)}" if self.numbered else scope.fresh()
         if name is None:
             return None
-        count = self.random.choice(["0", "1", "3", "2"])
+        count = self.random.choice(["0", "1", "3", "2", "times", *scope.counts])
         if self.chance(40):
             count = f"{self.value(NUMBER, scope, 2, not self.numbered)} max {self.random.choice([3, 5, 1000])}"
         inner.variables.append((name, NUMBER))
@@ -266,11 +297,11 @@ class Maker:
 
     def leave(self, scope):
         loops = scope.loops
-        words = ["continue"] if loops else []
+        words = ["continue"] * 2 if loops else []
         if "count" not in loops:
             words.append("return")
         if loops and loops[-1] == "copies":
-            words += ["break", "break"]
+            words += ["break"] * 3
         if self.chance(20) or not words:
             return f"abort({self.value(TEXT, scope, 1, not self.numbered)})", "aborts"
         return self.random.choice(words), "leaves"
@@ -304,43 +335,100 @@ class Maker:
         self.lines.append(line)
 
     def program(self, number):
-        """Adds a program and its start; returns the name of its runner."""
+        """Adds a program, and its start."""
         self.numbered = self.chance(10)
         scope = Scope(self)
         scope.parameters = [(f"q{i}", self.random.choice([TEXT, NUMBER])) for i in range(self.random.randrange(4))]
         arguments = [self.argument(kind) for _, kind in scope.parameters]
+        if self.chance(25):
+            scope.slots = ["slot"]
+            scope.parameters.append(("slot", TEXT))
+            arguments.append(quoted(self.random.choice(["s/1", "s/2"])))
+        if self.chance(25):
+            scope.counts = ["turns"]
+            scope.parameters.append(("turns", NUMBER))
+            arguments.append(str(self.random.randrange(4)))
         parameters = ", ".join(name for name, _ in scope.parameters)
         if self.chance(30):
             kind = self.random.choice([TEXT, NUMBER])
             scope.lists.append(("rest", kind))
             parameters += (", " if parameters else "") + "rest.."
             arguments += [self.argument(kind) for _ in range(self.random.randrange(4))]
+        self.lines.append(f"program t{number}({parameters}) {self.body(scope)}")
+        self.start(f"t{number}({', '.join(arguments)})", number)
+        if self.chance(10):
+            self.lines.append(f"rule again{number}{self.weakest()} = t{number}({', '.join(arguments)})")
+
+    def body(self, scope):
+        """Returns the body of a program."""
         if self.numbered:
             scope.variables = [(f"v{i}", NUMBER) for i in self.random.sample(range(16), 4)]
         block, _ = self.block(scope, 3, 7)
-        if self.chance(10):
-            keys = self.random.sample(KEYS, self.random.randrange(1, 4))
-            block = block.replace("{", "{ prefetch(" + ", ".join(map(quoted, keys)) + ")", 1)
-        self.lines.append(f"program t{number}({parameters}) {block}")
-        self.lines.append(f"start t{number}({', '.join(arguments)}) as r{number} at {self.random.choice(LEVELS)}")
+        if not self.chance(15):
+            return block
+        keys = [quoted(it) for it in self.random.sample(KEYS, self.random.randrange(1, 4))]
+        keys += [it for it in ["gate", *scope.slots] if self.chance(30)]
+        return block.replace("{", "{ prefetch(" + ", ".join(keys) + ")", 1)
+
+    def in_place(self, number):
+        """Adds a start that has its program in place, whose kinds are not looked at."""
+        self.numbered, self.mixes = self.chance(40), self.chance(50)
+        self.start(self.body(Scope(self)), number)
+        self.mixes = False
+
+    def start(self, program, number):
+        """Adds a start, of one runner or of two, and its steps."""
+        names = [f"r{number}", f"s{number}"][: 2 if self.chance(10) else 1]
+        runners = names
+        options = [f"at {self.random.choice(LEVELS)}"] if self.chance(80) else []
+        if len(names) == 2 or self.chance(70):
+            options.append("as " + ", ".join(names))
+        else:
+            runners = [str(len(self.runners) + 1)]
+        if self.chance(20):
+            options.append(f"limit {self.random.randrange(1, 4)}")
+        self.random.shuffle(options)
+        self.lines.append(" ".join(["start", program, *options]))
+        self.lines.append("step " + " ".join(f"{it}*{STEPS}" for it in runners))
+        self.runners += runners
+
+    def weakest(self):
+        return f" from {self.random.choice(LEVELS)}" if self.chance(30) else ""
+
+    def rule(self, number):
+        """Adds a rule, or a final, which may ask how the runners ended."""
+        self.numbered, self.asks = False, self.chance(50)
+        word = "finally" if self.asks else "rule"
+        self.lines.append(f"{word} asked{number}{self.weakest()} {self.body(Scope(self))}")
+        self.asks = False
 
     def argument(self, kind):
         if kind == TEXT:
             return quoted(self.random.choice(TEXTS))
         return str(self.random.choice([0, 1, 2, 5, -3, 1000]))
 
+    # ---- the text
 
-SET_UP = 'txn { put("a", "3") put("b", "x") put("c", "12") }'
-STEPS = 60
+    def whole_text(self):
+        """Returns the text, in which comments stand and lines are broken here and there."""
+        found = ""
+        for line in self.lines:
+            if self.chance(20):
+                line = line.replace("{ ", "{\n\t")
+            found += line + (self.random.choice([" // a comment, \"{\n", "\r\n", "\n\n"]) if self.chance(15) else "\n")
+        return found + "// without an end" if self.chance(10) else found
 
 
 def source(seed, programs=1):
     """Returns a source of so many programs, each run to its end before the next one starts."""
     maker = Maker(seed)
-    maker.lines.append(SET_UP)
     for number in range(programs):
         while maker.chance(50):
             maker.define()
-        maker.program(number)
-        maker.lines.append(f"step r{number}*{STEPS}")
-    return "\n".join(maker.lines) + "\n"
+        if maker.chance(15):
+            maker.in_place(number)
+        else:
+            maker.program(number)
+    if maker.chance(25):
+        maker.rule(programs)
+    return maker.whole_text()

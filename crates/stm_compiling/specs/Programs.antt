@@ -52,7 +52,7 @@ argument_of None word = argument word
 -- words from a place on, of which these have to be of these kinds
 abbrev pub arguments_from : List Kind → ℕ → List (List ℕ) → List (List ℕ)
 arguments_from kinds place [] = []
-arguments_from kinds place (w ∷ ws) = argument_of (slice_get kinds place) w ∷ arguments_from kinds (suc place) ws
+arguments_from kinds place (w ∷ ws) = argument_of (slice_get kinds place) w ∷ arguments_from kinds (place + 1) ws
 
 -- behind `--text` each word is a text
 abbrev pub arguments : List Kind → List (List ℕ) → List (List ℕ)

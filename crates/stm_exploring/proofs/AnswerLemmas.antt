@@ -1,8 +1,10 @@
 -- Answers about several rules, each at the place of its rule.
 use Rattle.std.proofs.Common.{◌≡◌, ◌<◌, ◌≤◌, ℕ, zero, suc, ◌+◌, ◌-◌, List, [], ◌∷◌, ◌++◌, length, map, take, drop, get_or, slice_set, All, refl, sym, ap, ap₂, ◌∙◌, subst, append_assoc, arith}
 use Rattle.std.specs.List.{AllZip}
-use Rattle.std.proofs.Math.Seq.{take-suc, drop-cons}
-use Rattle.std.proofs.lemmas.List.{map-append}
+use Rattle.std.specs.Option.{option_to_list}
+use Rattle.std.specs.Prelude.{IfSome, Option, None, Some}
+use Rattle.std.proofs.Math.Seq.{drop-cons, take-add, take-suc}
+use Rattle.std.proofs.lemmas.List.{get_or-drop, get_or-take, length-drop, length-take-le, map-append}
 use Rattle.std.proofs.lemmas.List.Elements.{All-push}
 use Rattle.stm_program.specs.Syntax.{ProgramTree}
 use Rattle.stm_schedules.specs.Outcomes.{Ends}
@@ -10,13 +12,14 @@ use Rattle.stm_schedules.specs.Places.{Place}
 use Rattle.stm_explore.specs.Explored.{IsExplored, MergesAreKept}
 use Rattle.stm_explore.specs.Waiting.{IsExploredPatiently}
 use Rattle.stm_explore.specs.declared.asking.When.{When}
+use Rattle.stm_explore.specs.declared.asking.When.TheVariants.{Each, Last}
 use Rattle.stm_explore.specs.declared.exploring.Explored.{Explored}
 use Rattle.stm_explore.specs.declared.waits.Wait.{Wait}
 use Rattle.stm_exploring.specs.declared.judging.Answer.{Answer}
 use Rattle.stm_exploring.specs.declared.judging.Answer.TheVariants.{BySchedules}
 use Rattle.stm_exploring.specs.declared.rules.Rule.{Rule}
 use Rattle.stm_exploring.specs.declared.rules.RuleAnswer.{RuleAnswer}
-use Rattle.stm_exploring.specs.Judging.{AreAnswers, AreFoundFrom, IsAnswer, IsFoundPatiently, IsFoundWhen}
+use Rattle.stm_exploring.specs.Judging.{AreAnswers, AreFoundEach, AreFoundFrom, AreFoundWhen, IsAnswer, IsFoundPatiently, IsFoundWhen}
 
 -- ---- lists
 
@@ -48,6 +51,22 @@ zip_put R (a ∷ xs) (b ∷ ys) zero x d y within is at more all =
     (subst (λ z. R z y) is (more (subst (λ z. R x z) (sym at) (subst (λ z. R z b) (sym is) all.0))), all.1)
 zip_put R (a ∷ xs) (b ∷ ys) (suc i) x d y within is at more all = (all.0, zip_put R xs ys i x d y (omega (arith, within)) is at more all.1)
 
+-- one of them is put into each of two lists, of which it is so where it was so before
+pub zip_put_both : {A B C : Type 0} (R : A → B → Type 0) (S : A → C → Type 0) (xs : List A) (ys : List B) (zs : List C) (i : ℕ) (d y : B) (e z : C) →
+    i < length ys → i < length zs → d ≡ get_or ys i d → e ≡ get_or zs i e → ((x : A) → R x d → S x e → R x y) → ((x : A) → S x e → S x z) →
+    AllZip R xs ys → AllZip S xs zs → AllZip R xs (slice_set ys i y) × AllZip S xs (slice_set zs i z)
+zip_put_both R S [] [] zs i d y e z within in_other at other more further all both = absurd (omega (arith, within))
+zip_put_both R S [] (b ∷ ys) zs i d y e z within in_other at other more further all both = absurd all
+zip_put_both R S (x ∷ xs) [] zs i d y e z within in_other at other more further all both = absurd all
+zip_put_both R S (x ∷ xs) (b ∷ ys) [] i d y e z within in_other at other more further all both = absurd both
+zip_put_both R S (x ∷ xs) (b ∷ ys) (c ∷ zs) zero d y e z within in_other at other more further all both =
+    let before : R x d = subst (R x) (sym at) all.0 in
+    let judged : S x e = subst (S x) (sym other) both.0 in
+    ((more x before judged, all.1), (further x judged, both.1))
+zip_put_both R S (x ∷ xs) (b ∷ ys) (c ∷ zs) (suc i) d y e z within in_other at other more further all both =
+    let rest = zip_put_both R S xs ys zs i d y e z (omega (arith, within)) (omega (arith, in_other)) at other more further all.1 both.1 in
+    ((all.0, rest.0), (both.0, rest.1))
+
 -- ---- what a search through schedules came to
 
 pub are_answers : (rules : List ProgramTree) (p : Place) (all : List Explored) → AllZip (λ rule. IsExplored rule p) rules all → AllZip (λ rule. MergesAreKept rule p) rules all →
@@ -61,11 +80,23 @@ pub are_patient : (waits : List Wait) (when : When) (rules : List ProgramTree) (
 are_patient waits when rules p ends all found =
     zip_map (λ rule. IsExploredPatiently waits when rule p ends) (λ rule. IsFoundPatiently waits when rule p ends) BySchedules rules all (λ rule e is. is) found
 
+-- what one search says of each of the rules
+pub each_found : (when : When) (waits : List Wait) (rules : List ProgramTree) (p : Place) (ends : Ends) (answers : List Answer) → AreFoundWhen when waits rules p ends answers →
+    AreFoundEach when waits rules p ends answers
+each_found Each [] rules p ends answers found = found
+each_found Each (w ∷ ws) rules p ends answers found = found
+each_found Last waits rules p ends answers found = found
+
 -- the answer about one rule
-pub only_one : (rule : ProgramTree) (p : Place) (left : List Answer) (answer : Answer) → AreAnswers (rule ∷ []) p (left ++ answer ∷ []) → IsAnswer rule p answer
+only_one : (rule : ProgramTree) (p : Place) (left : List Answer) (answer : Answer) → AreAnswers (rule ∷ []) p (left ++ answer ∷ []) → IsAnswer rule p answer
 only_one rule p [] answer all = all.0
 only_one rule p (a ∷ []) answer all = absurd all.1
 only_one rule p (a ∷ b ∷ left) answer all = absurd all.1
+
+pub last_is : (answers left : List Answer) (last : Option Answer) → answers ≡ left ++ option_to_list last →
+    IfSome last (λ answer. (rule : ProgramTree) (p : Place) → AreAnswers (rule ∷ []) p answers → IsAnswer rule p answer)
+last_is answers left None is = tt
+last_is answers left (Some a) is = λ rule p all. only_one rule p left a (subst (AreAnswers (rule ∷ []) p) is all)
 
 -- ---- the answers about rules that are asked at the same places
 
@@ -120,15 +151,22 @@ module _ (when : When) (waits : List Wait) (p : Place) (ends : Ends) where
 
 -- ---- counts and parts of lists
 
+pub nothing_left : {A : Type 0} (xs : List A) → length xs ≡ 0 → xs ≡ []
+nothing_left [] none = refl
+nothing_left (x ∷ xs) none = absurd (omega arith)
+
 pub one_further : (i all left next : ℕ) → left ≡ suc next → i + left ≡ all → (i + 1) + next ≡ all
 one_further i all left next is each = omega (arith, is, each)
 
 -- the first of these, and those behind them up to another one
 pub joined_parts : {A : Type 0} (xs : List A) (i j : ℕ) → i ≤ j → take i xs ++ take (j - i) (drop i xs) ≡ take j xs
-joined_parts xs i j within = let e : i + (j - i) ≡ j = omega (arith, within) in parts xs i (j - i) ∙ ap (λ n. take n xs) e
-  where
-    parts : {A : Type 0} (xs : List A) (i n : ℕ) → take i xs ++ take n (drop i xs) ≡ take (i + n) xs
-    parts xs zero n = refl
-    parts [] (suc i) zero = refl
-    parts [] (suc i) (suc n) = refl
-    parts (x ∷ xs) (suc i) n = ap (λ ys. x ∷ ys) (parts xs i n)
+joined_parts xs i j within = let e : i + (j - i) ≡ j = omega (arith, within) in sym (take-add i (j - i) xs) ∙ ap (λ n. take n xs) e
+
+-- those from one up to another one, of each of which it is so
+pub group_asked : (when : When) (rules : List Rule) (i j : ℕ) → j ≤ length rules → ((k : ℕ) → k < j → (d : Rule) → i ≤ k → (get_or rules k d).when ≡ when) →
+    All (λ (r : Rule). r.when ≡ when) (take (j - i) (drop i rules))
+group_asked when rules i j within asked = λ k d there.
+    let short : length (take (j - i) (drop i rules)) ≡ j - i =
+    length-take-le (j - i) (drop i rules) (let left = length-drop i rules in omega (arith, left, within)) in
+    let below : k < j - i = omega (arith, short, there) in
+    ap (λ (r : Rule). r.when) (get_or-take (j - i) (drop i rules) k d below ∙ get_or-drop i rules k d) ∙ asked (i + k) (omega (arith, below)) d (omega arith)

@@ -56,8 +56,22 @@ IsFoundWhen Each waits rule p ends answer = IsFoundFrom waits rule p ends answer
 IsFoundWhen Last waits rule p ends answer = IsFoundPatiently waits Last rule p ends answer
 
 -- the same of each of these, which are asked then
+abbrev pub AreFoundEach : When → List Wait → List ProgramTree → Place → Ends → List Answer → Type 0
+AreFoundEach when waits rules p ends answers = AllZip (λ rule. IsFoundWhen when waits rule p ends) rules answers
+
+-- the same, by one search through the schedules in which these runners wait
+abbrev pub AreFoundPatiently : List Wait → When → List ProgramTree → Place → Ends → List Answer → Type 0
+AreFoundPatiently waits when rules p ends answers = AllZip (λ rule. IsFoundPatiently waits when rule p ends) rules answers
+
+-- the same, by one search of any kind where none waits
+abbrev pub AreFoundBeside : List Wait → List ProgramTree → Place → Ends → List Answer → Type 0
+AreFoundBeside [] rules p ends answers = AreAnswers rules p answers
+AreFoundBeside (w ∷ ws) rules p ends answers = AreFoundPatiently (w ∷ ws) Each rules p ends answers
+
+-- the same, by one search for rules that are asked then
 abbrev pub AreFoundWhen : When → List Wait → List ProgramTree → Place → Ends → List Answer → Type 0
-AreFoundWhen when waits rules p ends answers = AllZip (λ rule. IsFoundWhen when waits rule p ends) rules answers
+AreFoundWhen Each waits rules p ends answers = AreFoundBeside waits rules p ends answers
+AreFoundWhen Last waits rules p ends answers = AreFoundPatiently waits Last rules p ends answers
 
 -- the same of each rule, in their order
 abbrev pub AreFoundFrom : List Wait → List Rule → Place → Ends → List RuleAnswer → Type 0

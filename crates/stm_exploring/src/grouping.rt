@@ -1,10 +1,10 @@
 //! Rules that stand side by side and are asked at the same places: one walk is enough for them.
-ghost use Rattle.std.specs.Prelude.{◌≡◌, ◌≢◌, ◌<◌, ◌≤◌, ◌-◌, ◌++◌, true, false, List, length, map, take, drop, get_or, All, IfOk, OnOk};
+ghost use Rattle.std.specs.Prelude.{◌≡◌, ◌<◌, ◌≤◌, ◌-◌, ◌++◌, ℕ, true, List, length, map, take, drop, get_or, All, IfOk, OnOk};
 ghost use Rattle.stm_schedules.specs.Outcomes.{Ends};
 ghost use Rattle.stm_schedules.specs.Places.{Place};
 ghost use Rattle.stm_explore.specs.declared.waits.Wait.{Wait};
 ghost use Rattle.stm_exploring.specs.declared.rules.Rule.{Rule as RuleValue};
-ghost use Rattle.stm_exploring.specs.Judging.{AreFoundFrom, AreFoundWhen};
+ghost use Rattle.stm_exploring.specs.Judging.{AreFoundEach, AreFoundFrom};
 
 use crate::judging::Answer;
 use crate::rules::{Rule, RuleAnswer, copy_of};
@@ -34,7 +34,7 @@ pub(crate) fn push_answers(
     requires when { All (λ (rule : RuleValue). rule.when ≡ when) rules.now }
     requires each { length found.items ≡ length rules.now }
     ensures { OnOk result ((waits : List Wait) (p : Place) (ends : Ends) (before : List RuleValue)
-        → AreFoundWhen when waits (map (λ (rule : RuleValue). rule.program) rules.now) p ends found.items
+        → AreFoundEach when waits (map (λ (rule : RuleValue). rule.program) rules.now) p ends found.items
         → AreFoundFrom waits before p ends answers.old.items → AreFoundFrom waits (before ++ rules.now) p ends answers.new.items) }
 {
     let mut index = 0;
@@ -48,8 +48,7 @@ pub(crate) fn push_answers(
 
 /// Whether rules are asked at the same places.
 fn is_same(left: When, right: When) -> bool
-    ensures yes { result ≡ true → left ≡ right }
-    ensures no { result ≡ false → left ≢ right }
+    ensures { result ≡ true → left ≡ right }
 {
     match (left, right) {
         (When::Each, When::Each) | (When::Last, When::Last) => true,
@@ -57,18 +56,28 @@ fn is_same(left: When, right: When) -> bool
     }
 }
 
-/// Where the first rule stands, from this one on, that is not asked then; behind the last one, where all are.
+/// Where the first rule stands, behind this one, that is not asked then, as this one is; behind the last one, where all are.
 pub(crate) fn end_of_group(rules: &[Rule], from: usize, when: When) -> usize
-    requires { from ≤ length rules.now }
-    ensures behind { from ≤ result }
+    requires within { from < length rules.now }
+    requires first { (d : RuleValue) → (get_or rules.now from d).when ≡ when }
+    ensures further { from < result }
     ensures within { result ≤ length rules.now }
-    ensures asked { All (λ (rule : RuleValue). rule.when ≡ when) (take (result - from) (drop from rules.now)) }
-    ensures further { (d : RuleValue) → from < length rules.now → (get_or rules.now from d).when ≡ when → from < result }
+    ensures asked { (k : ℕ) → k < result → (d : RuleValue) → from ≤ k → (get_or rules.now k d).when ≡ when }
 {
-    for index in from..rules.len() {
+    for index in from + 1..rules.len() {
         if !is_same(rules[index].when, when) {
             return index;
         }
     }
     rules.len()
+}
+
+/// The rules from this one up to another one.
+pub(crate) fn group_of(rules: &[Rule], from: usize, end: usize) -> &[Rule]
+    requires behind { from ≤ end }
+    requires within { end ≤ length rules.now }
+    ensures { result.now ≡ take (end - from) (drop from rules.now) }
+{
+    let left = &rules[from..];
+    &left[..end - from]
 }

@@ -1,5 +1,5 @@
 //! Whether rules are kept after every schedule: by schedules, and by serial orders where these are enough.
-ghost use Rattle.std.specs.Prelude.{◌≡◌, List, length, map, IfOk, OnOk};
+ghost use Rattle.std.specs.Prelude.{◌≡◌, ◌<◌, List, [], ◌∷◌, length, map, IfOk, IfSome, OnOk};
 ghost use Rattle.std.specs.List.{AllZip};
 ghost use Rattle.stm_program.specs.Syntax.{ProgramTree};
 ghost use Rattle.stm_schedules.specs.Places.{Place};
@@ -196,15 +196,33 @@ fn improve(answer: &mut Answer, judged: &mut Judged)
     }
 }
 
+/// The same of the rule at this place, where serial orders say something of it.
+fn improve_at(answers: &mut Vec<Answer>, judged: &mut Vec<Judged>, index: usize)
+    requires { index < length answers.old.items }
+    ensures sized { length answers.new.items ≡ length answers.old.items }
+    ensures each { (rules : List ProgramTree) (p : Place) → AreAnswers rules p answers.old.items → AreJudged rules p judged.old.items
+        → AreAnswers rules p answers.new.items × AreJudged rules p judged.new.items }
+{
+    if index < judged.len() {
+        improve(&mut answers[index], &mut judged[index]);
+    }
+}
+
 /// The same of each rule.
 fn improve_each(answers: &mut Vec<Answer>, judged: &mut Vec<Judged>)
     ensures { (rules : List ProgramTree) (p : Place) → AreAnswers rules p answers.old.items → AreJudged rules p judged.old.items → AreAnswers rules p answers.new.items }
 {
     for index in 0..answers.len() {
-        if index < judged.len() {
-            improve(&mut answers[index], &mut judged[index]);
-        }
+        improve_at(answers, judged, index);
     }
+}
+
+/// The last of these answers.
+fn last_of(answers: Vec<Answer>) -> Option<Answer>
+    ensures { IfSome result (λ answer. (rule : ProgramTree) (p : Place) → AreAnswers (rule ∷ []) p answers.items → IsAnswer rule p answer) }
+{
+    let mut left = answers;
+    left.pop()
 }
 
 /// Searches through all schedules for a rule for which neither a part of them nor the orders came to an end.
@@ -222,11 +240,14 @@ fn search_again<O: Observer>(
         return Ok(());
     }
     let rules = slice::from_ref(rule);
-    let mut answers = judge_part(alloc, world, others, rules, u64::MAX, budget)?;
-    if let Some(further) = answers.pop() {
-        *answer = further;
+    let answers = judge_part(alloc, world, others, rules, u64::MAX, budget)?;
+    match last_of(answers) {
+        None => Ok(()),
+        Some(further) => {
+            *answer = further;
+            Ok(())
+        }
     }
-    Ok(())
 }
 
 /// The same of each rule, for which as many moves may be made.

@@ -34,12 +34,16 @@ fn push_commit(
                 answers,
                 ..
             },
-        ) => commits.push(Commit {
-            runner,
-            before,
-            after: revision,
-            reads: answers,
-        }),
+        ) => {
+            let commit = Commit {
+                runner,
+                before,
+                after: revision,
+                reads: answers,
+            };
+            commits.push(commit)?;
+            Ok(())
+        }
         _ => Ok(()),
     }
 }

@@ -1,6 +1,5 @@
 //! A search about a scenario and rules, and what is printed of it.
 ghost use Rattle.std.specs.Prelude.{◌≡◌, ◌++◌, true, List, [], All, IfOk, OnOk};
-ghost use Rattle.std.specs.List.{AllZip};
 ghost use Rattle.stm_schedules.specs.Outcomes.{after_replies};
 ghost use Rattle.stm_world.specs.World.{opened, replies_to, world_after};
 ghost use Rattle.stm_serial.specs.Serial.{IsComparing};
@@ -9,12 +8,12 @@ ghost use Rattle.stm_serial_search.specs.Started.{HaveNoStep};
 ghost use Rattle.stm_exploring.specs.declared.rules.Rule.{Rule as RuleValue};
 ghost use Rattle.stm_exploring.specs.Asking.{opening_of, place_of};
 ghost use Rattle.stm_exploring.specs.Exploring.{IsPrinted};
-ghost use Rattle.stm_exploring.specs.Judging.{AreAnswers, AreFound, AreFoundFrom, AreFoundWhen, IsFoundFrom};
+ghost use Rattle.stm_exploring.specs.Judging.{AreAnswers, AreFound, AreFoundBeside, AreFoundFrom, AreFoundWhen};
 
 use crate::accounts::tell_account;
 use crate::audience::{Audience, tell_parts};
 use crate::faulted::tell_faults;
-use crate::grouping::{asked_by, end_of_group, push_answers};
+use crate::grouping::{asked_by, end_of_group, group_of, push_answers};
 use crate::judging::{Answer, judge_comparing, judge_schedules};
 use crate::printed::Printed;
 use crate::printing::print;
@@ -63,7 +62,7 @@ fn judge_beside<O: Observer>(
 ) -> Result<Vec<Answer>, AllocError>
     requires programs { AreProgramsOf programs.now world.now.runners }
     requires comparing { comparing ≡ true → IsComparing (record { world = world.now; others = others.now }) }
-    ensures { IfOk result (λ answers. AllZip (λ rule. IsFoundFrom waits.now rule (record { world = world.now; others = others.now }) ends.now) rules.now answers.items) }
+    ensures { IfOk result (λ answers. AreFoundBeside waits.now rules.now (record { world = world.now; others = others.now }) ends.now answers.items) }
 {
     match waits {
         [] => judge(alloc, world, others, programs, comparing, rules, budget),
@@ -161,7 +160,7 @@ fn judge_rules<O: Observer>(
         }
         let when = rules[done].when;
         let end = end_of_group(rules, done, when);
-        let group = &rules[done..end];
+        let group = group_of(rules, done, end);
         judge_group(
             alloc,
             world,

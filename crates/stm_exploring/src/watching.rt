@@ -1,7 +1,6 @@
 //! Searches through the schedules in which runners wait, or for what is asked at the last places alone.
 ghost use Rattle.std.specs.Prelude.{IfOk};
-ghost use Rattle.std.specs.List.{AllZip};
-ghost use Rattle.stm_exploring.specs.Judging.{IsFoundPatiently};
+ghost use Rattle.stm_exploring.specs.Judging.{AreFoundPatiently};
 
 use crate::judging::{Answer, by_schedules};
 use std::alloc::{AllocError, Global};
@@ -20,7 +19,7 @@ pub(crate) fn judge_waiting<O: Observer>(
     rules: &[Program],
     budget: &mut Budget<O>,
 ) -> Result<Vec<Answer>, AllocError>
-    ensures { IfOk result (λ answers. AllZip (λ rule. IsFoundPatiently waits.now when rule (record { world = world.now; others = others.now }) ends.now) rules.now answers.items) }
+    ensures { IfOk result (λ answers. AreFoundPatiently waits.now when rules.now (record { world = world.now; others = others.now }) ends.now answers.items) }
 {
     let all = explore_waiting(alloc, world, others, ends, waits, when, rules, budget)?;
     let answers = by_schedules(alloc, all)?;

@@ -6,7 +6,7 @@ use Rattle.std.proofs.lemmas.Bool.Decides.{eqb_tells}
 use Rattle.std.proofs.lemmas.List.{set-set, set_comm, get_or-set_same, get_or-set_other}
 use Rattle.stm_program.specs.Syntax.{Expression, Statement, Block}
 use Rattle.stm_program.specs.Syntax.{Condition, Less, Not, And, Or, Text, Number, Variable, Get, Rev, Arithmetic, Cat, TextOf, NumOf, Equal, Set, Put, Del, If, For, Emit, Abort, End, Then}
-use Rattle.stm_program.specs.declared.write.Write.{Write}
+use Rattle.stm_history.specs.declared.change.Change.{Change as Write}
 use Rattle.stm_steps.specs.declared.value.Value.{Value}
 use Rattle.stm_steps.specs.declared.value.Value.TheVariants.{Text as TextValue, Number as NumberValue}
 use Rattle.stm_steps.specs.declared.fault.Fault.{Fault}

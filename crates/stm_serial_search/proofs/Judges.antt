@@ -1,5 +1,6 @@
 -- What is known of rules in a search by serial orders.
-use Rattle.std.proofs.Common.{◌≡◌, ◌≢◌, ◌×◌, ◌<◌, ℕ, zero, suc, ◌+◌, Bool, true, false, ◌&&◌, List, [], ◌∷◌, ◌++◌, length, map, take, drop, get_or, slice_set, refl, sym, ap, ap₂, ◌∙◌, subst, arith}
+use Rattle.std.proofs.Common.{◌≡◌, ◌<◌, ◌≤◌, ℕ, zero, suc, ◌+◌, Bool, true, false, ◌&&◌, List, [], ◌∷◌, ◌++◌, length, map, take, drop, get_or, slice_set, refl, sym, ap, ap₂, ◌∙◌, subst, append_assoc, append-nil, arith}
+use Rattle.std.proofs.lemmas.List.{drop_all}
 use Rattle.std.specs.List.{AllZip}
 use Rattle.stm_program.specs.Syntax.{ProgramTree}
 use Rattle.stm_world.specs.World.{World}
@@ -9,7 +10,7 @@ use Rattle.stm_schedules.specs.Schedules.{IsSchedule}
 use Rattle.stm_schedules.specs.Keeping.{keeps, AllKeep}
 use Rattle.stm_schedules.proofs.Merging.{merges_keep}
 use Rattle.stm_serial_search.specs.Search.{keep_all}
-use Rattle.stm_serial_search.specs.Replaying.{IsJudged, AreJudged, undecided, or_always}
+use Rattle.stm_serial_search.specs.Replaying.{IsJudged, AreJudged, if_undecided, undecided, or_always}
 use Rattle.stm_serial_search.specs.declared.judging.Judged.{Judged}
 use Rattle.stm_serial_search.specs.declared.judging.Judged.TheVariants.{Always, Broken, Undecided, NotAsked}
 
@@ -76,29 +77,30 @@ others_always (rule ∷ rules) p (Undecided ∷ judged) kept all =
 
 -- ---- those that are not decided, as a loop comes to them
 
-pub left_here : (rules : List ProgramTree) (judged : List Judged) (i : ℕ) (rule : ProgramTree) (j : Judged) → i < length rules → length judged ≡ length rules →
-    rule ≡ get_or rules i rule → j ≡ get_or judged i j → j ≡ Undecided →
-    undecided (drop i rules) (drop i judged) ≡ rule ∷ undecided (drop (i + 1) rules) (drop (i + 1) judged)
-left_here [] judged i rule j within as_long is at none = absurd (omega (arith, within))
-left_here (r ∷ rules) [] i rule j within as_long is at none = absurd (omega (arith, as_long))
-left_here (r ∷ rules) (Undecided ∷ judged) zero rule j within as_long is at none = ap (λ x. x ∷ undecided rules judged) (sym is)
-left_here (r ∷ rules) (Always ∷ judged) zero rule j within as_long is at none = absurd (cc (at, none))
-left_here (r ∷ rules) (Broken found ∷ judged) zero rule j within as_long is at none = absurd (cc (at, none))
-left_here (r ∷ rules) (NotAsked ∷ judged) zero rule j within as_long is at none = absurd (cc (at, none))
-left_here (r ∷ rules) (b ∷ judged) (suc i) rule j within as_long is at none =
-    left_here rules judged i rule j (omega (arith, within)) (omega (arith, as_long)) is at none
+next_told : (rules : List ProgramTree) (judged : List Judged) (i : ℕ) (rule : ProgramTree) (j : Judged) → i < length rules → i < length judged →
+    rule ≡ get_or rules i rule → j ≡ get_or judged i j →
+    undecided (drop i rules) (drop i judged) ≡ if_undecided rule j ++ undecided (drop (suc i) rules) (drop (suc i) judged)
+next_told [] judged i rule j within here is at = absurd (omega (arith, within))
+next_told (r ∷ rules) [] i rule j within here is at = absurd (omega (arith, here))
+next_told (r ∷ rules) (b ∷ judged) zero rule j within here is at =
+    ap₂ (λ (x : ProgramTree) (y : Judged). if_undecided x y ++ undecided rules judged) (sym is) (sym at)
+next_told (r ∷ rules) (b ∷ judged) (suc i) rule j within here is at = next_told rules judged i rule j (omega (arith, within)) (omega (arith, here)) is at
 
-pub decided_here : (rules : List ProgramTree) (judged : List Judged) (i : ℕ) (j : Judged) → i < length rules → length judged ≡ length rules →
-    j ≡ get_or judged i j → j ≢ Undecided →
-    undecided (drop i rules) (drop i judged) ≡ undecided (drop (i + 1) rules) (drop (i + 1) judged)
-decided_here [] judged i j within as_long at some = absurd (omega (arith, within))
-decided_here (r ∷ rules) [] i j within as_long at some = absurd (omega (arith, as_long))
-decided_here (r ∷ rules) (Undecided ∷ judged) zero j within as_long at some = absurd (some at)
-decided_here (r ∷ rules) (Always ∷ judged) zero j within as_long at some = refl
-decided_here (r ∷ rules) (Broken found ∷ judged) zero j within as_long at some = refl
-decided_here (r ∷ rules) (NotAsked ∷ judged) zero j within as_long at some = refl
-decided_here (r ∷ rules) (b ∷ judged) (suc i) j within as_long at some =
-    decided_here rules judged i j (omega (arith, within)) (omega (arith, as_long)) at some
+-- one rule more was told
+pub one_told : (rules : List ProgramTree) (judged : List Judged) (i : ℕ) (rule : ProgramTree) (j : Judged) (left next : List ProgramTree) →
+    i < length rules → i < length judged → rule ≡ get_or rules i rule → j ≡ get_or judged i j → next ≡ left ++ if_undecided rule j →
+    left ++ undecided (drop i rules) (drop i judged) ≡ undecided rules judged →
+    next ++ undecided (drop (i + 1) rules) (drop (i + 1) judged) ≡ undecided rules judged
+one_told rules judged i rule j left next within here is at more so_far =
+    let step : i + 1 ≡ suc i = omega arith in
+    let rest = undecided (drop (suc i) rules) (drop (suc i) judged) in
+    ap (λ n. next ++ undecided (drop n rules) (drop n judged)) step ∙ ap (λ (xs : List ProgramTree). xs ++ rest) more ∙ append_assoc left (if_undecided rule j) rest
+    ∙ ap (λ (xs : List ProgramTree). left ++ xs) (sym (next_told rules judged i rule j within here is at)) ∙ so_far
+
+pub all_told : (rules : List ProgramTree) (judged : List Judged) (i : ℕ) (left : List ProgramTree) → length rules ≤ i →
+    left ++ undecided (drop i rules) (drop i judged) ≡ undecided rules judged → left ≡ undecided rules judged
+all_told rules judged i left all so_far =
+    sym (append-nil left) ∙ sym (ap (λ (rs : List ProgramTree). left ++ undecided rs (drop i judged)) (drop_all i rules all)) ∙ so_far
 
 -- ---- each is changed in its place
 
@@ -123,3 +125,9 @@ module _ {A : Type 0} (f : A → A) where
       ap₂ (λ (ys : List A) (y : A). slice_set ys i y) is value
       ∙ one_more xs i d within
       ∙ sym (ap (λ (n : ℕ). map f (take n xs) ++ drop n xs) step)
+
+  pub all_put : (xs : List A) (i : ℕ) → length xs ≤ i → map f (take i xs) ++ drop i xs ≡ map f xs
+  all_put [] zero all = refl
+  all_put [] (suc i) all = refl
+  all_put (x ∷ xs) zero all = absurd (omega (arith, all))
+  all_put (x ∷ xs) (suc i) all = ap (λ (ys : List A). f x ∷ ys) (all_put xs i (omega (arith, all)))

@@ -7,3 +7,4 @@ pub mod Found
 pub mod Replays
 pub mod Comparisons
 pub mod Judges
+pub mod KeptRules

@@ -1,5 +1,5 @@
 -- A serial run that is made in a world, step by step, and what a rule comes to by serial runs.
-use Rattle.std.specs.Prelude.{◌≡◌, true, false, List, [], ◌∷◌, Some}
+use Rattle.std.specs.Prelude.{◌≡◌, true, false, List, [], ◌∷◌, ◌++◌, Some}
 use Rattle.std.specs.List.{AllZip}
 use Rattle.stm_program.specs.Syntax.{ProgramTree}
 use Rattle.stm_steps.specs.declared.run.End.{End}
@@ -53,14 +53,18 @@ IsJudged rule p NotAsked = Unit {0}
 abbrev pub AreJudged : List ProgramTree → Place → List Judged → Type 0
 AreJudged rules p judged = AllZip (λ rule. IsJudged rule p) rules judged
 
+-- a rule, if it is not decided
+abbrev pub if_undecided : ProgramTree → Judged → List ProgramTree
+if_undecided rule Undecided = rule ∷ []
+if_undecided rule known = []
+
 -- those of these rules that are not decided
 abbrev pub undecided : List ProgramTree → List Judged → List ProgramTree
 undecided [] judged = []
 undecided (rule ∷ rules) [] = []
-undecided (rule ∷ rules) (Undecided ∷ judged) = rule ∷ undecided rules judged
-undecided (rule ∷ rules) (decided ∷ judged) = undecided rules judged
+undecided (rule ∷ rules) (j ∷ judged) = if_undecided rule j ++ undecided rules judged
 
 -- a rule that is not decided is kept
 abbrev pub or_always : Judged → Judged
 or_always Undecided = Always
-or_always decided = decided
+or_always known = known

@@ -1,10 +1,9 @@
 //! Whether rules are kept after every schedule, by serial orders.
-ghost use Rattle.std.specs.Prelude.{◌≡◌, ◌≢◌, true, false, length, map, IfOk};
+ghost use Rattle.std.specs.Prelude.{◌≡◌, ◌++◌, length, map, IfOk, OnOk};
 ghost use Rattle.stm_serial.specs.Serial.{IsComparing};
 ghost use Rattle.stm_program.specs.Syntax.{ProgramTree};
 ghost use Rattle.stm_schedules.specs.Places.{Place};
-ghost use Rattle.stm_serial_search.specs.declared.judging.Judged.TheVariants.{Undecided};
-ghost use Rattle.stm_serial_search.specs.Replaying.{AreJudged, IsJudged, or_always, undecided};
+ghost use Rattle.stm_serial_search.specs.Replaying.{AreJudged, IsJudged, if_undecided, or_always, undecided};
 ghost use Rattle.stm_serial_search.specs.Search.{AreProgramsOf};
 
 use crate::comparing::are_foreign;
@@ -30,14 +29,6 @@ pub enum Judged {
     NotAsked,
 }
 
-/// Whether a rule is not decided.
-fn is_undecided(judged: &Judged) -> bool
-    ensures yes { result ≡ true → judged.now ≡ Undecided }
-    ensures no { result ≡ false → judged.now ≢ Undecided }
-{
-    matches!(judged, Judged::Undecided)
-}
-
 /// What is known of a rule before any order is made.
 fn before_orders(is_asked: bool) -> Judged
     ensures { (rule : ProgramTree) (p : Place) → IsJudged rule p result }
@@ -61,6 +52,24 @@ fn none_decided(alloc: Global, rules: &[Program], asked: &[bool]) -> Result<Vec<
     Ok(judged)
 }
 
+/// Adds a rule, if it is not decided.
+fn push_undecided(
+    left: &mut Vec<Program>,
+    rule: &Program,
+    judged: &Judged,
+) -> Result<(), AllocError>
+    ensures { OnOk result (left.new.items ≡ left.old.items ++ if_undecided rule.now judged.now) }
+{
+    match judged {
+        Judged::Undecided => {
+            let copy = rule.clone()?;
+            left.push(copy)?;
+            Ok(())
+        }
+        Judged::Always | Judged::Broken(_) | Judged::NotAsked => Ok(()),
+    }
+}
+
 /// Those of these rules that are not decided.
 fn undecided(
     alloc: Global,
@@ -72,10 +81,7 @@ fn undecided(
 {
     let mut left = Vec::new(alloc);
     for index in 0..rules.len() {
-        if is_undecided(&judged[index]) {
-            let copy = rules[index].clone()?;
-            left.push(copy)?;
-        }
+        push_undecided(&mut left, &rules[index], &judged[index])?;
     }
     Ok(left)
 }
@@ -92,7 +98,7 @@ fn decide_by<F: Follower>(
 ) -> Result<bool, Halt>
     ensures { IsJudged rule.now (record { world = world.now; others = others.now }) judged.old → IsJudged rule.now (record { world = world.now; others = others.now }) judged.new }
 {
-    if !is_undecided(judged) {
+    if !matches!(judged, Judged::Undecided) {
         return Ok(false);
     }
     match replay(alloc, world, others, order, rule, follower)? {
@@ -212,8 +218,8 @@ fn judge<F: Follower>(
 /// after another, among the events that others have yet to bring, in their order.
 ///
 /// All runners that have not ended commit at levels that compare their reads, and the others bring no start and no step: then what every serial order
-/// keeps every schedule keeps. `asked` says which rules are asked. All are asked in one walk through the orders; after an order that breaks some, there is another walk for those that
-/// it does not break. An order that does not keep a rule is made step by step in a copy of the world and judged there, before it is
+/// keeps every schedule keeps. `asked` says which rules are asked. All are asked in one walk through the orders; after an order that breaks some, there
+/// is another walk for those that it does not break. An order that does not keep a rule is made step by step in a copy of the world and judged there, before it is
 /// reported. An answer is `Undecided` where the rule is kept there, and where the follower, who is asked before each move, has no further move made.
 /// The follower is notified of how each whole run ended.
 ///

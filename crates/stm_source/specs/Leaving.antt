@@ -23,8 +23,8 @@ is_left Aborts = false
 
 -- a choice ends where both of its blocks do
 abbrev pub choice_ending : Ending → Ending → Ending
-choice_ending GoesOn no = GoesOn
-choice_ending Aborts no = no
+choice_ending GoesOn other = GoesOn
+choice_ending Aborts other = other
 choice_ending Leaves GoesOn = GoesOn
 choice_ending Leaves Leaves = Leaves
 choice_ending Leaves Aborts = Leaves

@@ -11,11 +11,12 @@ use Rattle.stm_terms.specs.declared.kinds.Kind.{Kind}
 use Rattle.stm_terms.specs.declared.kinds.Kind.TheVariants as kind
 use Rattle.stm_terms.specs.declared.arguments.Arguments.{Arguments}
 use Rattle.stm_terms.specs.declared.arguments.Given.{Given}
+use Rattle.stm_terms.specs.Literals.{given_as}
 use Rattle.stm_terms.specs.Outcome.{Outcome}
 use Rattle.stm_source.specs.declared.definitions.Definition.{Definition}
 use Rattle.stm_source.specs.declared.definitions.Definitions.{Definitions}
 use Rattle.stm_source.specs.declared.story.Story.{Story}
-use Rattle.stm_source.specs.Definitions.{alone, definition_named, given_as, look_for_arguments, open_given}
+use Rattle.stm_source.specs.Definitions.{alone, definition_named, look_for_arguments, open_given}
 use Rattle.stm_source.specs.Programs.{parts_at}
 use Rattle.stm_source.specs.Sources.{empty_story, items_from, no_definitions}
 

@@ -4,6 +4,8 @@ ghost use Rattle.stm_terms.specs.Cursor as cursor;
 ghost use Rattle.stm_terms.specs.Outcome.{Returns};
 ghost use Rattle.stm_terms.specs.Scope.{argument_named, blame};
 ghost use Rattle.stm_program.specs.BlockView.{block_of};
+ghost use Rattle.stm_program.specs.declared.limits.TheConstants.{MAX_DEPTH};
+ghost use Rattle.stm_terms.specs.Room.{block_room};
 ghost use Rattle.stm_source.specs.Loops as spec;
 
 use std::alloc::{AllocError, Global};
@@ -163,17 +165,23 @@ pub(crate) fn items<'a>(
     list_of_items(alloc, scope, true, tokens)
 }
 
-/// How many nodes may follow statements, of which a program has room for so many before them: none, where they are too many or too deep, or where there
-/// are none, since others like them are none, too.
-pub(crate) fn room_behind(statements: &[Stmt], room: usize) -> usize
-    ensures { result ≡ spec.room_behind room (block_of statements.now) }
+/// How many nodes may follow statements, of which a program has room for so many before them: none, where they are too many or too deep.
+fn room_left(statements: &[Stmt], room: usize) -> usize
+    ensures { result ≡ spec.left_by (block_room MAX_DEPTH room (block_of statements.now)) }
 {
-    if statements.is_empty() {
-        return 0;
-    }
     match statements_room(statements, MAX_DEPTH, room) {
         Ok(left) => left,
         Err(_) => 0,
+    }
+}
+
+/// The same, but none where there are no statements, since others like them are none, too.
+pub(crate) fn room_behind(statements: &[Stmt], room: usize) -> usize
+    ensures { result ≡ spec.room_behind room (block_of statements.now) }
+{
+    match statements {
+        [] => 0,
+        [_, ..] => room_left(statements, room),
     }
 }
 

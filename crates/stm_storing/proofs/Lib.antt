@@ -1,5 +1,4 @@
 pub mod Around
 pub mod JobLemmas
-pub mod PastKeys
 pub mod Ready
 pub mod Texts

@@ -99,8 +99,8 @@ abbrev pub as_it_stands : Expression → Fronted
 as_it_stands e = record { front = []; expression = e }
 
 -- a value of these look-ups, from a variable on
-abbrev pub fronted : Planning → ℕ → Expression → List LookUp → Outcome Fronted
-fronted planned v e ls = if has_else ls then (planned [] v ls >>= λ plan. Ok (fronted_by (lifted plan e no_fronts))) else Ok (as_it_stands e)
+abbrev pub planned_front : Planning → ℕ → Expression → List LookUp → Outcome Fronted
+planned_front planned v e ls = if has_else ls then (planned [] v ls >>= λ plan. Ok (fronted_by (lifted plan e no_fronts))) else Ok (as_it_stands e)
 
 abbrev pub set_behind : ℕ → Fronted → Block
 set_behind v f = block_of (f.front ++ Set v f.expression ∷ [])
@@ -108,7 +108,7 @@ set_behind v f = block_of (f.front ++ Set v f.expression ∷ [])
 -- what sets a variable to the value behind an `else`: that is set in front of, too, from the next variable on
 abbrev pub else_block : Planning → ℕ → Option Other → List LookUp → Outcome (Option Block)
 else_block planned v None own = Ok None
-else_block planned v (Some o) own = fronted planned (v + 1) o.value own >>= λ f. Ok (Some (set_behind v f))
+else_block planned v (Some o) own = planned_front planned (v + 1) o.value own >>= λ f. Ok (Some (set_behind v f))
 
 abbrev pub own_in : Option Other → ℕ
 own_in None = 0
@@ -134,7 +134,7 @@ planned (suc most) plan v ls = plan_by (planned most) plan v ls
 -- ---- the values of a statement, before which these names are in sight
 
 abbrev pub with_front : Scope → Valued → Outcome Fronted
-with_front scope x = fronted (planned MOST_PLANS) (length scope.names) x.expression x.look_ups
+with_front scope x = planned_front (planned MOST_PLANS) (length scope.names) x.expression x.look_ups
 
 abbrev pub paired_by : Option ℕ → Expression → Expression × Fronts → FrontedPair
 paired_by at l x = record { front = x.1.statements; else_at = at; left = l; right = x.0 }

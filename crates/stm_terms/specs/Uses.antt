@@ -110,8 +110,8 @@ else_within (l ∷ ls) = if has_own l.other then first_else ls else else_within 
 -- ---- its kind, with these arguments: none, where one is of another kind than is wanted there
 
 abbrev pub of_kind : Kind → Kind → Option Kind → Option Kind
-of_kind wanted result None = None
-of_kind wanted result (Some k) = if agrees wanted k then Some result else None
+of_kind wanted gives None = None
+of_kind wanted gives (Some k) = if agrees wanted k then Some gives else None
 
 abbrev pub kind_of_argument : Option Valued → Option Kind
 kind_of_argument None = Some kind.Either

@@ -463,7 +463,7 @@ fn else_block(
     match other {
         Some(other) => {
             let next = variable.number() as u64 + 1;
-            let value = fronted(alloc, most, next, &other.value, own)?;
+            let value = planned_front(alloc, most, next, &other.value, own)?;
             let block = set_behind(alloc, variable, value)?;
             Ok(Some(block))
         }
@@ -473,14 +473,14 @@ fn else_block(
 
 /// A value, behind what is set in front of it, from a variable on.
 #[cycle(plan)]
-fn fronted(
+fn planned_front(
     alloc: Global,
     most: usize,
     variable: u64,
     value: &Expr,
     look_ups: &[LookUp],
 ) -> Result<Fronted, SourceError>
-    ensures { Returns (λ x. x) result (spec.fronted (spec.planned most) variable value.now look_ups.now) }
+    ensures { Returns (λ x. x) result (spec.planned_front (spec.planned most) variable value.now look_ups.now) }
 {
     if !has_else(look_ups) {
         let value = as_it_stands(alloc, value)?;
@@ -499,7 +499,7 @@ pub fn with_front(alloc: Global, scope: &Scope, value: Valued) -> Result<Fronted
     ensures { Returns (λ x. x) result (spec.with_front scope.now value) }
 {
     let variable = scope.names.len() as u64;
-    fronted(
+    planned_front(
         alloc,
         MOST_PLANS,
         variable,

@@ -293,11 +293,11 @@ fn others_hold_else(arguments: &[Valued], look_ups: &[LookUp]) -> bool
 }
 
 /// What comes of something that wants a value of a kind: none, where it is of the other one.
-fn of_kind(wanted: Kind, result: Kind, found: Option<Kind>) -> Option<Kind>
-    ensures { result ≡ spec.of_kind wanted result found }
+fn of_kind(wanted: Kind, gives: Kind, found: Option<Kind>) -> Option<Kind>
+    ensures { result ≡ spec.of_kind wanted gives found }
 {
     match found {
-        Some(kind) if wanted.agrees(kind) => Some(result),
+        Some(kind) if wanted.agrees(kind) => Some(gives),
         _ => None,
     }
 }

@@ -158,7 +158,7 @@ returns-then-not-branch-2-clause-ordered g c =
     let others = c.args.gathered.now.others.now in
     let stand : StandFor ReportedPlace Move Outcome (outcome_steps others) c.in-Ok.next.items (moved_from_each (outcome_steps others) c.loop-gone_through.layer.items) =
     subst (λ (rs : List (Reached ReportedPlace Move)). StandFor ReportedPlace Move Outcome (outcome_steps others) c.in-Ok.next.items (moved_from_each (outcome_steps others) rs))
-    c.as_slice-in-loop-gone_through.ensures.value c.in-Ok.ensures.stand in
+    c.as_slice-in-loop-gone_through.ensures.value (c.in-Ok.ensures.stand 0) in
     (order_next others c.args.start c.loop-gone_through.gone_through c.loop-gone_through.layer.items c.in-Ok.next.items c.loop-gone_through.found.items
     c.loop-gone_through.schedules.items c.collect_whole-in-Ok.new.schedules.items c.loop-gone_through.invariant.come stand
     (subst (λ (rs : List (Reached ReportedPlace Move)). KeepOrder rs c.loop-gone_through.schedules.items c.collect_whole-in-Ok.new.schedules.items)

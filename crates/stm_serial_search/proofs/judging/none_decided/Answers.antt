@@ -4,7 +4,6 @@ use Rattle.stm_serial_search.specs.Replaying.{IsJudged}
 use Rattle.stm_serial_search.proofs.Judges.{any_more}
 use Rattle.stm_serial_search.proofs.judging.none_decided.Goals as goal
 
--- (not checked yet: the names of goals and steps are guesses)
 pub loop-index-preserved : goal.loop-index-preserved
 loop-index-preserved c = λ p.
     subst (AllZip (λ rule. IsJudged rule p) (take (c.loop-index.index + 1) c.args.rules.now)) (sym c.in_ok-push.ensures.items)

@@ -7,13 +7,13 @@ use Rattle.stm_source.specs.Leaving.{is_left}
 use Rattle.stm_source.specs.Statements.{block_at, statement_by, statements_at}
 use Rattle.stm_source.proofs.statements.+read_statements.Goals as goal
 
-pub braces-returns-then-levels-eq0 : goal.braces-returns-then-levels-eq0
-braces-returns-then-levels-eq0 t c = block_none _ _ _ _ _ c.if-levels-eq0.true c.unexpected.ensures
+pub block-returns-then-levels-eq0 : goal.block-returns-then-levels-eq0
+block-returns-then-levels-eq0 t c = block_none _ _ _ _ _ c.if-levels-eq0.true c.unexpected.ensures
 
-pub braces-returns : goal.braces-returns
-braces-returns t c =
+pub block-returns : goal.block-returns
+block-returns t c =
     let some : 0 < c.args.levels = omega arith in
-    rw (block_some c.args.levels c.args.around c.args.scope.now c.args.tokens.now some) c.between_braces.ensures
+    rw (block_some c.args.levels c.args.around c.args.scope.now c.args.tokens.now some) c.block_between.ensures
 
 pub choice-returns-then-more-eq0 : goal.choice-returns-then-more-eq0
 choice-returns-then-more-eq0 t c = choice_none _ _ _ _ _ _ c.if-more-eq0.true c.fault.ensures
@@ -40,7 +40,7 @@ statements-returns-then-is_left t c =
     let some : n - c.loop-done.done ≡ suc (n - (c.loop-done.done + 1)) = omega arith in
     let unclosed : after_symbol RightBrace c.loop-done.rest.now ≡ None = search rules in
     let left : is_left c.loop-done.ending ≡ true = search rules in
-    rw c.unexpected-then-is_left.ensures (is_behind (statement_by (block_at c.args.levels) c.args.levels c.args.around) c.loop-done.parts.items c.loop-done.done c.loop-done.ending
+    rw c.unexpected.ensures (is_behind (statement_by (block_at c.args.levels) c.args.levels c.args.around) c.loop-done.parts.items c.loop-done.done c.loop-done.ending
     (n - c.loop-done.done) (n - (c.loop-done.done + 1)) c.loop-done.scope c.loop-done.rest.now
     (statements_at c.args.levels c.args.around c.args.outer.now c.args.tokens.now) some unclosed left c.loop-done.invariant)
 
@@ -70,5 +70,5 @@ pub statements-returns : goal.statements-returns
 statements-returns t c =
     let n = length c.args.tokens.now in
     let none : n - c.loop-done.done ≡ 0 = omega arith in
-    rw c.unexpected.ensures (runs_out (statement_by (block_at c.args.levels) c.args.levels c.args.around) c.loop-done.parts.items c.loop-done.done c.loop-done.ending
+    rw c.unexpected-2.ensures (runs_out (statement_by (block_at c.args.levels) c.args.levels c.args.around) c.loop-done.parts.items c.loop-done.done c.loop-done.ending
     (n - c.loop-done.done) c.loop-done.scope c.loop-done.rest.now (statements_at c.args.levels c.args.around c.args.outer.now c.args.tokens.now) none c.loop-done.invariant)

@@ -8,4 +8,4 @@ plan-returns-then-most-eq0 t c = planned_none _ _ _ _ c.if-most-eq0.true
 pub plan-returns : goal.plan-returns
 plan-returns t c =
     let some : 0 < c.args.most = omega arith in
-    rw (planned_some c.args.most c.args.planned.entry c.args.variable c.args.look_ups.now some) c.plan_some.ensures
+    rw (planned_some c.args.most c.args.planned.now c.args.variable c.args.look_ups.now some) c.plan_some.ensures

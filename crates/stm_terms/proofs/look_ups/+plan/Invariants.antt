@@ -4,8 +4,8 @@ use Rattle.stm_terms.proofs.look_ups.+plan.Given as goal
 abbrev pub decreases-plan : goal.decreases-plan
 decreases-plan l = 5 * l.most
 
-abbrev pub decreases-fronted : goal.decreases-fronted
-decreases-fronted l = 5 * l.most + 1
+abbrev pub decreases-planned_front : goal.decreases-planned_front
+decreases-planned_front l = 5 * l.most + 1
 
 abbrev pub decreases-else_block : goal.decreases-else_block
 decreases-else_block l = 5 * l.most + 2

@@ -9,7 +9,7 @@ use Rattle.stm_texts.specs.declared.scenario.Scenario.{Scenario}
 use Rattle.stm_texts.specs.Opens.{setup_of}
 use Rattle.stm_texts.specs.Reading.{scenario_in}
 use Rattle.stm_world.specs.World.{World, opened, world_after}
-use Rattle.stm_world.specs.Restored.{restored_world, ShowTheSameFrom}
+use Rattle.stm_world.specs.Restored.{restored_world}
 use Rattle.stm_txn.specs.declared.restored.Checkpoint.{Checkpoint}
 use Rattle.stm_txn.specs.Restored.{can_restore}
 use Rattle.stm_lasting.specs.CheckpointText.{checkpoint_in}
@@ -80,9 +80,6 @@ abbrev pub IsWorldBeforeOrAfter : List ℕ → List ℕ → World → List ℕ �
 IsWorldBeforeOrAfter file text after c =
     (before : World) → IsKept file before → NoChance file text c → OpensTo c before ⊎ OpensTo c after
 
--- The file was written anew as this record, a checkpoint of the world that it led to: what a crash leaves opens to that world, or to the one that the
--- record leads to, which shows the same from its floor on.
-abbrev pub IsWorldOrItsCheckpoint : List ℕ → List ℕ → List ℕ → Type 0
-IsWorldOrItsCheckpoint file text c =
-    (before : World) → IsKept file before → OpensTo c before ⊎ ((after : World) × OpensTo c after × (world_in (text ∷ []) ≡ Some after)
-    × ShowTheSameFrom after.standing.floor before.standing after.standing)
+-- what a crash left opens to one of two worlds
+abbrev pub OpensToEither : World → World → List ℕ → Type 0
+OpensToEither before after c = OpensTo c before ⊎ OpensTo c after

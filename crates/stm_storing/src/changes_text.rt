@@ -50,7 +50,11 @@ fn push_element(alloc: Global, text: &mut String, element: &Json) -> Result<(), 
 }
 
 /// Adds an event.
-fn push_event(alloc: Global, text: &mut String, event: &WorldEvent) -> Result<(), AllocError> {
+pub(crate) fn push_event(
+    alloc: Global,
+    text: &mut String,
+    event: &WorldEvent,
+) -> Result<(), AllocError> {
     let element = event_json(alloc, event)?;
     push_element(alloc, text, &element)
 }
@@ -63,14 +67,15 @@ fn push_events(alloc: Global, text: &mut String, events: &[WorldEvent]) -> Resul
     Ok(())
 }
 
-/// Adds a transaction for each revision above this one.
-fn push_changes(
+/// Adds a transaction for each revision above one, up to another.
+pub(crate) fn push_changes(
     alloc: Global,
     text: &mut String,
     keys: &Keys,
     since: u64,
+    last: u64,
 ) -> Result<(), AllocError> {
-    for revision in since..keys.revision() {
+    for revision in since..last {
         let txn = txn_of(alloc, keys.events_at(revision + 1))?;
         push_event(alloc, text, &txn)?;
     }
@@ -103,7 +108,7 @@ pub(crate) fn changes_text(
     let mut text = String::from_str(alloc, "[")?;
     push_opening(alloc, &mut text, opening)?;
     push_events(alloc, &mut text, calls)?;
-    push_changes(alloc, &mut text, keys, since)?;
+    push_changes(alloc, &mut text, keys, since, keys.revision())?;
     text.push(']')?;
     Ok(text)
 }

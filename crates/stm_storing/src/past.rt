@@ -91,7 +91,7 @@ fn named_since(alloc: Global, keys: &Keys, revision: u64) -> Result<Vec<String>,
 }
 
 /// A line for each key that was present at a revision.
-fn text_at(alloc: Global, keys: &Keys, revision: u64) -> Result<String, AllocError>
+pub(crate) fn text_at(alloc: Global, keys: &Keys, revision: u64) -> Result<String, AllocError>
     requires { revision ≤ now keys.now.history }
 {
     let named = named_since(alloc, keys, revision)?;

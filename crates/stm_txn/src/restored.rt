@@ -74,12 +74,7 @@ fn grant_all(leases: &mut Leases, kept: &[KeptLease]) -> Result<bool, AllocError
 }
 
 /// Attaches a key to a live lease.
-fn attach_live(
-    alloc: Global,
-    leases: &mut Leases,
-    key: &Text,
-    lease: u64,
-) -> Result<(), AllocError>
+fn attach_live(alloc: Global, leases: &mut Leases, key: &Text, lease: u64) -> Result<(), AllocError>
     requires live { is_live_in leases.old.live lease ≡ true }
     requires loose { lease_of leases.old key.now ≡ None }
     ensures attached { IfOk result (λ done. (k : List ℕ) → lease_of leases.new k ≡ (if bytes_eq key.now k then Some lease else lease_of leases.old k)) }
@@ -217,8 +212,6 @@ impl Store {
         let keys = Keys::restored(alloc, checkpoint.revision, checkpoint.states.as_slice())?;
         let watchers = Watchers::new(alloc)?;
         let limit = OperationLimit::new(checkpoint.operations);
-        Ok(Some(Store::with_parts(
-            alloc, keys, leases, 0, watchers, limit,
-        )))
+        Ok(Some(Store::with_parts(alloc, keys, leases, 0, watchers, limit)))
     }
 }

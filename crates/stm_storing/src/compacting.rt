@@ -1,0 +1,150 @@
+//! Writing the file of a world anew, without what is below a revision.
+ghost use Rattle.std.specs.Prelude.{◌≡◌, ◌≤◌, IfOk, IsTrue};
+ghost use Rattle.stm_history.specs.History.{now};
+ghost use Rattle.stm_records.specs.Disk.{Only};
+
+use crate::checkpoint_text::checkpoint_text;
+use crate::fault::StoreFault;
+use crate::likeness::are_alike_since;
+use crate::past::text_at;
+use crate::scripting::opened;
+use crate::showing::Checked;
+use std::alloc::{AllocError, Global};
+use std::collections::BTreeMap;
+use stm_keys::Keys;
+use stm_lasting::{Disk, RecordFile, World, compact, world_of_checkpoint};
+use stm_report::{LiveLease, live_leases};
+use stm_txn::Store;
+
+/// Whether a runner of a world runs.
+fn has_running(world: &World) -> bool {
+    for runner in 0..world.runner_count() as u64 {
+        if world.is_running(runner + 1) {
+            return true;
+        }
+    }
+    false
+}
+
+/// Whether leases of two worlds are the same.
+fn are_same_leases(left: &BTreeMap<u64, LiveLease>, right: &BTreeMap<u64, LiveLease>) -> bool {
+    if left.len() != right.len() {
+        return false;
+    }
+    for (id, lease) in left {
+        match right.get(id) {
+            Some(other) if other.ttl == lease.ttl && other.renewed == lease.renewed => {}
+            _ => return false,
+        }
+    }
+    true
+}
+
+/// Whether two worlds have the same live leases.
+fn have_same_leases(alloc: Global, left: &World, right: &World) -> Result<bool, AllocError> {
+    let leases = live_leases(alloc, left.history())?;
+    let others = live_leases(alloc, right.history())?;
+    Ok(are_same_leases(&leases, &others))
+}
+
+/// Whether two histories had the same keys at a revision.
+fn had_same_keys(
+    alloc: Global,
+    left: &Keys,
+    right: &Keys,
+    revision: u64,
+) -> Result<bool, AllocError>
+    requires here { revision ≤ now left.now.history }
+    requires there { revision ≤ now right.now.history }
+{
+    let lines = text_at(alloc, left, revision)?;
+    let others = text_at(alloc, right, revision)?;
+    Ok(lines == others)
+}
+
+/// Whether two worlds show the same from a revision on: keys, events, leases, moment and limit.
+fn show_the_same(
+    alloc: Global,
+    left: &World,
+    right: &World,
+    floor: u64,
+) -> Result<bool, AllocError> {
+    let store = left.store();
+    let another = right.store();
+    if another.floor() != floor || store.limit() != another.limit() {
+        return Ok(false);
+    }
+    if !are_alike_since(store, another, floor - 1) {
+        return Ok(false);
+    }
+    if !had_same_keys(alloc, store.keys(), another.keys(), floor)? {
+        return Ok(false);
+    }
+    have_same_leases(alloc, left, right)
+}
+
+/// The revision from which on a store is to be kept: its own, where none is named. `FutureRevision`: it is above the store's. `Compacted`: it is below the
+/// floor.
+fn floor_of(store: &Store, from: Option<u64>) -> Result<u64, StoreFault>
+    ensures within { IfOk result (λ floor. floor ≤ now store.now.standing.history) }
+{
+    let revision = store.keys().revision();
+    let floor = from.unwrap_or(revision);
+    if floor > revision {
+        return Err(StoreFault::FutureRevision);
+    }
+    if floor < store.floor() {
+        return Err(StoreFault::Compacted);
+    }
+    Ok(floor)
+}
+
+/// Puts a checkpoint of a world in the place of its file: the world is looked at to which the checkpoint leads, and it has to show the same.
+fn compact_at<D: Disk>(
+    records: &mut RecordFile<D>,
+    world: &World,
+    floor: u64,
+) -> Result<Checked, StoreFault> {
+    let text = checkpoint_text(records.alloc, world, floor)?;
+    let Some(after) = world_of_checkpoint(records.alloc, text.as_str().as_bytes())? else {
+        return Err(StoreFault::CannotCompact);
+    };
+    if !show_the_same(records.alloc, world, &after, floor)? {
+        return Err(StoreFault::CannotCompact);
+    }
+    match compact(records, world, &after, text.as_str().as_bytes()) {
+        Ok(()) => Ok(Checked {
+            records: 1,
+            bytes: records.end,
+        }),
+        Err(fault) => Err(StoreFault::of_keeping(fault)),
+    }
+}
+
+/// Writes the file of a world anew, which was opened with these bytes, as one record without what is below a revision: the named one, or else the store's.
+/// Where nothing is below it, the file stays as it is. Says how many records the file has then.
+///
+/// `FutureRevision`: the revision is above the store's. `Compacted`: it was compacted. `CannotCompact`: a runner runs, or no checkpoint shows the same, since
+/// the revision ended a lease with its keys, or changed more keys than a transaction may. After each refusal the file opens to what it would have.
+pub fn compact_kept<D: Disk>(
+    records: &mut RecordFile<D>,
+    bytes: Vec<u8>,
+    from: Option<u64>,
+) -> Result<Checked, StoreFault>
+    requires bytes { bytes.items ≡ D.seen records.old.disk }
+    requires durable { Only (D.seen records.old.disk) (D.may_leave records.old.disk) }
+    requires usable { IsTrue (D.is_usable records.old.disk) }
+{
+    let kept = opened(records, bytes)?;
+    let floor = floor_of(kept.world.store(), from)?;
+    if floor <= kept.world.store().keys().below() {
+        return Ok(Checked {
+            records: kept.count,
+            bytes: kept.end,
+        });
+    }
+    if has_running(&kept.world) {
+        return Err(StoreFault::CannotCompact);
+    }
+    compact_at(records, &kept.world, floor)
+}

@@ -67,17 +67,26 @@ fn push_events(alloc: Global, text: &mut String, events: &[WorldEvent]) -> Resul
     Ok(())
 }
 
-/// Adds a transaction for each revision above one, up to another.
-pub(crate) fn push_changes(
+/// Adds the transaction that makes the changes of a revision.
+pub(crate) fn push_revision(
+    alloc: Global,
+    text: &mut String,
+    keys: &Keys,
+    revision: u64,
+) -> Result<(), AllocError> {
+    let txn = txn_of(alloc, keys.events_at(revision))?;
+    push_event(alloc, text, &txn)
+}
+
+/// Adds a transaction for each revision above this one.
+fn push_changes(
     alloc: Global,
     text: &mut String,
     keys: &Keys,
     since: u64,
-    last: u64,
 ) -> Result<(), AllocError> {
-    for revision in since..last {
-        let txn = txn_of(alloc, keys.events_at(revision + 1))?;
-        push_event(alloc, text, &txn)?;
+    for revision in since..keys.revision() {
+        push_revision(alloc, text, keys, revision + 1)?;
     }
     Ok(())
 }
@@ -108,7 +117,7 @@ pub(crate) fn changes_text(
     let mut text = String::from_str(alloc, "[")?;
     push_opening(alloc, &mut text, opening)?;
     push_events(alloc, &mut text, calls)?;
-    push_changes(alloc, &mut text, keys, since, keys.revision())?;
+    push_changes(alloc, &mut text, keys, since)?;
     text.push(']')?;
     Ok(text)
 }

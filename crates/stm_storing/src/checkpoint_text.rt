@@ -2,7 +2,8 @@
 ghost use Rattle.std.specs.Prelude.{◌≤◌};
 ghost use Rattle.stm_history.specs.History.{now};
 
-use crate::changes_text::{push_changes, push_event};
+use crate::changes_text::{push_event, push_revision};
+use crate::ended_leases::{Ended, ended_since, is_end_of};
 use crate::past::text_at;
 use std::alloc::{AllocError, Global};
 use std::collections::BTreeMap;
@@ -22,25 +23,64 @@ fn push_opening(
     text.push_str(opening.as_str())
 }
 
+/// Adds the ends of the leases whose keys this revision was the last to touch.
+fn push_ends(
+    alloc: Global,
+    text: &mut String,
+    ended: &Ended,
+    revision: u64,
+) -> Result<(), AllocError> {
+    for (lease, last) in ended {
+        if *last == revision {
+            push_event(alloc, text, &WorldEvent::Revoke { id: *lease })?;
+        }
+    }
+    Ok(())
+}
+
+/// Whether the end of a lease does what a revision did, which was the last to touch its keys.
+fn is_an_end(keys: &Keys, ended: &Ended, revision: u64) -> bool {
+    for (lease, last) in ended {
+        if *last == revision && is_end_of(keys, *lease, revision) {
+            return true;
+        }
+    }
+    false
+}
+
+/// Adds what makes the changes of a revision again, and the ends of the leases whose keys it was the last to touch.
+fn push_change(
+    alloc: Global,
+    text: &mut String,
+    keys: &Keys,
+    ended: &Ended,
+    revision: u64,
+) -> Result<(), AllocError> {
+    if !is_an_end(keys, ended, revision) {
+        push_revision(alloc, text, keys, revision)?;
+    }
+    push_ends(alloc, text, ended, revision)
+}
+
 /// The scenario of a checkpoint: it sets the moment, makes the changes of the floor's revision and compacts there, and then makes the later changes.
 fn push_scenario(
     alloc: Global,
     text: &mut String,
     store: &Store,
+    ended: &Ended,
     floor: u64,
 ) -> Result<(), AllocError> {
     let keys = store.keys();
     push_opening(alloc, text, store, floor - 1)?;
-    push_event(
-        alloc,
-        text,
-        &WorldEvent::Advance {
-            now: store.moment(),
-        },
-    )?;
-    push_changes(alloc, text, keys, floor - 1, floor)?;
+    let advance = WorldEvent::Advance {
+        now: store.moment(),
+    };
+    push_event(alloc, text, &advance)?;
+    push_change(alloc, text, keys, ended, floor)?;
     push_event(alloc, text, &WorldEvent::Compact { revision: floor })?;
-    push_changes(alloc, text, keys, floor, keys.revision())?;
+    for revision in floor..keys.revision() {
+        push_change(alloc, text, keys, ended, revision + 1)?;
+    }
     text.push_str("]\n")
 }
 
@@ -57,13 +97,36 @@ fn push_leases(
     Ok(())
 }
 
-/// Adds what the keys were below the floor, the live leases, and an end.
-fn push_held(alloc: Global, text: &mut String, world: &World, below: u64) -> Result<(), AllocError>
+/// The leases that are granted to begin with: those that are live, and those whose keys are still to be touched.
+fn granted(
+    alloc: Global,
+    world: &World,
+    ended: &Ended,
+) -> Result<BTreeMap<u64, LiveLease>, AllocError> {
+    let mut leases = live_leases(alloc, world.history())?;
+    for (lease, _) in ended {
+        let anew = LiveLease {
+            ttl: 1,
+            renewed: world.store().moment(),
+        };
+        leases.insert(*lease, anew)?;
+    }
+    Ok(leases)
+}
+
+/// Adds what the keys were below the floor, the leases, and an end.
+fn push_held(
+    alloc: Global,
+    text: &mut String,
+    world: &World,
+    ended: &Ended,
+    below: u64,
+) -> Result<(), AllocError>
     requires { below ≤ now world.now.standing.history }
 {
     let lines = text_at(alloc, world.store().keys(), below)?;
     text.push_str(lines.as_str())?;
-    let leases = live_leases(alloc, world.history())?;
+    let leases = granted(alloc, world, ended)?;
     push_leases(alloc, text, &leases)?;
     let end = end_json(alloc, below, 0)?;
     push_line(alloc, text, &end)
@@ -77,8 +140,9 @@ pub(crate) fn checkpoint_text(
 ) -> Result<String, AllocError>
     requires { floor ≤ now world.now.standing.history }
 {
+    let ended = ended_since(alloc, world.store(), floor)?;
     let mut text = String::new(alloc);
-    push_scenario(alloc, &mut text, world.store(), floor)?;
-    push_held(alloc, &mut text, world, floor - 1)?;
+    push_scenario(alloc, &mut text, world.store(), &ended, floor)?;
+    push_held(alloc, &mut text, world, &ended, floor - 1)?;
     Ok(text)
 }

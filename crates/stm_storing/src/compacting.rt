@@ -124,8 +124,8 @@ fn compact_at<D: Disk>(
 /// Writes the file of a world anew, which was opened with these bytes, as one record without what is below a revision: the named one, or else the store's.
 /// Where nothing is below it, the file stays as it is. Says how many records the file has then.
 ///
-/// `FutureRevision`: the revision is above the store's. `Compacted`: it was compacted. `CannotCompact`: a runner runs, or no checkpoint shows the same, since
-/// the revision ended a lease with its keys, or changed more keys than a transaction may. After each refusal the file opens to what it would have.
+/// `FutureRevision`: the revision is above the store's. `Compacted`: it was compacted. `CannotCompact`: a runner runs, or no checkpoint was found
+/// that shows the same. After each refusal the file opens to what it would have.
 pub fn compact_kept<D: Disk>(
     records: &mut RecordFile<D>,
     bytes: Vec<u8>,

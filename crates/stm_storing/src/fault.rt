@@ -103,7 +103,7 @@ impl fmt::Display for StoreFault {
             StoreFault::Compacted => f.write_str("that revision is compacted"),
             StoreFault::CannotCompact => {
                 f.write_str(
-                    "cannot be compacted there: a runner runs, or that revision ended a lease, or changed more keys than a transaction may",
+                    "cannot be compacted there: a runner runs, or a lease that has ended since was granted again",
                 )
             }
             StoreFault::Output => f.write_str("the report could not be written"),

@@ -7,6 +7,7 @@
 mod changes_text;
 mod checkpoint_text;
 mod compacting;
+mod ended_leases;
 mod fault;
 mod input;
 mod jobs;

@@ -57,8 +57,8 @@ module _ (mended : List ℕ) (scenario : Scenario) (since : ℕ) (after_it : Wor
   kept_past file kept = subst (λ (w : World). IsKept file w) run.2 kept
 
   -- the file leads to the world after it
-  pub leads_past : (file : List ℕ) → IsKept file after_it → LeadsPast mended file
-  leads_past file kept = (scenario, run.0, run.1, kept_past file kept)
+  pub leads_past : (file : List ℕ) → IsKept file after_it → LeadsPast mended file replies
+  leads_past file kept = record { scenario = scenario; before = run.0; ready = run.1; kept = kept_past file kept; replied = run.3 }
 
   -- and its report was printed
   pub gone_on : (format : Format) (found file : List ℕ) (world : World) (before_it held : Option (List ℕ)) → IsOpened found mended world → IsKept file after_it

@@ -1,4 +1,5 @@
 pub mod Around
 pub mod JobLemmas
+pub mod PastKeys
 pub mod Ready
 pub mod Texts

@@ -1,5 +1,5 @@
 -- What a command does to the file of a world, also where a crash comes at any moment of it, and what it prints.
-use Rattle.std.specs.Prelude.{◌≡◌, ◌⊎◌, ℕ, List, [], Option, Result, Ok}
+use Rattle.std.specs.Prelude.{◌≡◌, ◌⊎◌, ◌-◌, ℕ, List, [], length, slice_get, Option, Some, Result, Ok}
 use Rattle.std.specs.Io.KnownBytes.{Appends}
 use Rattle.stm_texts.specs.declared.scenario.Scenario.{Scenario}
 use Rattle.stm_texts.specs.Reading.{scenario_in}
@@ -8,11 +8,13 @@ use Rattle.stm_events.specs.declared.refusal.Denied.{Denied}
 use Rattle.stm_events.specs.declared.event.WorldEvent.{WorldEvent}
 use Rattle.stm_history.specs.History.{now}
 use Rattle.stm_world.specs.World.{World, world_after, replies_to}
+use Rattle.stm_report_lines.specs.LineData.{event_data_of}
+use Rattle.stm_report_lines.specs.Text.{line_text}
 use Rattle.stm_report.specs.declared.format.Format.{Format}
 use Rattle.stm_report.specs.FormatScript.{IsTextSince, IsTextFrom}
 use Rattle.stm_watch.specs.declared.watched.Watched.{Watched}
 use Rattle.stm_txn.specs.Standing.{kept}
-use Rattle.stm_storing.specs.Past.{text_since}
+use Rattle.stm_storing.specs.Past.{text_since, IsTextAt}
 use Rattle.stm_lasting.specs.Kept.{IsKept, OpensTo, OpensAlike, IsReady, IsWorldBeforeOrAfter}
 
 -- the file opens to this world, as it was found, and leads to it once a torn end is cut off
@@ -45,10 +47,25 @@ LeavesAroundRun mended c =
 abbrev pub LeavesFoundOrRun : List ℕ → List ℕ → Type 0
 LeavesFoundOrRun found c = OpensAlike found c ⊎ ((mended : List ℕ) × (world : World) × IsOpened found mended world × LeavesAroundRun mended c)
 
--- a scenario lasts that was run over a file: the file leads to the world after it
-abbrev pub LeadsPast : List ℕ → List ℕ → Type 0
-LeadsPast mended file =
-    (scenario : Scenario) × (before : World) × IsReady mended before scenario × IsKept file (world_after scenario.events before)
+-- a scenario lasts that was run over a file, and had these replies: the file leads to the world after it
+pub record LeadsPast (mended file : List ℕ) (replies : List (Result Reply Denied)) : Type 0 where
+  pub scenario : Scenario
+  pub before : World
+  pub ready : IsReady mended before scenario
+  pub kept : IsKept file (world_after scenario.events before)
+  pub replied : replies ≡ replies_to scenario.events before
+
+-- the line of the last of the events that have these replies was printed
+abbrev pub HasPrintedLast : List (Result Reply Denied) → Option (List ℕ) → Option (List ℕ) → Type 0
+HasPrintedLast replies before_it after_it =
+    (last : Result Reply Denied) × (slice_get replies (length replies - 1) ≡ Some last)
+    × Appends before_it after_it (line_text (event_data_of (length replies) last))
+
+-- a program was run alone over the world that a file leads to, and lasts; the line of its last event was printed
+pub record HasRunAlone (mended file : List ℕ) (before_it after_it : Option (List ℕ)) : Type 0 where
+  pub replies : List (Result Reply Denied)
+  pub past : LeadsPast mended file replies
+  pub printed : HasPrintedLast replies before_it after_it
 
 -- the report of a world, and of these events since a revision with their replies, was printed
 abbrev pub HasPrinted : Format → ℕ → World → List WorldEvent → List (Result Reply Denied) → Option (List ℕ) → Option (List ℕ) → Type 0
@@ -68,11 +85,11 @@ pub record HasGoneOn (format : Format) (found file : List ℕ) (scenario : Scena
   pub printed : Appends before_it after_it report
 
 -- a run of a program has committed over what was found, and lasts
-pub record HasCommitted (found file : List ℕ) : Type 0 where
+pub record HasCommitted (found file : List ℕ) (before_it after_it : Option (List ℕ)) : Type 0 where
   pub mended : List ℕ
   pub world : World
   pub opened : IsOpened found mended world
-  pub past : LeadsPast mended file
+  pub run : HasRunAlone mended file before_it after_it
 
 -- what the world of a file has was printed: the report of no events
 pub record HasShown (format : Format) (found : List ℕ) (before_it after_it : Option (List ℕ)) : Type 0 where
@@ -91,3 +108,11 @@ pub record HasShownEvents (found : List ℕ) (wanted : Option Watched) (from : �
   pub world : World
   pub opens : OpensTo found world
   pub printed : Appends before_it after_it (text_since wanted (kept world.standing).history from)
+
+-- the keys that the store of a file had at a revision were printed
+pub record HasShownPast (found : List ℕ) (revision : ℕ) (before_it after_it : Option (List ℕ)) : Type 0 where
+  pub world : World
+  pub opens : OpensTo found world
+  pub text : List ℕ
+  pub shows : IsTextAt (kept world.standing).history revision text
+  pub printed : Appends before_it after_it text

@@ -1,102 +1,145 @@
 //! What the store of a file had at a revision, and what has happened in it since one.
-ghost use Rattle.std.specs.Prelude.{◌≡◌, ◌<◌, ◌≤◌, ◌++◌, Err, false, IfOk, IfErr, OnOk, IsTrue, string_bytes};
-ghost use Rattle.std.specs.List.{flat_map};
-ghost use Rattle.stm_history.specs.History.{now};
+ghost use Rattle.std.specs.Prelude.{◌≡◌, ◌<◌, ◌≤◌, ◌++◌, Err, false, IsSome, map, IfOk, IfErr, OnOk, IsTrue, string_bytes};
+ghost use Rattle.std.specs.List.{concat, flat_map};
+ghost use Rattle.stm_history.specs.History.{now, key_now};
+ghost use Rattle.stm_keys.specs.Events.{event_about};
 ghost use Rattle.stm_lasting.specs.Kept.{OpensAlike};
 ghost use Rattle.stm_records.specs.Disk.{Only, LeavesOnly};
 ghost use Rattle.stm_report_lines.specs.LineData.{event_data};
 ghost use Rattle.stm_report_lines.specs.Text.{line_text};
-ghost use Rattle.stm_storing.specs.Storing.{HasShownEvents};
-ghost use Rattle.stm_storing.specs.Past.{key_text, is_wanted, event_text, text_since};
+ghost use Rattle.stm_storing.specs.Storing.{HasShownEvents, HasShownPast};
+ghost use Rattle.stm_storing.specs.Past.{is_wanted, event_text, text_since, state_text, Adds, IsChangedIn, IsPast, IsTextAt};
 
 use crate::fault::StoreFault;
 use crate::scripting::{opened, print_text};
 use std::alloc::{AllocError, Global};
+use std::collections::BTreeMap;
 use stm_devices::Sink;
 use stm_lasting::{Disk, RecordFile};
 use stm_report_lines::{Event, Spelled, key_json, push_line};
-use stm_txn::{Keys, Store, Watched};
+use stm_txn::{KeyState, Keys, Store, Text, Watched};
 
-/// Adds the line of a key, if it was present at a revision.
-fn push_key_at(
+/// The keys that were present at a revision, each with its state then.
+type Past = BTreeMap<Text, KeyState>;
+
+/// A copy of a state.
+fn copy_of(state: &KeyState) -> Result<KeyState, AllocError>
+    ensures { IfOk result (λ copy. copy ≡ state.now) }
+{
+    let copy = state.clone()?;
+    Ok(copy)
+}
+
+/// Adds a key that was present at a revision, with its state then.
+fn add_key_at(
     alloc: Global,
-    text: &mut String,
+    past: &mut Past,
     keys: &Keys,
     revision: u64,
     key: &str,
 ) -> Result<(), AllocError>
     requires { revision ≤ now keys.now.history }
-    ensures { OnOk result (string_bytes text.new ≡ string_bytes text.old ++ key_text keys.now.history revision key.now) }
+    ensures { OnOk result (Adds keys.now.history revision (λ k. k ≡ key.now) past.old.entries past.new.entries) }
 {
     match keys.look_back(key, revision) {
         None => Ok(()),
         Some(state) => {
-            let line = key_json(alloc, key, state)?;
-            push_line(alloc, text, &line)
+            let key = Text::copy_of(alloc, key)?;
+            let state = copy_of(state)?;
+            past.insert(key, state)?;
+            Ok(())
         }
     }
 }
 
-/// Adds the lines of those of these keys that were present at a revision.
-fn push_keys_at(
-    alloc: Global,
-    text: &mut String,
-    keys: &Keys,
-    revision: u64,
-    named: &[String],
-) -> Result<(), AllocError>
+/// Adds those of the keys that are present now.
+fn add_present(alloc: Global, past: &mut Past, keys: &Keys, revision: u64) -> Result<(), AllocError>
     requires { revision ≤ now keys.now.history }
-    ensures { OnOk result (string_bytes text.new
-        ≡ string_bytes text.old ++ flat_map (λ key. key_text keys.now.history revision (string_bytes key)) named.now) }
+    ensures { OnOk result (Adds keys.now.history revision (λ k. IsSome (key_now keys.now.history k)) past.old.entries past.new.entries) }
 {
-    for key in named {
-        push_key_at(alloc, text, keys, revision, key.as_str())?;
-    }
-    Ok(())
-}
-
-/// Adds the keys that are present now.
-fn name_present(alloc: Global, named: &mut Vec<String>, keys: &Keys) -> Result<(), AllocError> {
     for index in 0..keys.len() {
         let (key, _) = keys.at(index);
-        named.push(String::from_str(alloc, key)?)?;
+        add_key_at(alloc, past, keys, revision, key)?;
     }
     Ok(())
 }
 
-/// Adds the keys that these events are about.
-fn name_changed(
+/// Adds those of the keys that these events are about.
+fn add_changed(
     alloc: Global,
-    named: &mut Vec<String>,
+    past: &mut Past,
+    keys: &Keys,
+    revision: u64,
     events: &[Event],
-) -> Result<(), AllocError> {
+) -> Result<(), AllocError>
+    requires { revision ≤ now keys.now.history }
+    ensures { OnOk result (Adds keys.now.history revision (λ k. IsSome (event_about k events.now)) past.old.entries past.new.entries) }
+{
     for event in events {
-        named.push(String::from_str(alloc, event.key().as_str())?)?;
+        add_key_at(alloc, past, keys, revision, event.key().as_str())?;
     }
     Ok(())
 }
 
-/// The keys that were present at a revision, and others, ascending by bytes: a key that was is present now, or was changed since.
-fn named_since(alloc: Global, keys: &Keys, revision: u64) -> Result<Vec<String>, AllocError>
+/// Adds those of the keys that were changed since.
+fn add_changed_since(
+    alloc: Global,
+    past: &mut Past,
+    keys: &Keys,
+    revision: u64,
+) -> Result<(), AllocError>
     requires { revision ≤ now keys.now.history }
+    ensures { OnOk result (Adds keys.now.history revision (IsChangedIn keys.now.history revision (now keys.now.history)) past.old.entries past.new.entries) }
 {
-    let mut named = Vec::new(alloc);
-    name_present(alloc, &mut named, keys)?;
     for later in revision..keys.revision() {
-        name_changed(alloc, &mut named, keys.events_at(later + 1))?;
+        add_changed(alloc, past, keys, revision, keys.events_at(later + 1))?;
     }
-    named.sort_unstable();
-    named.dedup();
-    Ok(named)
+    Ok(())
+}
+
+/// The keys that were present at a revision: each of them is present now, or was changed since.
+fn past_of(alloc: Global, keys: &Keys, revision: u64) -> Result<Past, AllocError>
+    requires { revision ≤ now keys.now.history }
+    ensures { IfOk result (λ past. IsPast keys.now.history revision past.entries) }
+{
+    let mut past = BTreeMap::new(alloc);
+    add_present(alloc, &mut past, keys, revision)?;
+    add_changed_since(alloc, &mut past, keys, revision)?;
+    Ok(past)
+}
+
+/// Adds the line of a key.
+fn push_key(
+    alloc: Global,
+    text: &mut String,
+    key: &Text,
+    state: &KeyState,
+) -> Result<(), AllocError>
+    ensures { OnOk result (string_bytes text.new ≡ string_bytes text.old ++ state_text (key.now, state.now)) }
+{
+    let line = key_json(alloc, key.as_str(), state)?;
+    push_line(alloc, text, &line)
+}
+
+/// Adds a line for each key.
+fn push_past(alloc: Global, text: &mut String, past: &Past) -> Result<(), AllocError>
+    ensures { OnOk result (string_bytes text.new ≡ string_bytes text.old ++ concat (map state_text past.now.entries)) }
+{
+    for entry in past {
+        let (key, state) = entry;
+        push_key(alloc, text, key, state)?;
+    }
+    Ok(())
 }
 
 /// A line for each key that was present at a revision.
 pub(crate) fn text_at(alloc: Global, keys: &Keys, revision: u64) -> Result<String, AllocError>
     requires { revision ≤ now keys.now.history }
+    ensures { IfOk result (λ text. IsTextAt keys.now.history revision (string_bytes text)) }
 {
-    let named = named_since(alloc, keys, revision)?;
+    let past = past_of(alloc, keys, revision)?;
     let mut text = String::new(alloc);
-    push_keys_at(alloc, &mut text, keys, revision, named.as_slice())?;
+    push_past(alloc, &mut text, &past)?;
     Ok(text)
 }
 
@@ -166,6 +209,7 @@ fn events_text(
 
 /// A line for each key that was present at a revision of a store. `FutureRevision`: it is above the store's. `Compacted`: it is below the floor.
 fn text_of_past(alloc: Global, store: &Store, revision: u64) -> Result<String, StoreFault>
+    ensures text { IfOk result (λ text. IsTextAt store.now.standing.history revision (string_bytes text)) }
     ensures future { now store.now.standing.history < revision → result ≡ Err StoreFault.FutureRevision }
     ensures compacted { revision ≤ now store.now.standing.history → revision < store.now.standing.floor → result ≡ Err StoreFault.Compacted }
 {
@@ -211,6 +255,7 @@ pub fn show_at<D: Disk, W: Sink>(
     requires durable { Only (D.seen records.old.disk) (D.may_leave records.old.disk) }
     requires usable { IsTrue (D.is_usable records.old.disk) }
     requires out_works { W.failed out.old ≡ false }
+    ensures shown { OnOk result (HasShownPast (D.seen records.old.disk) revision (W.held out.old) (W.held out.new)) }
     ensures silent { IfErr result (λ e. (e ≡ StoreFault.Output → ⊥) → W.held out.new ≡ W.held out.old) }
     ensures any_moment { LeavesOnly D.moment D.left_since records.old.disk records.new.disk (OpensAlike (D.seen records.old.disk)) }
 {

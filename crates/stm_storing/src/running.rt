@@ -1,16 +1,19 @@
 //! Running one program over the world of a file.
-ghost use Rattle.std.specs.Prelude.{◌≡◌, Ok as OkOf, length, IfOk, IfErr, OnOk, IsTrue, true, false};
+ghost use Rattle.std.specs.Prelude.{◌≡◌, Ok as OkOf, length, string_bytes, IfOk, IfErr, OnOk, IsTrue, true, false};
 ghost use Rattle.stm_records.specs.Disk.{Only, LeavesOnly};
 ghost use Rattle.stm_records.specs.RecordFiles.{IsSettled};
 ghost use Rattle.stm_lasting.specs.Kept.{IsKept};
-ghost use Rattle.stm_storing.specs.Storing.{HasCommitted, LeadsPast, LeavesAroundRun, LeavesFoundOrRun};
+ghost use Rattle.std.specs.Io.KnownBytes.{Appends};
+ghost use Rattle.stm_report_lines.specs.LineData.{event_data_of};
+ghost use Rattle.stm_report_lines.specs.Text.{line_text};
+ghost use Rattle.stm_storing.specs.Storing.{HasCommitted, HasPrintedLast, HasRunAlone, LeadsPast, LeavesAroundRun, LeavesFoundOrRun};
 ghost use Rattle.stm_texts.specs.Opens.{IsOpening};
 ghost use Rattle.stm_texts.specs.Reading.{scenario_in};
 
 use crate::fault::StoreFault;
-use crate::scripting::{go_on_with, opened};
+use crate::scripting::{go_on_with, opened, print_text};
 use std::alloc::{AllocError, Global};
-use stm_devices::{Sink, write_all};
+use stm_devices::Sink;
 use stm_events::{Denied, Reply, WorldEvent};
 use stm_lasting::{Disk, Kept, RecordFile, World};
 use stm_program::{Level, Program};
@@ -127,82 +130,137 @@ pub(crate) fn read(alloc: Global, text: &[u8]) -> Result<Scenario, StoreFault>
     }
 }
 
-/// Writes the line of the last event of a run.
-fn write_end<W: Sink>(
+/// The line of an event, by its number and the reply to it.
+fn line_of(alloc: Global, number: u64, reply: &Result<Reply, Denied>) -> Result<String, AllocError>
+    ensures { IfOk result (λ line. string_bytes line ≡ line_text (event_data_of number reply.now)) }
+{
+    let value = event_json(alloc, number, reply)?;
+    let mut line = String::new(alloc);
+    push_line(alloc, &mut line, &value)?;
+    Ok(line)
+}
+
+/// Writes the line of an event.
+fn write_line<W: Sink>(
     alloc: Global,
     number: u64,
-    end: &Result<Reply, Denied>,
+    reply: &Result<Reply, Denied>,
     out: &mut W,
 ) -> Result<(), StoreFault>
     requires { W.failed out.old ≡ false }
+    ensures printed { OnOk result (Appends (W.held out.old) (W.held out.new) (line_text (event_data_of number reply.now))) }
     ensures silent { IfErr result (λ e. (e ≡ StoreFault.Output → ⊥) → W.held out.new ≡ W.held out.old) }
 {
-    let line = event_json(alloc, number, end)?;
-    let mut text = String::new(alloc);
-    push_line(alloc, &mut text, &line)?;
-    write_all(out, text.as_bytes())?;
+    let line = line_of(alloc, number, reply)?;
+    print_text(line.as_str(), out)?;
     Ok(())
 }
 
-/// Keeps the scenario that a text spells, over the world of a file that was opened. At `Ok` it lasts.
+/// Writes the line of the last of the events that have these replies. There is one.
+fn write_last<W: Sink>(
+    alloc: Global,
+    replies: &[Result<Reply, Denied>],
+    out: &mut W,
+) -> Result<(), StoreFault>
+    requires { W.failed out.old ≡ false }
+    ensures printed { OnOk result (HasPrintedLast replies.now (W.held out.old) (W.held out.new)) }
+    ensures silent { IfErr result (λ e. (e ≡ StoreFault.Output → ⊥) → W.held out.new ≡ W.held out.old) }
+{
+    match replies.last() {
+        Some(reply) => {
+            write_line(alloc, replies.len() as u64, reply, out)?;
+            Ok(())
+        }
+        None => Err(StoreFault::Disagrees),
+    }
+}
+
+/// Keeps the scenario that a text spells, over the world of a file that was opened. At `Ok` it lasts, and its events had these replies.
 fn keep_text<D: Disk>(
     records: &mut RecordFile<D>,
     kept: Kept,
     text: &[u8],
-) -> Result<(), StoreFault>
+) -> Result<Vec<Result<Reply, Denied>>, StoreFault>
     requires settled { IsSettled D.is_usable D.seen D.may_leave records.old }
     requires end { kept.end ≡ length (D.seen records.old.disk) }
     requires kept { IsKept (D.seen records.old.disk) kept.world }
     ensures settled { OnOk result (IsSettled D.is_usable D.seen D.may_leave records.new) }
-    ensures past { OnOk result (LeadsPast (D.seen records.old.disk) (D.seen records.new.disk)) }
+    ensures past { IfOk result (λ replies. LeadsPast (D.seen records.old.disk) (D.seen records.new.disk) replies.items) }
     ensures any_moment { LeavesOnly D.moment D.left_since records.old.disk records.new.disk (LeavesAroundRun (D.seen records.old.disk)) }
 {
     let scenario = read(records.alloc, text)?;
-    go_on_with(records, kept, text, &scenario)?;
-    Ok(())
+    let gone = go_on_with(records, kept, text, &scenario)?;
+    Ok(gone.replies)
 }
 
-/// Keeps a run that was tried, of the program of this text, over the world of a file that was opened. At `Ok` it lasts.
+/// Keeps a run that was tried, of the program of this text, over the world of a file that was opened. At `Ok` it lasts, and its events had these replies.
 fn keep_run<D: Disk>(
     records: &mut RecordFile<D>,
     kept: Kept,
     program: &[u8],
     manner: Manner,
     tried: &Tried,
-) -> Result<(), StoreFault>
+) -> Result<Vec<Result<Reply, Denied>>, StoreFault>
     requires settled { IsSettled D.is_usable D.seen D.may_leave records.old }
     requires end { kept.end ≡ length (D.seen records.old.disk) }
     requires kept { IsKept (D.seen records.old.disk) kept.world }
     ensures settled { OnOk result (IsSettled D.is_usable D.seen D.may_leave records.new) }
-    ensures past { OnOk result (LeadsPast (D.seen records.old.disk) (D.seen records.new.disk)) }
+    ensures past { IfOk result (λ replies. LeadsPast (D.seen records.old.disk) (D.seen records.new.disk) replies.items) }
     ensures any_moment { LeavesOnly D.moment D.left_since records.old.disk records.new.disk (LeavesAroundRun (D.seen records.old.disk)) }
 {
     let text = text_of(records.alloc, program, manner, tried)?;
-    keep_text(records, kept, &text)?;
-    Ok(())
+    let replies = keep_text(records, kept, &text)?;
+    Ok(replies)
 }
 
-/// The same, where it has committed; else nothing is kept.
-fn keep_committed<D: Disk>(
+/// Keeps a run that has committed, of the program of this text, and writes the line of its last event once it lasts.
+fn keep_and_write<D: Disk, W: Sink>(
     records: &mut RecordFile<D>,
     kept: Kept,
     program: &[u8],
     manner: Manner,
     tried: &Tried,
-    is_committed: bool,
+    out: &mut W,
 ) -> Result<(), StoreFault>
     requires settled { IsSettled D.is_usable D.seen D.may_leave records.old }
     requires end { kept.end ≡ length (D.seen records.old.disk) }
     requires kept { IsKept (D.seen records.old.disk) kept.world }
+    requires out_works { W.failed out.old ≡ false }
     ensures settled { OnOk result (IsSettled D.is_usable D.seen D.may_leave records.new) }
-    ensures past { OnOk result (is_committed ≡ true → LeadsPast (D.seen records.old.disk) (D.seen records.new.disk)) }
+    ensures ran { OnOk result (HasRunAlone (D.seen records.old.disk) (D.seen records.new.disk) (W.held out.old) (W.held out.new)) }
+    ensures silent { IfErr result (λ e. (e ≡ StoreFault.Output → ⊥) → W.held out.new ≡ W.held out.old) }
     ensures any_moment { LeavesOnly D.moment D.left_since records.old.disk records.new.disk (LeavesAroundRun (D.seen records.old.disk)) }
 {
-    if is_committed {
-        keep_run(records, kept, program, manner, tried)?;
-        return Ok(());
-    }
+    let replies = keep_run(records, kept, program, manner, tried)?;
+    write_last(records.alloc, replies.as_slice(), out)?;
     Ok(())
+}
+
+/// Writes the line of the last event of a run that was tried over the world of a file: where it has committed, of the run that was kept, once it lasts. Says
+/// whether it has.
+fn answer<D: Disk, W: Sink>(
+    records: &mut RecordFile<D>,
+    kept: Kept,
+    program: &[u8],
+    manner: Manner,
+    tried: &Tried,
+    out: &mut W,
+) -> Result<bool, StoreFault>
+    requires settled { IsSettled D.is_usable D.seen D.may_leave records.old }
+    requires end { kept.end ≡ length (D.seen records.old.disk) }
+    requires kept { IsKept (D.seen records.old.disk) kept.world }
+    requires out_works { W.failed out.old ≡ false }
+    ensures settled { OnOk result (IsSettled D.is_usable D.seen D.may_leave records.new) }
+    ensures ran { IfOk result (λ is_committed. is_committed ≡ true → HasRunAlone (D.seen records.old.disk) (D.seen records.new.disk) (W.held out.old) (W.held out.new)) }
+    ensures silent { IfErr result (λ e. (e ≡ StoreFault.Output → ⊥) → W.held out.new ≡ W.held out.old) }
+    ensures any_moment { LeavesOnly D.moment D.left_since records.old.disk records.new.disk (LeavesAroundRun (D.seen records.old.disk)) }
+{
+    if is_committed(&tried.end) {
+        keep_and_write(records, kept, program, manner, tried, out)?;
+        return Ok(true);
+    }
+    write_line(records.alloc, tried.events, &tried.end, out)?;
+    Ok(false)
 }
 
 /// Runs a program alone over the world of a file, which was opened with these bytes, and writes the line of its last event to a sink, as a report has it:
@@ -221,7 +279,7 @@ pub fn run_kept<D: Disk, W: Sink>(
     requires durable { Only (D.seen records.old.disk) (D.may_leave records.old.disk) }
     requires usable { IsTrue (D.is_usable records.old.disk) }
     requires out_works { W.failed out.old ≡ false }
-    ensures lasts { IfOk result (λ is_committed. is_committed ≡ true → HasCommitted (D.seen records.old.disk) (D.seen records.new.disk)) }
+    ensures lasts { IfOk result (λ is_committed. is_committed ≡ true → HasCommitted (D.seen records.old.disk) (D.seen records.new.disk) (W.held out.old) (W.held out.new)) }
     ensures settled { OnOk result (IsSettled D.is_usable D.seen D.may_leave records.new) }
     ensures silent { IfErr result (λ e. (e ≡ StoreFault.Output → ⊥) → W.held out.new ≡ W.held out.old) }
 
@@ -230,9 +288,7 @@ pub fn run_kept<D: Disk, W: Sink>(
 {
     let kept = opened(records, bytes)?;
     let tried = try_out(kept.world.copy()?, program, manner)?;
-    let is_committed = is_committed(&tried.end);
-    keep_committed(records, kept, text, manner, &tried, is_committed)?;
-    write_end(records.alloc, tried.events, &tried.end, out)?;
+    let is_committed = answer(records, kept, text, manner, &tried, out)?;
     Ok(is_committed)
 }
 
@@ -255,6 +311,6 @@ pub fn run_anew<W: Sink>(
     if is_committed(&tried.end) {
         return Ok(true);
     }
-    write_end(alloc, tried.events, &tried.end, out)?;
+    write_line(alloc, tried.events, &tried.end, out)?;
     Ok(false)
 }

@@ -2,22 +2,18 @@ use Rattle.stm_storing.specs.Storing.{LeavesAroundRun}
 use Rattle.stm_storing.proofs.Around.{then}
 use Rattle.stm_storing.proofs.running.run_kept.Goals as goal
 
-pub returns-in_err-keep_committed-clause-any_moment : goal.returns-in_err-keep_committed-clause-any_moment
-returns-in_err-keep_committed-clause-any_moment g c =
-    then {Q = λ m f. LeavesAroundRun m f} c.in_ok-kept.ensures.opens c.opened.ensures.any_moment c.keep_committed.ensures.any_moment
-
-pub returns-in_err-write_end-clause-any_moment : goal.returns-in_err-write_end-clause-any_moment
-returns-in_err-write_end-clause-any_moment g c =
-    then {Q = λ m f. LeavesAroundRun m f} c.in_ok-kept.ensures.opens c.opened.ensures.any_moment c.keep_committed.ensures.any_moment
+pub returns-in_err-is_committed-clause-any_moment : goal.returns-in_err-is_committed-clause-any_moment
+returns-in_err-is_committed-clause-any_moment g c =
+    then {Q = λ m f. LeavesAroundRun m f} c.in_ok-kept.ensures.opens c.opened.ensures.any_moment c.answer.ensures.any_moment
 
 pub returns-clause-lasts : goal.returns-clause-lasts
 returns-clause-lasts g c = λ committed. record {
   mended = g.D.Disk.seen c.opened.new.records.disk;
   world = c.in_ok-kept.kept.world;
   opened = c.in_ok-kept.ensures.opens;
-  past = c.in_ok-keep_committed.ensures.past committed;
+  run = c.in_ok-is_committed.ensures.ran committed;
 }
 
 pub returns-clause-any_moment : goal.returns-clause-any_moment
 returns-clause-any_moment g c =
-    then {Q = λ m f. LeavesAroundRun m f} c.in_ok-kept.ensures.opens c.opened.ensures.any_moment c.keep_committed.ensures.any_moment
+    then {Q = λ m f. LeavesAroundRun m f} c.in_ok-kept.ensures.opens c.opened.ensures.any_moment c.answer.ensures.any_moment

@@ -1,16 +1,26 @@
 //! Writing the file of a world anew, without what is below a revision.
-ghost use Rattle.std.specs.Prelude.{◌≡◌, ◌≤◌, IfOk, IsTrue};
-ghost use Rattle.stm_history.specs.History.{now};
-ghost use Rattle.stm_records.specs.Disk.{Only};
+ghost use Rattle.std.specs.Prelude.{◌≡◌, ◌≤◌, ◌⊎◌, ℕ, List, true, Some, IfOk, OnOk, IsTrue};
+ghost use Rattle.std.specs.BTreeMap as tree;
+ghost use Rattle.std.specs.Ordering.{nat_cmp};
+ghost use Rattle.stm_history.specs.declared.key_state.KeyState.{KeyState as AState};
+ghost use Rattle.stm_history.specs.History.{now, key_at};
+ghost use Rattle.stm_entries.specs.declared.live_leases.LiveLease.{LiveLease as ALease};
+ghost use Rattle.stm_world.specs.World.{World as WorldOf};
+ghost use Rattle.stm_records.specs.Disk.{Only, LeavesOnly};
+ghost use Rattle.stm_records.specs.RecordFiles.{IsSettled};
+ghost use Rattle.stm_lasting.specs.Kept.{IsKept, OpensTo};
+ghost use Rattle.stm_storing.specs.Past.{state_in};
+ghost use Rattle.stm_storing.specs.Compacting.{ShowTheSame, HasCompacted, LeavesFoundOrCompacted};
 
 use crate::checkpoint_text::checkpoint_text;
 use crate::fault::StoreFault;
 use crate::likeness::are_alike_since;
-use crate::past::text_at;
+use crate::past::{Past, past_of};
 use crate::scripting::opened;
 use crate::showing::Checked;
 use std::alloc::{AllocError, Global};
 use std::collections::BTreeMap;
+use stm_history::are_same_states;
 use stm_keys::Keys;
 use stm_lasting::{Disk, RecordFile, World, compact, world_of_checkpoint};
 use stm_report::{LiveLease, live_leases};
@@ -26,11 +36,10 @@ fn has_running(world: &World) -> bool {
     false
 }
 
-/// Whether leases of two worlds are the same.
-fn are_same_leases(left: &BTreeMap<u64, LiveLease>, right: &BTreeMap<u64, LiveLease>) -> bool {
-    if left.len() != right.len() {
-        return false;
-    }
+/// Whether each of these leases is one of those.
+fn has_all_leases(left: &BTreeMap<u64, LiveLease>, right: &BTreeMap<u64, LiveLease>) -> bool
+    ensures { result ≡ true → (id : ℕ) (lease : ALease) → tree.get nat_cmp left.now id ≡ Some lease → tree.get nat_cmp right.now id ≡ Some lease }
+{
     for (id, lease) in left {
         match right.get(id) {
             Some(other) if other.ttl == lease.ttl && other.renewed == lease.renewed => {}
@@ -41,13 +50,28 @@ fn are_same_leases(left: &BTreeMap<u64, LiveLease>, right: &BTreeMap<u64, LiveLe
 }
 
 /// Whether two worlds have the same live leases.
-fn have_same_leases(alloc: Global, left: &World, right: &World) -> Result<bool, AllocError> {
+fn have_same_leases(alloc: Global, left: &World, right: &World) -> Result<bool, AllocError>
+    ensures { IfOk result (λ is. is ≡ true → left.now.standing.live ≡ right.now.standing.live) }
+{
     let leases = live_leases(alloc, left.history())?;
     let others = live_leases(alloc, right.history())?;
-    Ok(are_same_leases(&leases, &others))
+    Ok(has_all_leases(&leases, &others) && has_all_leases(&others, &leases))
 }
 
-/// Whether two histories had the same keys at a revision.
+/// Whether each of these keys was among those, in the same state.
+fn has_all_keys(left: &Past, right: &Past) -> bool
+    ensures { result ≡ true → (key : List ℕ) (s : AState) → state_in left.now.entries key ≡ Some s → state_in right.now.entries key ≡ Some s }
+{
+    for (key, state) in left {
+        match right.get(key) {
+            Some(other) if are_same_states(state, other) => {}
+            _ => return false,
+        }
+    }
+    true
+}
+
+/// Whether two histories had the same keys at a revision, in the same states.
 fn had_same_keys(
     alloc: Global,
     left: &Keys,
@@ -56,19 +80,18 @@ fn had_same_keys(
 ) -> Result<bool, AllocError>
     requires here { revision ≤ now left.now.history }
     requires there { revision ≤ now right.now.history }
+    ensures { IfOk result (λ is. is ≡ true → (key : List ℕ) → key_at left.now.history key revision ≡ key_at right.now.history key revision) }
 {
-    let lines = text_at(alloc, left, revision)?;
-    let others = text_at(alloc, right, revision)?;
-    Ok(lines == others)
+    let past = past_of(alloc, left, revision)?;
+    let other = past_of(alloc, right, revision)?;
+    Ok(has_all_keys(&past, &other) && has_all_keys(&other, &past))
 }
 
-/// Whether two worlds show the same from a revision on: keys, events, leases, moment and limit.
-fn show_the_same(
-    alloc: Global,
-    left: &World,
-    right: &World,
-    floor: u64,
-) -> Result<bool, AllocError> {
+/// Whether two worlds show the same from a revision on.
+fn show_the_same(alloc: Global, left: &World, right: &World, floor: u64) -> Result<bool, AllocError>
+    requires { floor ≤ now left.now.standing.history }
+    ensures { IfOk result (λ is. is ≡ true → ShowTheSame floor left.now right.now) }
+{
     let store = left.store();
     let another = right.store();
     if another.floor() != floor || store.limit() != another.limit() {
@@ -104,7 +127,15 @@ fn compact_at<D: Disk>(
     records: &mut RecordFile<D>,
     world: &World,
     floor: u64,
-) -> Result<Checked, StoreFault> {
+) -> Result<Checked, StoreFault>
+    requires settled { IsSettled D.is_usable D.seen D.may_leave records.old }
+    requires kept { IsKept (D.seen records.old.disk) world.now }
+    requires reached { floor ≤ now world.now.standing.history }
+    ensures settled { OnOk result (IsSettled D.is_usable D.seen D.may_leave records.new) }
+    ensures same { OnOk result ((after : WorldOf) × IsKept (D.seen records.new.disk) after × ShowTheSame floor world.now after) }
+    ensures any_moment { LeavesOnly D.moment D.left_since records.old.disk records.new.disk
+        (λ c. OpensTo c world.now ⊎ ((after : WorldOf) × OpensTo c after × ShowTheSame floor world.now after)) }
+{
     let text = checkpoint_text(records.alloc, world, floor)?;
     let Some(after) = world_of_checkpoint(records.alloc, text.as_str().as_bytes())? else {
         return Err(StoreFault::CannotCompact);
@@ -134,6 +165,11 @@ pub fn compact_kept<D: Disk>(
     requires bytes { bytes.items ≡ D.seen records.old.disk }
     requires durable { Only (D.seen records.old.disk) (D.may_leave records.old.disk) }
     requires usable { IsTrue (D.is_usable records.old.disk) }
+    ensures settled { OnOk result (IsSettled D.is_usable D.seen D.may_leave records.new) }
+    ensures compacted { OnOk result (HasCompacted (D.seen records.old.disk) (D.seen records.new.disk)) }
+
+    // A crash at any moment leaves a file that opens to what it was found to open to, or to a world that shows the same.
+    ensures any_moment { LeavesOnly D.moment D.left_since records.old.disk records.new.disk (LeavesFoundOrCompacted (D.seen records.old.disk)) }
 {
     let kept = opened(records, bytes)?;
     let floor = floor_of(kept.world.store(), from)?;

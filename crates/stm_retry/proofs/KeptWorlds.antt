@@ -87,9 +87,6 @@ use Rattle.stm_retry.proofs.WorldLemmas.{refusal_cases, reports_sound}
 pub opens_with : (opened : Opening) (m : World) → (whole_world opened m).standing.history.opening ≡ opened
 opens_with opened m = (replay_only_adds m.entries (opened_with opened)).opening
 
-pub opens_at : (opened : Opening) (m : World) → (whole_world opened m).standing.history.opening.number ≡ opened.number
-opens_at opened m = ap (λ (o : Opening). o.number) (opens_with opened m)
-
 -- its revisions are some
 pub are_revisions : (opened : Opening) (m : World) → AreRevisions (whole_world opened m).standing.history.revisions
 are_revisions opened m =

@@ -3,7 +3,7 @@ ghost use Rattle.std.specs.Prelude.{true, map, ◌≡◌, ◌≤◌, length, is_
 ghost use Rattle.stm_history.specs.History.{now};
 ghost use Rattle.stm_alike.specs.Seen.{seen_slot};
 ghost use Rattle.stm_txn.specs.Standing.{kept};
-ghost use Rattle.stm_entries.specs.Replayed.{opening, without_moment};
+ghost use Rattle.stm_entries.specs.Replayed.{opened_with, without_moment};
 ghost use Rattle.stm_entries.specs.Replay.{replay};
 ghost use Rattle.stm_journal.specs.StateOf.{IsStateOf};
 ghost use Rattle.stm_events.specs.declared.event.WorldEvent.TheVariants.{Step};

@@ -1,6 +1,6 @@
 use Rattle.std.proofs.Common.{◌≡◌, subst}
 use Rattle.stm_history.specs.History.{AreRevisions}
-use Rattle.stm_entries.specs.Replayed.{opening, without_moment}
+use Rattle.stm_entries.specs.Replayed.{opened_with, without_moment}
 use Rattle.stm_entries.specs.Replay.{replay}
 use Rattle.stm_entries.specs.Legal.{AreLegal}
 use Rattle.stm_world.specs.World.{World}

@@ -1,8 +1,10 @@
 //! Checkpoints as texts: a scenario, and behind it the lines with which a report ends.
-ghost use Rattle.std.specs.Prelude.{◌≡◌, List, ℕ, Some, Ok as OkOf, IfOk, IfSome, option_map};
-ghost use Rattle.stm_report_lines.specs.Reading.{report_in};
+ghost use Rattle.std.specs.Prelude.{◌≡◌, ◌∷◌, List, Some, Ok as OkOf, IfOk, IfSome, option_map};
+ghost use Rattle.stm_events.specs.declared.line.ReportLine.{ReportLine as ALine};
 ghost use Rattle.stm_texts.specs.Reading.{scenario_in};
-ghost use Rattle.stm_lasting.specs.CheckpointText.{first_line, behind_line, held_in, checkpoint_in};
+ghost use Rattle.stm_report_lines.specs.Reading.{report_in};
+ghost use Rattle.stm_lasting.specs.CheckpointText.{first_line, behind_line, held_in, held_of, checkpoint_in};
+ghost use Rattle.stm_lasting.specs.Stages.{left_in, joined};
 
 use std::alloc::{AllocError, Global};
 use stm_events::ReportLine;
@@ -79,7 +81,9 @@ fn held_of(alloc: Global, report: Report) -> Result<Option<Held>, AllocError>
 }
 
 /// The lines behind the scenario of a checkpoint.
-fn read_held(alloc: Global, lines: &[u8]) -> Result<Option<Held>, AllocError> {
+fn read_held(alloc: Global, lines: &[u8]) -> Result<Option<Held>, AllocError>
+    ensures { IfOk result (λ o. IfSome o (λ held. held_of (report_in lines.now) ≡ Some record { states = held.states.items; leases = held.leases.items })) }
+{
     match read_report(alloc, lines) {
         Ok(report) => held_of(alloc, report),
         Err(ReadError::OutOfMemory) => Err(AllocError),

@@ -83,11 +83,11 @@ impl Journal {
     pub fn with_entries(store: Store, entries: Vec<Entry>) -> Journal
         ensures { result ≡ journal_of store.standing entries.items (now store.standing.history) }
     {
-        let start = store.keys().revision();
+        let revision = store.keys().revision();
         Journal {
             store,
             entries,
-            start,
+            start: revision,
         }
     }
 

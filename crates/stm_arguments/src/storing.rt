@@ -17,8 +17,8 @@ before END, by bytes, with --range. A revision that was compacted, or is yet to 
 With --check the file is read whole: yes RECORDS BYTES says that it is as it was written, and no OFFSET Damaged or
 no OFFSET NoScenario that the record at that byte is not. Nothing behind such a record is served, and nothing is changed.
 With --compact the file is written anew, as one record without what is below the store's revision, or that of --since, and
-yes RECORDS BYTES says how long it is then: revisions, versions and leases stay as they were, and runners, which have to be
-at their ends, are counted anew.
+yes RECORDS BYTES says how long it is then: revisions, versions and leases stay as they were. Where a runner runs,
+or a watcher is open, it is refused with status 2.
 
 A store is kept in a file by stmrun script --store FILE, which makes it where it is missing:
 

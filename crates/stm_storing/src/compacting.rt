@@ -155,7 +155,7 @@ fn compact_at<D: Disk>(
 /// Writes the file of a world anew, which was opened with these bytes, as one record without what is below a revision: the named one, or else the store's.
 /// Where nothing is below it, the file stays as it is. Says how many records the file has then.
 ///
-/// `FutureRevision`: the revision is above the store's. `Compacted`: it was compacted. `CannotCompact`: a runner runs, or no checkpoint was found
+/// `FutureRevision`: the revision is above the store's. `Compacted`: it was compacted. `CannotCompact`: a runner runs, a watcher is open, or no checkpoint was found
 /// that shows the same. After each refusal the file opens to what it would have.
 pub fn compact_kept<D: Disk>(
     records: &mut RecordFile<D>,
@@ -179,7 +179,7 @@ pub fn compact_kept<D: Disk>(
             bytes: kept.end,
         });
     }
-    if has_running(&kept.world) {
+    if has_running(&kept.world) || kept.world.store().has_watchers() {
         return Err(StoreFault::CannotCompact);
     }
     compact_at(records, &kept.world, floor)

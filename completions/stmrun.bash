@@ -9,6 +9,7 @@ _stmrun() {
         case "${COMP_WORDS[1]} $before" in
         "script --store") compopt -o default; return ;;
         "script --format") words="lines json text svg html" ;;
+        "script --width") words="" ;;
         "threads --workers") words="" ;;
         "threads --store") compopt -o default; return ;;
         "threads --repeat") words="" ;;
@@ -16,6 +17,7 @@ _stmrun() {
         "explore --level") words="SerializableSnapshot Serializable RepeatableReads ReadCommitted all" ;;
         "explore --budget") words="" ;;
         "explore --after") words="" ;;
+        "explore --format") words="lines text" ;;
         "run --store") compopt -o default; return ;;
         "run --level") words="SerializableSnapshot Serializable RepeatableReads ReadCommitted" ;;
         "run --attempts") words="" ;;
@@ -26,11 +28,11 @@ _stmrun() {
         "store --range") words="" ;;
         *)
             case "${COMP_WORDS[1]}" in
-            script) case "$word" in -*) ;; *) compopt -o default; return ;; esac; words="--store --format --explain --explain=never --help" ;;
+            script) case "$word" in -*) ;; *) compopt -o default; return ;; esac; words="--store --format --width --explain --explain=never --help" ;;
             check) case "$word" in -*) ;; *) compopt -o default; return ;; esac; words="--whole --explain --explain=never --help" ;;
             threads) case "$word" in -*) ;; *) compopt -o default; return ;; esac; words="--workers --store --ends --repeat --explain --explain=never --help" ;;
             recipe) words="transfer deposit enqueue dequeue reserve_slot release_slot --help" ;;
-            explore) case "$word" in -*) ;; *) compopt -o default; return ;; esac; words="--keeps --level --budget --after --witness --serial --strict --explain --explain=never --help" ;;
+            explore) case "$word" in -*) ;; *) compopt -o default; return ;; esac; words="--keeps --level --budget --after --witness --serial --strict --format --explain --explain=never --help" ;;
             audit) case "$word" in -*) ;; *) compopt -o default; return ;; esac; words="--help" ;;
             show) case "$word" in -*) ;; *) compopt -o default; return ;; esac; words="--program --help" ;;
             compile) case "$word" in -*) ;; *) compopt -o default; return ;; esac; words="--explain --explain=never --help" ;;

@@ -4,6 +4,7 @@ complete -c stmrun -n __fish_use_subcommand -a script -d 'Runs a scenario, and p
 complete -c stmrun -n '__fish_seen_subcommand_from script' -F
 complete -c stmrun -n '__fish_seen_subcommand_from script' -l store -d 'The file of a store that the scenario goes on from, which is made where it is missing' -r -F
 complete -c stmrun -n '__fish_seen_subcommand_from script' -l format -d 'The form of the report' -x -a 'lines json text svg html'
+complete -c stmrun -n '__fish_seen_subcommand_from script' -l width -d 'How many characters wide a report of text is, from 20 to 1000' -x -a ''
 complete -c stmrun -n '__fish_seen_subcommand_from script' -l explain -d 'Explains faults, of an input or of a run'
 complete -c stmrun -n '__fish_seen_subcommand_from script' -a '--explain=never'
 complete -c stmrun -n '__fish_seen_subcommand_from script' -l help -d 'Print help'
@@ -34,6 +35,7 @@ complete -c stmrun -n '__fish_seen_subcommand_from explore' -l after -d 'Which r
 complete -c stmrun -n '__fish_seen_subcommand_from explore' -l witness -d 'Prints the outcomes of whole schedules, and of each the scenario with a schedule that comes to it'
 complete -c stmrun -n '__fish_seen_subcommand_from explore' -l serial -d 'Looks for an outcome of a whole schedule that no serial order of the runners comes to'
 complete -c stmrun -n '__fish_seen_subcommand_from explore' -l strict -d 'Status 1 also where a rule is kept, and a runner never committed or a key is asked for that nothing puts'
+complete -c stmrun -n '__fish_seen_subcommand_from explore' -l format -d 'The form of what is printed' -x -a 'lines text'
 complete -c stmrun -n '__fish_seen_subcommand_from explore' -l explain -d 'Explains faults, of an input or of a run'
 complete -c stmrun -n '__fish_seen_subcommand_from explore' -a '--explain=never'
 complete -c stmrun -n '__fish_seen_subcommand_from explore' -l help -d 'Print help'

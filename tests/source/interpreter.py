@@ -27,7 +27,8 @@ class Aborted(Exception):
 
 
 class Faulted(Exception):
-    pass
+    """A run came to a fault. `at` is where the statement begins that it came to it in."""
+    at = None
 
 
 @dataclass
@@ -35,6 +36,7 @@ class Run:
     """What a run came to: how it ended, and what it read, wrote and put out until then."""
     end: str = "done"
     text: str = ""
+    at: int | None = None
     fetched: list = field(default_factory=list)
     written: dict = field(default_factory=dict)
     output: list = field(default_factory=list)
@@ -140,7 +142,11 @@ class Interpreter:
 
     def statements(self, statements):
         for it in statements:
-            self.statement(it)
+            try:
+                self.statement(it)
+            except Faulted as faulted:
+                faulted.at = it.at if faulted.at is None else faulted.at
+                raise
 
     def statement(self, node):
         match node:
@@ -225,7 +231,7 @@ class Interpreter:
         except Aborted as aborted:
             self.run.end, self.run.text = "aborted", aborted.args[0]
         except Faulted as faulted:
-            self.run.end, self.run.text = "faulted", faulted.args[0]
+            self.run.end, self.run.text, self.run.at = "faulted", faulted.args[0], faulted.at
         return self.run
 
 

@@ -7,10 +7,7 @@
 //! `bench/refusals` makes the allocations fail from outside, each in a run of its own.
 #![tactic(auto)]
 
-mod attempts;
-mod leases;
 mod scenarios;
-mod transactions;
 mod workers;
 mod worlds;
 
@@ -24,9 +21,6 @@ use stm_devices::{Std, write_all};
 /// A run.
 #[derive(Clone, Copy)]
 enum Run {
-    Attempts,
-    Leases,
-    Transactions,
     Workers,
     /// The events of this scenario in a world.
     World(&'static str),
@@ -35,14 +29,12 @@ enum Run {
 /// The run of a name.
 fn named(name: &str) -> Option<Run> {
     match name {
-        "attempts" => Some(Run::Attempts),
         "both_expire" => Some(Run::World(scenarios::BOTH_EXPIRE)),
         "expiring_leases" => Some(Run::World(scenarios::EXPIRING_LEASES)),
         "last_revision" => Some(Run::World(scenarios::LAST_REVISION)),
-        "leases" => Some(Run::Leases),
         "listed_reads" => Some(Run::World(scenarios::LISTED_READS)),
         "one_revision" => Some(Run::World(scenarios::ONE_REVISION)),
-        "transactions" => Some(Run::Transactions),
+        "transactions" => Some(Run::World(scenarios::TRANSACTIONS)),
         "workers" => Some(Run::Workers),
         "write_skew" => Some(Run::World(scenarios::WRITE_SKEW)),
         "write_skew_stopped" => Some(Run::World(scenarios::WRITE_SKEW_STOPPED)),
@@ -70,9 +62,6 @@ fn asked_again<R: Env + AllocGlobal>(rt: &R) -> Result<Option<Run>> {
 /// What a run prints on standard output.
 fn lines_of<T: Threads + Wait + Sync>(rt: &HostRuntime, threads: &T, run: Run) -> Result<String> {
     match run {
-        Run::Attempts => attempts::lines(rt.alloc()),
-        Run::Leases => leases::lines(rt, rt.alloc()),
-        Run::Transactions => transactions::lines(rt.alloc()),
         Run::Workers => workers::lines(rt, threads, rt.alloc()),
         Run::World(scenario) => worlds::lines(rt, rt.alloc(), scenario),
     }

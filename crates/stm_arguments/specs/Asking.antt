@@ -5,7 +5,7 @@ use Rattle.clap.specs.Words.{Row, Text, all_of, first_of, subcommand_rows_of}
 use Rattle.clap.specs.declared.parser.matches.ArgMatches.{ArgMatches}
 use Rattle.stm_recipe_lines.specs.declared.words.RecipeWords.{RecipeWords}
 use Rattle.stm_arguments.specs.Levels.{LevelAt, LevelsAt}
-use Rattle.stm_arguments.specs.Numbers.{AttemptsAt, BudgetAt, NumberAt, RunsAt}
+use Rattle.stm_arguments.specs.Numbers.{AttemptsAt, BudgetAt, NumberAt, RunsAt, WidthAt}
 use Rattle.stm_arguments.specs.declared.numbers.TheConstants.{MOST_WORKERS}
 use Rattle.stm_arguments.specs.declared.arguments.Asked.{Asked}
 use Rattle.stm_arguments.specs.declared.arguments.Asked.TheVariants.{Script, Check, Threads, Recipe, Explore, Audit, Show, Compile, Run, Store}
@@ -43,7 +43,7 @@ HasFlag rows name flag = flag ≡ is_set (first_of name rows)
 abbrev pub IsScript : List Row → ScriptWords → Type 0
 IsScript rows words =
     HasWord rows (codes "store") words.store × HasWord rows (codes "FILE") words.scenario × HasWord rows (codes "format") words.format
-    × HasFlag rows (codes "explain") words.explain
+    × WidthAt (first_of (codes "width") rows) words.width × HasFlag rows (codes "explain") words.explain
 
 abbrev pub IsCheck : List Row → CheckWords → Type 0
 IsCheck rows words =
@@ -67,7 +67,7 @@ IsExplore rows words =
     HasWord rows (codes "SCENARIO") (Some words.scenario) × (map (λ w. w.now) words.keeps.items ≡ words_at (codes "keeps") rows)
     × LevelsAt (first_of (codes "level") rows) words.levels × BudgetAt (first_of (codes "budget") rows) words.budget
     × HasWord rows (codes "after") words.after × HasFlag rows (codes "witness") words.witness × HasFlag rows (codes "serial") words.serial
-    × HasFlag rows (codes "strict") words.strict × HasFlag rows (codes "explain") words.explain
+    × HasFlag rows (codes "strict") words.strict × HasWord rows (codes "format") words.format × HasFlag rows (codes "explain") words.explain
 
 abbrev pub IsAudit : List Row → AuditWords → Type 0
 IsAudit rows words = HasWord rows (codes "FILE") words.trace

@@ -1,7 +1,7 @@
 -- The numbers of a command line.
 use Rattle.std.specs.Prelude.{◌≡◌, ℕ, ◌≤◌, List, Option, None, Some, IsSomeAnd}
 use Rattle.std.specs.Str.Parse.{digits_value, without_leading_plus}
-use Rattle.stm_arguments.specs.declared.numbers.TheConstants.{MOST_ATTEMPTS, MOST_RUNS, USUAL_BUDGET}
+use Rattle.stm_arguments.specs.declared.numbers.TheConstants.{LEAST_WIDTH, MOST_ATTEMPTS, MOST_RUNS, MOST_WIDTH, USUAL_BUDGET}
 
 -- the text spells this number
 abbrev pub NamesNumber : List ℕ → ℕ → Type 0
@@ -16,6 +16,11 @@ NumberAt (Some text) n = NamesNumber text n
 abbrev pub RunsAt : Option (List ℕ) → Option ℕ → Type 0
 RunsAt None runs = runs ≡ None
 RunsAt (Some text) runs = IsSomeAnd runs (λ n. (1 ≤ n) × (n ≤ MOST_RUNS) × NamesNumber text n)
+
+-- the width that a word spells, from LEAST_WIDTH to MOST_WIDTH, and none where there is no word
+abbrev pub WidthAt : Option (List ℕ) → Option ℕ → Type 0
+WidthAt None width = width ≡ None
+WidthAt (Some text) width = IsSomeAnd width (λ n. (LEAST_WIDTH ≤ n) × (n ≤ MOST_WIDTH) × NamesNumber text n)
 
 -- the number of events that a word spells, and the usual one where there is no word
 abbrev pub BudgetAt : Option (List ℕ) → ℕ → Type 0

@@ -160,7 +160,7 @@ fn asked_at<'a>(
     ensures { IfOk result (AsksAt name.now (rows_of (found_of found.now)) (map string_bytes arguments.now)) }
 {
     if name == "script" {
-        return Ok(Asked::Script(script_of(found)));
+        return Ok(Asked::Script(script_of(found)?));
     }
     if name == "check" {
         return Ok(Asked::Check(check_of(found)?));

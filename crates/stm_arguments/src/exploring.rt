@@ -73,8 +73,15 @@ nothing, and counts as one that never began.
 With --level all there is a line for each level, the weakest first, without the scenario, and then [\"enough\",LEVEL]. With
 --witness and --serial a source's rules are not asked.
 
+Where SCENARIO is a source, a source stands in the place of each scenario that is printed. With --format text a table does, as
+script --format text prints it, and the lines are words; with --level all and a rule, a last one is the table of the weakest level
+at which a rule is broken.
+
 Statuses: 0 always, serial, or all outcomes were found, 1 broken or an anomaly, 2 bad input or usage, 3 out of memory or a
 failed device, 4 open.";
+
+/// The names of the forms of what is printed.
+const FORMATS: &[&str] = &["lines", "text"];
 
 /// The words of `explore`.
 #[derive(Drop)]
@@ -95,6 +102,8 @@ pub struct ExploreWords<'a> {
     pub serial: bool,
     /// Whether an answer that is worth little has status 1.
     pub strict: bool,
+    /// The name of the form of what is printed: lines, where there is none.
+    pub format: Option<&'a str>,
     /// Whether a fault is explained.
     pub explain: bool,
 }
@@ -151,6 +160,13 @@ pub(crate) fn explore_command<'a>(alloc: Global) -> Result<Command<'a>, AllocErr
             "strict",
             "Status 1 also where a rule is kept, and a runner never committed or a key is asked for that nothing puts",
         ))?
+        .arg(option(
+            alloc,
+            "format",
+            "FORMAT",
+            ValueParser::Names(FORMATS),
+            "The form of what is printed: lines (the default), for programs, or text, for people: words, and schedules as tables",
+        ))?
         .arg(explain(alloc))
 }
 
@@ -168,6 +184,7 @@ pub(crate) fn explore_of<'a>(
     let witness = flag_of(found, "witness");
     let serial = flag_of(found, "serial");
     let strict = flag_of(found, "strict");
+    let format = word_of(found, "format");
     let explain = flag_of(found, "explain");
     let keeps = words_of(alloc, found, "keeps")?;
     Ok(ExploreWords {
@@ -179,6 +196,7 @@ pub(crate) fn explore_of<'a>(
         witness,
         serial,
         strict,
+        format,
         explain,
     })
 }

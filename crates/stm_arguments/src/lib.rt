@@ -29,7 +29,7 @@ pub use cutting::{CutWords, cut_words};
 pub use exploring::ExploreWords;
 pub use given::read_words;
 pub use levels::Levels;
-pub use numbers::{MOST_ATTEMPTS, MOST_RUNS, MOST_WORKERS, USUAL_BUDGET};
+pub use numbers::{LEAST_WIDTH, MOST_ATTEMPTS, MOST_RUNS, MOST_WIDTH, MOST_WORKERS, USUAL_BUDGET};
 pub use plain::{PlainWords, plain_words};
 pub use running::RunWords;
 pub use scripting::ScriptWords;

@@ -1,7 +1,7 @@
 //! Numbers in a command line.
 ghost use Rattle.std.specs.Prelude.{◌≡◌, ◌≤◌, IfErr, IfNone, IfOk, IfSome, option_map};
 ghost use Rattle.clap.specs.Words.{IsUnsignedIn};
-ghost use Rattle.stm_arguments.specs.Numbers.{AttemptsAt, BudgetAt, NamesNumber, RunsAt};
+ghost use Rattle.stm_arguments.specs.Numbers.{AttemptsAt, BudgetAt, NamesNumber, RunsAt, WidthAt};
 
 use crate::words::Unasked;
 
@@ -16,6 +16,12 @@ pub const USUAL_BUDGET: u64 = 1500000;
 
 /// How many commits a run may send, at most.
 pub const MOST_ATTEMPTS: u64 = 4294967295;
+
+/// The least width of a table, in characters.
+pub const LEAST_WIDTH: u64 = 20;
+
+/// The greatest one.
+pub const MOST_WIDTH: u64 = 1000;
 
 /// A number that was read, where it is from one number to another.
 fn between(number: u64, low: u64, high: u64) -> Option<u64>
@@ -62,6 +68,20 @@ pub(crate) fn runs_at(word: Option<&str>) -> Result<Option<u32>, Unasked>
         return Ok(None);
     };
     match number_between(text, 1, MOST_RUNS) {
+        Some(number) => Ok(Some(number as u32)),
+        None => Err(Unasked::Refused),
+    }
+}
+
+/// How many characters wide a table is, where a word stands there; it spells a number from `LEAST_WIDTH` to `MOST_WIDTH`.
+pub(crate) fn width_at(word: Option<&str>) -> Result<Option<u32>, Unasked>
+    ensures width { IfOk result (WidthAt (option_map (λ t. t.now) word.entry)) }
+    ensures none { IfErr result (λ _. IfSome word.entry (λ t. IsUnsignedIn LEAST_WIDTH MOST_WIDTH t.now) → ⊥) }
+{
+    let Some(text) = word else {
+        return Ok(None);
+    };
+    match number_between(text, LEAST_WIDTH, MOST_WIDTH) {
         Some(number) => Ok(Some(number as u32)),
         None => Err(Unasked::Refused),
     }

@@ -1,9 +1,10 @@
 //! The command line of `script`.
-ghost use Rattle.std.specs.Prelude.{◌≡◌};
+ghost use Rattle.std.specs.Prelude.{◌≡◌, IfOk};
 ghost use Rattle.clap.specs.Words.{found_of, rows_of};
 ghost use Rattle.stm_arguments.specs.Asking.{IsScript};
 
-use crate::words::{explain, flag_of, option, optional, word_of};
+use crate::numbers::{LEAST_WIDTH, MOST_WIDTH, width_at};
+use crate::words::{Unasked, explain, flag_of, option, optional, word_of};
 use clap::builder::ValueParser;
 use clap::{ArgMatches, Command};
 use std::alloc::{AllocError, Global};
@@ -19,7 +20,7 @@ prints its report, and so does stmrun script < s.json. With --format FORMAT the 
   lines   the default: each line is a JSON array, which stmrun check reads
   json    each line is a JSON object with named fields
   text    a row for each event, in the column of its runner or of the store; then the keys that are present,
-          and which runners are unfinished
+          and which runners are unfinished; with --width N for a terminal of N characters, as ./stmrun does by itself
   svg     the rows of the text as a picture
   html    the same as a page, with the keys and the runners at each event
 
@@ -59,6 +60,8 @@ pub struct ScriptWords<'a> {
     pub scenario: Option<&'a str>,
     /// The name of the report's format; lines, where there is none.
     pub format: Option<&'a str>,
+    /// How many characters wide a report of text is, from `LEAST_WIDTH` to `MOST_WIDTH`, where that is said.
+    pub width: Option<u32>,
     /// Whether a fault is explained.
     pub explain: bool,
 }
@@ -87,17 +90,30 @@ pub(crate) fn script_command<'a>(alloc: Global) -> Result<Command<'a>, AllocErro
             ValueParser::String,
             "The form of the report: lines (the default), json, text, svg or html",
         ))?
+        .arg(option(
+            alloc,
+            "width",
+            "N",
+            ValueParser::Unsigned(LEAST_WIDTH, MOST_WIDTH),
+            "How many characters wide a report of text is, from 20 to 1000",
+        ))?
         .arg(explain(alloc))
 }
 
 /// The words of `script` that were found.
-pub(crate) fn script_of<'a>(found: &ArgMatches<'a>) -> ScriptWords<'a>
-    ensures { IsScript (rows_of (found_of found.now)) result }
+pub(crate) fn script_of<'a>(found: &ArgMatches<'a>) -> Result<ScriptWords<'a>, Unasked>
+    ensures { IfOk result (IsScript (rows_of (found_of found.now))) }
 {
-    ScriptWords {
-        store: word_of(found, "store"),
-        scenario: word_of(found, "FILE"),
-        format: word_of(found, "format"),
-        explain: flag_of(found, "explain"),
-    }
+    let store = word_of(found, "store");
+    let scenario = word_of(found, "FILE");
+    let format = word_of(found, "format");
+    let width = width_at(word_of(found, "width"))?;
+    let explain = flag_of(found, "explain");
+    Ok(ScriptWords {
+        store,
+        scenario,
+        format,
+        width,
+        explain,
+    })
 }

@@ -6,6 +6,7 @@ use Rattle.stm_report.specs.declared.run_script.ScriptFault.{ScriptFault}
 use Rattle.stm_report.specs.declared.run_script.ScriptFault.TheVariants.{Bad}
 use Rattle.stm_devices.specs.Ends.{Devices as ScriptDevices}
 use Rattle.stm_report.specs.declared.format.Format.{Format}
+use Rattle.stm_formats.specs.declared.format_label.RunnerLabel.{RunnerLabel}
 use Rattle.stm_report.specs.FormatScript.{DoesAs}
 use Rattle.stm_check.specs.declared.checking.Checked.{Checked}
 use Rattle.stm_check.specs.declared.sources.CheckFault.{CheckFault}
@@ -39,9 +40,9 @@ abbrev pub ScriptEndsBy : {A : Type 0} → List ℕ → List ℕ → Option (Lis
 ScriptEndsBy name text before after failed (Ok u) status = (status ≡ 0) × SaysRuns name text before after failed
 ScriptEndsBy name text before after failed (Err fault) status = ScriptSays name text before after failed fault status
 
-abbrev pub ScriptEnds : Format → List ℕ → List ℕ → ScriptDevices → Option (List ℕ) → Option (List ℕ) → Bool → ℕ → Type 0
-ScriptEnds format name text devices before after failed status =
-    (ended : Result (Unit {0}) ScriptFault) × DoesAs format devices ended × ScriptEndsBy name text before after failed ended status
+abbrev pub ScriptEnds : Format → List RunnerLabel → List ℕ → List ℕ → ScriptDevices → Option (List ℕ) → Option (List ℕ) → Bool → ℕ → Type 0
+ScriptEnds format labels name text devices before after failed status =
+    (ended : Result (Unit {0}) ScriptFault) × DoesAs format labels devices ended × ScriptEndsBy name text before after failed ended status
 
 -- ---- check, and check of each line
 

@@ -12,7 +12,7 @@ use std::alloc::{AllocError, Global};
 use stm_check::CheckFault;
 use stm_explain::{Input, KeptSource, write_text};
 use stm_faulted_runs::{Named, faults_explained, said_of};
-use stm_report::{Format, ScriptFault, Sink, Source, script_as};
+use stm_report::{Format, RunnerLabel, ScriptFault, Sink, Source, script_as};
 
 // ---- explanations
 
@@ -113,6 +113,7 @@ fn report_runs<S, E: Sink>(alloc: Global, input: &KeptSource<'_, S>, err: &mut E
 pub fn script_explained_to<S: Source, W: Sink, E: Sink>(
     alloc: Global,
     format: Format,
+    labels: &[RunnerLabel],
     input: &mut KeptSource<'_, S>,
     out: &mut W,
     err: &mut E,
@@ -120,7 +121,7 @@ pub fn script_explained_to<S: Source, W: Sink, E: Sink>(
     requires input_works { S.failed input.old.source ≡ false }
     requires out_works { W.failed out.old ≡ false }
     requires err_works { E.failed err.old ≡ false }
-    ensures ends { ScriptEnds format input.new.name.now input.new.bytes.items (record {
+    ensures ends { ScriptEnds format labels.now input.new.name.now input.new.bytes.items (record {
       input = S.left input.old.source;
       before = W.held out.old;
       after = W.held out.new;
@@ -129,7 +130,7 @@ pub fn script_explained_to<S: Source, W: Sink, E: Sink>(
     }) (E.held err.old) (E.held err.new) (E.failed err.new) result }
     ensures bounded { S.reads input.new.source ≤ S.reads input.old.source + MOST_READ }
 {
-    match script_as(alloc, format, input, out) {
+    match script_as(alloc, format, labels, input, out) {
         Ok(()) => report_runs(alloc, input, err),
         Err(fault) => report_script_fault(alloc, input, &fault, err),
     }

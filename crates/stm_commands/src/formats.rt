@@ -6,7 +6,7 @@ ghost use Rattle.stm_commands.specs.Statuses.{EndsAs, SaysNoFormat};
 use crate::scripting::report_fault;
 use std::alloc::Global;
 use stm_explain::write_text;
-use stm_report::{Format, Sink, Source, script_as};
+use stm_report::{Format, RunnerLabel, Sink, Source, script_as};
 
 /// What is said of a word that names no format, in the manner of the other usage faults.
 pub const NO_FORMAT: &str =
@@ -27,13 +27,14 @@ pub fn no_format_to<E: Sink>(err: &mut E) -> u8
     2
 }
 
-/// Runs the scenario of `input` and writes its report to `out` in a format, whole or not at all but for a failed `out`.
+/// Runs the scenario of `input` and writes its report to `out` in a format, with runners of these labels, whole or not at all but for a failed `out`.
 ///
 /// The statuses and what is said on `err` are those of `script_to`, which writes lines. None of the devices has failed before. `input` is
 /// read at most 16777217 times.
 pub fn script_as_to<S: Source, W: Sink, E: Sink>(
     alloc: Global,
     format: Format,
+    labels: &[RunnerLabel],
     input: &mut S,
     out: &mut W,
     err: &mut E,
@@ -41,7 +42,7 @@ pub fn script_as_to<S: Source, W: Sink, E: Sink>(
     requires input_works { S.failed input.old ≡ false }
     requires out_works { W.failed out.old ≡ false }
     requires err_works { E.failed err.old ≡ false }
-    ensures ends { EndsAs format (record {
+    ensures ends { EndsAs format labels.now (record {
       input = S.left input.old;
       before = W.held out.old;
       after = W.held out.new;
@@ -50,7 +51,7 @@ pub fn script_as_to<S: Source, W: Sink, E: Sink>(
     }) (E.held err.old) (E.held err.new) (E.failed err.new) result }
     ensures bounded { S.reads input.new ≤ S.reads input.old + MOST_READ }
 {
-    match script_as(alloc, format, input, out) {
+    match script_as(alloc, format, labels, input, out) {
         Ok(()) => 0,
         Err(fault) => report_fault(err, &fault),
     }

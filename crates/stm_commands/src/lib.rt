@@ -17,6 +17,6 @@ pub use scripting::script_to;
 pub use showing::show_to;
 pub use stm_explain::{Input, KeptSource};
 pub use stm_recipe_lines::RecipeWords;
-pub use stm_report::{BadInput, DeviceFault, Format, Sink, Source, Std};
+pub use stm_report::{BadInput, DeviceFault, Format, RunnerLabel, Sink, Source, Std};
 pub use stm_show::Shown;
 pub use whole_checking::check_whole_to;

@@ -7,6 +7,7 @@ use crate::calls::{listed_behind, parameters_of, takes_list};
 use crate::fault::position_in;
 use crate::misfits::said_of_start;
 use crate::naming::{is_called, said_of_function, said_of_place};
+use crate::other_kinds::said_of_value;
 use crate::spots::{Event, Place, Spot, spot_at};
 use crate::titles::said_of_names;
 use crate::wanted::{Wanted, allowed, is_behind_condition_word, nearest, numbers_at, wanted_at};
@@ -353,9 +354,7 @@ fn kind_words(
 ) -> Result<String, AllocError> {
     match said_of_start(alloc, source, spot)? {
         Some(said) => Ok(said),
-        None => format!(in alloc;
-            "{found} is of the other kind: a text where a number is wanted, or a number where a text is"
-        ),
+        None => said_of_value(alloc, found, spot),
     }
 }
 

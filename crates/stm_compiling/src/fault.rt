@@ -11,7 +11,7 @@ use stm_source::BadSource;
 use stm_tokens::{Position, position_of};
 
 /// Why a source is not compiled.
-#[derive(Debug, Drop)]
+#[derive(Drop)]
 pub(crate) enum CompileFault {
     /// An allocation failed.
     OutOfMemory,

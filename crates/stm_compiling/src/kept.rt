@@ -6,8 +6,8 @@ use stm_source::SourceError;
 use stm_tokens::{Symbol, Token, TokenKind, Word, number_length, tokens_of};
 
 /// What begins at the top of a source.
-#[derive(Clone, Copy, Debug, PartialEq, Eq)]
-enum Item {
+#[derive(Clone, Copy, PartialEq, Eq)]
+pub(crate) enum Item {
     /// A program, a rule, a final or a definition.
     Part,
     /// A start.
@@ -20,16 +20,16 @@ enum Item {
 
 /// An item, and where it begins.
 #[derive(Clone, Copy)]
-struct Begun {
-    item: Item,
+pub(crate) struct Begun {
+    pub(crate) item: Item,
     /// The place of its first token.
-    place: usize,
+    pub(crate) place: usize,
     /// The byte at which that begins.
     at: usize,
 }
 
 /// What a token opens and closes: how many brackets are open behind it.
-fn open_behind(open: usize, kind: &TokenKind) -> usize {
+pub(crate) fn open_behind(open: usize, kind: &TokenKind) -> usize {
     match kind {
         TokenKind::Symbol(Symbol::LeftParenthesis | Symbol::LeftBrace) => open.saturating_add(1),
         TokenKind::Symbol(Symbol::RightParenthesis | Symbol::RightBrace) => open.saturating_sub(1),
@@ -76,7 +76,7 @@ fn item_of(before: Option<&TokenKind>, kind: &TokenKind) -> Option<Item> {
 }
 
 /// The items of a source.
-fn items_of(alloc: Global, tokens: &[Token]) -> Result<Vec<Begun>, AllocError> {
+pub(crate) fn items_of(alloc: Global, tokens: &[Token]) -> Result<Vec<Begun>, AllocError> {
     let mut items = Vec::new(alloc);
     let mut open = 0;
     let mut before = None;
@@ -108,12 +108,12 @@ fn last_start(items: &[Begun], end: usize) -> usize {
 }
 
 /// The text from one byte to another.
-fn between(source: &str, from: usize, to: usize) -> &str {
+pub(crate) fn between(source: &str, from: usize, to: usize) -> &str {
     source.get(from..to).unwrap_or("")
 }
 
 /// The byte behind a token that can be the last one of a start.
-fn end_of(source: &str, token: &Token) -> usize {
+pub(crate) fn end_of(source: &str, token: &Token) -> usize {
     let length = match &token.kind {
         TokenKind::Name(name) => name.as_str().len(),
         TokenKind::Number(_) => match source.as_bytes().get(token.at..) {

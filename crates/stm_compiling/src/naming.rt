@@ -42,6 +42,9 @@ fn is_of_a_program(spot: Spot<'_>) -> bool {
 
 /// What is said of a name that stands outside of programs.
 fn said_in_event(spot: Spot<'_>) -> &'static str {
+    if spot.is_in_list() || spot.is_behind_word(2, Word::Let) {
+        return "is no constant above: an item is a text or a number as it stands, or the name of one";
+    }
     if spot.is_behind(0, "start") || spot.is_behind_symbol(0, Symbol::Assign) {
         return "is no program above: program NAME(PARAMETER, ..) { .. } stands before what starts it";
     }

@@ -3,7 +3,7 @@
 use stm_tokens::{Symbol, Token, TokenKind, Word};
 
 /// What the brackets that are open before a token belong to.
-#[derive(Clone, Copy, Debug, PartialEq, Eq)]
+#[derive(Clone, Copy, PartialEq, Eq)]
 pub(crate) enum Place {
     /// None is open: it stands in an event, or begins one.
     Events,
@@ -16,7 +16,7 @@ pub(crate) enum Place {
 }
 
 /// The events that have more than one or two parts.
-#[derive(Clone, Copy, Debug, PartialEq, Eq)]
+#[derive(Clone, Copy, PartialEq, Eq)]
 pub(crate) enum Event {
     /// `begin`
     Begin,
@@ -252,6 +252,22 @@ impl<'a> Spot<'a> {
             }
             if is_end_of_statement(&token.kind) {
                 return false;
+            }
+        }
+        false
+    }
+
+    /// Whether it stands behind a comma of a list that is given a name outside of programs.
+    pub(crate) fn is_in_list(self) -> bool {
+        if !self.is_behind_symbol(0, Symbol::Comma) {
+            return false;
+        }
+        for token in self.before.iter().rev() {
+            match &token.kind {
+                TokenKind::Word(Word::Let) => return true,
+                TokenKind::Text(_) | TokenKind::Number(_) | TokenKind::Name(_) => {}
+                TokenKind::Symbol(Symbol::Comma | Symbol::Assign | Symbol::Subtract) => {}
+                _ => return false,
             }
         }
         false

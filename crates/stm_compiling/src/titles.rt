@@ -138,6 +138,12 @@ pub(crate) fn said_of_names(
     }
     if is_of_a_runner(spot) {
         let names = runners_of(alloc, spot.before)?;
+        if names.is_empty() && spot.place() != Place::Events {
+            let said = format!(in alloc;
+                "{found} is no runner above: a finally stands behind the starts of the runners that it asks for"
+            )?;
+            return Ok(Some(said));
+        }
         return said_of_others(alloc, found, name, "runner", names.as_slice());
     }
     Ok(None)

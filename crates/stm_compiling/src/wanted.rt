@@ -100,6 +100,9 @@ fn in_event(spot: Spot<'_>) -> Wanted {
     if spot.is_behind_word(2, Word::Let) {
         return Wanted::Said("a text or a number as it stands, or the name of one,");
     }
+    if spot.is_in_list() {
+        return Wanted::Said("a text or a number as it stands, or the name of one, as items are,");
+    }
     if let Some(wanted) = behind_name(spot) {
         return wanted;
     }

@@ -15,11 +15,11 @@ use Rattle.stm_visited.specs.Layers.{Reached, StandFor, IsLayer, moved_from_each
 use Rattle.stm_visited.proofs.LayerLemmas.{layers_go_on}
 use Rattle.stm_explore.specs.declared.places.ReportedPlace.{ReportedPlace}
 use Rattle.stm_explore.specs.Gathering.{Gathers}
-use Rattle.stm_explore.specs.Explored.{AreAllOutcomes, IsCollected, count_at, count_up_to}
+use Rattle.stm_explore.specs.Explored.{AreAllOutcomes, AreOutcomesUpTo, IsCollected, count_at, count_up_to}
 use Rattle.stm_explore.specs.Spots.{place_of, outcome_steps, ShowTheSame}
 use Rattle.stm_explore.specs.AlikeSpots.{outcomes_respected}
 use Rattle.stm_explore.proofs.GatherLemmas.{gathers_same}
-use Rattle.stm_explore.proofs.OutcomeLemmas.{found_all, found_next, all_found}
+use Rattle.stm_explore.proofs.OutcomeLemmas.{found_all, found_next, found_so_far, all_found}
 use Rattle.stm_explore.proofs.Walking.{at_start, same_shown, on_reported, count_reported}
 
 abbrev Spots : Type 0
@@ -106,6 +106,12 @@ next_end others start k rs next found more so_far stand gathers end =
     let layer : Layer others start (suc k) next = later others start k rs next so_far.layer stand in
     all_found outcomes_are_those longest_is_all k (suc k) (place_of others start.at) start.ends found more refl so_far.gathers so_far.more
     (gathers_here others start (suc k) next found more layer gathers) (sym (on_here others start (suc k) next layer) ∙ end)
+
+-- where the search ends at a layer that it has gathered, those found so far are all of up to as many moves
+pub open_at : (others : List WorldEvent) (start : ReportedPlace) (k : ℕ) (rs : Spots) (found : List Outcome) → HasGathered others start k rs found →
+    AreOutcomesUpTo k (place_of others start.at) start.ends found
+open_at others start k rs found so_far =
+    found_so_far outcomes_are_those k (place_of others start.at) start.ends found so_far.gathers so_far.more
 
 -- where no place is left, no move can be made
 pub none_on : (others : List WorldEvent) (rs : Spots) → rs ≡ [] → on_among (outcome_steps others) 1 rs ≡ false

@@ -9,7 +9,7 @@ use Rattle.stm_schedules.specs.Schedules.{place_after, IsLongest}
 use Rattle.stm_schedules.specs.Keeping.{end_alone, keeps, AllKeep, AllKeepUpTo, IsFirstBad, goes_on}
 use Rattle.stm_schedules.specs.Merges.{IsMerge}
 use Rattle.stm_visited.specs.Search.{total}
-use Rattle.stm_schedules.specs.Outcomes.{Ends, IsOutcome}
+use Rattle.stm_schedules.specs.Outcomes.{Ends, IsOutcome, IsOutcomeWithin}
 use Rattle.stm_explore.specs.Gathering.{AreDistinct}
 use Rattle.stm_explore.specs.Witnesses.{AreOrdered, AreWitnesses}
 use Rattle.stm_explore.specs.declared.exploring.Explored.{Explored}
@@ -36,19 +36,23 @@ MergesAreKept rule p (Open kept) =
 abbrev pub AreAllOutcomes : Place → Ends → List Outcome → Type 0
 AreAllOutcomes p ends outcomes = ((it : Outcome) → Contains outcomes it ↔ IsOutcome p ends it) × AreDistinct outcomes
 
--- these are all; or some schedule is longer than this (that those of up to this length were gone through is the body's matter)
+-- exactly the outcomes of whole schedules of up to n moves, each once, and some schedule is longer
+abbrev pub AreOutcomesUpTo : ℕ → Place → Ends → List Outcome → Type 0
+AreOutcomesUpTo n p ends outcomes =
+    ((it : Outcome) → Contains outcomes it ↔ IsOutcomeWithin n p ends it) × AreDistinct outcomes × (goes_on (suc n) p ≡ true)
+
 abbrev pub IsCollected : Place → Ends → List Outcome → Option ℕ → Type 0
 IsCollected p ends found None = AreAllOutcomes p ends found
-IsCollected p ends found (Some gone_through) = goes_on (suc gone_through) p ≡ true
+IsCollected p ends found (Some gone_through) = AreOutcomesUpTo gone_through p ends found
 
 abbrev pub AreOutcomes : Place → Ends → Outcomes → Type 0
 AreOutcomes p ends (Found outcomes schedules) = AreAllOutcomes p ends outcomes
-AreOutcomes p ends (OpenAt gone_through) = goes_on (suc gone_through) p ≡ true
+AreOutcomes p ends (OpenAt gone_through outcomes schedules) = AreOutcomesUpTo gone_through p ends outcomes
 
 -- each outcome has its witness, and no witness is longer than one behind it
 abbrev pub OutcomesAreWitnessed : Place → Ends → Outcomes → Type 0
 OutcomesAreWitnessed p ends (Found outcomes schedules) = AreWitnesses p ends outcomes schedules × AreOrdered schedules
-OutcomesAreWitnessed p ends (OpenAt gone_through) = Unit {0}
+OutcomesAreWitnessed p ends (OpenAt gone_through outcomes schedules) = AreWitnesses p ends outcomes schedules × AreOrdered schedules
 
 -- ---- the budget: an answer is open only where nothing is left of it
 
@@ -59,7 +63,7 @@ OpenIsSpent left (Open kept) = left ≡ 0
 
 abbrev pub OpenOutcomesAreSpent : ℕ → Outcomes → Type 0
 OpenOutcomesAreSpent left (Found outcomes schedules) = Unit {0}
-OpenOutcomesAreSpent left (OpenAt gone_through) = left ≡ 0
+OpenOutcomesAreSpent left (OpenAt gone_through outcomes schedules) = left ≡ 0
 
 -- ---- how far an open answer is
 
@@ -81,4 +85,4 @@ OpenIsFar p made (Open kept) = made ≤ count_up_to (suc kept) p
 
 abbrev pub OpenOutcomesAreFar : Place → ℕ → Outcomes → Type 0
 OpenOutcomesAreFar p made (Found outcomes schedules) = Unit {0}
-OpenOutcomesAreFar p made (OpenAt gone_through) = made ≤ count_up_to (suc gone_through) p
+OpenOutcomesAreFar p made (OpenAt gone_through outcomes schedules) = made ≤ count_up_to (suc gone_through) p

@@ -29,6 +29,10 @@ pub enum Outcomes {
     Open {
         /// Every schedule of up to this many moves was gone through, and there are longer ones.
         gone_through: u64,
+        /// Each outcome of a whole schedule of up to this many moves, once.
+        outcomes: Sequence<Outcome>,
+        /// Of each such outcome, in their order, a schedule that comes to it, as of all.
+        schedules: Sequence<Sequence<Move>>,
     },
 }
 
@@ -137,7 +141,11 @@ pub(crate) fn gather_outcomes<O: Observer>(
             outcomes: Sequence::of(found),
             schedules: Sequence::of(schedules),
         }),
-        Some(gone_through) => Ok(Outcomes::Open { gone_through }),
+        Some(gone_through) => Ok(Outcomes::Open {
+            gone_through,
+            outcomes: Sequence::of(found),
+            schedules: Sequence::of(schedules),
+        }),
     }
 }
 

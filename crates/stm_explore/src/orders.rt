@@ -288,7 +288,7 @@ fn answer_by<O: Observer>(
             outcomes,
             schedules,
         } => answer_about(alloc, world, others, ends, outcomes, schedules, budget),
-        Outcomes::Open { gone_through } => Ok(SerialAnswer::Open { gone_through }),
+        Outcomes::Open { gone_through, .. } => Ok(SerialAnswer::Open { gone_through }),
     }
 }
 

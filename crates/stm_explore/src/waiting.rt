@@ -13,6 +13,7 @@ use crate::ends::copy_of_ends;
 use crate::exploring::{Explored, copy_of_moves};
 use crate::gathering::Gathered;
 use crate::judging::rule_at;
+use crate::onlooking::{Onlooker, Watched};
 use crate::places::{ReportedPlace, WorldPlace, shared_copy};
 use crate::waits::{Wait, is_allowed};
 use std::alloc::{AllocError, Global};
@@ -196,19 +197,20 @@ pub(crate) fn start_of(
 }
 
 /// Whether each rule is kept after every schedule in which the runners wait.
-fn explore_places<O: Observer>(
+fn explore_places<L: Onlooker, O: Observer>(
     alloc: Global,
-    waiting: &Waiting,
+    watched: &Watched<'_, L>,
     world: &World,
     ends: &[Option<RunnerEnd>],
     budget: &mut Budget<O>,
 ) -> Result<Vec<Explored>, AllocError>
-    ensures { IfOk result (λ all. AllZip (λ rule. IsExploredPatiently waiting.now.waits.now waiting.now.when rule (record { world = world.now; others = waiting.now.gathered.others.now }) ends.now)
-        waiting.now.rules.now all.items) }
+    ensures { IfOk result (λ all. AllZip (λ rule. IsExploredPatiently watched.now.waiting.waits.now watched.now.waiting.when rule
+        (record { world = world.now; others = watched.now.waiting.gathered.others.now }) ends.now) watched.now.waiting.rules.now all.items) }
 {
+    let waiting = &watched.waiting;
     let world = shared_copy(alloc, world)?;
     let start = start_of(alloc, &world, ends)?;
-    let answers = find_first_bad(alloc, waiting, waiting.rules.len(), start, budget)?;
+    let answers = find_first_bad(alloc, watched, waiting.rules.len(), start, budget)?;
     let all = with_ends(alloc, waiting, &world, ends, answers.as_slice())?;
     Ok(all)
 }
@@ -218,8 +220,9 @@ fn explore_places<O: Observer>(
 /// walk through the places.
 ///
 /// `ends` has what is known of the runners' ends before, by the runners' numbers, as `ends_reported` returns it. All else is as with `explore`,
-/// in which no runner waits: the first schedule that does not keep a rule is the first of those in which the runners wait.
-pub fn explore_waiting<O: Observer>(
+/// in which no runner waits: the first schedule that does not keep a rule is the first of those in which the runners wait. Each place where a rule is asked
+/// is shown to `onlooker`.
+pub fn explore_waiting<L: Onlooker, O: Observer>(
     alloc: Global,
     world: &World,
     others: &[WorldEvent],
@@ -227,6 +230,7 @@ pub fn explore_waiting<O: Observer>(
     waits: &[Wait],
     when: When,
     rules: &[Program],
+    onlooker: &L,
     budget: &mut Budget<O>,
 ) -> Result<Vec<Explored>, AllocError>
     ensures { IfOk result (λ all. AllZip (λ rule. IsExploredPatiently waits.now when rule (record { world = world.now; others = others.now }) ends.now) rules.now all.items) }
@@ -237,7 +241,8 @@ pub fn explore_waiting<O: Observer>(
         when,
         rules,
     };
-    let explored = explore_places(alloc, &waiting, world, ends, budget);
+    let watched = Watched { waiting, onlooker };
+    let explored = explore_places(alloc, &watched, world, ends, budget);
     budget.observer.ended();
     let explored = explored?;
     Ok(explored)

@@ -1,7 +1,7 @@
 -- What is printed of a search, as JSON data and as text.
 --
 -- The words are those of docs/FORMATS.md, "The command line".
-use Rattle.std.specs.Prelude.{ℕ, List, [], ◌∷◌, ◌++◌, length, map, fold, codes}
+use Rattle.std.specs.Prelude.{ℕ, List, [], ◌∷◌, ◌++◌, fold, codes}
 use Rattle.std.specs.BTreeSet.{insert_key}
 use Rattle.std.specs.List.{concat}
 use Rattle.std.specs.Ordering.{nat_cmp}
@@ -55,10 +55,6 @@ outcome_text o = line_text (outcome_line o)
 abbrev pub each_once : List (List ℕ) → List (List ℕ)
 each_once texts = fold (insert_key (slice_cmp nat_cmp)) [] texts
 
--- these texts of outcomes, and how many there are
-abbrev pub counted_text : List (List ℕ) → List ℕ
-counted_text texts = concat texts ++ line_text (count_line (codes "outcomes") (length texts))
-
--- the line of each outcome once, ascending by bytes, and how many there are
-abbrev pub outcomes_text : List Outcome → List ℕ
-outcomes_text outcomes = counted_text (each_once (map outcome_text outcomes))
+-- these texts, and behind them a line of a word and a number
+abbrev pub counted_text : List (List ℕ) → List ℕ → ℕ → List ℕ
+counted_text texts word n = concat texts ++ line_text (count_line word n)

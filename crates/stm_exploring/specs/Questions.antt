@@ -1,9 +1,8 @@
 -- What is asked of a scenario without a rule: what its whole schedules come to, and what is printed of that.
-use Rattle.std.specs.Prelude.{◌≡◌, ℕ, List, ◌++◌, map, Bool, true, false, Option, Result, Ok, Err, IfSome, codes}
+use Rattle.std.specs.Prelude.{◌≡◌, ℕ, List, ◌++◌, length, map, Bool, true, false, Option, Result, Ok, Err, IfSome, codes}
 use Rattle.std.specs.List.{zip}
 use Rattle.stm_program.specs.declared.level.Level.{Level}
 use Rattle.stm_texts.specs.declared.scenario.Scenario.{Scenario}
-use Rattle.stm_report_lines.specs.Text.{line_text}
 use Rattle.stm_schedules.specs.declared.moves.Move.{Move}
 use Rattle.stm_schedules.specs.declared.outcome.Outcome.{Outcome}
 use Rattle.stm_schedules.specs.Outcomes.{Ends}
@@ -22,7 +21,7 @@ use Rattle.stm_exploring.specs.Anomalies.{IsPrintedSerial}
 use Rattle.stm_exploring.specs.Asking.{place_of, ends_of}
 use Rattle.stm_exploring.specs.Exploring.{asked_in}
 use Rattle.stm_exploring.specs.Judging.{scheduled_text}
-use Rattle.stm_exploring.specs.Lines.{count_line, each_once, outcome_text, counted_text, outcomes_text}
+use Rattle.stm_exploring.specs.Lines.{each_once, outcome_text, counted_text}
 use Rattle.stm_exploring.specs.SerialLevels.{ArePrintedAt}
 
 -- these are all outcomes, and each schedule comes to its one
@@ -33,22 +32,24 @@ AreGathered p ends gathered = AreOutcomes p ends gathered × OutcomesAreWitnesse
 abbrev pub witness_text : Scenario → Outcome × List Move → List ℕ
 witness_text s it = outcome_text it.0 ++ scheduled_text s it.1
 
--- these of each outcome once, ascending by bytes, and how many there are
-abbrev pub witnesses_text : Scenario → List Outcome → List (List Move) → List ℕ
-witnesses_text s outcomes schedules = counted_text (each_once (map (witness_text s) (zip outcomes schedules)))
+-- the texts of outcomes, each once, ascending by bytes: with their schedules, or without
+abbrev pub found_texts : Bool → Scenario → List Outcome → List (List Move) → List (List ℕ)
+found_texts false s outcomes schedules = each_once (map outcome_text outcomes)
+found_texts true s outcomes schedules = each_once (map (witness_text s) (zip outcomes schedules))
 
--- with their schedules, or without
-abbrev pub found_text : Bool → Scenario → List Outcome → List (List Move) → List ℕ
-found_text false s outcomes schedules = outcomes_text outcomes
-found_text true s outcomes schedules = witnesses_text s outcomes schedules
+-- and how many there are
+abbrev pub all_text : List (List ℕ) → List ℕ
+all_text texts = counted_text texts (codes "outcomes") (length texts)
 
+-- those of all outcomes, or of those of schedules of up to a length, and that length
 abbrev pub gathered_text : Bool → Scenario → Outcomes → List ℕ
-gathered_text witnessed s (Found outcomes schedules) = found_text witnessed s outcomes schedules
-gathered_text witnessed s (OpenAt gone_through) = line_text (count_line (codes "open") gone_through)
+gathered_text witnessed s (Found outcomes schedules) = all_text (found_texts witnessed s outcomes schedules)
+gathered_text witnessed s (OpenAt gone_through outcomes schedules) =
+    counted_text (found_texts witnessed s outcomes schedules) (codes "open") gone_through
 
 abbrev pub verdict_of_outcomes : Outcomes → SearchAnswer
 verdict_of_outcomes (Found outcomes schedules) = verdict.Kept
-verdict_of_outcomes (OpenAt gone_through) = verdict.Open
+verdict_of_outcomes (OpenAt gone_through outcomes schedules) = verdict.Open
 
 abbrev pub printed_outcomes : Bool → Scenario → Outcomes → Printed
 printed_outcomes witnessed s gathered = record { verdict = verdict_of_outcomes gathered; text = gathered_text witnessed s gathered }

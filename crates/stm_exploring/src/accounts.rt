@@ -8,6 +8,7 @@ use crate::final_words::{AskedOutput, outputs_asked, wrong_ends};
 use crate::key_use::{AskedKey, KeyUse};
 use crate::near_keys::{are_of_a_list, nearest};
 use crate::rules::{RuleAnswer, has_kept};
+use crate::seen_ends::SeenEnds;
 use serde_json::Value as Json;
 use std::alloc::{AllocError, Global};
 use stm_events::EventRefusal;
@@ -24,8 +25,8 @@ use stm_texts::WorldEvent;
 const MOST_MOVES: u64 = 10000;
 
 /// Of which runners it is said how their runs ended.
-#[derive(Clone, Copy, Debug, PartialEq, Eq)]
-enum Told {
+#[derive(Clone, Copy, PartialEq, Eq)]
+pub(crate) enum Told {
     /// Of all.
     All,
     /// Of those that never committed.
@@ -522,18 +523,34 @@ fn tell_outputs<O: Audience>(
     Ok(())
 }
 
+/// Says how the runs of runners ended: at the ends of the schedules in which some wait, where these were seen, and else in serial orders.
+fn tell_ended<O: Audience>(
+    account: &Account,
+    answers: &[RuleAnswer],
+    seen: Option<&SeenEnds>,
+    audience: &mut O,
+) -> Result<(), AllocError> {
+    match seen {
+        Some(seen) => seen.tell(account.told, has_kept(answers), audience),
+        None => {
+            let of = if account.left == 0 {
+                OF_SOME_ORDERS
+            } else {
+                OF_ALL_ORDERS
+            };
+            tell_runs(account, account.told, of, audience)
+        }
+    }
+}
+
 /// Says what an account of serial orders has.
 fn tell_orders<O: Audience>(
     account: &Account,
     answers: &[RuleAnswer],
+    seen: Option<&SeenEnds>,
     audience: &mut O,
 ) -> Result<(), AllocError> {
-    let of = if account.left == 0 {
-        OF_SOME_ORDERS
-    } else {
-        OF_ALL_ORDERS
-    };
-    tell_runs(account, account.told, of, audience)?;
+    tell_ended(account, answers, seen, audience)?;
     tell_of_runners(account, audience)?;
     tell_of_rules(account, answers, audience)?;
     tell_ends(account.alloc, answers, audience)?;
@@ -596,6 +613,7 @@ fn make_account<O: Audience>(
     others: &[WorldEvent],
     programs: &[Program],
     answers: &[RuleAnswer],
+    seen: Option<&SeenEnds>,
     told: Told,
     audience: &mut O,
 ) -> Result<(), AllocError>
@@ -606,10 +624,11 @@ fn make_account<O: Audience>(
     if account.is_cut {
         return Err(AllocError);
     }
-    tell_orders(&account, answers, audience)
+    tell_orders(&account, answers, seen, audience)
 }
 
-/// Says how the runs ended of the runners of which it is told, each program run alone in every serial order, and which keys the rules ask for that are not
+/// Says how the runs ended of the runners of which it is told, each program run alone in every serial order, or at the ends of schedules, where these were
+/// seen, and which keys the rules ask for that are not
 /// there and that nothing puts. Or it says that an allocation failed for it.
 pub(crate) fn tell_account<O: Audience>(
     alloc: Global,
@@ -617,12 +636,15 @@ pub(crate) fn tell_account<O: Audience>(
     others: &[WorldEvent],
     programs: &[Program],
     answers: &[RuleAnswer],
+    seen: Option<&SeenEnds>,
     audience: &mut O,
 )
     requires { AreProgramsOf programs.now world.now.runners }
 {
     let told = told_of(audience.wants_all(), has_kept(answers));
-    if let Err(_) = make_account(alloc, world, others, programs, answers, told, audience) {
+    if let Err(_) = make_account(
+        alloc, world, others, programs, answers, seen, told, audience,
+    ) {
         audience.hear(NO_MEMORY);
     }
 }

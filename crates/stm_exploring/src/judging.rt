@@ -26,7 +26,7 @@ const FIRST_MOVES: u64 = 4000;
 const TOLD_EACH: u64 = 5000;
 
 /// What is known of a rule.
-#[derive(Debug, Drop)]
+#[derive(Drop)]
 pub(crate) enum Answer {
     /// What a search through schedules came to.
     BySchedules(Explored),

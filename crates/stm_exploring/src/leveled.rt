@@ -22,7 +22,7 @@ use stm_program::Level;
 use stm_texts::Scenario;
 
 /// What is known of each rule at a level.
-#[derive(Debug, Drop)]
+#[derive(Drop)]
 pub(crate) struct LevelAnswers {
     pub(crate) level: Level,
     pub(crate) answers: Sequence<RuleAnswer>,

@@ -33,6 +33,7 @@ mod reading;
 mod rules;
 mod schedule_lines;
 mod searching;
+mod seen_ends;
 mod serial;
 mod serial_levels;
 mod setup;

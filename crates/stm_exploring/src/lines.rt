@@ -36,15 +36,6 @@ pub(crate) fn push_count(
     push_line(alloc, text, &line)
 }
 
-/// The line of a word and a number, alone.
-pub(crate) fn count_text(alloc: Global, word: &str, count: u64) -> Result<String, AllocError>
-    ensures { IfOk result (λ text. string_bytes text ≡ line_text (count_line word.now count)) }
-{
-    let mut text = String::new(alloc);
-    push_count(alloc, &mut text, word, count)?;
-    Ok(text)
-}
-
 /// An end of a program at which its rule is not kept.
 fn end_json(alloc: Global, end: &End) -> Result<Json, AllocError>
     ensures { IfOk result (λ v. view v ≡ end_data end.now) }

@@ -3,8 +3,8 @@ ghost use Rattle.std.specs.Prelude.{◌≡◌, ◌≤◌, ◌++◌, length, map,
 ghost use Rattle.std.specs.List.{concat, zip};
 ghost use Rattle.serde_json.specs.View.{view};
 ghost use Rattle.stm_schedules.specs.declared.outcome.RunnerEnd.TheVariants.{Committed};
-ghost use Rattle.stm_exploring.specs.Lines.{key_value_data, runner_end_data, outcome_line, outcome_text, each_once, counted_text, outcomes_text};
-ghost use Rattle.stm_exploring.specs.Questions.{witness_text, witnesses_text};
+ghost use Rattle.stm_exploring.specs.Lines.{key_value_data, runner_end_data, outcome_line, outcome_text, each_once, counted_text};
+ghost use Rattle.stm_exploring.specs.Questions.{witness_text};
 
 use crate::lines::push_count;
 use crate::lists::{Written, list_json};
@@ -90,7 +90,7 @@ fn witness_lines(
 }
 
 /// The line of each outcome once, ascending by bytes.
-fn each_line(alloc: Global, outcomes: &[Outcome]) -> Result<BTreeSet<Text>, AllocError>
+pub(crate) fn each_line(alloc: Global, outcomes: &[Outcome]) -> Result<BTreeSet<Text>, AllocError>
     ensures { IfOk result (λ lines. lines.keys ≡ each_once (map outcome_text outcomes.now)) }
 {
     let mut lines = BTreeSet::new(alloc);
@@ -115,7 +115,7 @@ fn pair_count(outcomes: &[Outcome], schedules: &[Sequence<Move>]) -> usize
 }
 
 /// The lines of each outcome and of its schedule once, ascending by bytes.
-fn each_witness(
+pub(crate) fn each_witness(
     alloc: Global,
     scenario: &Scenario,
     outcomes: &[Outcome],
@@ -141,33 +141,17 @@ fn push_texts(text: &mut String, texts: &BTreeSet<Text>) -> Result<(), AllocErro
     Ok(())
 }
 
-/// These texts of outcomes, and how many there are.
-fn counted_text(alloc: Global, texts: &BTreeSet<Text>) -> Result<String, AllocError>
-    ensures { IfOk result (λ text. string_bytes text ≡ counted_text texts.now.keys) }
+/// These texts, and behind them a line of a word and a number.
+pub(crate) fn counted_text(
+    alloc: Global,
+    texts: &BTreeSet<Text>,
+    word: &str,
+    count: u64,
+) -> Result<String, AllocError>
+    ensures { IfOk result (λ text. string_bytes text ≡ counted_text texts.now.keys word.now count) }
 {
     let mut text = String::new(alloc);
     push_texts(&mut text, texts)?;
-    push_count(alloc, &mut text, "outcomes", texts.len() as u64)?;
+    push_count(alloc, &mut text, word, count)?;
     Ok(text)
-}
-
-/// What is printed of these outcomes.
-pub(crate) fn outcomes_text(alloc: Global, outcomes: &[Outcome]) -> Result<String, AllocError>
-    ensures { IfOk result (λ text. string_bytes text ≡ outcomes_text outcomes.now) }
-{
-    let lines = each_line(alloc, outcomes)?;
-    counted_text(alloc, &lines)
-}
-
-/// What is printed of these outcomes, with these schedules that come to them.
-pub(crate) fn witnesses_text(
-    alloc: Global,
-    scenario: &Scenario,
-    outcomes: &[Outcome],
-    schedules: &[Sequence<Move>],
-) -> Result<String, AllocError>
-    ensures { IfOk result (λ text. string_bytes text ≡ witnesses_text scenario.now outcomes.now schedules.now) }
-{
-    let lines = each_witness(alloc, scenario, outcomes, schedules)?;
-    counted_text(alloc, &lines)
 }

@@ -4,11 +4,10 @@ ghost use Rattle.stm_devices.specs.declared.transfer.TheConstants.{MOST_READ};
 ghost use Rattle.stm_schedules.specs.Outcomes.{after_replies};
 ghost use Rattle.stm_world.specs.World.{world_after, replies_to};
 ghost use Rattle.stm_exploring.specs.Asking.{place_of, ends_of};
-ghost use Rattle.stm_exploring.specs.Questions.{AreGathered, AreListed, ArePrinted, Gathers, found_text, gathered_text, printed_outcomes, verdict_of_outcomes};
+ghost use Rattle.stm_exploring.specs.Questions.{AreGathered, AreListed, ArePrinted, Gathers, all_text, found_texts, gathered_text, printed_outcomes, verdict_of_outcomes};
 
 use crate::audience::{Audience, tell_parts};
-use crate::lines::count_text;
-use crate::outcome_lines::{outcomes_text, witnesses_text};
+use crate::outcome_lines::{counted_text, each_line, each_witness};
 use crate::printed::{Printed, SearchAnswer};
 use crate::question::Question;
 use crate::reading::{ExploreFault, scenario_of};
@@ -16,6 +15,7 @@ use crate::serial::compare;
 use crate::serial_levels::compare_at_levels;
 use crate::setup::{run_setup, setup_and_others};
 use std::alloc::{AllocError, Global};
+use std::collections::BTreeSet;
 use stm_devices::Source;
 use stm_explore::{Budget, Move, Outcome, Outcomes, Sequence, find_outcomes};
 use stm_history::Text;
@@ -23,20 +23,27 @@ use stm_program::Level;
 use stm_retry::World;
 use stm_texts::{Scenario, WorldEvent, opens_with};
 
-/// What is printed of these outcomes, and of schedules that come to them, where these are asked for.
-fn found_text(
+/// The texts of these outcomes, each once, ascending by bytes: with schedules that come to them, where these are asked for.
+fn found_texts(
     alloc: Global,
     witnessed: bool,
     scenario: &Scenario,
     outcomes: &[Outcome],
     schedules: &[Sequence<Move>],
-) -> Result<String, AllocError>
-    ensures { IfOk result (λ text. string_bytes text ≡ found_text witnessed scenario.now outcomes.now schedules.now) }
+) -> Result<BTreeSet<Text>, AllocError>
+    ensures { IfOk result (λ texts. texts.keys ≡ found_texts witnessed scenario.now outcomes.now schedules.now) }
 {
     if witnessed {
-        return witnesses_text(alloc, scenario, outcomes, schedules);
+        return each_witness(alloc, scenario, outcomes, schedules);
     }
-    outcomes_text(alloc, outcomes)
+    each_line(alloc, outcomes)
+}
+
+/// These texts of all outcomes, and how many there are.
+fn all_text(alloc: Global, texts: &BTreeSet<Text>) -> Result<String, AllocError>
+    ensures { IfOk result (λ text. string_bytes text ≡ all_text texts.now.keys) }
+{
+    counted_text(alloc, texts, "outcomes", texts.len() as u64)
 }
 
 /// What is printed of what whole schedules come to.
@@ -52,14 +59,30 @@ fn gathered_text(
         Outcomes::Found {
             outcomes,
             schedules,
-        } => found_text(
-            alloc,
-            witnessed,
-            scenario,
-            outcomes.as_slice(),
-            schedules.as_slice(),
-        ),
-        Outcomes::Open { gone_through } => count_text(alloc, "open", *gone_through),
+        } => {
+            let texts = found_texts(
+                alloc,
+                witnessed,
+                scenario,
+                outcomes.as_slice(),
+                schedules.as_slice(),
+            )?;
+            all_text(alloc, &texts)
+        }
+        Outcomes::Open {
+            gone_through,
+            outcomes,
+            schedules,
+        } => {
+            let texts = found_texts(
+                alloc,
+                witnessed,
+                scenario,
+                outcomes.as_slice(),
+                schedules.as_slice(),
+            )?;
+            counted_text(alloc, &texts, "open", *gone_through)
+        }
     }
 }
 

@@ -25,7 +25,7 @@ pub struct Rule {
 }
 
 /// What is known of a rule.
-#[derive(Debug, Drop)]
+#[derive(Drop)]
 pub(crate) struct RuleAnswer {
     pub(crate) rule: Rule,
     pub(crate) answer: Answer,

@@ -18,6 +18,7 @@ use crate::judging::{Answer, judge_comparing, judge_schedules};
 use crate::printed::Printed;
 use crate::printing::print;
 use crate::rules::{Rule, RuleAnswer};
+use crate::seen_ends::SeenEnds;
 use crate::setup::{run_setup, setup_and_others};
 use crate::watching::judge_waiting;
 use std::alloc::{AllocError, Global};
@@ -58,6 +59,7 @@ fn judge_beside<O: Observer>(
     comparing: bool,
     waits: &[Wait],
     rules: &[Program],
+    seen: &SeenEnds,
     budget: &mut Budget<O>,
 ) -> Result<Vec<Answer>, AllocError>
     requires programs { AreProgramsOf programs.now world.now.runners }
@@ -66,7 +68,17 @@ fn judge_beside<O: Observer>(
 {
     match waits {
         [] => judge(alloc, world, others, programs, comparing, rules, budget),
-        [_, ..] => judge_waiting(alloc, world, others, ends, waits, When::Each, rules, budget),
+        [_, ..] => judge_waiting(
+            alloc,
+            world,
+            others,
+            ends,
+            waits,
+            When::Each,
+            rules,
+            seen,
+            budget,
+        ),
     }
 }
 
@@ -81,6 +93,7 @@ fn judge_when<O: Observer>(
     waits: &[Wait],
     when: When,
     rules: &[Program],
+    seen: &SeenEnds,
     budget: &mut Budget<O>,
 ) -> Result<Vec<Answer>, AllocError>
     requires programs { AreProgramsOf programs.now world.now.runners }
@@ -89,9 +102,9 @@ fn judge_when<O: Observer>(
 {
     match when {
         When::Each => judge_beside(
-            alloc, world, others, ends, programs, comparing, waits, rules, budget,
+            alloc, world, others, ends, programs, comparing, waits, rules, seen, budget,
         ),
-        When::Last => judge_waiting(alloc, world, others, ends, waits, when, rules, budget),
+        When::Last => judge_waiting(alloc, world, others, ends, waits, when, rules, seen, budget),
     }
 }
 
@@ -106,6 +119,7 @@ fn judge_group<O: Observer>(
     waits: &[Wait],
     when: When,
     rules: &[Rule],
+    seen: &SeenEnds,
     most: u64,
     budget: &mut Budget<O>,
     answers: &mut Vec<RuleAnswer>,
@@ -128,6 +142,7 @@ fn judge_group<O: Observer>(
         waits,
         when,
         asked.as_slice(),
+        seen,
         budget,
     )?;
     push_answers(rules, when, found, answers)?;
@@ -145,6 +160,7 @@ fn judge_rules<O: Observer>(
     comparing: bool,
     waits: &[Wait],
     rules: &[Rule],
+    seen: &SeenEnds,
     budget: &mut Budget<O>,
 ) -> Result<Vec<RuleAnswer>, AllocError>
     requires programs { AreProgramsOf programs.now world.now.runners }
@@ -171,6 +187,7 @@ fn judge_rules<O: Observer>(
             waits,
             when,
             group,
+            seen,
             most,
             budget,
             &mut answers,
@@ -180,7 +197,49 @@ fn judge_rules<O: Observer>(
     Ok(answers)
 }
 
-/// The same, and it is said what that covers.
+/// The ends that were seen, where some runner waits: then no serial orders are said anything of.
+fn seen_if_waiting<'a>(waits: &[Wait], seen: &'a SeenEnds) -> Option<&'a SeenEnds> {
+    if waits.is_empty() {
+        return None;
+    }
+    Some(seen)
+}
+
+/// The same, and it is said what that covers. These ends are seen.
+fn judge_seen<O: Audience>(
+    alloc: Global,
+    world: &World,
+    others: &[WorldEvent],
+    ends: &[Option<RunnerEnd>],
+    programs: &[Program],
+    comparing: bool,
+    waits: &[Wait],
+    rules: &[Rule],
+    seen: &SeenEnds,
+    budget: &mut Budget<O>,
+) -> Result<Vec<RuleAnswer>, AllocError>
+    requires programs { AreProgramsOf programs.now world.now.runners }
+    requires comparing { comparing ≡ true → IsComparing (record { world = world.now; others = others.now }) }
+    ensures { IfOk result (λ answers. AreFoundFrom waits.now rules.now (record { world = world.now; others = others.now }) ends.now answers.items) }
+{
+    let answers = judge_rules(
+        alloc, world, others, ends, programs, comparing, waits, rules, seen, budget,
+    )?;
+    let audience = &mut budget.observer;
+    let seen = seen_if_waiting(waits, seen);
+    tell_account(
+        alloc,
+        world,
+        others,
+        programs,
+        answers.as_slice(),
+        seen,
+        audience,
+    );
+    Ok(answers)
+}
+
+/// The same.
 fn judge_and_tell<O: Audience>(
     alloc: Global,
     world: &World,
@@ -196,12 +255,12 @@ fn judge_and_tell<O: Audience>(
     requires comparing { comparing ≡ true → IsComparing (record { world = world.now; others = others.now }) }
     ensures { IfOk result (λ answers. AreFoundFrom waits.now rules.now (record { world = world.now; others = others.now }) ends.now answers.items) }
 {
-    let answers = judge_rules(
-        alloc, world, others, ends, programs, comparing, waits, rules, budget,
-    )?;
-    let audience = &mut budget.observer;
-    tell_account(alloc, world, others, programs, answers.as_slice(), audience);
-    Ok(answers)
+    let seen = SeenEnds::new(alloc, world.runner_count())?;
+    let answers = judge_seen(
+        alloc, world, others, ends, programs, comparing, waits, rules, &seen, budget,
+    );
+    drop(seen);
+    answers
 }
 
 /// Whether each rule is kept after every schedule in which these runners wait, once these events were run in a world, which start these programs.

@@ -23,7 +23,7 @@ use stm_report_lines::push_line;
 use stm_texts::Scenario;
 
 /// What is known at a level.
-#[derive(Debug, Drop)]
+#[derive(Drop)]
 pub(crate) struct SerialLevel {
     pub(crate) level: Level,
     pub(crate) answer: SerialAnswer,

@@ -6,8 +6,8 @@ use Rattle.stm_history.specs.Cut.{cut}
 use Rattle.stm_history.proofs.CutLaws.{cut_keeps_keys_now}
 use Rattle.stm_formats.specs.FormatNotes.{notes_of_key, key_notes}
 
-pub same_notes : (h : History) (number : ℕ) → number ≤ now h → (keys : List (List ℕ)) → key_notes (cut number h) keys ≡ key_notes h keys
-same_notes h number reached [] = refl
-same_notes h number reached (key ∷ keys) =
-    ap (λ (o : Option KeyState). notes_of_key key o ++ key_notes (cut number h) keys) (cut_keeps_keys_now h number reached key)
-    ∙ ap (λ (notes : List (List ℕ)). notes_of_key key (key_now h key) ++ notes) (same_notes h number reached keys)
+pub same_notes : (most : ℕ) (h : History) (number : ℕ) → number ≤ now h → (keys : List (List ℕ)) → key_notes most (cut number h) keys ≡ key_notes most h keys
+same_notes most h number reached [] = refl
+same_notes most h number reached (key ∷ keys) =
+    ap (λ (o : Option KeyState). notes_of_key most key o ++ key_notes most (cut number h) keys) (cut_keeps_keys_now h number reached key)
+    ∙ ap (λ (notes : List (List ℕ)). notes_of_key most key (key_now h key) ++ notes) (same_notes most h number reached keys)

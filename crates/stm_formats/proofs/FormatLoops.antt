@@ -1,30 +1,24 @@
 -- Adding notes one after the other, as a loop does.
-use Rattle.std.proofs.Common.{◌≡◌, ℕ, ◌+◌, ◌<◌, ◌≤◌, List, [], ◌∷◌, ◌++◌, length, map, drop, get_or, Option, Some, sym, ap, ◌∙◌}
+use Rattle.std.proofs.Common.{◌≡◌, ℕ, ◌+◌, ◌<◌, ◌≤◌, List, ◌++◌, length, map, drop, get_or, sym, ap, ◌∙◌}
 use Rattle.std.proofs.Common.{String, string_bytes, append_assoc, append-nil}
 use Rattle.std.proofs.lemmas.List.{drop_all}
-use Rattle.stm_history.specs.declared.key_state.KeyState.{KeyState}
 use Rattle.stm_history.specs.History.{History, key_now}
-use Rattle.stm_formats.specs.FormatNotes.{key_note, notes_of_key, key_notes}
+use Rattle.stm_formats.specs.FormatNotes.{notes_of_key, key_notes}
 use Rattle.stm_formats.proofs.Joining.{left_at}
 
-module _ {A : Type 0} where
+module _ {A : Type 0} (most : ℕ) where
   -- ---- notes of keys
 
   pub next_note : (notes total : List (List ℕ)) (h : History) (keys : List (String A)) (i : ℕ) (key : String A) → i < length keys → key ≡ get_or keys i key
-      → notes ++ key_notes h (map string_bytes (drop i keys)) ≡ total
-      → (notes ++ notes_of_key (string_bytes key) (key_now h (string_bytes key))) ++ key_notes h (map string_bytes (drop (i + 1) keys)) ≡ total
+      → notes ++ key_notes most h (map string_bytes (drop i keys)) ≡ total
+      → (notes ++ notes_of_key most (string_bytes key) (key_now h (string_bytes key))) ++ key_notes most h (map string_bytes (drop (i + 1) keys)) ≡ total
   next_note notes total h keys i key within is so_far =
-      append_assoc notes (notes_of_key (string_bytes key) (key_now h (string_bytes key))) (key_notes h (map string_bytes (drop (i + 1) keys)))
-      ∙ ap (λ (ks : List (String A)). notes ++ key_notes h (map string_bytes ks)) (sym (left_at keys i key within is))
+      append_assoc notes (notes_of_key most (string_bytes key) (key_now h (string_bytes key))) (key_notes most h (map string_bytes (drop (i + 1) keys)))
+      ∙ ap (λ (ks : List (String A)). notes ++ key_notes most h (map string_bytes ks)) (sym (left_at keys i key within is))
       ∙ so_far
 
   pub all_notes : (before notes : List (List ℕ)) (h : History) (keys : List (String A)) (i : ℕ) → length keys ≤ i
-      → notes ++ key_notes h (map string_bytes (drop i keys)) ≡ before ++ key_notes h (map string_bytes keys)
-      → notes ≡ before ++ key_notes h (map string_bytes keys)
+      → notes ++ key_notes most h (map string_bytes (drop i keys)) ≡ before ++ key_notes most h (map string_bytes keys)
+      → notes ≡ before ++ key_notes most h (map string_bytes keys)
   all_notes before notes h keys i end so_far =
-      sym (append-nil notes) ∙ ap (λ (ks : List (String A)). notes ++ key_notes h (map string_bytes ks)) (sym (drop_all i keys end)) ∙ so_far
-
--- the note of a key that is present
-pub one_note : (h : History) (key : List ℕ) (state : KeyState) (note : List ℕ) → Some state ≡ key_now h key → note ≡ key_note key state
-    → notes_of_key key (key_now h key) ≡ note ∷ []
-one_note h key state note present is = ap (λ (kv : Option KeyState). notes_of_key key kv) (sym present) ∙ ap (λ (t : List ℕ). t ∷ []) (sym is)
+      sym (append-nil notes) ∙ ap (λ (ks : List (String A)). notes ++ key_notes most h (map string_bytes ks)) (sym (drop_all i keys end)) ∙ so_far

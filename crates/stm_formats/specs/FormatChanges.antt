@@ -13,44 +13,44 @@ use Rattle.stm_formats.specs.FormatPieces.{joined}
 -- ---- a key
 
 -- its value, and the revision of its last change
-abbrev pub state_words : Option KeyState → List ℕ
-state_words None = codes "absent"
-state_words (Some state) = joined (codes "\"" ∷ shown state.value ∷ codes "\" @" ∷ decimal state.mod_rev ∷ [])
+abbrev pub state_words : ℕ → Option KeyState → List ℕ
+state_words most None = codes "absent"
+state_words most (Some state) = joined (codes "\"" ∷ shown most state.value ∷ codes "\" @" ∷ decimal state.mod_rev ∷ [])
 
 -- A key that was seen as of a revision, at this modification revision: 0 where it was absent. Where that revision is no longer kept, its value is not known.
-abbrev pub known_words : History → List ℕ → ℕ → ℕ → List ℕ
-known_words h key mod_rev revision =
+abbrev pub known_words : ℕ → History → List ℕ → ℕ → ℕ → List ℕ
+known_words most h key mod_rev revision =
     if nat_eq mod_rev 0 then codes "absent"
-    else (if nat_lt revision h.opening.number then joined (codes "@" ∷ decimal mod_rev ∷ []) else state_words (state_by h key revision))
+    else (if nat_lt revision h.opening.number then joined (codes "@" ∷ decimal mod_rev ∷ []) else state_words most (state_by h key revision))
 
 -- ---- what a revision changed
 
-abbrev pub change_words : Event → List ℕ
-change_words (Put key state) = joined (plain key ∷ codes " = \"" ∷ shown state.value ∷ codes "\"" ∷ [])
-change_words (Delete key revision) = joined (plain key ∷ codes " deleted" ∷ [])
+abbrev pub change_words : ℕ → Event → List ℕ
+change_words most (Put key state) = joined (plain key ∷ codes " = \"" ∷ shown most state.value ∷ codes "\"" ∷ [])
+change_words most (Delete key revision) = joined (plain key ∷ codes " deleted" ∷ [])
 
 -- what stands before a change after that many
 abbrev pub between : ℕ → List ℕ
 between count = if nat_eq count 0 then codes "  " else codes ", "
 
 -- a change after that many: of more than are shown only that there are more
-abbrev pub counted_change : ℕ → Event → List ℕ
-counted_change count event =
-    if nat_lt count MOST_CHANGES then joined (between count ∷ change_words event ∷ [])
+abbrev pub counted_change : ℕ → ℕ → Event → List ℕ
+counted_change most count event =
+    if nat_lt count MOST_CHANGES then joined (between count ∷ change_words most event ∷ [])
     else (if nat_eq count MOST_CHANGES then codes ", .." else [])
 
 -- the changes after that many
-abbrev pub changes_after : ℕ → List Event → List ℕ
-changes_after count [] = []
-changes_after count (event ∷ events) = counted_change count event ++ changes_after (suc count) events
+abbrev pub changes_after : ℕ → ℕ → List Event → List ℕ
+changes_after most count [] = []
+changes_after most count (event ∷ events) = counted_change most count event ++ changes_after most (suc count) events
 
 -- those of a revision that has come
-abbrev pub revision_words : History → ℕ → List ℕ
-revision_words h revision = if nat_lt (now h) revision then [] else changes_after 0 (events_of h revision)
+abbrev pub revision_words : ℕ → History → ℕ → List ℕ
+revision_words most h revision = if nat_lt (now h) revision then [] else changes_after most 0 (events_of h revision)
 
 -- Those of the revisions above one and up to another: of the first two. More than one an event makes only where it ends several leases.
-abbrev pub changed_since : History → ℕ → ℕ → List ℕ
-changed_since h before after =
+abbrev pub changed_since : ℕ → History → ℕ → ℕ → List ℕ
+changed_since most h before after =
     if nat_le after before then []
-    else (if nat_eq after (before + 1) then revision_words h (before + 1)
-    else joined (revision_words h (before + 1) ∷ revision_words h (before + 2) ∷ (if nat_eq after (before + 2) then [] else codes "  ..") ∷ []))
+    else (if nat_eq after (before + 1) then revision_words most h (before + 1)
+    else joined (revision_words most h (before + 1) ∷ revision_words most h (before + 2) ∷ (if nat_eq after (before + 2) then [] else codes "  ..") ∷ []))

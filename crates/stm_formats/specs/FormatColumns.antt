@@ -1,10 +1,12 @@
 -- Columns: which one a row stands in, and where they begin.
-use Rattle.std.specs.Prelude.{ℕ, zero, suc, ◌+◌, max, min, nat_eq, if◌then◌else◌, List, [], ◌∷◌, ◌++◌, length, get_or}
+use Rattle.std.specs.Prelude.{ℕ, zero, suc, ◌+◌, ◌-◌, ◌/◌, Option, Some, None, max, min, nat_eq, if◌then◌else◌, List, [], ◌∷◌, ◌++◌, length, get_or}
 use Rattle.stm_formats.specs.declared.format_row.Lane.{Lane}
 use Rattle.stm_formats.specs.declared.format_row.Lane.TheVariants.{Store, Runner}
 use Rattle.stm_formats.specs.declared.format_row.Row.{Row}
-use Rattle.stm_formats.specs.declared.format_pieces.TheConstants.{MOST_COLUMNS}
-use Rattle.stm_formats.specs.declared.format_columns.TheConstants.{LEAST_WIDTH, MOST_WIDTH, MOST_PLACE}
+use Rattle.stm_formats.specs.declared.format_label.TheConstants.{MOST_COLUMNS}
+use Rattle.stm_formats.specs.declared.format_label.RunnerLabel.{RunnerLabel}
+use Rattle.stm_formats.specs.FormatLabels.{title}
+use Rattle.stm_formats.specs.declared.format_columns.TheConstants.{LEAST_WIDTH, MOST_WIDTH, WIDEST, MOST_PLACE}
 
 -- the number of the column's runner, 0 for the store
 abbrev pub lane_number : Lane → ℕ
@@ -21,27 +23,39 @@ last_column [] = 0
 last_column (row ∷ rows) = max (column row.lane) (last_column rows)
 
 -- the length of a row's words, up to a limit, where it stands in a column
-abbrev pub width_in : ℕ → Row → ℕ
-width_in c row = if nat_eq (column row.lane) c then min (length row.words) MOST_WIDTH else 0
+abbrev pub width_in : ℕ → ℕ → Row → ℕ
+width_in limit c row = if nat_eq (column row.lane) c then min (length row.words) limit else 0
 
--- how wide a column is: as its longest words
-abbrev pub width : ℕ → List Row → ℕ
-width c [] = LEAST_WIDTH
-width c (row ∷ rows) = max (width_in c row) (width c rows)
+-- how wide a column with this title is at least
+abbrev pub least_width : ℕ → List ℕ → ℕ
+least_width limit title = max (min (length title) limit) LEAST_WIDTH
+
+-- how wide a column is that is at least so wide: as its longest words
+abbrev pub width : ℕ → ℕ → ℕ → List Row → ℕ
+width limit least c [] = least
+width limit least c (row ∷ rows) = max (width_in limit c row) (width limit least c rows)
+
+abbrev pub titled_width : ℕ → List RunnerLabel → ℕ → List Row → ℕ
+titled_width limit labels c rows = width limit (least_width limit (title labels c)) c rows
+
+-- The limit of a report of this width with so many runners' columns: the last one begins before the middle, unless the least widths are too much for that.
+abbrev pub most_width : Option ℕ → ℕ → ℕ
+most_width None last = MOST_WIDTH
+most_width (Some width) last = min (((width / 2 - 8) / max last 1) - 2) WIDEST
 
 -- how many characters stand before a column: each is followed by two spaces
-abbrev pub begin : List Row → ℕ → ℕ
-begin rows zero = 0
-begin rows (suc c) = begin rows c + width c rows + 2
+abbrev pub begin : ℕ → List RunnerLabel → List Row → ℕ → ℕ
+begin limit labels rows zero = 0
+begin limit labels rows (suc c) = begin limit labels rows c + titled_width limit labels c rows + 2
 
 -- where that many columns begin
-abbrev pub places : List Row → ℕ → List ℕ
-places rows zero = []
-places rows (suc c) = places rows c ++ begin rows c ∷ []
+abbrev pub places : ℕ → List RunnerLabel → List Row → ℕ → List ℕ
+places limit labels rows zero = []
+places limit labels rows (suc c) = places limit labels rows c ++ begin limit labels rows c ∷ []
 
 -- where the columns begin, and where one behind the last would
-unfoldable pub all_places : List Row → List ℕ
-all_places rows = places rows 11
+unfoldable pub all_places : ℕ → List RunnerLabel → List Row → List ℕ
+all_places limit labels rows = places limit labels rows 11
 
 -- where a column begins
 abbrev pub place : List ℕ → ℕ → ℕ

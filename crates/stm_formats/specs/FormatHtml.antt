@@ -9,12 +9,15 @@ use Rattle.stm_keys.specs.declared.event.Event.TheVariants.{Put, Delete}
 use Rattle.stm_keys.specs.Events.{events_of}
 use Rattle.stm_reasons.specs.declared.reason.Cause.{Cause}
 use Rattle.stm_reasons.specs.declared.reason.Reason.{Reason}
+use Rattle.stm_formats.specs.declared.format_label.RunnerLabel.{RunnerLabel}
 use Rattle.stm_formats.specs.declared.format_row.Lane.{Lane}
 use Rattle.stm_formats.specs.declared.format_row.Mark.{Mark}
 use Rattle.stm_formats.specs.declared.format_row.Mark.TheVariants.{Committed, Failed, Plain}
 use Rattle.stm_formats.specs.declared.format_row.Row.{Row}
+use Rattle.stm_formats.specs.declared.format_pieces.TheConstants.{MOST_SHOWN}
 use Rattle.stm_formats.specs.FormatShown.{plain, shown}
-use Rattle.stm_formats.specs.FormatPieces.{joined, title, tag_text}
+use Rattle.stm_formats.specs.FormatPieces.{joined, tag_text}
+use Rattle.stm_formats.specs.FormatLabels.{title}
 use Rattle.stm_formats.specs.FormatEscaped.{escaped}
 use Rattle.stm_formats.specs.FormatColumns.{column, last_column}
 use Rattle.stm_formats.specs.FormatReasons.{reason_note}
@@ -30,7 +33,7 @@ abbrev pub key_html : List ℕ → List ℕ
 key_html key = attribute_html (codes "<i hidden data-key='") (plain key)
 
 abbrev pub value_html : List ℕ → List ℕ
-value_html value = attribute_html (codes " data-value='") (shown value)
+value_html value = attribute_html (codes " data-value='") (shown MOST_SHOWN value)
 
 abbrev pub put_html : List ℕ → List ℕ → List ℕ
 put_html key value = joined (key_html key ∷ value_html value ∷ [])
@@ -84,12 +87,12 @@ rows_html h counters rows = joined (map (row_html h counters) rows)
 
 -- ---- titles and lists
 
-unfoldable pub title_html : ℕ → List ℕ
-title_html c = joined (codes "<th scope='col'>" ∷ title c ∷ codes "</th>" ∷ [])
+unfoldable pub title_html : List RunnerLabel → ℕ → List ℕ
+title_html labels c = joined (codes "<th scope='col'>" ∷ escaped (title labels c) ∷ codes "</th>" ∷ [])
 
-abbrev pub titles_html : ℕ → List ℕ
-titles_html zero = []
-titles_html (suc c) = titles_html c ++ title_html c
+abbrev pub titles_html : List RunnerLabel → ℕ → List ℕ
+titles_html labels zero = []
+titles_html labels (suc c) = titles_html labels c ++ title_html labels c
 
 unfoldable pub note_html : List ℕ → List ℕ
 note_html note = joined (codes "<li>" ∷ escaped note ∷ codes "</li>\n" ∷ [])
@@ -108,15 +111,15 @@ to_html event = joined (codes "<li data-to='" ∷ decimal event ∷ codes "'" �
 unfoldable pub told_html : List ℕ → List ℕ
 told_html note = joined (codes ">" ∷ escaped note ∷ codes "</li>\n" ∷ [])
 
-abbrev pub reason_html : Reason → List ℕ
-reason_html reason = to_html reason.event ++ from_html reason.cause ++ told_html (reason_note reason)
+abbrev pub reason_html : List RunnerLabel → Reason → List ℕ
+reason_html labels reason = to_html reason.event ++ from_html reason.cause ++ told_html (reason_note labels reason)
 
-abbrev pub reasons_html : List Reason → List ℕ
-reasons_html reasons = joined (map reason_html reasons)
+abbrev pub reasons_html : List RunnerLabel → List Reason → List ℕ
+reasons_html labels reasons = joined (map (reason_html labels) reasons)
 
 -- ---- the whole
 
-unfoldable pub html_of : History → List ℕ → List Row → List (List ℕ) → List Reason → List ℕ
-html_of h counters rows notes reasons =
-    joined (page_head ∷ titles_html (last_column rows + 1) ∷ codes "</tr></thead>\n<tbody>\n" ∷ rows_html h counters rows ∷ codes "</tbody></table></main>\n<ul>\n"
-    ∷ notes_html notes ∷ reasons_html reasons ∷ page_foot ∷ [])
+unfoldable pub html_of : List RunnerLabel → History → List ℕ → List Row → List (List ℕ) → List Reason → List ℕ
+html_of labels h counters rows notes reasons =
+    joined (page_head ∷ titles_html labels (last_column rows + 1) ∷ codes "</tr></thead>\n<tbody>\n" ∷ rows_html h counters rows ∷ codes "</tbody></table></main>\n<ul>\n"
+    ∷ notes_html notes ∷ reasons_html labels reasons ∷ page_foot ∷ [])

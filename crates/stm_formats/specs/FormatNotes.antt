@@ -7,22 +7,24 @@ use Rattle.stm_events.specs.declared.reply.Reply.{Reply}
 use Rattle.stm_events.specs.declared.reply.Reply.TheVariants.{Started, Committed, GaveUp, Aborted, Faulted, Ended}
 use Rattle.stm_events.specs.declared.refusal.Denied.{Denied}
 use Rattle.stm_world.specs.World.{World}
+use Rattle.stm_formats.specs.declared.format_label.RunnerLabel.{RunnerLabel}
 use Rattle.stm_formats.specs.FormatShown.{plain, shown}
 use Rattle.stm_formats.specs.FormatPieces.{joined}
+use Rattle.stm_formats.specs.FormatLabels.{runner_words}
 
 -- ---- the keys that are present
 
 -- a key with its value, and the revision of its last change
-abbrev pub key_note : List ℕ → KeyState → List ℕ
-key_note key state = joined (codes "key " ∷ plain key ∷ codes " = \"" ∷ shown state.value ∷ codes "\" @" ∷ decimal state.mod_rev ∷ [])
+abbrev pub key_note : ℕ → List ℕ → KeyState → List ℕ
+key_note most key state = joined (codes "key " ∷ plain key ∷ codes " = \"" ∷ shown most state.value ∷ codes "\" @" ∷ decimal state.mod_rev ∷ [])
 
-abbrev pub notes_of_key : List ℕ → Option KeyState → List (List ℕ)
-notes_of_key key None = []
-notes_of_key key (Some state) = key_note key state ∷ []
+abbrev pub notes_of_key : ℕ → List ℕ → Option KeyState → List (List ℕ)
+notes_of_key most key None = []
+notes_of_key most key (Some state) = key_note most key state ∷ []
 
-abbrev pub key_notes : History → List (List ℕ) → List (List ℕ)
-key_notes h [] = []
-key_notes h (key ∷ keys) = notes_of_key key (key_now h key) ++ key_notes h keys
+abbrev pub key_notes : ℕ → History → List (List ℕ) → List (List ℕ)
+key_notes most h [] = []
+key_notes most h (key ∷ keys) = notes_of_key most key (key_now h key) ++ key_notes most h keys
 
 -- ---- the runners that are unfinished
 
@@ -41,14 +43,14 @@ ended_after ended [] = ended
 ended_after ended (Ok reply ∷ replies) = ended_after (ended_by ended reply) replies
 ended_after ended (Err denied ∷ replies) = ended_after ended replies
 
-abbrev pub unfinished_note : ℕ → List ℕ
-unfinished_note runner = joined (codes "unfinished: runner " ∷ decimal runner ∷ [])
+abbrev pub unfinished_note : List RunnerLabel → ℕ → List ℕ
+unfinished_note labels runner = joined (codes "unfinished: " ∷ runner_words labels runner ∷ [])
 
 -- a note for each runner from this one on whose run has not ended
-abbrev pub unfinished_notes : ℕ → List Bool → List (List ℕ)
-unfinished_notes runner [] = []
-unfinished_notes runner (true ∷ ended) = unfinished_notes (suc runner) ended
-unfinished_notes runner (false ∷ ended) = unfinished_note runner ∷ unfinished_notes (suc runner) ended
+abbrev pub unfinished_notes : List RunnerLabel → ℕ → List Bool → List (List ℕ)
+unfinished_notes labels runner [] = []
+unfinished_notes labels runner (true ∷ ended) = unfinished_notes labels (suc runner) ended
+unfinished_notes labels runner (false ∷ ended) = unfinished_note labels runner ∷ unfinished_notes labels (suc runner) ended
 
 -- ---- the whole
 
@@ -56,7 +58,7 @@ unfinished_notes runner (false ∷ ended) = unfinished_note runner ∷ unfinishe
 abbrev pub end_note : ℕ → ℕ → List ℕ
 end_note revision entries = joined (codes "revision " ∷ decimal revision ∷ codes ", entries " ∷ decimal entries ∷ [])
 
-abbrev pub notes_of : World → List (Result Reply Denied) → List (List ℕ)
-notes_of w replies =
-    key_notes w.standing.history (keys_present w.standing.history)
-    ++ end_note (now w.standing.history) (length w.entries) ∷ unfinished_notes 1 (ended_after [] replies)
+abbrev pub notes_of : ℕ → List RunnerLabel → World → List (Result Reply Denied) → List (List ℕ)
+notes_of most labels w replies =
+    key_notes most w.standing.history (keys_present w.standing.history)
+    ++ end_note (now w.standing.history) (length w.entries) ∷ unfinished_notes labels 1 (ended_after [] replies)

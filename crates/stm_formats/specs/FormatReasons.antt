@@ -6,8 +6,10 @@ use Rattle.stm_reasons.specs.declared.reason.Deed.TheVariants.{Put, Deleted, End
 use Rattle.stm_reasons.specs.declared.reason.Ending.{Ending}
 use Rattle.stm_reasons.specs.declared.reason.Ending.TheVariants.{Conflict, GaveUp, Stale}
 use Rattle.stm_reasons.specs.declared.reason.Reason.{Reason}
+use Rattle.stm_formats.specs.declared.format_label.RunnerLabel.{RunnerLabel}
 use Rattle.stm_formats.specs.FormatShown.{plain}
 use Rattle.stm_formats.specs.FormatPieces.{joined}
+use Rattle.stm_formats.specs.FormatLabels.{runner_words}
 
 -- what the runner did
 abbrev pub ending_words : Ending → List ℕ
@@ -39,10 +41,10 @@ abbrev pub moral : Ending → List ℕ
 moral Stale = codes ": a comparing level would have refused it"
 moral other = []
 
-abbrev pub reason_note : Reason → List ℕ
-reason_note reason =
-    joined (codes "runner " ∷ decimal reason.runner ∷ ending_words reason.ending ∷ decimal reason.event ∷ codes ": " ∷ plain reason.key
+abbrev pub reason_note : List RunnerLabel → Reason → List ℕ
+reason_note labels reason =
+    joined (runner_words labels reason.runner ∷ ending_words reason.ending ∷ decimal reason.event ∷ codes ": " ∷ plain reason.key
     ∷ was_words reason.seen ∷ read_words reason.read ∷ cause_words reason.cause ∷ moral reason.ending ∷ [])
 
-abbrev pub reason_notes : List Reason → List (List ℕ)
-reason_notes reasons = map reason_note reasons
+abbrev pub reason_notes : List RunnerLabel → List Reason → List (List ℕ)
+reason_notes labels reasons = map (reason_note labels) reasons

@@ -1,5 +1,5 @@
 -- The text, the picture and the page of a run: of the events that led to a world from a revision of its store, and of their replies.
-use Rattle.std.specs.Prelude.{ℕ, List, ◌++◌, Result}
+use Rattle.std.specs.Prelude.{ℕ, ◌/◌, max, List, ◌++◌, Option, Some, None, Result}
 use Rattle.stm_history.specs.History.{History}
 use Rattle.stm_txn.specs.Standing.{kept}
 use Rattle.stm_events.specs.declared.event.WorldEvent.{WorldEvent}
@@ -8,7 +8,10 @@ use Rattle.stm_events.specs.declared.refusal.Denied.{Denied}
 use Rattle.stm_world.specs.World.{World}
 use Rattle.stm_reasons.specs.Counters.{counters}
 use Rattle.stm_reasons.specs.Reasons.{reasons_of}
+use Rattle.stm_formats.specs.declared.format_label.RunnerLabel.{RunnerLabel}
 use Rattle.stm_formats.specs.declared.format_row.Row.{Row}
+use Rattle.stm_formats.specs.declared.format_pieces.TheConstants.{MOST_SHOWN}
+use Rattle.stm_formats.specs.declared.format_runs.TheConstants.{LEAST_SHOWN}
 use Rattle.stm_formats.specs.FormatRows.{rows_of}
 use Rattle.stm_formats.specs.FormatNotes.{notes_of}
 use Rattle.stm_formats.specs.FormatEnds.{end_notes}
@@ -21,23 +24,31 @@ use Rattle.stm_formats.specs.FormatHtml.{html_of}
 abbrev pub history_kept : World → History
 history_kept w = (kept w.standing).history
 
-abbrev pub rows_from : World → ℕ → List WorldEvent → List (Result Reply Denied) → List Row
-rows_from w since events replies = rows_of (history_kept w) since 1 events replies
+abbrev pub rows_from : ℕ → List RunnerLabel → World → ℕ → List WorldEvent → List (Result Reply Denied) → List Row
+rows_from most labels w since events replies = rows_of most labels (history_kept w) since 1 events replies
 
 -- what is left, and on what values runs aborted or came to faults
-abbrev pub left_from : World → List (Result Reply Denied) → List (List ℕ)
-left_from w replies = notes_of w replies ++ end_notes (history_kept w) replies 0 replies
+abbrev pub left_from : ℕ → List RunnerLabel → World → List (Result Reply Denied) → List (List ℕ)
+left_from most labels w replies = notes_of most labels w replies ++ end_notes most labels (history_kept w) replies 0 replies
 
 -- that, and why commits failed
-abbrev pub notes_from : World → ℕ → List (Result Reply Denied) → List (List ℕ)
-notes_from w since replies = left_from w replies ++ reason_notes (reasons_of (history_kept w) since replies)
+abbrev pub notes_from : ℕ → List RunnerLabel → World → ℕ → List (Result Reply Denied) → List (List ℕ)
+notes_from most labels w since replies = left_from most labels w replies ++ reason_notes labels (reasons_of (history_kept w) since replies)
 
-abbrev pub text_from : World → ℕ → List WorldEvent → List (Result Reply Denied) → List ℕ
-text_from w since events replies = text_of (rows_from w since events replies) (notes_from w since replies)
+-- how many bytes of a value a text of this width shows at most
+abbrev pub most_shown : Option ℕ → ℕ
+most_shown None = MOST_SHOWN
+most_shown (Some width) = max (width / 3) LEAST_SHOWN
 
-abbrev pub svg_from : World → ℕ → List WorldEvent → List (Result Reply Denied) → List ℕ
-svg_from w since events replies = svg_of (rows_from w since events replies) (notes_from w since replies)
+abbrev pub text_from : Option ℕ → List RunnerLabel → World → ℕ → List WorldEvent → List (Result Reply Denied) → List ℕ
+text_from width labels w since events replies =
+    text_of width labels (rows_from (most_shown width) labels w since events replies) (notes_from (most_shown width) labels w since replies)
 
-abbrev pub html_from : World → ℕ → List WorldEvent → List (Result Reply Denied) → List ℕ
-html_from w since events replies =
-    html_of (history_kept w) (counters since replies) (rows_from w since events replies) (left_from w replies) (reasons_of (history_kept w) since replies)
+abbrev pub svg_from : List RunnerLabel → World → ℕ → List WorldEvent → List (Result Reply Denied) → List ℕ
+svg_from labels w since events replies =
+    svg_of labels (rows_from MOST_SHOWN labels w since events replies) (notes_from MOST_SHOWN labels w since replies)
+
+abbrev pub html_from : List RunnerLabel → World → ℕ → List WorldEvent → List (Result Reply Denied) → List ℕ
+html_from labels w since events replies =
+    html_of labels (history_kept w) (counters since replies) (rows_from MOST_SHOWN labels w since events replies) (left_from MOST_SHOWN labels w replies)
+    (reasons_of (history_kept w) since replies)

@@ -1,9 +1,9 @@
--- How texts are shown: without control characters, a key whole, and a long value, message or source without its middle.
+-- How texts are shown: a character that cannot be seen by its bytes; a key whole, and a long value, message or source without its middle.
 --
--- RFC 3629, UTF-8: the bytes 128 to 191 go on with a character that began before them; U+0080 to U+009F are 194 and 128 to 159, U+202A to U+202E are 226, 128
--- and 170 to 174, and U+2066 to U+2069 are 226, 129 and 166 to 169.
-use Rattle.std.specs.Prelude.{ℕ, zero, suc, pred, ◌-◌, List, [], ◌∷◌, ◌++◌, drop, length, get_or, Bool, ◌&&◌, ◌||◌, nat_eq, nat_lt, nat_le, if◌then◌else◌, codes}
-use Rattle.stm_formats.specs.declared.format_pieces.TheConstants.{MOST_SHOWN, FRONT, BACK, MOST_SOURCE, SOURCE_FRONT, SOURCE_BACK}
+-- RFC 3629, UTF-8: the bytes 128 to 191 go on with a character that began before them; U+0080 to U+009F are 194 and 128 to 159, U+00AD is 194 and 173, U+061C
+-- 216 and 156, U+200B to U+200F 226, 128 and 139 to 143, U+2028 to U+202E 226, 128 and 168 to 174, U+2060 to U+206F 226, 129 and 160 to 175, U+FEFF 239, 187
+-- and 191, and U+FFFE and U+FFFF, which XML has not, 239, 191 and 190 or 191.
+use Rattle.std.specs.Prelude.{ℕ, zero, suc, pred, ◌+◌, ◌-◌, ◌*◌, ◌/◌, ◌%◌, List, [], ◌∷◌, ◌++◌, drop, length, get_or, Bool, true, false, ◌&&◌, ◌||◌, nat_eq, nat_lt, nat_le, if◌then◌else◌, codes}
 
 abbrev pub is_continuation : ℕ → Bool
 is_continuation b = nat_le 128 b && nat_lt b 192
@@ -26,33 +26,70 @@ back n text = from_character (drop (length text - n) text)
 abbrev pub is_between : ℕ → ℕ → ℕ → Bool
 is_between least most b = nat_le least b && nat_le b most
 
--- how many bytes the character has that these begin with, where it is a control character or turns the direction of writing, and 0 where it is another
+-- whether three bytes are a character that cannot be seen
+abbrev pub is_unseen : ℕ → ℕ → ℕ → Bool
+is_unseen first second third =
+    if nat_eq first 226 then
+    (nat_eq second 128 && (is_between 139 143 third || is_between 168 174 third)) || (nat_eq second 129 && is_between 160 175 third)
+    else nat_eq first 239 && ((nat_eq second 187 && nat_eq third 191) || (nat_eq second 191 && is_between 190 191 third))
+
+-- whether two bytes are
+abbrev pub is_unseen_pair : ℕ → ℕ → Bool
+is_unseen_pair first second =
+    if nat_eq first 194 then is_between 128 159 second || nat_eq second 173 else nat_eq first 216 && nat_eq second 156
+
+-- how many bytes the character has that these begin with, where it is a control character, cannot be seen, or turns the direction of writing; 0 for another
 abbrev pub hidden : List ℕ → ℕ
 hidden bs =
     if nat_lt (get_or bs 0 255) 32 || nat_eq (get_or bs 0 255) 127 then 1
-    else (if nat_eq (get_or bs 0 255) 194 && is_between 128 159 (get_or bs 1 255) then 2
-    else (if nat_eq (get_or bs 0 255) 226
-    && ((nat_eq (get_or bs 1 255) 128 && is_between 170 174 (get_or bs 2 255)) || (nat_eq (get_or bs 1 255) 129 && is_between 166 169 (get_or bs 2 255)))
-    then 3
-    else 0))
+    else (if is_unseen_pair (get_or bs 0 255) (get_or bs 1 255) then 2
+    else (if is_unseen (get_or bs 0 255) (get_or bs 1 255) (get_or bs 2 255) then 3 else 0))
 
--- `?` for each such character; of the one before, that many bytes are still to come
-abbrev pub plain_after : ℕ → List ℕ → List ℕ
-plain_after left [] = []
-plain_after (suc left) (b ∷ bs) = plain_after left bs
-plain_after zero (b ∷ bs) = if nat_eq (hidden (b ∷ bs)) 0 then b ∷ plain_after 0 bs else 63 ∷ plain_after (pred (hidden (b ∷ bs))) bs
+-- how many bytes from these on belong to such a character, where so many more do of one that began before them
+abbrev pub hidden_from : ℕ → List ℕ → ℕ
+hidden_from zero bs = hidden bs
+hidden_from (suc left) bs = suc left
 
+-- a digit of a number to the base 16
+abbrev pub digit : ℕ → ℕ
+digit n = if nat_lt n 10 then 48 + n else 87 + n
+
+-- a byte of such a character: `\x1b`
+abbrev pub coded : ℕ → List ℕ
+coded b = 92 ∷ 120 ∷ digit (b / 16) ∷ digit (b % 16) ∷ []
+
+-- Another byte. Where a text is shown exactly, a backslash is doubled: then no other text is shown so.
+abbrev pub spelled : Bool → ℕ → List ℕ
+spelled exact b = if exact && nat_eq b 92 then 92 ∷ 92 ∷ [] else b ∷ []
+
+-- a byte, of which character so many bytes are hidden
+abbrev pub byte_text : Bool → ℕ → ℕ → List ℕ
+byte_text exact zero b = spelled exact b
+byte_text exact (suc n) b = coded b
+
+-- a text, where so many bytes belong to a hidden character that began before it
+abbrev pub shown_after : Bool → ℕ → List ℕ → List ℕ
+shown_after exact left [] = []
+shown_after exact left (b ∷ bs) = byte_text exact (hidden_from left (b ∷ bs)) b ++ shown_after exact (pred (hidden_from left (b ∷ bs))) bs
+
+-- a key, exactly
 abbrev pub plain : List ℕ → List ℕ
-plain text = plain_after 0 text
+plain text = shown_after true 0 text
+
+-- how many bytes of a long text are shown at its front, where it has two points for its middle
+abbrev pub front_of : ℕ → ℕ
+front_of most = most * 2 / 5
 
 -- of more than `most` bytes only those in front and at the end
-abbrev pub cut : ℕ → ℕ → ℕ → List ℕ → List ℕ
-cut most first last text = if nat_le (length text) most then plain text else plain (front first text) ++ codes ".." ++ plain (back last text)
+abbrev pub cut : Bool → ℕ → List ℕ → List ℕ
+cut exact most text =
+    if nat_le (length text) most then shown_after exact 0 text
+    else shown_after exact 0 (front (front_of most) text) ++ codes ".." ++ shown_after exact 0 (back (most - 2 - front_of most) text)
 
 -- a value or a message
-abbrev pub shown : List ℕ → List ℕ
-shown text = cut MOST_SHOWN FRONT BACK text
+abbrev pub shown : ℕ → List ℕ → List ℕ
+shown most text = cut true most text
 
--- a source on one line
-abbrev pub source_shown : List ℕ → List ℕ
-source_shown text = cut MOST_SOURCE SOURCE_FRONT SOURCE_BACK text
+-- a source on one line, twice as long
+abbrev pub source_shown : ℕ → List ℕ → List ℕ
+source_shown most text = cut false (most + most) text

@@ -22,14 +22,14 @@ line_after stage [] = []
 line_after stage (b ∷ bs) = stage_bytes (stage_after stage b) b ++ line_after (stage_after stage b) bs
 
 -- a source, after two spaces, where there is one
-abbrev pub source_words : List ℕ → List ℕ
-source_words [] = []
-source_words (b ∷ bs) = joined (codes "  " ∷ source_shown (b ∷ bs) ∷ [])
+abbrev pub source_words : ℕ → List ℕ → List ℕ
+source_words most [] = []
+source_words most (b ∷ bs) = joined (codes "  " ∷ source_shown most (b ∷ bs) ∷ [])
 
 -- the first line within a program's braces
-abbrev pub program_words : ProgramTree → List ℕ
-program_words p = source_words (line_after 0 (shown_body p))
+abbrev pub program_words : ℕ → ProgramTree → List ℕ
+program_words most p = source_words most (line_after 0 (shown_body p))
 
 -- what a transaction compares, with a space behind it, where it compares something
-abbrev pub compare_words : List Compare → List ℕ
-compare_words compares = joined (source_shown (shown_compares compares) ∷ [])
+abbrev pub compare_words : ℕ → List Compare → List ℕ
+compare_words most compares = joined (source_shown most (shown_compares compares) ∷ [])

@@ -2,13 +2,16 @@
 --
 -- The W3C's "Scalable Vector Graphics (SVG) 1.1", "Basic Shapes" and "Text". A row is 1000 units high: its middle is its number and three zeros.
 use Rattle.std.specs.Prelude.{ℕ, ◌+◌, ◌*◌, ◌^◌, ◌-◌, min, max, zero, suc, List, [], ◌∷◌, ◌++◌, length, map, codes, decimal}
+use Rattle.stm_formats.specs.declared.format_label.RunnerLabel.{RunnerLabel}
 use Rattle.stm_formats.specs.declared.format_row.Lane.{Lane}
 use Rattle.stm_formats.specs.declared.format_row.Mark.{Mark}
 use Rattle.stm_formats.specs.declared.format_row.Mark.TheVariants.{Committed, Failed, Plain}
 use Rattle.stm_formats.specs.declared.format_row.Row.{Row}
-use Rattle.stm_formats.specs.FormatPieces.{joined, title, tag_text}
+use Rattle.stm_formats.specs.FormatPieces.{joined, tag_text}
+use Rattle.stm_formats.specs.FormatLabels.{title}
 use Rattle.stm_formats.specs.FormatEscaped.{escaped}
 use Rattle.stm_formats.specs.FormatColumns.{column, last_column, all_places, place}
+use Rattle.stm_formats.specs.declared.format_columns.TheConstants.{MOST_WIDTH}
 use Rattle.stm_formats.specs.declared.format_svg.TheConstants.{MOST_LETTERS}
 
 -- where a column's line stands: a letter is 360 units wide
@@ -45,16 +48,16 @@ colour Plain = codes "#24292f"
 
 -- ---- a column, with that many rows
 
-unfoldable pub column_svg : List ℕ → ℕ → ℕ → List ℕ
-column_svg places rows c =
+unfoldable pub column_svg : List RunnerLabel → List ℕ → ℕ → ℕ → List ℕ
+column_svg labels places rows c =
     joined (codes "<line x1=\"" ∷ decimal (line_at places c) ∷ codes "\" y1=\"400\" x2=\"" ∷ decimal (line_at places c)
     ∷ codes "\" y2=\"" ∷ decimal rows ∷ codes "500\" stroke=\"#d0d7de\" stroke-width=\"60\"/>\n<text x=\"" ∷ decimal (line_at places c)
-    ∷ codes "\" y=\"0\" dy=\"210\" text-anchor=\"middle\" fill=\"#24292f\" font-weight=\"bold\">" ∷ title c ∷ codes "</text>\n" ∷ [])
+    ∷ codes "\" y=\"0\" dy=\"210\" text-anchor=\"middle\" fill=\"#24292f\" font-weight=\"bold\">" ∷ escaped (title labels c) ∷ codes "</text>\n" ∷ [])
 
 -- the columns before c
-abbrev pub columns_svg : List ℕ → ℕ → ℕ → List ℕ
-columns_svg places rows zero = []
-columns_svg places rows (suc c) = columns_svg places rows c ++ column_svg places rows c
+abbrev pub columns_svg : List RunnerLabel → List ℕ → ℕ → ℕ → List ℕ
+columns_svg labels places rows zero = []
+columns_svg labels places rows (suc c) = columns_svg labels places rows c ++ column_svg labels places rows c
 
 -- ---- a row
 
@@ -103,8 +106,8 @@ frame_svg across lines =
 unfoldable pub under_svg : ℕ → List ℕ
 under_svg rows = joined (codes "<g transform=\"translate(0 " ∷ decimal rows ∷ codes "300)\">\n" ∷ [])
 
-unfoldable pub svg_of : List Row → List (List ℕ) → List ℕ
-svg_of rows notes =
-    joined (frame_svg (across (all_places rows) rows notes) (lines_of rows notes) ∷ columns_svg (all_places rows) (length rows) (last_column rows + 1)
-    ∷ rows_svg (all_places rows) rows
+unfoldable pub svg_of : List RunnerLabel → List Row → List (List ℕ) → List ℕ
+svg_of labels rows notes =
+    joined (frame_svg (across (all_places MOST_WIDTH labels rows) rows notes) (lines_of rows notes) ∷ columns_svg labels (all_places MOST_WIDTH labels rows) (length rows) (last_column rows + 1)
+    ∷ rows_svg (all_places MOST_WIDTH labels rows) rows
     ∷ under_svg (length rows) ∷ notes_svg 1 notes ∷ codes "</g>\n</svg>\n" ∷ [])

@@ -1,20 +1,26 @@
 -- A report as text: a header with the titles of the columns, a row for each event, and after an empty line what is left.
-use Rattle.std.specs.Prelude.{ℕ, ◌+◌, ◌-◌, zero, suc, List, [], ◌∷◌, ◌++◌, map, nat_eq, if◌then◌else◌, codes, replicate}
+use Rattle.std.specs.Prelude.{ℕ, Option, ◌+◌, ◌-◌, zero, suc, List, [], ◌∷◌, ◌++◌, length, map, max, codes, replicate}
+use Rattle.stm_formats.specs.declared.format_label.RunnerLabel.{RunnerLabel}
 use Rattle.stm_formats.specs.declared.format_row.Row.{Row}
-use Rattle.stm_formats.specs.FormatPieces.{joined, padded, title, tag_text}
-use Rattle.stm_formats.specs.FormatColumns.{column, last_column, all_places, place}
+use Rattle.stm_formats.specs.declared.format_text.TheConstants.{LEAST_SPACE}
+use Rattle.stm_formats.specs.FormatPieces.{joined, padded, tag_text}
+use Rattle.stm_formats.specs.FormatLabels.{title}
+use Rattle.stm_formats.specs.FormatColumns.{column, last_column, most_width, all_places, place}
 
 abbrev pub spaces : ℕ → List ℕ
 spaces n = replicate n 32
 
--- the title of a runner's column, after the spaces that are left of the column before it, which has a title of 5 or 8 letters
-abbrev pub heading : List ℕ → ℕ → List ℕ
-heading places k = joined (spaces (place places k - place places (k - 1) - (if nat_eq k 1 then 5 else 8)) ∷ title k ∷ [])
+-- the title of a runner's column, after the spaces that are left of the column before it, which has this title
+abbrev pub titled : List ℕ → ℕ → List ℕ → List ℕ → List ℕ
+titled places k before words = joined (spaces (max (place places k - place places (k - 1) - length before) LEAST_SPACE) ∷ words ∷ [])
+
+abbrev pub heading : List RunnerLabel → List ℕ → ℕ → List ℕ
+heading labels places k = titled places k (title labels (k - 1)) (title labels k)
 
 -- those of the columns 1 to k, one after the other
-abbrev pub headings : List ℕ → ℕ → List ℕ
-headings places zero = []
-headings places (suc k) = headings places k ++ heading places (suc k)
+abbrev pub headings : List RunnerLabel → List ℕ → ℕ → List ℕ
+headings labels places zero = []
+headings labels places (suc k) = headings labels places k ++ heading labels places (suc k)
 
 -- a row: its number, and its words in its column
 abbrev pub row_text : List ℕ → Row → List ℕ
@@ -30,7 +36,12 @@ note_text note = joined (note ∷ codes "\n" ∷ [])
 abbrev pub notes_text : List (List ℕ) → List ℕ
 notes_text notes = joined (map note_text notes)
 
-abbrev pub text_of : List Row → List (List ℕ) → List ℕ
-text_of rows notes =
-    joined (codes " event  store" ∷ headings (all_places rows) (last_column rows) ∷ codes "\n" ∷ rows_text (all_places rows) rows ∷ codes "\n"
-    ∷ notes_text notes ∷ [])
+-- with columns that are as wide as a limit at most
+abbrev pub text_in : ℕ → List RunnerLabel → List Row → List (List ℕ) → List ℕ
+text_in limit labels rows notes =
+    joined (codes " event  store" ∷ headings labels (all_places limit labels rows) (last_column rows) ∷ codes "\n"
+    ∷ rows_text (all_places limit labels rows) rows ∷ codes "\n" ∷ notes_text notes ∷ [])
+
+-- the text of a width
+abbrev pub text_of : Option ℕ → List RunnerLabel → List Row → List (List ℕ) → List ℕ
+text_of width labels rows notes = text_in (most_width width (last_column rows)) labels rows notes

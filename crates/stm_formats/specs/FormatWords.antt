@@ -1,6 +1,7 @@
 -- What a row says of an event and its reply. A revision comes after `@`, 0 where the key is absent.
-use Rattle.std.specs.Prelude.{ℕ, suc, List, [], ◌∷◌, ◌++◌, length, nat_eq, nat_lt, Bool, if◌then◌else◌, Result, Ok, Err, codes, decimal}
+use Rattle.std.specs.Prelude.{ℕ, suc, List, [], ◌∷◌, ◌++◌, length, nat_eq, nat_lt, Bool, if◌then◌else◌, Option, None, Some, Result, Ok, Err, codes, decimal}
 use Rattle.stm_history.specs.History.{History}
+use Rattle.stm_program.specs.Syntax.{ProgramTree}
 use Rattle.stm_meaning.specs.Faults.{fault_name}
 use Rattle.stm_events.specs.declared.event.WorldEvent.{WorldEvent}
 use Rattle.stm_events.specs.declared.event.WorldEvent.TheVariants as event
@@ -13,27 +14,35 @@ use Rattle.stm_events.specs.declared.refusal.EventRefusal.{EventRefusal}
 use Rattle.stm_events.specs.Names.{refusal_name}
 use Rattle.stm_texts.specs.Grammar.{level_text}
 use Rattle.stm_reasons.specs.Counters.{counter_after}
+use Rattle.stm_formats.specs.declared.format_label.RunnerLabel.{RunnerLabel}
 use Rattle.stm_formats.specs.declared.format_changes.TheConstants.{MOST_CHANGES}
 use Rattle.stm_formats.specs.FormatShown.{plain, shown}
 use Rattle.stm_formats.specs.FormatPieces.{joined}
-use Rattle.stm_formats.specs.FormatSource.{program_words, compare_words}
+use Rattle.stm_formats.specs.FormatLabels.{program_of}
+use Rattle.stm_formats.specs.FormatSource.{source_words, program_words, compare_words}
 use Rattle.stm_formats.specs.FormatChanges.{known_words, between, changed_since}
 
 -- a word and the number or the text that it is about
 abbrev pub named_words : List ℕ → ℕ → List ℕ
 named_words word n = joined (word ∷ codes " " ∷ decimal n ∷ [])
 
-abbrev pub reported_words : List ℕ → List ℕ → List ℕ
-reported_words word text = joined (word ∷ codes " " ∷ shown text ∷ [])
+abbrev pub reported_words : ℕ → List ℕ → List ℕ → List ℕ
+reported_words most word text = joined (word ∷ codes " " ∷ shown most text ∷ [])
 
 -- what was done to the store, and a revision: the one after a change, and that of a compaction
 abbrev pub changed_words : List ℕ → ℕ → List ℕ
 changed_words word revision = joined (word ∷ codes " @" ∷ decimal revision ∷ [])
 
--- the level of a runner that was started, and the first line of its program
-abbrev pub start_words : WorldEvent → List ℕ
-start_words (event.Start program level limit) = joined (codes "start " ∷ level_text level ∷ program_words program ∷ [])
-start_words other = codes "start"
+-- what a runner was started with: its program with the arguments, as the source has them, or the first line of its program
+abbrev pub called_words : ℕ → Option (List ℕ) → ProgramTree → List ℕ
+called_words most None program = program_words most program
+called_words most (Some call) program = source_words most call
+
+-- the level of a runner that was started, and that
+abbrev pub start_words : ℕ → List RunnerLabel → ℕ → WorldEvent → List ℕ
+start_words most labels runner (event.Start program level limit) =
+    joined (codes "start " ∷ level_text level ∷ called_words most (program_of labels runner) program ∷ [])
+start_words most labels runner other = codes "start"
 
 -- ---- what was read
 
@@ -42,29 +51,29 @@ abbrev pub link : ℕ → List ℕ
 link mod_rev = if nat_eq mod_rev 0 then codes ": " else codes " = "
 
 -- a key that was seen as of a revision, at this modification revision
-abbrev pub seen_words : History → List ℕ → ℕ → ℕ → List ℕ
-seen_words h key mod_rev revision = joined (plain key ∷ link mod_rev ∷ known_words h key mod_rev revision ∷ [])
+abbrev pub seen_words : ℕ → History → List ℕ → ℕ → ℕ → List ℕ
+seen_words most h key mod_rev revision = joined (plain key ∷ link mod_rev ∷ known_words most h key mod_rev revision ∷ [])
 
 -- the revision that a read shows, where the store was at another one
 abbrev pub as_of : ℕ → ℕ → List ℕ
 as_of of_rev revision = if nat_eq of_rev revision then [] else joined (codes ", as of " ∷ decimal of_rev ∷ [])
 
-abbrev pub fetched_words : History → List ℕ → ℕ → ℕ → ℕ → List ℕ
-fetched_words h key mod_rev of_rev revision =
-    joined (codes "read " ∷ seen_words h key mod_rev of_rev ∷ as_of of_rev revision ∷ [])
+abbrev pub fetched_words : ℕ → History → List ℕ → ℕ → ℕ → ℕ → List ℕ
+fetched_words most h key mod_rev of_rev revision =
+    joined (codes "read " ∷ seen_words most h key mod_rev of_rev ∷ as_of of_rev revision ∷ [])
 
 -- a key of a list that was read after that many others: of more than are shown only that there are more
-abbrev pub counted_read : History → ℕ → ℕ → KeyRead → List ℕ
-counted_read h revision count read =
-    if nat_lt count MOST_CHANGES then joined (between count ∷ seen_words h read.key read.mod_rev revision ∷ [])
+abbrev pub counted_read : ℕ → History → ℕ → ℕ → KeyRead → List ℕ
+counted_read most h revision count read =
+    if nat_lt count MOST_CHANGES then joined (between count ∷ seen_words most h read.key read.mod_rev revision ∷ [])
     else (if nat_eq count MOST_CHANGES then codes ", .." else [])
 
-abbrev pub reads_after : History → ℕ → ℕ → List KeyRead → List ℕ
-reads_after h revision count [] = []
-reads_after h revision count (read ∷ reads) = counted_read h revision count read ++ reads_after h revision (suc count) reads
+abbrev pub reads_after : ℕ → History → ℕ → ℕ → List KeyRead → List ℕ
+reads_after most h revision count [] = []
+reads_after most h revision count (read ∷ reads) = counted_read most h revision count read ++ reads_after most h revision (suc count) reads
 
-abbrev pub listed_words : History → ℕ → List KeyRead → List ℕ
-listed_words h revision reads = joined (codes "read the list" ∷ reads_after h revision 0 reads ∷ [])
+abbrev pub listed_words : ℕ → History → ℕ → List KeyRead → List ℕ
+listed_words most h revision reads = joined (codes "read the list" ∷ reads_after most h revision 0 reads ∷ [])
 
 -- ---- what came of a commit
 
@@ -76,16 +85,16 @@ abbrev pub commit_words : ℕ → ℕ → List ℕ
 commit_words revision attempts = joined (codes "COMMIT @" ∷ decimal revision ∷ attempt_words attempts ∷ [])
 
 -- what a failed compare was about: the key, what was seen of it, and what it is now
-abbrev pub compared_words : History → List ℕ → List ℕ → ℕ → ℕ → List ℕ
-compared_words h word key seen now =
-    joined (word ∷ codes " " ∷ plain key ∷ codes ": was " ∷ known_words h key seen seen ∷ codes ", is " ∷ known_words h key now now ∷ [])
+abbrev pub compared_words : ℕ → History → List ℕ → List ℕ → ℕ → ℕ → List ℕ
+compared_words most h word key seen now =
+    joined (word ∷ codes " " ∷ plain key ∷ codes ": was " ∷ known_words most h key seen seen ∷ codes ", is " ∷ known_words most h key now now ∷ [])
 
 -- ---- other events
 
 -- what a transaction compared
-abbrev pub compared_by : WorldEvent → List ℕ
-compared_by (event.Txn txn) = compare_words txn.compares
-compared_by other = []
+abbrev pub compared_by : ℕ → WorldEvent → List ℕ
+compared_by most (event.Txn txn) = compare_words most txn.compares
+compared_by most other = []
 
 abbrev pub failed_word : Bool → List ℕ
 failed_word succeeded = if succeeded then [] else codes "failed "
@@ -93,8 +102,8 @@ failed_word succeeded = if succeeded then [] else codes "failed "
 abbrev pub at_words : ℕ → List ℕ
 at_words revision = joined (codes "@" ∷ decimal revision ∷ [])
 
-abbrev pub txn_words : WorldEvent → Bool → ℕ → List ℕ
-txn_words event succeeded revision = joined (codes "txn " ∷ failed_word succeeded ∷ compared_by event ∷ at_words revision ∷ [])
+abbrev pub txn_words : ℕ → WorldEvent → Bool → ℕ → List ℕ
+txn_words most event succeeded revision = joined (codes "txn " ∷ failed_word succeeded ∷ compared_by most event ∷ at_words revision ∷ [])
 
 abbrev pub revoked_words : ℕ → ℕ → List ℕ
 revoked_words id revision = joined (codes "revoke " ∷ decimal id ∷ codes " @" ∷ decimal revision ∷ [])
@@ -110,26 +119,26 @@ batch_words watcher events upto =
 abbrev pub lost_words : ℕ → ℕ → List ℕ
 lost_words watcher floor = joined (codes "LOST watcher " ∷ decimal watcher ∷ codes ": kept from @" ∷ decimal floor ∷ [])
 
-abbrev pub reply_words : History → WorldEvent → Reply → List ℕ
-reply_words h event (Started runner) = start_words event
-reply_words h event (Prefetched runner revision reads) = listed_words h revision reads
-reply_words h event (Fetched runner key mod_rev of_rev revision) = fetched_words h key mod_rev of_rev revision
-reply_words h event (Committed runner revision attempts output trace answers) = commit_words revision attempts
-reply_words h event (Conflict runner key seen now) = compared_words h (codes "CONFLICT") key seen now
-reply_words h event (GaveUp runner attempts key seen now) = compared_words h (codes "GAVE UP") key seen now
-reply_words h event (Aborted runner text) = reported_words (codes "ABORT") text
-reply_words h event (Faulted runner fault) = reported_words (codes "FAULT") (fault_name fault)
-reply_words h event (Ended runner cause) = reported_words (codes "ENDED") (refusal_name cause)
-reply_words h event (Txn succeeded revision answers) = txn_words event succeeded revision
-reply_words h event (Granted id) = named_words (codes "grant") id
-reply_words h event (Kept id) = named_words (codes "keep") id
-reply_words h event (Revoked id revision) = revoked_words id revision
-reply_words h event (Advanced now expired) = advanced_words now (length expired)
-reply_words h event (Compacted revision) = changed_words (codes "compact") revision
-reply_words h event (Watching watcher) = named_words (codes "watch") watcher
-reply_words h event (Batch watcher upto events) = batch_words watcher (length events) upto
-reply_words h event (Lost watcher floor) = lost_words watcher floor
-reply_words h event (Cancelled watcher) = named_words (codes "cancel") watcher
+abbrev pub reply_words : ℕ → List RunnerLabel → History → WorldEvent → Reply → List ℕ
+reply_words most labels h event (Started runner) = start_words most labels runner event
+reply_words most labels h event (Prefetched runner revision reads) = listed_words most h revision reads
+reply_words most labels h event (Fetched runner key mod_rev of_rev revision) = fetched_words most h key mod_rev of_rev revision
+reply_words most labels h event (Committed runner revision attempts output trace answers) = commit_words revision attempts
+reply_words most labels h event (Conflict runner key seen now) = compared_words most h (codes "CONFLICT") key seen now
+reply_words most labels h event (GaveUp runner attempts key seen now) = compared_words most h (codes "GAVE UP") key seen now
+reply_words most labels h event (Aborted runner text) = reported_words most (codes "ABORT") text
+reply_words most labels h event (Faulted runner fault) = reported_words most (codes "FAULT") (fault_name fault)
+reply_words most labels h event (Ended runner cause) = reported_words most (codes "ENDED") (refusal_name cause)
+reply_words most labels h event (Txn succeeded revision answers) = txn_words most event succeeded revision
+reply_words most labels h event (Granted id) = named_words (codes "grant") id
+reply_words most labels h event (Kept id) = named_words (codes "keep") id
+reply_words most labels h event (Revoked id revision) = revoked_words id revision
+reply_words most labels h event (Advanced now expired) = advanced_words now (length expired)
+reply_words most labels h event (Compacted revision) = changed_words (codes "compact") revision
+reply_words most labels h event (Watching watcher) = named_words (codes "watch") watcher
+reply_words most labels h event (Batch watcher upto events) = batch_words watcher (length events) upto
+reply_words most labels h event (Lost watcher floor) = lost_words watcher floor
+reply_words most labels h event (Cancelled watcher) = named_words (codes "cancel") watcher
 
 -- what was asked for
 abbrev pub asked_word : WorldEvent → List ℕ
@@ -146,13 +155,13 @@ asked_word (event.WatchRange first end from) = codes "watch"
 asked_word (event.Poll watcher most) = codes "poll"
 asked_word (event.Cancel watcher) = codes "cancel"
 
-abbrev pub refused_words : WorldEvent → EventRefusal → List ℕ
-refused_words event cause = joined (codes "REFUSED " ∷ asked_word event ∷ codes ": " ∷ shown (refusal_name cause) ∷ [])
+abbrev pub refused_words : ℕ → WorldEvent → EventRefusal → List ℕ
+refused_words most event cause = joined (codes "REFUSED " ∷ asked_word event ∷ codes ": " ∷ shown most (refusal_name cause) ∷ [])
 
-abbrev pub told_words : History → WorldEvent → Result Reply Denied → List ℕ
-told_words h event (Ok reply) = reply_words h event reply
-told_words h event (Err denied) = refused_words event denied.cause
+abbrev pub told_words : ℕ → List RunnerLabel → History → WorldEvent → Result Reply Denied → List ℕ
+told_words most labels h event (Ok reply) = reply_words most labels h event reply
+told_words most labels h event (Err denied) = refused_words most event denied.cause
 
 -- what a row says of an event before which the store was at a revision: of its reply, and what it changed
-abbrev pub words_of : History → ℕ → WorldEvent → Result Reply Denied → List ℕ
-words_of h before event reply = joined (told_words h event reply ∷ changed_since h before (counter_after before reply) ∷ [])
+abbrev pub words_of : ℕ → List RunnerLabel → History → ℕ → WorldEvent → Result Reply Denied → List ℕ
+words_of most labels h before event reply = joined (told_words most labels h event reply ∷ changed_since most h before (counter_after before reply) ∷ [])

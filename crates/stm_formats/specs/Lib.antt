@@ -1,6 +1,7 @@
 pub mod FormatShown
 pub mod FormatEscaped
 pub mod FormatPieces
+pub mod FormatLabels
 pub mod FormatSource
 pub mod FormatChanges
 pub mod FormatReasons

@@ -13,15 +13,19 @@ use stm_reasons::state_by;
 pub(crate) const MOST_CHANGES: u64 = 3;
 
 /// The words of a key that was looked up.
-fn state_words(alloc: Global, found: Option<&KeyState>) -> Result<Sequence<u8>, AllocError>
-    ensures { IfOk result (λ words. words ≡ state_words (option_copied found.entry)) }
+fn state_words(
+    alloc: Global,
+    most: u32,
+    found: Option<&KeyState>,
+) -> Result<Sequence<u8>, AllocError>
+    ensures { IfOk result (λ words. words ≡ state_words most (option_copied found.entry)) }
 {
     match found {
         None => said(alloc, &[Piece::Say("absent")]),
         Some(state) => {
             let pieces = [
                 Piece::Say("\""),
-                Piece::Shown(state.value.as_str()),
+                Piece::Shown(most, state.value.as_str()),
                 Piece::Say("\" @"),
                 Piece::Number(state.mod_rev),
             ];
@@ -33,12 +37,13 @@ fn state_words(alloc: Global, found: Option<&KeyState>) -> Result<Sequence<u8>, 
 /// The words of a key that was seen as of a revision, at a modification revision: 0 where it was absent.
 pub(crate) fn known_words(
     alloc: Global,
+    most: u32,
     keys: &Keys,
     key: &str,
     mod_rev: u64,
     revision: u64,
 ) -> Result<Sequence<u8>, AllocError>
-    ensures { IfOk result (λ words. words ≡ known_words keys.now.history key.now mod_rev revision) }
+    ensures { IfOk result (λ words. words ≡ known_words most keys.now.history key.now mod_rev revision) }
 {
     if mod_rev == 0 {
         return said(alloc, &[Piece::Say("absent")]);
@@ -46,19 +51,19 @@ pub(crate) fn known_words(
     if revision < keys.below() {
         return said(alloc, &[Piece::Say("@"), Piece::Number(mod_rev)]);
     }
-    state_words(alloc, state_by(keys, key, revision))
+    state_words(alloc, most, state_by(keys, key, revision))
 }
 
 /// The words of a change.
-fn change_words(alloc: Global, event: &Event) -> Result<Sequence<u8>, AllocError>
-    ensures { IfOk result (λ words. words ≡ change_words event.now) }
+fn change_words(alloc: Global, most: u32, event: &Event) -> Result<Sequence<u8>, AllocError>
+    ensures { IfOk result (λ words. words ≡ change_words most event.now) }
 {
     match event {
         Event::Put { key, state } => {
             let pieces = [
                 Piece::Key(key.as_str()),
                 Piece::Say(" = \""),
-                Piece::Shown(state.value.as_str()),
+                Piece::Shown(most, state.value.as_str()),
                 Piece::Say("\""),
             ];
             said(alloc, &pieces)
@@ -79,14 +84,15 @@ pub(crate) fn between(count: u64) -> &'static str
 /// Adds a change after so many.
 fn push_change(
     alloc: Global,
+    most: u32,
     out: &mut Vec<u8>,
     count: u64,
     event: &Event,
 ) -> Result<(), AllocError>
-    ensures { OnOk result (out.new.items ≡ out.old.items ++ counted_change count event.now) }
+    ensures { OnOk result (out.new.items ≡ out.old.items ++ counted_change most count event.now) }
 {
     if count < MOST_CHANGES {
-        let words = change_words(alloc, event)?;
+        let words = change_words(alloc, most, event)?;
         return push_pieces(
             out,
             &[Piece::Say(between(count)), Piece::Raw(words.as_slice())],
@@ -99,24 +105,29 @@ fn push_change(
 }
 
 /// The words of the changes that these events show.
-fn changes_words(alloc: Global, events: &[Event]) -> Result<Vec<u8>, AllocError>
-    ensures { IfOk result (λ words. words.items ≡ changes_after 0 events.now) }
+fn changes_words(alloc: Global, most: u32, events: &[Event]) -> Result<Vec<u8>, AllocError>
+    ensures { IfOk result (λ words. words.items ≡ changes_after most 0 events.now) }
 {
     let mut out = Vec::new(alloc);
     for (count, event) in events.iter().enumerate() {
-        push_change(alloc, &mut out, count as u64, event)?;
+        push_change(alloc, most, &mut out, count as u64, event)?;
     }
     Ok(out)
 }
 
 /// The words of what a revision changed.
-fn revision_words(alloc: Global, keys: &Keys, revision: u64) -> Result<Vec<u8>, AllocError>
-    ensures { IfOk result (λ words. words.items ≡ revision_words keys.now.history revision) }
+fn revision_words(
+    alloc: Global,
+    most: u32,
+    keys: &Keys,
+    revision: u64,
+) -> Result<Vec<u8>, AllocError>
+    ensures { IfOk result (λ words. words.items ≡ revision_words most keys.now.history revision) }
 {
     if revision > keys.revision() {
         return Ok(Vec::new(alloc));
     }
-    changes_words(alloc, keys.events_at(revision))
+    changes_words(alloc, most, keys.events_at(revision))
 }
 
 /// That there are more revisions after one, up to another.
@@ -129,20 +140,21 @@ fn more_after(shown: u64, after: u64) -> &'static str
 /// The words of what the revisions above one and up to another changed.
 pub(crate) fn changed_since(
     alloc: Global,
+    most: u32,
     keys: &Keys,
     before: u64,
     after: u64,
 ) -> Result<Vec<u8>, AllocError>
-    ensures { IfOk result (λ words. words.items ≡ changed_since keys.now.history before after) }
+    ensures { IfOk result (λ words. words.items ≡ changed_since most keys.now.history before after) }
 {
     if after <= before {
         return Ok(Vec::new(alloc));
     }
-    let first = revision_words(alloc, keys, before + 1)?;
+    let first = revision_words(alloc, most, keys, before + 1)?;
     if after == before + 1 {
         return Ok(first);
     }
-    let second = revision_words(alloc, keys, before + 2)?;
+    let second = revision_words(alloc, most, keys, before + 2)?;
     let pieces = [
         Piece::Raw(first.as_slice()),
         Piece::Raw(second.as_slice()),

@@ -5,8 +5,9 @@ ghost use Rattle.stm_formats.specs.FormatHtml.{row_html, rows_html, title_html, 
 ghost use Rattle.stm_formats.specs.FormatHtml.{reason_html, reasons_html, html_of};
 
 use crate::format_columns::{column, last_column};
+use crate::format_label::{RunnerLabel, title};
 use crate::format_page::{page_foot, page_head};
-use crate::format_pieces::{Piece, push_pieces, said};
+use crate::format_pieces::{MOST_SHOWN, Piece, push_pieces, said};
 use crate::format_reasons::reason_note;
 use crate::format_row::{Mark, Row};
 use std::alloc::{AllocError, Global};
@@ -36,7 +37,7 @@ fn push_key(alloc: Global, out: &mut Vec<u8>, key: &str) -> Result<(), AllocErro
 fn push_value(alloc: Global, out: &mut Vec<u8>, value: &str) -> Result<(), AllocError>
     ensures { OnOk result (out.new.items ≡ out.old.items ++ value_html value.now) }
 {
-    let text = said(alloc, &[Piece::Shown(value)])?;
+    let text = said(alloc, &[Piece::Shown(MOST_SHOWN, value)])?;
     push_attribute(out, " data-value='", text.as_slice())
 }
 
@@ -197,23 +198,34 @@ fn push_rows(
 
 /// Adds the title of a column.
 #[tactic(auto, unfolding(crate::specs::FormatHtml::title_html))]
-fn push_title(out: &mut Vec<u8>, column: u64) -> Result<(), AllocError>
-    ensures { OnOk result (out.new.items ≡ out.old.items ++ title_html column) }
+fn push_title(
+    alloc: Global,
+    labels: &[RunnerLabel],
+    out: &mut Vec<u8>,
+    column: u64,
+) -> Result<(), AllocError>
+    ensures { OnOk result (out.new.items ≡ out.old.items ++ title_html labels.now column) }
 {
+    let words = title(alloc, labels, column)?;
     let pieces = [
         Piece::Say("<th scope='col'>"),
-        Piece::Title(column),
+        Piece::Escaped(words.as_slice()),
         Piece::Say("</th>"),
     ];
     push_pieces(out, &pieces)
 }
 
 /// Adds the titles of that many columns.
-fn push_titles(out: &mut Vec<u8>, count: u64) -> Result<(), AllocError>
-    ensures { OnOk result (out.new.items ≡ out.old.items ++ titles_html count) }
+fn push_titles(
+    alloc: Global,
+    labels: &[RunnerLabel],
+    out: &mut Vec<u8>,
+    count: u64,
+) -> Result<(), AllocError>
+    ensures { OnOk result (out.new.items ≡ out.old.items ++ titles_html labels.now count) }
 {
     for column in 0..count {
-        push_title(out, column)?;
+        push_title(alloc, labels, out, column)?;
     }
     Ok(())
 }
@@ -286,21 +298,31 @@ fn push_told(out: &mut Vec<u8>, note: &Sequence<u8>) -> Result<(), AllocError>
 }
 
 /// Adds a reason.
-fn push_reason(alloc: Global, out: &mut Vec<u8>, reason: &Reason) -> Result<(), AllocError>
-    ensures { OnOk result (out.new.items ≡ out.old.items ++ reason_html reason.now) }
+fn push_reason(
+    alloc: Global,
+    labels: &[RunnerLabel],
+    out: &mut Vec<u8>,
+    reason: &Reason,
+) -> Result<(), AllocError>
+    ensures { OnOk result (out.new.items ≡ out.old.items ++ reason_html labels.now reason.now) }
 {
-    let note = reason_note(alloc, reason)?;
+    let note = reason_note(alloc, labels, reason)?;
     push_to(out, reason.event)?;
     push_from(out, reason.cause)?;
     push_told(out, &note)
 }
 
 /// Adds the reasons.
-fn push_reasons(alloc: Global, out: &mut Vec<u8>, reasons: &[Reason]) -> Result<(), AllocError>
-    ensures { OnOk result (out.new.items ≡ out.old.items ++ reasons_html reasons.now) }
+fn push_reasons(
+    alloc: Global,
+    labels: &[RunnerLabel],
+    out: &mut Vec<u8>,
+    reasons: &[Reason],
+) -> Result<(), AllocError>
+    ensures { OnOk result (out.new.items ≡ out.old.items ++ reasons_html labels.now reasons.now) }
 {
     for reason in reasons {
-        push_reason(alloc, out, reason)?;
+        push_reason(alloc, labels, out, reason)?;
     }
     Ok(())
 }
@@ -310,22 +332,23 @@ fn push_reasons(alloc: Global, out: &mut Vec<u8>, reasons: &[Reason]) -> Result<
 #[tactic(auto, unfolding(crate::specs::FormatHtml::html_of))]
 pub(crate) fn html_of(
     alloc: Global,
+    labels: &[RunnerLabel],
     keys: &Keys,
     counters: &[u64],
     rows: &[Row],
     notes: &[Sequence<u8>],
     reasons: &[Reason],
 ) -> Result<Vec<u8>, AllocError>
-    ensures { IfOk result (λ html. html.items ≡ html_of keys.now.history counters.now rows.now notes.now reasons.now) }
+    ensures { IfOk result (λ html. html.items ≡ html_of labels.now keys.now.history counters.now rows.now notes.now reasons.now) }
 {
     let mut out = Vec::new(alloc);
     out.extend_from_slice(page_head().as_bytes())?;
-    push_titles(&mut out, last_column(rows) + 1)?;
+    push_titles(alloc, labels, &mut out, last_column(rows) + 1)?;
     out.extend_from_slice(b"</tr></thead>\n<tbody>\n")?;
     push_rows(alloc, &mut out, keys, counters, rows)?;
     out.extend_from_slice(b"</tbody></table></main>\n<ul>\n")?;
     push_notes(&mut out, notes)?;
-    push_reasons(alloc, &mut out, reasons)?;
+    push_reasons(alloc, labels, &mut out, reasons)?;
     out.extend_from_slice(page_foot().as_bytes())?;
     Ok(out)
 }

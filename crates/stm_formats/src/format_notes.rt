@@ -4,6 +4,7 @@ ghost use Rattle.stm_history.specs.History.{key_now};
 ghost use Rattle.stm_formats.specs.FormatNotes.{key_note, notes_of_key, key_notes, ended_by, ended_after, unfinished_notes};
 ghost use Rattle.stm_formats.specs.FormatNotes.{end_note, notes_of};
 
+use crate::format_label::{RunnerLabel, runner_words};
 use crate::format_pieces::{Piece, said};
 use std::alloc::{AllocError, Global};
 use stm_history::{KeyState, Sequence};
@@ -13,16 +14,17 @@ use stm_retry::{Denied, Reply, Store, World};
 /// The note of a key that is present.
 fn key_note<'a>(
     alloc: Global,
+    most: u32,
     key: &'a str,
     state: &'a KeyState,
 ) -> Result<Sequence<u8>, AllocError>
-    ensures { IfOk result (λ note. note ≡ key_note key.now state.now) }
+    ensures { IfOk result (λ note. note ≡ key_note most key.now state.now) }
 {
     let pieces = [
         Piece::Say("key "),
         Piece::Key(key),
         Piece::Say(" = \""),
-        Piece::Shown(state.value.as_str()),
+        Piece::Shown(most, state.value.as_str()),
         Piece::Say("\" @"),
         Piece::Number(state.mod_rev),
     ];
@@ -32,17 +34,18 @@ fn key_note<'a>(
 /// Adds the note of a key, if it is present.
 fn push_key(
     alloc: Global,
+    most: u32,
     notes: &mut Vec<Sequence<u8>>,
     store: &Store,
     key: &str,
 ) -> Result<(), AllocError>
     ensures { OnOk result (notes.new.items
-        ≡ notes.old.items ++ notes_of_key key.now (key_now store.now.standing.history key.now)) }
+        ≡ notes.old.items ++ notes_of_key most key.now (key_now store.now.standing.history key.now)) }
 {
     match store.keys().get(key) {
         None => Ok(()),
         Some(state) => {
-            notes.push(key_note(alloc, key, state)?)?;
+            notes.push(key_note(alloc, most, key, state)?)?;
             Ok(())
         }
     }
@@ -51,15 +54,16 @@ fn push_key(
 /// Adds a note for each of these keys that is present.
 fn push_keys(
     alloc: Global,
+    most: u32,
     notes: &mut Vec<Sequence<u8>>,
     store: &Store,
     keys: &[String],
 ) -> Result<(), AllocError>
     ensures { OnOk result (notes.new.items
-        ≡ notes.old.items ++ key_notes store.now.standing.history (map string_bytes keys.now)) }
+        ≡ notes.old.items ++ key_notes most store.now.standing.history (map string_bytes keys.now)) }
 {
     for key in keys {
-        push_key(alloc, notes, store, key.as_str())?;
+        push_key(alloc, most, notes, store, key.as_str())?;
     }
     Ok(())
 }
@@ -106,16 +110,18 @@ fn ended_after(alloc: Global, replies: &[Result<Reply, Denied>]) -> Result<Vec<b
 /// Adds the note of a runner, if its run has not ended.
 fn push_runner(
     alloc: Global,
+    labels: &[RunnerLabel],
     notes: &mut Vec<Sequence<u8>>,
     runner: u64,
     ended: bool,
 ) -> Result<(), AllocError>
-    ensures { OnOk result (notes.new.items ≡ notes.old.items ++ unfinished_notes runner (ended ∷ [])) }
+    ensures { OnOk result (notes.new.items ≡ notes.old.items ++ unfinished_notes labels.now runner (ended ∷ [])) }
 {
     if ended {
         return Ok(());
     }
-    let pieces = [Piece::Say("unfinished: runner "), Piece::Number(runner)];
+    let words = runner_words(alloc, labels, runner)?;
+    let pieces = [Piece::Say("unfinished: "), Piece::Raw(words.as_slice())];
     notes.push(said(alloc, &pieces)?)?;
     Ok(())
 }
@@ -123,13 +129,14 @@ fn push_runner(
 /// Adds a note for each runner whose run has not ended.
 fn push_unfinished(
     alloc: Global,
+    labels: &[RunnerLabel],
     notes: &mut Vec<Sequence<u8>>,
     ended: &[bool],
 ) -> Result<(), AllocError>
-    ensures { OnOk result (notes.new.items ≡ notes.old.items ++ unfinished_notes 1 ended.now) }
+    ensures { OnOk result (notes.new.items ≡ notes.old.items ++ unfinished_notes labels.now 1 ended.now) }
 {
     for (before, ended) in ended.iter().enumerate() {
-        push_runner(alloc, notes, before as u64 + 1, *ended)?;
+        push_runner(alloc, labels, notes, before as u64 + 1, *ended)?;
     }
     Ok(())
 }
@@ -151,17 +158,19 @@ fn end_note(alloc: Global, revision: u64, entries: u64) -> Result<Sequence<u8>, 
 /// and the number of entries, and a note for each runner whose run has not ended. It fails where a growth was refused.
 pub(crate) fn notes_of(
     alloc: Global,
+    most: u32,
+    labels: &[RunnerLabel],
     world: &World,
     replies: &[Result<Reply, Denied>],
 ) -> Result<Vec<Sequence<u8>>, AllocError>
-    ensures { IfOk result (λ notes. notes.items ≡ notes_of world.now replies.now) }
+    ensures { IfOk result (λ notes. notes.items ≡ notes_of most labels.now world.now replies.now) }
 {
     let present = present_keys(alloc, world.store().keys())?;
     let ended = ended_after(alloc, replies)?;
     let mut notes = Vec::new(alloc);
-    push_keys(alloc, &mut notes, world.store(), present.as_slice())?;
+    push_keys(alloc, most, &mut notes, world.store(), present.as_slice())?;
     let revision = world.store().keys().revision();
     notes.push(end_note(alloc, revision, world.history().len() as u64)?)?;
-    push_unfinished(alloc, &mut notes, ended.as_slice())?;
+    push_unfinished(alloc, labels, &mut notes, ended.as_slice())?;
     Ok(notes)
 }

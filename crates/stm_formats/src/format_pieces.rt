@@ -1,54 +1,35 @@
 //! Writing a text piece by piece.
-ghost use Rattle.std.specs.Prelude.{◌≡◌, ◌++◌, ◌<◌, ◌≤◌, ◌+◌, drop, get_or, decimal, replicate, length, map, take, IfOk, OnOk};
-ghost use Rattle.stm_formats.specs.FormatShown.{front, back, cut, from_character, hidden, plain, plain_after, is_continuation};
+ghost use Rattle.std.specs.Prelude.{◌≡◌, ◌++◌, ◌<◌, ◌≤◌, ◌^◌, drop, get_or, decimal, replicate, length, map, take, IfOk, OnOk};
+ghost use Rattle.stm_formats.specs.FormatShown.{front, back, byte_text, coded, cut, digit, from_character, hidden, hidden_from, is_unseen, is_unseen_pair, shown_after, spelled, is_continuation};
 ghost use Rattle.stm_formats.specs.FormatEscaped.{entity, escaped};
-ghost use Rattle.stm_formats.specs.FormatPieces.{joined, padded, title, tag_text, piece_text};
+ghost use Rattle.stm_formats.specs.FormatPieces.{joined, padded, tag_text, piece_text};
 
+use crate::format_label::MOST_COLUMNS;
 use crate::format_row::Lane;
 use itoa::Buffer;
 use std::alloc::{AllocError, Global};
 use stm_history::Sequence;
 
-/// So many columns a report has for runners at most. All runners from this number on stand in the last one, each row with its runner's number.
-pub(crate) const MOST_COLUMNS: u64 = 9;
-
-/// A value or a message of more bytes than this is shown without its middle.
-const MOST_SHOWN: usize = 32;
-
-/// So many bytes at the front of a long one are shown, and the rest of the character that they end in.
-const FRONT: usize = 12;
-
-/// So many bytes at the end of a long one are shown, but for the rest of a character that began before them.
-const BACK: usize = 18;
-
-/// The same of a source.
-const MOST_SOURCE: usize = 64;
-
-/// So many bytes at the front of a long source are shown.
-const SOURCE_FRONT: usize = 25;
-
-/// So many bytes at the end of a long source are shown.
-const SOURCE_BACK: usize = 37;
+/// A value or a message of more bytes than this is shown without its middle, where no width says otherwise.
+pub(crate) const MOST_SHOWN: u32 = 32;
 
 /// A piece of what is written.
 #[derive(Clone, Copy)]
 pub(crate) enum Piece<'a> {
     /// A text of this crate.
     Say(&'a str),
-    /// A key, with a `?` for each control character.
+    /// A key, exactly.
     Key(&'a str),
-    /// A value or a message, a long one without its middle, with a `?` for each control character.
-    Shown(&'a str),
-    /// A source, a long one without its middle, with a `?` for each control character.
-    Source(&'a [u8]),
+    /// A value or a message, exactly; one of more than so many bytes without its middle.
+    Shown(u32, &'a str),
+    /// A source; one of more than twice so many bytes without its middle.
+    Source(u32, &'a [u8]),
     /// A number in decimal.
     Number(u64),
     /// A number in decimal, after spaces that make it six characters where it has fewer.
     Padded(u64),
     /// So many spaces.
     Spaces(u64),
-    /// The title of a column.
-    Title(u64),
     /// Which runner a row of the last column is about.
     Tag(Lane),
     /// Bytes as they are.
@@ -75,23 +56,48 @@ fn byte_at(bytes: &[u8], index: usize) -> u8
     }
 }
 
-/// How many bytes the character has that these begin with, where it is a control character or turns the direction of writing; 0 for another.
+/// Whether two bytes are a character that cannot be seen.
+fn is_unseen_pair(first: u8, second: u8) -> bool
+    ensures { result ≡ is_unseen_pair first second }
+{
+    if first == 194 {
+        second >= 128 && second <= 159 || second == 173
+    } else {
+        first == 216 && second == 156
+    }
+}
+
+/// Whether three bytes are.
+fn is_unseen(first: u8, second: u8, third: u8) -> bool
+    ensures { result ≡ is_unseen first second third }
+{
+    if first == 226 {
+        let marks = third >= 139 && third <= 143 || third >= 168 && third <= 174;
+        second == 128 && marks || second == 129 && third >= 160 && third <= 175
+    } else {
+        let is_none = second == 191 && third >= 190 && third <= 191;
+        first == 239 && (second == 187 && third == 191 || is_none)
+    }
+}
+
+/// How many bytes the character has that these begin with, where it is a control character, cannot be seen, or turns the direction of writing; 0 for another.
 fn hidden(bytes: &[u8]) -> usize
     ensures length { result ≡ hidden bytes.now }
     ensures most { result ≤ 3 }
 {
     let first = byte_at(bytes, 0);
     let second = byte_at(bytes, 1);
-    let third = byte_at(bytes, 2);
     if first < 32 || first == 127 {
         return 1;
     }
-    if first == 194 && second >= 128 && second <= 159 {
+    if is_unseen_pair(first, second) {
         return 2;
     }
-    let turns = second == 128 && third >= 170 && third <= 174
-        || second == 129 && third >= 166 && third <= 169;
-    if first == 226 && turns { 3 } else { 0 }
+    if is_unseen(first, second, byte_at(bytes, 2)) {
+        3
+    } else {
+        0
+    }
 }
 
 /// Where the front of that many bytes ends, with the rest of its last character.
@@ -119,60 +125,90 @@ fn start_of_back(bytes: &[u8], kept: usize) -> usize
     start
 }
 
-/// Adds the byte at an index as it is shown, where so many more bytes belong to a character that was shown; how many do behind it.
-fn push_next(
-    out: &mut Vec<u8>,
-    bytes: &[u8],
-    index: usize,
-    left: usize,
-) -> Result<usize, AllocError>
-    requires { index < length bytes.now }
-    ensures { IfOk result (λ next.
-        out.new.items ++ plain_after next (drop (index + 1) bytes.now) ≡ out.old.items ++ plain_after left (drop index bytes.now)) }
+/// A digit of a number to the base 16, which is below that.
+fn digit(number: u8) -> u8
+    requires { number < 16 }
+    ensures { result ≡ digit number }
 {
-    if left > 0 {
-        return Ok(left - 1);
+    if number < 10 {
+        b'0' + number
+    } else {
+        b'a' - 10 + number
     }
-    let (_, rest) = bytes.split_at(index);
-    let hidden = hidden(rest);
-    if hidden > 0 {
-        out.push(b'?')?;
-        return Ok(hidden - 1);
-    }
-    out.push(bytes[index])?;
-    Ok(0)
 }
 
-/// Adds bytes as they are shown.
-fn push_plain(out: &mut Vec<u8>, bytes: &[u8]) -> Result<(), AllocError>
-    ensures { OnOk result (out.new.items ≡ out.old.items ++ plain bytes.now) }
+/// Adds a byte of a character that is hidden.
+fn push_coded(out: &mut Vec<u8>, byte: u8) -> Result<(), AllocError>
+    ensures { OnOk result (out.new.items ≡ out.old.items ++ coded byte) }
+{
+    out.extend_from_slice(&[b'\\', b'x', digit(byte / 16), digit(byte % 16)])
+}
+
+/// Adds another byte. Where a text is shown exactly, a backslash is doubled.
+fn push_spelled(out: &mut Vec<u8>, exact: bool, byte: u8) -> Result<(), AllocError>
+    ensures { OnOk result (out.new.items ≡ out.old.items ++ spelled exact byte) }
+{
+    if exact && byte == b'\\' {
+        return out.extend_from_slice(b"\\\\");
+    }
+    out.push(byte)?;
+    Ok(())
+}
+
+/// How many bytes from an index on belong to a hidden character, where so many more do of one that began before it.
+fn hidden_from(bytes: &[u8], index: usize, left: usize) -> usize
+    requires { index < length bytes.now }
+    ensures { result ≡ hidden_from left (drop index bytes.now) }
+{
+    if left > 0 {
+        return left;
+    }
+    let (_, rest) = bytes.split_at(index);
+    hidden(rest)
+}
+
+/// Adds a byte, of which character so many bytes are hidden.
+fn push_byte(out: &mut Vec<u8>, exact: bool, hidden: usize, byte: u8) -> Result<(), AllocError>
+    ensures { OnOk result (out.new.items ≡ out.old.items ++ byte_text exact hidden byte) }
+{
+    if hidden > 0 {
+        push_coded(out, byte)
+    } else {
+        push_spelled(out, exact, byte)
+    }
+}
+
+/// Adds bytes as they are shown: exactly, or without that.
+fn push_shown(out: &mut Vec<u8>, exact: bool, bytes: &[u8]) -> Result<(), AllocError>
+    ensures { OnOk result (out.new.items ≡ out.old.items ++ shown_after exact 0 bytes.now) }
 {
     let mut left = 0usize;
     for index in 0..bytes.len() {
-        left = push_next(out, bytes, index, left)?;
+        let hidden = hidden_from(bytes, index, left);
+        let byte = bytes[index];
+        push_byte(out, exact, hidden, byte)?;
+        left = hidden.saturating_sub(1);
     }
     Ok(())
 }
 
 /// Adds bytes as they are shown, of more than `most` only those in front and at the end.
-fn push_cut(
-    out: &mut Vec<u8>,
-    bytes: &[u8],
-    most: usize,
-    first: usize,
-    last: usize,
-) -> Result<(), AllocError>
-    requires { first ≤ most }
-    ensures { OnOk result (out.new.items ≡ out.old.items ++ cut most first last bytes.now) }
+fn push_cut(out: &mut Vec<u8>, exact: bool, most: usize, bytes: &[u8]) -> Result<(), AllocError>
+    requires { most < 2 ^ 33 }
+    ensures { OnOk result (out.new.items ≡ out.old.items ++ cut exact most bytes.now) }
 {
     if bytes.len() <= most {
-        return push_plain(out, bytes);
+        return push_shown(out, exact, bytes);
     }
+    let first = most * 2 / 5;
     let (front, _) = bytes.split_at(end_of_front(bytes, first));
-    let (_, back) = bytes.split_at(start_of_back(bytes, last));
-    push_plain(out, front)?;
+    let (_, back) = bytes.split_at(start_of_back(
+        bytes,
+        most.saturating_sub(2).saturating_sub(first),
+    ));
+    push_shown(out, exact, front)?;
     out.extend_from_slice(b"..")?;
-    push_plain(out, back)
+    push_shown(out, exact, back)
 }
 
 /// Adds a number in decimal.
@@ -219,20 +255,6 @@ fn push_tag(out: &mut Vec<u8>, lane: Lane) -> Result<(), AllocError>
     }
 }
 
-/// Adds the title of a column.
-fn push_title(out: &mut Vec<u8>, column: u64) -> Result<(), AllocError>
-    ensures { OnOk result (out.new.items ≡ out.old.items ++ title column) }
-{
-    if column == 0 {
-        return out.extend_from_slice(b"store");
-    }
-    if column >= MOST_COLUMNS {
-        return out.extend_from_slice(b"others");
-    }
-    out.extend_from_slice(b"runner ")?;
-    push_number(out, column)
-}
-
 /// Adds a byte as XML has it in a text.
 fn push_entity(out: &mut Vec<u8>, byte: u8) -> Result<(), AllocError>
     ensures { OnOk result (out.new.items ≡ out.old.items ++ entity byte) }
@@ -267,12 +289,11 @@ fn push_piece(out: &mut Vec<u8>, piece: Piece<'_>) -> Result<(), AllocError>
 {
     match piece {
         Piece::Say(text) => out.extend_from_slice(text.as_bytes()),
-        Piece::Key(text) => push_plain(out, text.as_bytes()),
-        Piece::Shown(text) => push_cut(out, text.as_bytes(), MOST_SHOWN, FRONT, BACK),
-        Piece::Source(bytes) => push_cut(out, bytes, MOST_SOURCE, SOURCE_FRONT, SOURCE_BACK),
+        Piece::Key(text) => push_shown(out, true, text.as_bytes()),
+        Piece::Shown(most, text) => push_cut(out, true, most as usize, text.as_bytes()),
+        Piece::Source(most, bytes) => push_cut(out, false, most as usize + most as usize, bytes),
         Piece::Number(number) => push_number(out, number),
         Piece::Padded(number) => push_padded(out, number),
-        Piece::Title(column) => push_title(out, column),
         Piece::Spaces(count) => push_spaces(out, count),
         Piece::Tag(lane) => push_tag(out, lane),
         Piece::Raw(bytes) => out.extend_from_slice(bytes),

@@ -2,6 +2,7 @@
 ghost use Rattle.std.specs.Prelude.{◌≡◌, ◌++◌, IfOk, OnOk};
 ghost use Rattle.stm_formats.specs.FormatReasons.{ending_words, was_words, read_words, deed_words, cause_words, moral, reason_note, reason_notes};
 
+use crate::format_label::{RunnerLabel, runner_words};
 use crate::format_pieces::{Piece, said};
 use std::alloc::{AllocError, Global};
 use stm_history::Sequence;
@@ -91,15 +92,19 @@ fn moral(ending: Ending) -> &'static str
 }
 
 /// The note of a reason.
-pub(crate) fn reason_note(alloc: Global, reason: &Reason) -> Result<Sequence<u8>, AllocError>
-    ensures { IfOk result (λ note. note ≡ reason_note reason.now) }
+pub(crate) fn reason_note(
+    alloc: Global,
+    labels: &[RunnerLabel],
+    reason: &Reason,
+) -> Result<Sequence<u8>, AllocError>
+    ensures { IfOk result (λ note. note ≡ reason_note labels.now reason.now) }
 {
+    let runner = runner_words(alloc, labels, reason.runner)?;
     let was = was_words(alloc, reason.seen)?;
     let read = read_words(alloc, reason.read)?;
     let cause = cause_words(alloc, reason.cause)?;
     let pieces = [
-        Piece::Say("runner "),
-        Piece::Number(reason.runner),
+        Piece::Raw(runner.as_slice()),
         Piece::Say(ending_words(reason.ending)),
         Piece::Number(reason.event),
         Piece::Say(": "),
@@ -115,13 +120,14 @@ pub(crate) fn reason_note(alloc: Global, reason: &Reason) -> Result<Sequence<u8>
 /// Adds a note for each of these reasons. It fails where a growth was refused.
 pub(crate) fn push_reasons(
     alloc: Global,
+    labels: &[RunnerLabel],
     notes: &mut Vec<Sequence<u8>>,
     reasons: &[Reason],
 ) -> Result<(), AllocError>
-    ensures { OnOk result (notes.new.items ≡ notes.old.items ++ reason_notes reasons.now) }
+    ensures { OnOk result (notes.new.items ≡ notes.old.items ++ reason_notes labels.now reasons.now) }
 {
     for reason in reasons {
-        notes.push(reason_note(alloc, reason)?)?;
+        notes.push(reason_note(alloc, labels, reason)?)?;
     }
     Ok(())
 }

@@ -2,6 +2,7 @@
 ghost use Rattle.std.specs.Prelude.{◌≡◌, length, IfOk};
 ghost use Rattle.stm_formats.specs.FormatRows.{reply_lane, refused_lane, lane_of, mark_of, row_of, rows_of};
 
+use crate::format_label::RunnerLabel;
 use crate::format_row::{Lane, Mark, Row};
 use crate::format_words::words_of;
 use std::alloc::{AllocError, Global};
@@ -67,15 +68,17 @@ fn mark_of(reply: &Result<Reply, Denied>) -> Mark
 /// The row of an event before which the store was at a revision, with its reply.
 fn row_of(
     alloc: Global,
+    most: u32,
+    labels: &[RunnerLabel],
     keys: &Keys,
     before: u64,
     number: u64,
     event: &WorldEvent,
     reply: &Result<Reply, Denied>,
 ) -> Result<Row, AllocError>
-    ensures { IfOk result (λ row. row ≡ row_of keys.now.history before number event.now reply.now) }
+    ensures { IfOk result (λ row. row ≡ row_of most labels.now keys.now.history before number event.now reply.now) }
 {
-    let words = words_of(alloc, keys, before, event, reply)?;
+    let words = words_of(alloc, most, labels, keys, before, event, reply)?;
     Ok(Row {
         number,
         lane: lane_of(event, reply),
@@ -88,19 +91,23 @@ fn row_of(
 /// where a growth was refused.
 pub fn rows_of(
     alloc: Global,
+    most: u32,
+    labels: &[RunnerLabel],
     keys: &Keys,
     opened: u64,
     events: &[WorldEvent],
     replies: &[Result<Reply, Denied>],
 ) -> Result<Vec<Row>, AllocError>
     requires { length events.now ≡ length replies.now }
-    ensures { IfOk result (λ rows. rows.items ≡ rows_of keys.now.history opened 1 events.now replies.now) }
+    ensures { IfOk result (λ rows. rows.items ≡ rows_of most labels.now keys.now.history opened 1 events.now replies.now) }
 {
     let mut rows = Vec::new(alloc);
     let mut counter = opened;
     for (before, reply) in replies.iter().enumerate() {
         let row = row_of(
             alloc,
+            most,
+            labels,
             keys,
             counter,
             before as u64 + 1,

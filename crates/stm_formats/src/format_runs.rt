@@ -1,10 +1,12 @@
 //! The text, the picture and the page of a run.
 ghost use Rattle.std.specs.Prelude.{◌≡◌, length, IfOk};
-ghost use Rattle.stm_formats.specs.FormatRuns.{rows_from, left_from, notes_from, text_from, svg_from, html_from};
+ghost use Rattle.stm_formats.specs.FormatRuns.{rows_from, left_from, notes_from, most_shown, text_from, svg_from, html_from};
 
 use crate::format_ends::push_ends;
 use crate::format_html::html_of;
+use crate::format_label::RunnerLabel;
 use crate::format_notes::notes_of;
+use crate::format_pieces::MOST_SHOWN;
 use crate::format_reasons::push_reasons;
 use crate::format_row::Row;
 use crate::format_rows::rows_of;
@@ -15,104 +17,145 @@ use stm_history::Sequence;
 use stm_reasons::{counters, reasons_of};
 use stm_retry::{Denied, Reply, World, WorldEvent};
 
+/// So many bytes of a value are shown at least, however narrow a text is.
+const LEAST_SHOWN: u32 = 16;
+
+/// How many bytes of a value a text of this width shows at most.
+fn most_shown(width: Option<u32>) -> u32
+    ensures { result ≡ most_shown width }
+{
+    match width {
+        None => MOST_SHOWN,
+        Some(width) => (width / 3).max(LEAST_SHOWN),
+    }
+}
+
 /// The rows of events that led to a world from a revision of its store.
 fn rows_from(
     alloc: Global,
+    most: u32,
+    labels: &[RunnerLabel],
     world: &World,
     since: u64,
     events: &[WorldEvent],
     replies: &[Result<Reply, Denied>],
 ) -> Result<Vec<Row>, AllocError>
     requires { length events.now ≡ length replies.now }
-    ensures { IfOk result (λ rows. rows.items ≡ rows_from world.now since events.now replies.now) }
+    ensures { IfOk result (λ rows. rows.items ≡ rows_from most labels.now world.now since events.now replies.now) }
 {
-    rows_of(alloc, world.store().keys(), since, events, replies)
+    rows_of(
+        alloc,
+        most,
+        labels,
+        world.store().keys(),
+        since,
+        events,
+        replies,
+    )
 }
 
 /// What is left after events that led to a world, and on what values runs aborted or came to faults.
 fn left_from(
     alloc: Global,
+    most: u32,
+    labels: &[RunnerLabel],
     world: &World,
     replies: &[Result<Reply, Denied>],
 ) -> Result<Vec<Sequence<u8>>, AllocError>
-    ensures { IfOk result (λ notes. notes.items ≡ left_from world.now replies.now) }
+    ensures { IfOk result (λ notes. notes.items ≡ left_from most labels.now world.now replies.now) }
 {
-    let mut notes = notes_of(alloc, world, replies)?;
-    push_ends(alloc, &mut notes, world.store().keys(), replies)?;
+    let mut notes = notes_of(alloc, most, labels, world, replies)?;
+    push_ends(
+        alloc,
+        most,
+        labels,
+        &mut notes,
+        world.store().keys(),
+        replies,
+    )?;
     Ok(notes)
 }
 
 /// The same after events that led to a world from a revision of its store, and why commits failed.
 fn notes_from(
     alloc: Global,
+    most: u32,
+    labels: &[RunnerLabel],
     world: &World,
     since: u64,
     replies: &[Result<Reply, Denied>],
 ) -> Result<Vec<Sequence<u8>>, AllocError>
-    ensures { IfOk result (λ notes. notes.items ≡ notes_from world.now since replies.now) }
+    ensures { IfOk result (λ notes. notes.items ≡ notes_from most labels.now world.now since replies.now) }
 {
-    let mut notes = left_from(alloc, world, replies)?;
+    let mut notes = left_from(alloc, most, labels, world, replies)?;
     let reasons = reasons_of(alloc, world.store().keys(), since, replies)?;
-    push_reasons(alloc, &mut notes, reasons.as_slice())?;
+    push_reasons(alloc, labels, &mut notes, reasons.as_slice())?;
     Ok(notes)
 }
 
-/// The text of the events that led to a world from one whose store was at this revision, and of their replies.
+/// The text of the events that led to a world from one whose store was at this revision, and of their replies, with runners of these labels; for a
+/// terminal of this width, if one is given.
 ///
 /// There is a reply to each event. It fails where a growth was refused.
 pub fn text_from(
     alloc: Global,
+    width: Option<u32>,
+    labels: &[RunnerLabel],
     world: &World,
     since: u64,
     events: &[WorldEvent],
     replies: &[Result<Reply, Denied>],
 ) -> Result<Vec<u8>, AllocError>
     requires { length events.now ≡ length replies.now }
-    ensures { IfOk result (λ text. text.items ≡ text_from world.now since events.now replies.now) }
+    ensures { IfOk result (λ text. text.items ≡ text_from width labels.now world.now since events.now replies.now) }
 {
-    let rows = rows_from(alloc, world, since, events, replies)?;
-    let notes = notes_from(alloc, world, since, replies)?;
-    text_of(alloc, rows.as_slice(), notes.as_slice())
+    let most = most_shown(width);
+    let rows = rows_from(alloc, most, labels, world, since, events, replies)?;
+    let notes = notes_from(alloc, most, labels, world, since, replies)?;
+    text_of(alloc, width, labels, rows.as_slice(), notes.as_slice())
 }
 
-/// The picture of the events that led to a world from one whose store was at this revision, and of their replies.
+/// The picture of the events that led to a world from one whose store was at this revision, and of their replies, with runners of these labels.
 ///
 /// There is a reply to each event. It fails where a growth was refused.
 pub fn svg_from(
     alloc: Global,
+    labels: &[RunnerLabel],
     world: &World,
     since: u64,
     events: &[WorldEvent],
     replies: &[Result<Reply, Denied>],
 ) -> Result<Vec<u8>, AllocError>
     requires { length events.now ≡ length replies.now }
-    ensures { IfOk result (λ svg. svg.items ≡ svg_from world.now since events.now replies.now) }
+    ensures { IfOk result (λ svg. svg.items ≡ svg_from labels.now world.now since events.now replies.now) }
 {
-    let rows = rows_from(alloc, world, since, events, replies)?;
-    let notes = notes_from(alloc, world, since, replies)?;
-    svg_of(alloc, rows.as_slice(), notes.as_slice())
+    let rows = rows_from(alloc, MOST_SHOWN, labels, world, since, events, replies)?;
+    let notes = notes_from(alloc, MOST_SHOWN, labels, world, since, replies)?;
+    svg_of(alloc, labels, rows.as_slice(), notes.as_slice())
 }
 
-/// The page of the events that led to a world from one whose store was at this revision, and of their replies.
+/// The page of the events that led to a world from one whose store was at this revision, and of their replies, with runners of these labels.
 ///
 /// There is a reply to each event. It fails where a growth was refused.
 pub fn html_from(
     alloc: Global,
+    labels: &[RunnerLabel],
     world: &World,
     since: u64,
     events: &[WorldEvent],
     replies: &[Result<Reply, Denied>],
 ) -> Result<Vec<u8>, AllocError>
     requires { length events.now ≡ length replies.now }
-    ensures { IfOk result (λ html. html.items ≡ html_from world.now since events.now replies.now) }
+    ensures { IfOk result (λ html. html.items ≡ html_from labels.now world.now since events.now replies.now) }
 {
     let keys = world.store().keys();
-    let rows = rows_from(alloc, world, since, events, replies)?;
-    let notes = left_from(alloc, world, replies)?;
+    let rows = rows_from(alloc, MOST_SHOWN, labels, world, since, events, replies)?;
+    let notes = left_from(alloc, MOST_SHOWN, labels, world, replies)?;
     let counters = counters(alloc, since, replies)?;
     let reasons = reasons_of(alloc, keys, since, replies)?;
     html_of(
         alloc,
+        labels,
         keys,
         counters.as_slice(),
         rows.as_slice(),

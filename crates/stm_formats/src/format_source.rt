@@ -47,30 +47,42 @@ fn second_line(alloc: Global, text: &[u8]) -> Result<Vec<u8>, AllocError>
 }
 
 /// A source on one line, after two spaces, where there is one.
-fn source_words(alloc: Global, source: &[u8]) -> Result<Sequence<u8>, AllocError>
-    ensures { IfOk result (λ words. words ≡ source_words source.now) }
+pub(crate) fn source_words(
+    alloc: Global,
+    most: u32,
+    source: &[u8],
+) -> Result<Sequence<u8>, AllocError>
+    ensures { IfOk result (λ words. words ≡ source_words most source.now) }
 {
     if source.is_empty() {
         return Ok(Sequence::new(alloc));
     }
-    said(alloc, &[Piece::Say("  "), Piece::Source(source)])
+    said(alloc, &[Piece::Say("  "), Piece::Source(most, source)])
 }
 
 /// The first line of a program, after two spaces, where it has one.
-pub(crate) fn program_words(alloc: Global, program: &Program) -> Result<Sequence<u8>, AllocError>
-    ensures { IfOk result (λ words. words ≡ program_words program.now) }
+pub(crate) fn program_words(
+    alloc: Global,
+    most: u32,
+    program: &Program,
+) -> Result<Sequence<u8>, AllocError>
+    ensures { IfOk result (λ words. words ≡ program_words most program.now) }
 {
     let mut body = String::new(alloc);
     push_body(alloc, &mut body, program)?;
     let line = second_line(alloc, body.as_bytes())?;
-    source_words(alloc, line.as_slice())
+    source_words(alloc, most, line.as_slice())
 }
 
 /// What a transaction compares, with a space behind it, where it compares something.
-pub(crate) fn compare_words(alloc: Global, compares: &[Compare]) -> Result<Sequence<u8>, AllocError>
-    ensures { IfOk result (λ words. words ≡ compare_words compares.now) }
+pub(crate) fn compare_words(
+    alloc: Global,
+    most: u32,
+    compares: &[Compare],
+) -> Result<Sequence<u8>, AllocError>
+    ensures { IfOk result (λ words. words ≡ compare_words most compares.now) }
 {
     let mut source = String::new(alloc);
     push_compares(alloc, &mut source, compares)?;
-    said(alloc, &[Piece::Source(source.as_bytes())])
+    said(alloc, &[Piece::Source(most, source.as_bytes())])
 }

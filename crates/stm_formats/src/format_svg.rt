@@ -3,7 +3,8 @@ ghost use Rattle.std.specs.Prelude.{◌≡◌, ◌++◌, ◌+◌, ◌≤◌, IfO
 ghost use Rattle.stm_formats.specs.FormatSvg.{line_at, letters, rows_reach, notes_reach, across, shape, colour, column_svg, columns_svg, row_svg, rows_svg, note_svg, notes_svg};
 ghost use Rattle.stm_formats.specs.FormatSvg.{lines_of, frame_svg, under_svg, svg_of};
 
-use crate::format_columns::{all_places, column, last_column, place};
+use crate::format_columns::{MOST_WIDTH, all_places, column, last_column, place};
+use crate::format_label::{RunnerLabel, title};
 use crate::format_pieces::{Piece, push_pieces};
 use crate::format_row::{Mark, Row};
 use std::alloc::{AllocError, Global};
@@ -83,11 +84,19 @@ fn colour(mark: Mark) -> &'static str
 
 /// Adds the line and the title of a column.
 #[tactic(auto, unfolding(crate::specs::FormatSvg::column_svg))]
-fn push_column(out: &mut Vec<u8>, places: &[u64], rows: u64, column: u64) -> Result<(), AllocError>
+fn push_column(
+    alloc: Global,
+    labels: &[RunnerLabel],
+    out: &mut Vec<u8>,
+    places: &[u64],
+    rows: u64,
+    column: u64,
+) -> Result<(), AllocError>
     requires { column ≤ 9 }
-    ensures { OnOk result (out.new.items ≡ out.old.items ++ column_svg places.now rows column) }
+    ensures { OnOk result (out.new.items ≡ out.old.items ++ column_svg labels.now places.now rows column) }
 {
     let x = line_at(places, column);
+    let words = title(alloc, labels, column)?;
     let pieces = [
         Piece::Say("<line x1=\""),
         Piece::Number(x),
@@ -100,19 +109,26 @@ fn push_column(out: &mut Vec<u8>, places: &[u64], rows: u64, column: u64) -> Res
         Piece::Say(
             "\" y=\"0\" dy=\"210\" text-anchor=\"middle\" fill=\"#24292f\" font-weight=\"bold\">",
         ),
-        Piece::Title(column),
+        Piece::Escaped(words.as_slice()),
         Piece::Say("</text>\n"),
     ];
     push_pieces(out, &pieces)
 }
 
 /// Adds the lines and titles of the columns up to this one.
-fn push_columns(out: &mut Vec<u8>, places: &[u64], rows: u64, last: u64) -> Result<(), AllocError>
+fn push_columns(
+    alloc: Global,
+    labels: &[RunnerLabel],
+    out: &mut Vec<u8>,
+    places: &[u64],
+    rows: u64,
+    last: u64,
+) -> Result<(), AllocError>
     requires { last ≤ 9 }
-    ensures { OnOk result (out.new.items ≡ out.old.items ++ columns_svg places.now rows (last + 1)) }
+    ensures { OnOk result (out.new.items ≡ out.old.items ++ columns_svg labels.now places.now rows (last + 1)) }
 {
     for column in 0..last + 1 {
-        push_column(out, places, rows, column)?;
+        push_column(alloc, labels, out, places, rows, column)?;
     }
     Ok(())
 }
@@ -229,16 +245,24 @@ fn lines_of(rows: &[Row], notes: &[Sequence<u8>]) -> u64
 #[tactic(auto, unfolding(crate::specs::FormatSvg::svg_of))]
 pub(crate) fn svg_of(
     alloc: Global,
+    labels: &[RunnerLabel],
     rows: &[Row],
     notes: &[Sequence<u8>],
 ) -> Result<Vec<u8>, AllocError>
-    ensures { IfOk result (λ svg. svg.items ≡ svg_of rows.now notes.now) }
+    ensures { IfOk result (λ svg. svg.items ≡ svg_of labels.now rows.now notes.now) }
 {
-    let places = all_places(alloc, rows)?;
+    let places = all_places(alloc, MOST_WIDTH, labels, rows)?;
     let places = places.as_slice();
     let mut out = Vec::new(alloc);
     push_frame(&mut out, across(places, rows, notes), lines_of(rows, notes))?;
-    push_columns(&mut out, places, rows.len() as u64, last_column(rows))?;
+    push_columns(
+        alloc,
+        labels,
+        &mut out,
+        places,
+        rows.len() as u64,
+        last_column(rows),
+    )?;
     push_rows(&mut out, places, rows)?;
     push_under(&mut out, rows.len() as u64)?;
     push_notes(&mut out, notes)?;

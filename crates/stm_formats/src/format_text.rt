@@ -1,34 +1,63 @@
 //! A report as text.
 ghost use Rattle.std.specs.Prelude.{◌≡◌, ◌++◌, ◌≤◌, IfOk, OnOk};
-ghost use Rattle.stm_formats.specs.FormatText.{heading, headings, row_text, rows_text, note_text, notes_text, text_of};
+ghost use Rattle.stm_formats.specs.FormatText.{titled, heading, headings, row_text, rows_text, note_text, notes_text, text_in, text_of};
 
-use crate::format_columns::{all_places, column, last_column, place};
+use crate::format_columns::{all_places, column, last_column, most_width, place};
+use crate::format_label::{RunnerLabel, title};
 use crate::format_pieces::{Piece, push_pieces};
 use crate::format_row::Row;
 use std::alloc::{AllocError, Global};
 use stm_history::Sequence;
 
-/// Adds the title of a runner's column.
-fn push_heading(out: &mut Vec<u8>, places: &[u64], number: u64) -> Result<(), AllocError>
-    ensures { OnOk result (out.new.items ≡ out.old.items ++ heading places.now number) }
+/// So many spaces stand between two titles at least.
+const LEAST_SPACE: u64 = 2;
+
+/// Adds the title of a runner's column, after the spaces that are left of the column before it, which has this title.
+fn push_title(
+    out: &mut Vec<u8>,
+    places: &[u64],
+    number: u64,
+    before: &[u8],
+    words: &[u8],
+) -> Result<(), AllocError>
+    ensures { OnOk result (out.new.items ≡ out.old.items ++ titled places.now number before.now words.now) }
 {
-    let taken = if number == 1 { 5 } else { 8 };
-    let before = place(places, number.saturating_sub(1));
-    let left = place(places, number).saturating_sub(before);
+    let left = place(places, number).saturating_sub(place(places, number.saturating_sub(1)));
     let pieces = [
-        Piece::Spaces(left.saturating_sub(taken)),
-        Piece::Title(number),
+        Piece::Spaces(left.saturating_sub(before.len() as u64).max(LEAST_SPACE)),
+        Piece::Raw(words),
     ];
     push_pieces(out, &pieces)
 }
 
+/// Adds the title of a runner's column.
+fn push_heading(
+    alloc: Global,
+    labels: &[RunnerLabel],
+    out: &mut Vec<u8>,
+    places: &[u64],
+    number: u64,
+) -> Result<(), AllocError>
+    ensures { OnOk result (out.new.items ≡ out.old.items ++ heading labels.now places.now number) }
+{
+    let before = title(alloc, labels, number.saturating_sub(1))?;
+    let words = title(alloc, labels, number)?;
+    push_title(out, places, number, before.as_slice(), words.as_slice())
+}
+
 /// Adds the titles of the runners' columns.
-fn push_headings(out: &mut Vec<u8>, places: &[u64], last: u64) -> Result<(), AllocError>
+fn push_headings(
+    alloc: Global,
+    labels: &[RunnerLabel],
+    out: &mut Vec<u8>,
+    places: &[u64],
+    last: u64,
+) -> Result<(), AllocError>
     requires { last ≤ 9 }
-    ensures { OnOk result (out.new.items ≡ out.old.items ++ headings places.now last) }
+    ensures { OnOk result (out.new.items ≡ out.old.items ++ headings labels.now places.now last) }
 {
     for before in 0..last {
-        push_heading(out, places, before + 1)?;
+        push_heading(alloc, labels, out, places, before + 1)?;
     }
     Ok(())
 }
@@ -75,21 +104,49 @@ fn push_notes(out: &mut Vec<u8>, notes: &[Sequence<u8>]) -> Result<(), AllocErro
     Ok(())
 }
 
-/// The text of a report of these rows and notes. It fails where a growth was refused.
-pub(crate) fn text_of(
+/// The text of a report of these rows and notes, with columns that are as wide as a limit at most.
+fn text_in(
     alloc: Global,
+    limit: u64,
+    labels: &[RunnerLabel],
     rows: &[Row],
     notes: &[Sequence<u8>],
 ) -> Result<Vec<u8>, AllocError>
-    ensures { IfOk result (λ text. text.items ≡ text_of rows.now notes.now) }
+    requires { limit ≤ 1000 }
+    ensures { IfOk result (λ text. text.items ≡ text_in limit labels.now rows.now notes.now) }
 {
-    let places = all_places(alloc, rows)?;
+    let places = all_places(alloc, limit, labels, rows)?;
     let mut out = Vec::new(alloc);
     out.extend_from_slice(b" event  store")?;
-    push_headings(&mut out, places.as_slice(), last_column(rows))?;
+    push_headings(
+        alloc,
+        labels,
+        &mut out,
+        places.as_slice(),
+        last_column(rows),
+    )?;
     out.push(b'\n')?;
     push_rows(&mut out, places.as_slice(), rows)?;
     out.push(b'\n')?;
     push_notes(&mut out, notes)?;
     Ok(out)
+}
+
+/// The text of a report of these rows and notes, of a width, with runners of these labels. It fails where a growth was refused.
+pub(crate) fn text_of(
+    alloc: Global,
+    width: Option<u32>,
+    labels: &[RunnerLabel],
+    rows: &[Row],
+    notes: &[Sequence<u8>],
+) -> Result<Vec<u8>, AllocError>
+    ensures { IfOk result (λ text. text.items ≡ text_of width labels.now rows.now notes.now) }
+{
+    text_in(
+        alloc,
+        most_width(width, last_column(rows)),
+        labels,
+        rows,
+        notes,
+    )
 }

@@ -1,15 +1,15 @@
 //! What a row says of an event and its reply.
-ghost use Rattle.std.specs.Prelude.{◌≡◌, ◌++◌, [], ◌∷◌, codes, IfOk, OnOk};
+ghost use Rattle.std.specs.Prelude.{◌≡◌, ◌++◌, [], ◌∷◌, codes, option_map, IfOk, OnOk};
 ghost use Rattle.stm_texts.specs.Grammar.{level_text};
-ghost use Rattle.stm_formats.specs.FormatWords.{named_words, reported_words, changed_words, start_words, link, seen_words, as_of, fetched_words, counted_read};
+ghost use Rattle.stm_formats.specs.FormatWords.{named_words, reported_words, changed_words, called_words, start_words, link, seen_words, as_of, fetched_words, counted_read};
 ghost use Rattle.stm_formats.specs.FormatWords.{reads_after, listed_words, attempt_words, commit_words, compared_words, compared_by, failed_word, at_words, txn_words, revoked_words};
 ghost use Rattle.stm_formats.specs.FormatPieces.{joined};
-ghost use Rattle.stm_formats.specs.FormatSource.{program_words};
 ghost use Rattle.stm_formats.specs.FormatWords.{advanced_words, batch_words, lost_words, reply_words, asked_word, refused_words, told_words, words_of};
 
 use crate::format_changes::{MOST_CHANGES, between, changed_since, known_words};
+use crate::format_label::{RunnerLabel, program_of};
 use crate::format_pieces::{Piece, push_pieces, said};
-use crate::format_source::{compare_words, program_words};
+use crate::format_source::{compare_words, program_words, source_words};
 use std::alloc::{AllocError, Global};
 use stm_events::{EventRefusal, KeyRead};
 use stm_history::Sequence;
@@ -39,10 +39,15 @@ fn named(alloc: Global, word: &str, number: u64) -> Result<Sequence<u8>, AllocEr
 }
 
 /// A word and the text that it is about.
-fn reported<'a>(alloc: Global, word: &'a str, text: &'a str) -> Result<Sequence<u8>, AllocError>
-    ensures { IfOk result (λ words. words ≡ reported_words word.now text.now) }
+fn reported<'a>(
+    alloc: Global,
+    most: u32,
+    word: &'a str,
+    text: &'a str,
+) -> Result<Sequence<u8>, AllocError>
+    ensures { IfOk result (λ words. words ≡ reported_words most word.now text.now) }
 {
-    let pieces = [Piece::Say(word), Piece::Say(" "), Piece::Shown(text)];
+    let pieces = [Piece::Say(word), Piece::Say(" "), Piece::Shown(most, text)];
     said(alloc, &pieces)
 }
 
@@ -54,11 +59,33 @@ fn changed(alloc: Global, word: &str, revision: u64) -> Result<Sequence<u8>, All
     said(alloc, &pieces)
 }
 
-/// The words of a start of a program at a level.
-fn begun(alloc: Global, program: &Program, level: Level) -> Result<Sequence<u8>, AllocError>
-    ensures { IfOk result (λ words. words ≡ joined (codes "start " ∷ level_text level ∷ program_words program.now ∷ [])) }
+/// What a runner was started with: its program with the arguments, as the source has them, or the first line of its program.
+fn called_words(
+    alloc: Global,
+    most: u32,
+    call: Option<&str>,
+    program: &Program,
+) -> Result<Sequence<u8>, AllocError>
+    ensures { IfOk result (λ words. words ≡ called_words most (option_map (λ c. c.now) call.entry) program.now) }
 {
-    let source = program_words(alloc, program)?;
+    match call {
+        None => program_words(alloc, most, program),
+        Some(call) => source_words(alloc, most, call.as_bytes()),
+    }
+}
+
+/// The words of a start of a program at a level, with what it is called.
+fn begun(
+    alloc: Global,
+    most: u32,
+    call: Option<&str>,
+    program: &Program,
+    level: Level,
+) -> Result<Sequence<u8>, AllocError>
+    ensures { IfOk result (λ words. words
+        ≡ joined (codes "start " ∷ level_text level ∷ called_words most (option_map (λ c. c.now) call.entry) program.now ∷ [])) }
+{
+    let source = called_words(alloc, most, call, program)?;
     let pieces = [
         Piece::Say("start "),
         Piece::Say(level_name(level)),
@@ -67,12 +94,20 @@ fn begun(alloc: Global, program: &Program, level: Level) -> Result<Sequence<u8>,
     said(alloc, &pieces)
 }
 
-/// The words of a start.
-fn started(alloc: Global, event: &WorldEvent) -> Result<Sequence<u8>, AllocError>
-    ensures { IfOk result (λ words. words ≡ start_words event.now) }
+/// The words of the start of a runner.
+fn started(
+    alloc: Global,
+    most: u32,
+    labels: &[RunnerLabel],
+    runner: u64,
+    event: &WorldEvent,
+) -> Result<Sequence<u8>, AllocError>
+    ensures { IfOk result (λ words. words ≡ start_words most labels.now runner event.now) }
 {
     match event {
-        WorldEvent::Start { program, level, .. } => begun(alloc, program, *level),
+        WorldEvent::Start { program, level, .. } => {
+            begun(alloc, most, program_of(labels, runner), program, *level)
+        }
         _ => said(alloc, &[Piece::Say("start")]),
     }
 }
@@ -87,14 +122,15 @@ fn link(mod_rev: u64) -> &'static str
 /// The words of a key that was seen as of a revision, at a modification revision.
 pub(crate) fn seen_words(
     alloc: Global,
+    most: u32,
     keys: &Keys,
     key: &str,
     mod_rev: u64,
     revision: u64,
 ) -> Result<Sequence<u8>, AllocError>
-    ensures { IfOk result (λ words. words ≡ seen_words keys.now.history key.now mod_rev revision) }
+    ensures { IfOk result (λ words. words ≡ seen_words most keys.now.history key.now mod_rev revision) }
 {
-    let known = known_words(alloc, keys, key, mod_rev, revision)?;
+    let known = known_words(alloc, most, keys, key, mod_rev, revision)?;
     let pieces = [
         Piece::Key(key),
         Piece::Say(link(mod_rev)),
@@ -116,15 +152,16 @@ fn as_of(alloc: Global, of_rev: u64, revision: u64) -> Result<Sequence<u8>, Allo
 /// The words of a fetch.
 fn fetched(
     alloc: Global,
+    most: u32,
     keys: &Keys,
     key: &str,
     mod_rev: u64,
     of_rev: u64,
     revision: u64,
 ) -> Result<Sequence<u8>, AllocError>
-    ensures { IfOk result (λ words. words ≡ fetched_words keys.now.history key.now mod_rev of_rev revision) }
+    ensures { IfOk result (λ words. words ≡ fetched_words most keys.now.history key.now mod_rev of_rev revision) }
 {
-    let seen = seen_words(alloc, keys, key, mod_rev, of_rev)?;
+    let seen = seen_words(alloc, most, keys, key, mod_rev, of_rev)?;
     let shows = as_of(alloc, of_rev, revision)?;
     let pieces = [
         Piece::Say("read "),
@@ -137,16 +174,17 @@ fn fetched(
 /// Adds a key of a list that was read after so many others.
 fn push_read(
     alloc: Global,
+    most: u32,
     out: &mut Vec<u8>,
     keys: &Keys,
     revision: u64,
     count: u64,
     read: &KeyRead,
 ) -> Result<(), AllocError>
-    ensures { OnOk result (out.new.items ≡ out.old.items ++ counted_read keys.now.history revision count read.now) }
+    ensures { OnOk result (out.new.items ≡ out.old.items ++ counted_read most keys.now.history revision count read.now) }
 {
     if count < MOST_CHANGES {
-        let seen = seen_words(alloc, keys, read.key.as_str(), read.mod_rev, revision)?;
+        let seen = seen_words(alloc, most, keys, read.key.as_str(), read.mod_rev, revision)?;
         return push_pieces(
             out,
             &[Piece::Say(between(count)), Piece::Raw(seen.as_slice())],
@@ -161,15 +199,16 @@ fn push_read(
 /// The words of the keys of a list that were read as of a revision.
 pub(crate) fn reads_words(
     alloc: Global,
+    most: u32,
     keys: &Keys,
     revision: u64,
     reads: &[KeyRead],
 ) -> Result<Vec<u8>, AllocError>
-    ensures { IfOk result (λ words. words.items ≡ reads_after keys.now.history revision 0 reads.now) }
+    ensures { IfOk result (λ words. words.items ≡ reads_after most keys.now.history revision 0 reads.now) }
 {
     let mut out = Vec::new(alloc);
     for (count, read) in reads.iter().enumerate() {
-        push_read(alloc, &mut out, keys, revision, count as u64, read)?;
+        push_read(alloc, most, &mut out, keys, revision, count as u64, read)?;
     }
     Ok(out)
 }
@@ -177,13 +216,14 @@ pub(crate) fn reads_words(
 /// The words of a list that was fetched.
 fn listed(
     alloc: Global,
+    most: u32,
     keys: &Keys,
     revision: u64,
     reads: &[KeyRead],
 ) -> Result<Sequence<u8>, AllocError>
-    ensures { IfOk result (λ words. words ≡ listed_words keys.now.history revision reads.now) }
+    ensures { IfOk result (λ words. words ≡ listed_words most keys.now.history revision reads.now) }
 {
-    let read = reads_words(alloc, keys, revision, reads)?;
+    let read = reads_words(alloc, most, keys, revision, reads)?;
     said(
         alloc,
         &[Piece::Say("read the list"), Piece::Raw(read.as_slice())],
@@ -216,16 +256,17 @@ fn committed(alloc: Global, revision: u64, attempts: u64) -> Result<Sequence<u8>
 /// The words of a commit of which a compare failed.
 fn compared<'a>(
     alloc: Global,
+    most: u32,
     keys: &Keys,
     word: &'a str,
     key: &'a str,
     seen: u64,
     now: u64,
 ) -> Result<Sequence<u8>, AllocError>
-    ensures { IfOk result (λ words. words ≡ compared_words keys.now.history word.now key.now seen now) }
+    ensures { IfOk result (λ words. words ≡ compared_words most keys.now.history word.now key.now seen now) }
 {
-    let before = known_words(alloc, keys, key, seen, seen)?;
-    let after = known_words(alloc, keys, key, now, now)?;
+    let before = known_words(alloc, most, keys, key, seen, seen)?;
+    let after = known_words(alloc, most, keys, key, now, now)?;
     let pieces = [
         Piece::Say(word),
         Piece::Say(" "),
@@ -239,11 +280,11 @@ fn compared<'a>(
 }
 
 /// What a transaction compared.
-fn compared_by(alloc: Global, event: &WorldEvent) -> Result<Sequence<u8>, AllocError>
-    ensures { IfOk result (λ words. words ≡ compared_by event.now) }
+fn compared_by(alloc: Global, most: u32, event: &WorldEvent) -> Result<Sequence<u8>, AllocError>
+    ensures { IfOk result (λ words. words ≡ compared_by most event.now) }
 {
     match event {
-        WorldEvent::Txn { txn } => compare_words(alloc, txn.compares.as_slice()),
+        WorldEvent::Txn { txn } => compare_words(alloc, most, txn.compares.as_slice()),
         _ => Ok(Sequence::new(alloc)),
     }
 }
@@ -265,13 +306,14 @@ fn at_words(alloc: Global, revision: u64) -> Result<Sequence<u8>, AllocError>
 /// The words of another client's transaction.
 fn transacted(
     alloc: Global,
+    most: u32,
     event: &WorldEvent,
     succeeded: bool,
     revision: u64,
 ) -> Result<Sequence<u8>, AllocError>
-    ensures { IfOk result (λ words. words ≡ txn_words event.now succeeded revision) }
+    ensures { IfOk result (λ words. words ≡ txn_words most event.now succeeded revision) }
 {
-    let compared = compared_by(alloc, event)?;
+    let compared = compared_by(alloc, most, event)?;
     let at = at_words(alloc, revision)?;
     let pieces = [
         Piece::Say("txn "),
@@ -340,45 +382,55 @@ fn lost(alloc: Global, watcher: u64, floor: u64) -> Result<Sequence<u8>, AllocEr
 /// The words of an event that was taken.
 fn taken_words(
     alloc: Global,
+    most: u32,
+    labels: &[RunnerLabel],
     keys: &Keys,
     event: &WorldEvent,
     reply: &Reply,
 ) -> Result<Sequence<u8>, AllocError>
-    ensures { IfOk result (λ words. words ≡ reply_words keys.now.history event.now reply.now) }
+    ensures { IfOk result (λ words. words ≡ reply_words most labels.now keys.now.history event.now reply.now) }
 {
     match reply {
-        Reply::Started { .. } => started(alloc, event),
+        Reply::Started { runner } => started(alloc, most, labels, *runner, event),
         Reply::Prefetched {
             revision,
             reads,
             ..
-        } => listed(alloc, keys, *revision, reads.as_slice()),
+        } => listed(alloc, most, keys, *revision, reads.as_slice()),
         Reply::Fetched {
             key,
             mod_rev,
             of_rev,
             revision,
             ..
-        } => fetched(alloc, keys, key.as_str(), *mod_rev, *of_rev, *revision),
+        } => fetched(
+            alloc,
+            most,
+            keys,
+            key.as_str(),
+            *mod_rev,
+            *of_rev,
+            *revision,
+        ),
         Reply::Committed {
             revision,
             attempts,
             ..
         } => committed(alloc, *revision, *attempts),
         Reply::Conflict { key, seen, now, .. } => {
-            compared(alloc, keys, "CONFLICT", key.as_str(), *seen, *now)
+            compared(alloc, most, keys, "CONFLICT", key.as_str(), *seen, *now)
         }
         Reply::GaveUp { key, seen, now, .. } => {
-            compared(alloc, keys, "GAVE UP", key.as_str(), *seen, *now)
+            compared(alloc, most, keys, "GAVE UP", key.as_str(), *seen, *now)
         }
-        Reply::Aborted { text, .. } => reported(alloc, "ABORT", text.as_str()),
-        Reply::Faulted { fault, .. } => reported(alloc, "FAULT", fault.name()),
-        Reply::Ended { cause, .. } => reported(alloc, "ENDED", cause.name()),
+        Reply::Aborted { text, .. } => reported(alloc, most, "ABORT", text.as_str()),
+        Reply::Faulted { fault, .. } => reported(alloc, most, "FAULT", fault.name()),
+        Reply::Ended { cause, .. } => reported(alloc, most, "ENDED", cause.name()),
         Reply::Txn {
             succeeded,
             revision,
             ..
-        } => transacted(alloc, event, *succeeded, *revision),
+        } => transacted(alloc, most, event, *succeeded, *revision),
         Reply::Granted { id } => named(alloc, "grant", *id),
         Reply::Kept { id } => named(alloc, "keep", *id),
         Reply::Revoked { id, revision } => revoked(alloc, *id, *revision),
@@ -418,16 +470,17 @@ fn asked_word(event: &WorldEvent) -> &'static str
 /// The words of an event that was refused.
 fn refused(
     alloc: Global,
+    most: u32,
     event: &WorldEvent,
     cause: EventRefusal,
 ) -> Result<Sequence<u8>, AllocError>
-    ensures { IfOk result (λ words. words ≡ refused_words event.now cause) }
+    ensures { IfOk result (λ words. words ≡ refused_words most event.now cause) }
 {
     let pieces = [
         Piece::Say("REFUSED "),
         Piece::Say(asked_word(event)),
         Piece::Say(": "),
-        Piece::Shown(cause.name()),
+        Piece::Shown(most, cause.name()),
     ];
     said(alloc, &pieces)
 }
@@ -435,15 +488,17 @@ fn refused(
 /// The words of an event by its reply.
 fn told_words(
     alloc: Global,
+    most: u32,
+    labels: &[RunnerLabel],
     keys: &Keys,
     event: &WorldEvent,
     reply: &Result<Reply, Denied>,
 ) -> Result<Sequence<u8>, AllocError>
-    ensures { IfOk result (λ words. words ≡ told_words keys.now.history event.now reply.now) }
+    ensures { IfOk result (λ words. words ≡ told_words most labels.now keys.now.history event.now reply.now) }
 {
     match reply {
-        Ok(reply) => taken_words(alloc, keys, event, reply),
-        Err(denied) => refused(alloc, event, denied.cause),
+        Ok(reply) => taken_words(alloc, most, labels, keys, event, reply),
+        Err(denied) => refused(alloc, most, event, denied.cause),
     }
 }
 
@@ -451,15 +506,17 @@ fn told_words(
 /// where a growth was refused.
 pub(crate) fn words_of(
     alloc: Global,
+    most: u32,
+    labels: &[RunnerLabel],
     keys: &Keys,
     before: u64,
     event: &WorldEvent,
     reply: &Result<Reply, Denied>,
 ) -> Result<Sequence<u8>, AllocError>
-    ensures { IfOk result (λ words. words ≡ words_of keys.now.history before event.now reply.now) }
+    ensures { IfOk result (λ words. words ≡ words_of most labels.now keys.now.history before event.now reply.now) }
 {
-    let told = told_words(alloc, keys, event, reply)?;
-    let changed = changed_since(alloc, keys, before, counter_after(before, reply))?;
+    let told = told_words(alloc, most, labels, keys, event, reply)?;
+    let changed = changed_since(alloc, most, keys, before, counter_after(before, reply))?;
     said(
         alloc,
         &[Piece::Raw(told.as_slice()), Piece::Raw(changed.as_slice())],

@@ -18,61 +18,62 @@ use Rattle.stm_devices.specs.Ends.{Devices, IsUntouched}
 use Rattle.stm_report.specs.declared.format.Format.{Format}
 use Rattle.stm_report.specs.declared.format.Format.TheVariants.{Lines, Json, Text, Svg, Html}
 use Rattle.stm_report.specs.Forms.{json_text}
+use Rattle.stm_formats.specs.declared.format_label.RunnerLabel.{RunnerLabel}
 use Rattle.stm_formats.specs.FormatRuns.{text_from, svg_from, html_from}
 
 -- ---- the report of a run in a format
 
 -- the text is the report of these events, before which the store was at a revision, of their replies and of the world that they left; one of lines is in
 -- UTF-8
-abbrev pub IsTextSince : ℕ → Format → World → List WorldEvent → List (Result Reply Denied) → List ℕ → Type 0
-IsTextSince since Lines w events replies text = IsReport w replies text × IsUtf8 text
-IsTextSince since Json w events replies text = text ≡ json_text w replies
-IsTextSince since Text w events replies text = text ≡ text_from w since events replies
-IsTextSince since Svg w events replies text = text ≡ svg_from w since events replies
-IsTextSince since Html w events replies text = text ≡ html_from w since events replies
+abbrev pub IsTextSince : ℕ → Format → List RunnerLabel → World → List WorldEvent → List (Result Reply Denied) → List ℕ → Type 0
+IsTextSince since Lines labels w events replies text = IsReport w replies text × IsUtf8 text
+IsTextSince since Json labels w events replies text = text ≡ json_text w replies
+IsTextSince since (Text width) labels w events replies text = text ≡ text_from width labels w since events replies
+IsTextSince since Svg labels w events replies text = text ≡ svg_from labels w since events replies
+IsTextSince since Html labels w events replies text = text ≡ html_from labels w since events replies
 
 -- the text is that of these events' run from a world
-abbrev pub IsTextFrom : Format → World → List WorldEvent → List ℕ → Type 0
-IsTextFrom format w events text = IsTextSince (now w.standing.history) format (world_after events w) events (replies_to events w) text
+abbrev pub IsTextFrom : Format → List RunnerLabel → World → List WorldEvent → List ℕ → Type 0
+IsTextFrom format labels w events text = IsTextSince (now w.standing.history) format labels (world_after events w) events (replies_to events w) text
 
 -- the text is that of a scenario's run, over an empty store at its opening revision
-unfoldable pub IsRunText : Format → Scenario → List ℕ → Type 0
-IsRunText format s text = IsTextFrom format (opened (setup_of s.opening)) s.events text
+unfoldable pub IsRunText : Format → List RunnerLabel → Scenario → List ℕ → Type 0
+IsRunText format labels s text = IsTextFrom format labels (opened (setup_of s.opening)) s.events text
 
 -- a scenario was read, and the text is that of its run
-abbrev pub IsOutputOf : Format → Outcome Scenario → List ℕ → Type 0
-IsOutputOf format reading text = (s : Scenario) × (reading ≡ Ok s) × IsRunText format s text
+abbrev pub IsOutputOf : Format → List RunnerLabel → Outcome Scenario → List ℕ → Type 0
+IsOutputOf format labels reading text = (s : Scenario) × (reading ≡ Ok s) × IsRunText format labels s text
 
 -- what making the report of bytes answers, seen by view: that of the scenario that they spell, or their first fault, unless memory ran out
-abbrev pub Answers : {X : Type 0} → (X → List ℕ) → Format → List ℕ → Result X ScriptFault → Type 0
-Answers view format bytes (Ok x) = IsOutputOf format (scenario_in bytes) (view x)
-Answers view format bytes (Err OutOfMemory) = Unit {0}
-Answers view format bytes (Err (Bad fault)) = scenario_in bytes ≡ Err fault
-Answers view format bytes (Err Read) = ⊥
-Answers view format bytes (Err Write) = ⊥
+abbrev pub Answers : {X : Type 0} → (X → List ℕ) → Format → List RunnerLabel → List ℕ → Result X ScriptFault → Type 0
+Answers view format labels bytes (Ok x) = IsOutputOf format labels (scenario_in bytes) (view x)
+Answers view format labels bytes (Err OutOfMemory) = Unit {0}
+Answers view format labels bytes (Err (Bad fault)) = scenario_in bytes ≡ Err fault
+Answers view format labels bytes (Err Read) = ⊥
+Answers view format labels bytes (Err Write) = ⊥
 
 -- what writing the report of bytes does: what the sink held before and holds, whether it has failed then, and the answer
-abbrev pub Writes : {A : Type 0} → Format → List ℕ → Option (List ℕ) → Option (List ℕ) → Bool → Result A ScriptFault → Type 0
-Writes format bytes before after failed (Ok u) =
-    (failed ≡ false) × (text : List ℕ) × IsOutputOf format (scenario_in bytes) text × Appends before after text
-Writes format bytes before after failed (Err OutOfMemory) = (failed ≡ false) × Keeps before after
-Writes format bytes before after failed (Err (Bad fault)) = (failed ≡ false) × Keeps before after × (scenario_in bytes ≡ Err fault)
-Writes format bytes before after failed (Err Read) = ⊥
-Writes format bytes before after failed (Err Write) =
-    (failed ≡ true) × (text : List ℕ) × IsOutputOf format (scenario_in bytes) text × WritesFront before after text
+abbrev pub Writes : {A : Type 0} → Format → List RunnerLabel → List ℕ → Option (List ℕ) → Option (List ℕ) → Bool → Result A ScriptFault → Type 0
+Writes format labels bytes before after failed (Ok u) =
+    (failed ≡ false) × (text : List ℕ) × IsOutputOf format labels (scenario_in bytes) text × Appends before after text
+Writes format labels bytes before after failed (Err OutOfMemory) = (failed ≡ false) × Keeps before after
+Writes format labels bytes before after failed (Err (Bad fault)) = (failed ≡ false) × Keeps before after × (scenario_in bytes ≡ Err fault)
+Writes format labels bytes before after failed (Err Read) = ⊥
+Writes format labels bytes before after failed (Err Write) =
+    (failed ≡ true) × (text : List ℕ) × IsOutputOf format labels (scenario_in bytes) text × WritesFront before after text
 
 -- ---- the script
 
 -- What a script did, by its answer. At the end of a good one exactly the report of the input in its format was written; at a bad scenario,
 -- an allocation failure or a failed source nothing was; at a failed sink a front of it was. Each fault of a device is answered exactly where the
 -- device has failed.
-abbrev pub DoesAs : {A : Type 0} → Format → Devices → Result A ScriptFault → Type 0
-DoesAs format d (Ok u) =
+abbrev pub DoesAs : {A : Type 0} → Format → List RunnerLabel → Devices → Result A ScriptFault → Type 0
+DoesAs format labels d (Ok u) =
     (d.source_failed ≡ false) × (d.sink_failed ≡ false)
-    × IfSome d.input (λ input. (text : List ℕ) × IsOutputOf format (scenario_in input) text × Appends d.before d.after text)
-DoesAs format d (Err OutOfMemory) = IsUntouched d
-DoesAs format d (Err (Bad fault)) = IsUntouched d × IfSome d.input (λ input. scenario_in input ≡ Err fault)
-DoesAs format d (Err Read) = (d.source_failed ≡ true) × (d.sink_failed ≡ false) × Keeps d.before d.after
-DoesAs format d (Err Write) =
+    × IfSome d.input (λ input. (text : List ℕ) × IsOutputOf format labels (scenario_in input) text × Appends d.before d.after text)
+DoesAs format labels d (Err OutOfMemory) = IsUntouched d
+DoesAs format labels d (Err (Bad fault)) = IsUntouched d × IfSome d.input (λ input. scenario_in input ≡ Err fault)
+DoesAs format labels d (Err Read) = (d.source_failed ≡ true) × (d.sink_failed ≡ false) × Keeps d.before d.after
+DoesAs format labels d (Err Write) =
     (d.source_failed ≡ false) × (d.sink_failed ≡ true)
-    × IfSome d.input (λ input. (text : List ℕ) × IsOutputOf format (scenario_in input) text × WritesFront d.before d.after text)
+    × IfSome d.input (λ input. (text : List ℕ) × IsOutputOf format labels (scenario_in input) text × WritesFront d.before d.after text)

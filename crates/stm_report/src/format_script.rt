@@ -9,30 +9,32 @@ use crate::report_text::{report, report_objects};
 use crate::run_script::ScriptFault;
 use std::alloc::{AllocError, Global};
 use stm_devices::{ReadFault, Sink, Source, read_all, write_all};
-use stm_formats::{html_from, svg_from, text_from};
+use stm_formats::{RunnerLabel, html_from, svg_from, text_from};
 use stm_retry::{Denied, Reply, World, WorldEvent};
 use stm_texts::{ReadError, Scenario, opens_with, read_scenario};
 
-/// The report of a world, of the events that led to it from a world whose store was at this revision, and of their replies, in a format.
+/// The report of a world, of the events that led to it from a world whose store was at this revision, and of their replies, in a format. Text, picture and page
+/// call the runners what these labels say.
 ///
 /// There is a reply to each event. It fails where a growth was refused.
 pub fn render(
     alloc: Global,
     format: Format,
+    labels: &[RunnerLabel],
     since: u64,
     world: &World,
     events: &[WorldEvent],
     replies: &[Result<Reply, Denied>],
 ) -> Result<Vec<u8>, AllocError>
     requires { length events.now ≡ length replies.now }
-    ensures { IfOk result (λ text. IsTextSince since format world.now events.now replies.now text.items) }
+    ensures { IfOk result (λ text. IsTextSince since format labels.now world.now events.now replies.now text.items) }
 {
     match format {
         Format::Lines => Ok(report(alloc, world, replies)?.into_bytes()),
         Format::Json => Ok(report_objects(alloc, world, replies)?.into_bytes()),
-        Format::Text => text_from(alloc, world, since, events, replies),
-        Format::Svg => svg_from(alloc, world, since, events, replies),
-        Format::Html => html_from(alloc, world, since, events, replies),
+        Format::Text { width } => text_from(alloc, width, labels, world, since, events, replies),
+        Format::Svg => svg_from(alloc, labels, world, since, events, replies),
+        Format::Html => html_from(alloc, labels, world, since, events, replies),
     }
 }
 
@@ -47,39 +49,64 @@ pub fn revision_of(world: &World) -> u64
 fn report_from(
     alloc: Global,
     format: Format,
+    labels: &[RunnerLabel],
     world: &mut World,
     events: &[WorldEvent],
 ) -> Result<Vec<u8>, AllocError>
-    ensures { IfOk result (λ text. IsTextFrom format world.old events.now text.items) }
+    ensures { IfOk result (λ text. IsTextFrom format labels.now world.old events.now text.items) }
 {
     let since = revision_of(world);
     match world.run(events) {
-        Ok(replies) => render(alloc, format, since, world, events, replies.as_slice()),
+        Ok(replies) => render(
+            alloc,
+            format,
+            labels,
+            since,
+            world,
+            events,
+            replies.as_slice(),
+        ),
         Err(_) => Err(AllocError),
     }
 }
 
 /// The report of a scenario's run.
-fn run_report(alloc: Global, format: Format, scenario: &Scenario) -> Result<Vec<u8>, AllocError>
-    ensures { IfOk result (λ text. IsRunText format scenario.now text.items) }
+fn run_report(
+    alloc: Global,
+    format: Format,
+    labels: &[RunnerLabel],
+    scenario: &Scenario,
+) -> Result<Vec<u8>, AllocError>
+    ensures { IfOk result (λ text. IsRunText format labels.now scenario.now text.items) }
 {
     let opening = opens_with(scenario.opening);
     let mut world = World::with_limits(alloc, opening.revision(), opening.operations())?;
-    let text = report_from(alloc, format, &mut world, scenario.events.as_slice());
+    let text = report_from(
+        alloc,
+        format,
+        labels,
+        &mut world,
+        scenario.events.as_slice(),
+    );
     drop(world);
     text
 }
 
 /// The report of the scenario that bytes spell.
-fn report_of(alloc: Global, format: Format, bytes: &[u8]) -> Result<Vec<u8>, ScriptFault>
-    ensures { Answers (λ v. v.items) format bytes.now result }
+fn report_of(
+    alloc: Global,
+    format: Format,
+    labels: &[RunnerLabel],
+    bytes: &[u8],
+) -> Result<Vec<u8>, ScriptFault>
+    ensures { Answers (λ v. v.items) format labels.now bytes.now result }
 {
     let scenario = match read_scenario(alloc, bytes) {
         Ok(scenario) => scenario,
         Err(ReadError::OutOfMemory) => return Err(ScriptFault::OutOfMemory),
         Err(ReadError::Bad(fault)) => return Err(ScriptFault::Bad(fault)),
     };
-    match run_report(alloc, format, &scenario) {
+    match run_report(alloc, format, labels, &scenario) {
         Ok(text) => Ok(text),
         Err(_) => Err(ScriptFault::OutOfMemory),
     }
@@ -89,13 +116,14 @@ fn report_of(alloc: Global, format: Format, bytes: &[u8]) -> Result<Vec<u8>, Scr
 fn write_report<W: Sink>(
     alloc: Global,
     format: Format,
+    labels: &[RunnerLabel],
     bytes: &[u8],
     sink: &mut W,
 ) -> Result<(), ScriptFault>
     requires { W.failed sink.old ≡ false }
-    ensures { Writes format bytes.now (W.held sink.old) (W.held sink.new) (W.failed sink.new) result }
+    ensures { Writes format labels.now bytes.now (W.held sink.old) (W.held sink.new) (W.failed sink.new) result }
 {
-    let text = report_of(alloc, format, bytes)?;
+    let text = report_of(alloc, format, labels, bytes)?;
     match write_all(sink, text.as_slice()) {
         Ok(()) => Ok(()),
         Err(_) => Err(ScriptFault::Write),
@@ -103,7 +131,7 @@ fn write_report<W: Sink>(
 }
 
 /// Reads a scenario from a source to its end, runs it over an empty store, and writes the report of the run to a sink in a
-/// format. Nothing is written before the report is whole.
+/// format, with runners of these labels. Nothing is written before the report is whole.
 ///
 /// Neither device has failed before. It fails as `Bad` with the scenario's first fault, as `OutOfMemory` where a
 /// growth was refused, and as `Read` where the source has failed: then nothing was written. It fails as `Write`
@@ -112,12 +140,13 @@ fn write_report<W: Sink>(
 pub fn script_as<S: Source, W: Sink>(
     alloc: Global,
     format: Format,
+    labels: &[RunnerLabel],
     source: &mut S,
     sink: &mut W,
 ) -> Result<(), ScriptFault>
     requires source_works { S.failed source.old ≡ false }
     requires sink_works { W.failed sink.old ≡ false }
-    ensures done { DoesAs format (record {
+    ensures done { DoesAs format labels.now (record {
       input = S.left source.old;
       before = W.held sink.old;
       after = W.held sink.new;
@@ -127,7 +156,7 @@ pub fn script_as<S: Source, W: Sink>(
     ensures bounded { S.reads source.new ≤ S.reads source.old + MOST_READ }
 {
     match read_all(alloc, source) {
-        Ok(bytes) => write_report(alloc, format, bytes.as_slice(), sink),
+        Ok(bytes) => write_report(alloc, format, labels, bytes.as_slice(), sink),
         Err(ReadFault::OutOfMemory) => Err(ScriptFault::OutOfMemory),
         Err(ReadFault::Device) => Err(ScriptFault::Read),
     }

@@ -31,6 +31,7 @@ pub use stm_entries::{Entry, LiveLease};
 pub use stm_events::{
     CommittedRead, Event, EventRefusal, Expired, Fault, KeyRead, OpReply, TraceItem, Value,
 };
+pub use stm_formats::RunnerLabel;
 pub use stm_history::{KeyState, Sequence, Text};
 pub use stm_keys::Keys;
 pub use stm_report_lines::{Report, ReportLine, read_report};

@@ -50,5 +50,5 @@ pub fn script<S: Source, W: Sink>(
     }) result }
     ensures bounded { S.reads source.new ≤ S.reads source.old + MOST_READ }
 {
-    script_as(alloc, Format::Lines, source, sink)
+    script_as(alloc, Format::Lines, &[], source, sink)
 }

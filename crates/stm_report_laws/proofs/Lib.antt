@@ -16,6 +16,7 @@ pub mod Written
 pub mod ReadBack
 pub mod SmallLines
 pub mod ScriptsRead
+pub mod FormatApart
 pub mod FormatEscapedLaws
 pub mod FormatOneLine
 pub mod FormatOneRow

@@ -1,5 +1,5 @@
 //! Laws of the formats. Each function does nothing: its contract is the law.
-ghost use Rattle.stm_report_laws.specs.FormatLaws.{OneRowAnEvent, OneObjectAnEvent, OneLineARow, NothingUnescaped};
+ghost use Rattle.stm_report_laws.specs.FormatLaws.{OneRowAnEvent, OneObjectAnEvent, OneLineARow, KeysApart, NothingUnescaped};
 
 /// A run has one row for each event, in text and in the picture, numbered in their order from 1.
 pub fn one_row_an_event()
@@ -14,6 +14,11 @@ pub fn one_object_an_event()
 /// Each row of a text is one line: no key, value or message breaks it.
 pub fn one_line_a_row()
     ensures { OneLineARow }
+{}
+
+/// Two keys that are shown alike are the same key, whatever characters they have that cannot be seen.
+pub fn keys_apart()
+    ensures { KeysApart }
 {}
 
 /// What stands escaped in a picture opens and closes no element, and ends no attribute.

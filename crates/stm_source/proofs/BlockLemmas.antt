@@ -106,17 +106,17 @@ block_some levels around scope tokens some =
     let e : levels ≡ suc (levels - 1) = omega arith in
     ap (λ (n : ℕ). block_at n around scope tokens) e
 
-pub choice_none : (block : Blocks) (levels : ℕ) (scope : Scope) (more : ℕ) (tokens : List Token) (e : SourceError) → more ≡ 0
-    → e ≡ Bad (record { at = scope.program; cause = TooDeep }) → ReturnsFault e (choice_at block levels scope more tokens)
+pub choice_none : (around : Around) (block : Blocks) (levels : ℕ) (scope : Scope) (more : ℕ) (tokens : List Token) (e : SourceError) → more ≡ 0
+    → e ≡ Bad (record { at = scope.program; cause = TooDeep }) → ReturnsFault e (choice_at around block levels scope more tokens)
 unfolding choice_at
-choice_none block levels scope more tokens e none is = rw (is, none) refl
+choice_none around block levels scope more tokens e none is = rw (is, none) refl
 
-pub choice_some : (block : Blocks) (levels : ℕ) (scope : Scope) (more : ℕ) (tokens : List Token) → 0 < more
-    → choice_at block levels scope more tokens ≡ choice_by (choice_at block levels scope (more - 1)) block levels scope tokens
+pub choice_some : (around : Around) (block : Blocks) (levels : ℕ) (scope : Scope) (more : ℕ) (tokens : List Token) → 0 < more
+    → choice_at around block levels scope more tokens ≡ choice_by around (choice_at around block levels scope (more - 1)) block levels scope tokens
 unfolding choice_at
-choice_some block levels scope more tokens some =
+choice_some around block levels scope more tokens some =
     let e : more ≡ suc (more - 1) = omega arith in
-    ap (λ (n : ℕ). choice_at block levels scope n tokens) e
+    ap (λ (n : ℕ). choice_at around block levels scope n tokens) e
 
 -- what a statement's error is of the statements
 pub faults : (e : SourceError) (statement : Scope → List Token → ReadStatement) (front : List Source) (done : ℕ) (ending : Ending) (fuel more : ℕ) (scope : Scope)

@@ -1,4 +1,5 @@
 pub mod BlockLemmas
 pub mod SourceLemmas
+mod PlaceLemmas
 pub mod StepLemmas
 pub mod WantedLemmas

@@ -28,7 +28,7 @@ use Rattle.stm_source.specs.Sources.{at_end, item_at, items_from}
 use Rattle.stm_source.specs.Txns.{compare_at, compares_from, operation_at, operations_from}
 
 -- the fault of a part is that of the whole
-fault_of : {A B : Type 0} (e : SourceError) (part : Outcome A) (whole : Outcome B) → ((f : BadSource) → part ≡ Err f → whole ≡ Err f)
+pub fault_of : {A B : Type 0} (e : SourceError) (part : Outcome A) (whole : Outcome B) → ((f : BadSource) → part ≡ Err f → whole ≡ Err f)
     → ReturnsFault e part → ReturnsFault e whole
 fault_of OutOfMemory part whole passes h = tt
 fault_of (Bad f) part whole passes h = passes f h

@@ -102,7 +102,7 @@ unbound parameters takes_list = record { names = parameters; given = open_given 
 
 -- `at` is the place of what is wrong with a program as a whole
 abbrev pub look_of : Constants → ℕ → Bool → Look
-look_of constants at kinds = record { program = at; at_kinds = kinds; kinds_at = None; runners = None; constants = constants }
+look_of constants at kinds = record { program = at; marks = false; at_kinds = kinds; kinds_at = None; runners = None; constants = constants }
 
 -- a definition whose body these tokens begin with; its list has no items there
 abbrev pub definition_at : Constants → ℕ → List (List ℕ) → Bool → List Token → Read Definition
@@ -136,7 +136,7 @@ definition_named definitions name = defined_by (meaning_in definitions.meanings 
 
 -- kinds are looked at where arguments are right but for their kinds, and blamed on the name of the start
 abbrev pub look_for_arguments : Constants → ℕ → Look
-look_for_arguments constants at = record { program = at; at_kinds = true; kinds_at = Some at; runners = None; constants = constants }
+look_for_arguments constants at = record { program = at; marks = false; at_kinds = true; kinds_at = Some at; runners = None; constants = constants }
 
 -- a body with these arguments, whose name in the start begins at a byte
 abbrev pub program_with : Constants → ℕ → Arguments → List Token → Outcome ProgramTree

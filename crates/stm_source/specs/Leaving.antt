@@ -9,7 +9,8 @@ use Rattle.stm_terms.specs.Outcome.{Outcome, bad}
 use Rattle.stm_leaving.specs.Source as tree
 use Rattle.stm_leaving.specs.Source.{Source}
 use Rattle.stm_source.specs.declared.leaving.Around.{Around}
-use Rattle.stm_source.specs.declared.leaving.Around.TheVariants.{Program, Items, Turns, ItemsOfTurns}
+use Rattle.stm_source.specs.declared.leaving.Loops.{Loops}
+use Rattle.stm_source.specs.declared.leaving.Loops.TheVariants.{Program, Items, Turns, ItemsOfTurns}
 use Rattle.stm_source.specs.declared.leaving.Leave.{Leave}
 use Rattle.stm_source.specs.declared.leaving.Leave.TheVariants.{Return, Break, Continue}
 use Rattle.stm_source.specs.declared.leaving.Ending.{Ending}
@@ -29,14 +30,20 @@ choice_ending Leaves GoesOn = GoesOn
 choice_ending Leaves Leaves = Leaves
 choice_ending Leaves Aborts = Leaves
 
+abbrev pub around_all : Bool → Around
+around_all marks = record { loops = Program; marks = marks }
+
 abbrev pub in_turns : Around → Around
-in_turns around = Turns
+in_turns around = record { loops = Turns; marks = around.marks }
+
+abbrev pub items_in : Loops → Loops
+items_in Program = Items
+items_in Items = Items
+items_in Turns = ItemsOfTurns
+items_in ItemsOfTurns = ItemsOfTurns
 
 abbrev pub in_items : Around → Around
-in_items Program = Items
-in_items Items = Items
-in_items Turns = ItemsOfTurns
-in_items ItemsOfTurns = ItemsOfTurns
+in_items around = record { loops = items_in around.loops; marks = around.marks }
 
 abbrev pub leave_word : Word → Option Leave
 leave_word w =
@@ -46,7 +53,7 @@ leave_word w =
     else None))
 
 -- a `break` and a `continue` stand in a loop, and no `return` and no `break` leaves a counted loop
-abbrev pub leave_fault : Around → Leave → Option SourceCause
+abbrev pub leave_fault : Loops → Leave → Option SourceCause
 leave_fault Program Return = None
 leave_fault Items Return = None
 leave_fault Turns Return = Some cause.Return
@@ -71,4 +78,4 @@ leaving_by leave at None = Ok (part_of leave)
 
 -- it begins at a byte
 abbrev pub leaving_part : Around → Leave → ℕ → Outcome Source
-leaving_part around leave at = leaving_by leave at (leave_fault around leave)
+leaving_part around leave at = leaving_by leave at (leave_fault around.loops leave)

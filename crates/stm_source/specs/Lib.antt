@@ -5,6 +5,7 @@ pub mod Events
 pub mod Kept
 pub mod Leaving
 pub mod Loops
+pub mod Places
 pub mod Programs
 pub mod Rules
 pub mod Runners

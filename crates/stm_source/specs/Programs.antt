@@ -22,7 +22,7 @@ use Rattle.stm_source.specs.declared.programs.Look.{Look}
 use Rattle.stm_leaving.specs.Source.{Sources}
 use Rattle.stm_leaving.specs.Closed.{nothing, closed}
 use Rattle.stm_leaving.specs.Written.{is_too_long}
-use Rattle.stm_source.specs.declared.leaving.Around.TheVariants.{Program}
+use Rattle.stm_source.specs.Leaving.{around_all}
 use Rattle.stm_source.specs.Statements.{statements_at}
 
 -- ---- the list
@@ -105,7 +105,7 @@ abbrev pub parts_at : Look → Arguments → List Token → Outcome (List (List 
 parts_at look arguments tokens =
     expect_symbol symbol.LeftBrace tokens >>= λ inner.
     list_at (first_scope arguments look inner) inner >>= λ keys.
-    statements_at (MOST_BRACKETS - 1) Program (first_scope arguments look inner) keys.1 >>= λ b. Ok (keys.0, b.0, b.2)
+    statements_at (MOST_BRACKETS - 1) (around_all look.marks) (first_scope arguments look inner) keys.1 >>= λ b. Ok (keys.0, b.0, b.2)
 
 -- a program in braces
 abbrev pub program_at : Look → Arguments → List Token → Read ProgramTree

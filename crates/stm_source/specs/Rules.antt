@@ -1,5 +1,5 @@
 -- Rules and finals: programs that are asked of states.
-use Rattle.std.specs.Prelude.{ℕ, ◌-◌, List, [], ◌∷◌, ◌++◌, Bool, true, Option, Some, None, Ok, Err, nat_eq, if◌then◌else◌, codes}
+use Rattle.std.specs.Prelude.{ℕ, ◌-◌, List, [], ◌∷◌, ◌++◌, Bool, true, Option, Some, None, Ok, Err, nat_eq, if◌then◌else◌, codes, false}
 use Rattle.stm_tokens.specs.declared.token.Token.{Token}
 use Rattle.stm_tokens.specs.declared.token.Symbol.TheVariants as symbol
 use Rattle.stm_program.specs.declared.level.Level.{Level}
@@ -37,7 +37,7 @@ asked_runners story is_final tokens = if is_final then Some (runners_in story to
 
 abbrev pub rule_look : Constants → Story → Bool → ℕ → List Token → Look
 rule_look constants story is_final at tokens =
-    record { program = at; at_kinds = true; kinds_at = None; runners = asked_runners story is_final tokens; constants = constants }
+    record { program = at; marks = false; at_kinds = true; kinds_at = None; runners = asked_runners story is_final tokens; constants = constants }
 
 abbrev pub asked_by : List Token → Definitions → Story → Bool → ℕ → List Token → Option (List Token) → ReadProgram
 asked_by all definitions story is_final at tokens (Some rest) = asked_by_name all definitions rest (next_name rest)

@@ -23,6 +23,7 @@ use Rattle.stm_leaving.specs.PartsView.{sources_of}
 use Rattle.stm_leaving.specs.CopiesView.{copies_of}
 use Rattle.stm_leaving.specs.Closed.{nothing, closed}
 use Rattle.stm_leaving.specs.Written.{is_too_long}
+use Rattle.stm_marks.specs.Marks.{mark}
 use Rattle.stm_source.specs.declared.leaving.Around.{Around}
 use Rattle.stm_source.specs.declared.leaving.Leave.{Leave}
 use Rattle.stm_source.specs.declared.leaving.Ending.{Ending}
@@ -170,6 +171,12 @@ let_by levels scope at tokens (Some v) = named_by levels scope v tokens (next_na
 abbrev pub let_at : ℕ → Scope → ℕ → List Token → ReadNew
 let_at levels scope at tokens = let_by levels scope at tokens (next_of scope)
 
+-- ---- marks
+
+-- a statement that begins at a byte, behind its mark where statements are marked
+abbrev pub with_mark : Around → ℕ → List Source → List Source
+with_mark around at s = if around.marks then Plain (mark at) ∷ s else s
+
 -- ---- choices
 
 -- statements, how they end, and the tokens behind them
@@ -183,26 +190,26 @@ abbrev pub Blocks : Type 0
 Blocks = Scope → List Token → ReadBlock
 
 -- a block alone, or another choice
-abbrev pub otherwise_by : (List Token → ReadParts) → Blocks → Scope → List Token → Option (List Token) → ReadBlock
-otherwise_by choice block scope tokens (Some rest) = choice rest >>= λ s. Ok (sources_of s.0, s.1, s.2)
-otherwise_by choice block scope tokens None = block scope tokens
+abbrev pub otherwise_by : Around → (List Token → ReadParts) → Blocks → Scope → List Token → Option (List Token) → ReadBlock
+otherwise_by around choice block scope tokens (Some rest) = choice rest >>= λ s. Ok (sources_of (with_mark around (place tokens) s.0), s.1, s.2)
+otherwise_by around choice block scope tokens None = block scope tokens
 
-abbrev pub else_by : (List Token → ReadParts) → Blocks → Scope → List Token → Option (List Token) → ReadBlock
-else_by choice block scope tokens None = Ok (Nil, GoesOn, tokens)
-else_by choice block scope tokens (Some rest) = otherwise_by choice block scope rest (after_word word.If rest)
+abbrev pub else_by : Around → (List Token → ReadParts) → Blocks → Scope → List Token → Option (List Token) → ReadBlock
+else_by around choice block scope tokens None = Ok (Nil, GoesOn, tokens)
+else_by around choice block scope tokens (Some rest) = otherwise_by around choice block scope rest (after_word word.If rest)
 
 -- condition, block and else
-abbrev pub choice_by : (List Token → ReadParts) → Blocks → ℕ → Scope → List Token → ReadParts
-choice_by choice block levels scope tokens =
+abbrev pub choice_by : Around → (List Token → ReadParts) → Blocks → ℕ → Scope → List Token → ReadParts
+choice_by around choice block levels scope tokens =
     condition_at levels scope tokens >>= λ c.
     block scope c.1 >>= λ t.
-    else_by choice block scope t.2 (after_word word.Else t.2) >>= λ e.
+    else_by around choice block scope t.2 (after_word word.Else t.2) >>= λ e.
     Ok (behind_front c.0.front (Choice c.0.condition t.0 e.0), choice_ending t.1 e.1, e.2)
 
 -- behind an `if`, with so many choices that may follow in its else: one more is too deep, whatever it is
-unfoldable pub choice_at : Blocks → ℕ → Scope → ℕ → List Token → ReadParts
-choice_at block levels scope zero tokens = bad scope.program cause.TooDeep
-choice_at block levels scope (suc more) tokens = choice_by (choice_at block levels scope more) block levels scope tokens
+unfoldable pub choice_at : Around → Blocks → ℕ → Scope → ℕ → List Token → ReadParts
+choice_at around block levels scope zero tokens = bad scope.program cause.TooDeep
+choice_at around block levels scope (suc more) tokens = choice_by around (choice_at around block levels scope more) block levels scope tokens
 
 -- ---- loops
 
@@ -223,31 +230,31 @@ count_loop block levels scope at name tokens =
 abbrev pub copy_at : Blocks → Scope → List ℕ → Item → List Token → Read Sources
 copy_at block scope name item tokens = block (with_item scope name item) tokens >>= λ b. Ok (b.0, b.2)
 
--- how many nodes may follow a copy
-abbrev pub copy_room : ℕ → Sources → ℕ
-copy_room room copy = if is_too_long MAX_NODES copy then 0 else room_behind room (closed copy nothing)
+-- how many nodes may follow a copy; those with marks were read before without them
+abbrev pub copy_room : Around → ℕ → Sources → ℕ
+copy_room around room copy = if around.marks then room else (if is_too_long MAX_NODES copy then 0 else room_behind room (closed copy nothing))
 
 -- behind these, those for each item, read of the same tokens, while there may be more nodes
-abbrev pub copies_from : (Item → List Token → Read Sources) → List Token → ℕ → List Sources → List Item → List Token → Read (List Sources)
-copies_from copy tokens room done [] rest = Ok (done, rest)
-copies_from copy tokens room done (i ∷ is) rest =
+abbrev pub copies_from : (Item → List Token → Read Sources) → Around → List Token → ℕ → List Sources → List Item → List Token → Read (List Sources)
+copies_from copy around tokens room done [] rest = Ok (done, rest)
+copies_from copy around tokens room done (i ∷ is) rest =
     if nat_eq room 0 then Ok (done, rest)
-    else (copy i tokens >>= λ c. copies_from copy tokens (copy_room room c.0) (done ++ c.0 ∷ []) is c.1)
+    else (copy i tokens >>= λ c. copies_from copy around tokens (copy_room around room c.0) (done ++ c.0 ∷ []) is c.1)
 
 -- where there is no item, the block is read and left out
-abbrev pub copies_at : Blocks → Scope → List ℕ → List Item → List Token → Read (List Source)
-copies_at block scope name [] tokens = copy_at block scope name unknown_item tokens >>= λ c. Ok ([], c.1)
-copies_at block scope name (i ∷ is) tokens =
-    copies_from (copy_at block scope name) tokens MOST_STATEMENTS [] (i ∷ is) tokens >>= λ c. Ok (Items (copies_of c.0) ∷ [], c.1)
+abbrev pub copies_at : Around → Blocks → Scope → List ℕ → List Item → List Token → Read (List Source)
+copies_at around block scope name [] tokens = copy_at block scope name unknown_item tokens >>= λ c. Ok ([], c.1)
+copies_at around block scope name (i ∷ is) tokens =
+    copies_from (copy_at block scope name) around tokens MOST_STATEMENTS [] (i ∷ is) tokens >>= λ c. Ok (Items (copies_of c.0) ∷ [], c.1)
 
 -- behind its `in`
-abbrev pub item_loop : Blocks → ℕ → Scope → ℕ → List ℕ → List Token → Read (List Source)
-item_loop block levels scope at name tokens =
-    items_of scope at name tokens >>= λ items. copies_at block scope name items.0 items.1
+abbrev pub item_loop : Around → Blocks → ℕ → Scope → ℕ → List ℕ → List Token → Read (List Source)
+item_loop around block levels scope at name tokens =
+    items_of scope at name tokens >>= λ items. copies_at around block scope name items.0 items.1
 
 abbrev pub loop_in : (Around → Blocks) → ℕ → Around → Scope → ℕ → List ℕ → List Token → Option (List Token) → Read (List Source)
 loop_in block levels around scope at name tokens (Some bound) = count_loop (block (in_turns around)) levels scope at name bound
-loop_in block levels around scope at name tokens None = item_loop (block (in_items around)) levels scope at name tokens
+loop_in block levels around scope at name tokens None = item_loop around (block (in_items around)) levels scope at name tokens
 
 -- behind its name, which begins at a byte
 abbrev pub loop_behind : (Around → Blocks) → ℕ → Around → Scope → ℕ → List ℕ → List Token → Read (List Source)
@@ -295,7 +302,7 @@ going_on read = read >>= λ x. Ok (x.0, GoesOn, x.1)
 
 abbrev pub plain_at : (Around → Blocks) → ℕ → Around → Scope → Word → List Token → List Token → ReadParts
 plain_at block levels around scope w tokens rest =
-    if same_word w word.If then choice_at (block around) levels scope MOST_BRACKETS rest
+    if same_word w word.If then choice_at around (block around) levels scope MOST_BRACKETS rest
     else (if same_word w word.For then going_on (loop_at block levels around scope rest)
     else (if same_word w word.Put then going_on (put_at levels scope rest)
     else short_at levels around scope w tokens rest))
@@ -317,9 +324,12 @@ statement_kind block levels around scope (kind.Word w) tokens rest = worded_at b
 statement_kind block levels around scope (kind.Name n) tokens rest = in_scope scope (going_on (assignment_at levels scope n tokens rest))
 statement_kind block levels around scope _ tokens rest = Err (unexpected tokens)
 
+abbrev pub marked_at : Around → ℕ → ReadStatement → ReadStatement
+marked_at around at read = read >>= λ x. Ok (with_mark around at x.0, x.1, x.2, x.3)
+
 unfoldable pub statement_by : (Around → Blocks) → ℕ → Around → Scope → List Token → ReadStatement
 statement_by block levels around scope [] = Err (unexpected [])
-statement_by block levels around scope (t ∷ ts) = statement_kind block levels around scope t.kind (t ∷ ts) ts
+statement_by block levels around scope (t ∷ ts) = marked_at around t.at (statement_kind block levels around scope t.kind (t ∷ ts) ts)
 
 -- a block with more statements than are kept has too many nodes, whatever they are
 abbrev pub then_all : List Source → Sources → Sources

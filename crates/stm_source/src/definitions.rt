@@ -17,7 +17,7 @@ use stm_terms::{
 use stm_tokens::{Symbol, Token};
 
 /// A program that a source defines.
-#[derive(Debug, Drop)]
+#[derive(Drop)]
 pub(crate) struct Definition {
     /// The names of its parameters.
     pub parameters: Shared<Names>,
@@ -32,7 +32,7 @@ pub(crate) struct Definition {
 }
 
 /// What a name stands for.
-#[derive(Debug, Drop)]
+#[derive(Drop)]
 pub(crate) enum Meaning {
     /// A program.
     Program(Definition),
@@ -41,7 +41,7 @@ pub(crate) enum Meaning {
 }
 
 /// What a source defines.
-#[derive(Debug, Drop)]
+#[derive(Drop)]
 pub(crate) struct Definitions {
     /// The names of its programs, rules and finals.
     pub names: Names,
@@ -172,6 +172,7 @@ pub(crate) fn look_of(
     let constants = constants.clone()?;
     Ok(Look {
         program: at,
+        marks: false,
         at_kinds: kinds,
         kinds_at: None,
         runners: None,
@@ -300,7 +301,7 @@ fn list_of(alloc: Global, given: &[Given]) -> Result<Sequence<Item>, AllocError>
 }
 
 /// What parameters stand for, of which so many stand for one argument each, and the next one, if there is one, for those that are left.
-fn bound(
+pub(crate) fn bound(
     alloc: Global,
     parameters: &Shared<Names>,
     alone: usize,

@@ -7,9 +7,18 @@ use stm_leaving::{Part, PartNode};
 use stm_terms::{SourceCause, SourceError, fault};
 use stm_tokens::Word;
 
+/// What is around a statement.
+#[derive(Clone, Copy, PartialEq, Eq)]
+pub(crate) struct Around {
+    /// The loops.
+    pub loops: Loops,
+    /// Whether a mark stands before each statement, which says where that begins.
+    pub marks: bool,
+}
+
 /// The loops around a statement.
-#[derive(Clone, Copy, Debug, PartialEq, Eq)]
-pub(crate) enum Around {
+#[derive(Clone, Copy, PartialEq, Eq)]
+pub(crate) enum Loops {
     /// None.
     Program,
     /// Loops over items.
@@ -21,7 +30,7 @@ pub(crate) enum Around {
 }
 
 /// A statement that leaves its block.
-#[derive(Clone, Copy, Debug, PartialEq, Eq)]
+#[derive(Clone, Copy, PartialEq, Eq)]
 pub(crate) enum Leave {
     /// `return`
     Return,
@@ -32,7 +41,7 @@ pub(crate) enum Leave {
 }
 
 /// How a statement, or a block, ends.
-#[derive(Clone, Copy, Debug, PartialEq, Eq)]
+#[derive(Clone, Copy, PartialEq, Eq)]
 pub(crate) enum Ending {
     /// What stands behind it may come next.
     GoesOn,
@@ -68,21 +77,41 @@ pub(crate) fn choice_ending(yes: Ending, no: Ending) -> Ending
     }
 }
 
-/// The loops around the statements of a counted loop.
+/// What is around the statements of a program.
+pub(crate) fn around_all(marks: bool) -> Around
+    ensures { result ≡ spec.around_all marks }
+{
+    let loops = Loops::Program;
+    Around { loops, marks }
+}
+
+/// What is around the statements of a counted loop.
 pub(crate) fn in_turns(around: Around) -> Around
     ensures { result ≡ spec.in_turns around }
 {
-    let _within = around;
-    Around::Turns
+    Around {
+        loops: Loops::Turns,
+        marks: around.marks,
+    }
 }
 
 /// The loops around the statements of a loop over items.
+fn items_in(loops: Loops) -> Loops
+    ensures { result ≡ spec.items_in loops }
+{
+    match loops {
+        Loops::Program | Loops::Items => Loops::Items,
+        Loops::Turns | Loops::ItemsOfTurns => Loops::ItemsOfTurns,
+    }
+}
+
+/// What is around the statements of a loop over items.
 pub(crate) fn in_items(around: Around) -> Around
     ensures { result ≡ spec.in_items around }
 {
-    match around {
-        Around::Program | Around::Items => Around::Items,
-        Around::Turns | Around::ItemsOfTurns => Around::ItemsOfTurns,
+    Around {
+        loops: items_in(around.loops),
+        marks: around.marks,
     }
 }
 
@@ -102,22 +131,22 @@ pub(crate) fn leave_word(word: Word) -> Option<Leave>
 }
 
 /// Why a statement may not leave its block there, if it may not: no loop is around it, or a counted one that it would leave.
-fn leave_fault(around: Around, leave: Leave) -> Option<SourceCause>
-    ensures { result ≡ spec.leave_fault around leave }
+fn leave_fault(loops: Loops, leave: Leave) -> Option<SourceCause>
+    ensures { result ≡ spec.leave_fault loops leave }
 {
     match leave {
-        Leave::Return => match around {
-            Around::Program | Around::Items => None,
-            Around::Turns | Around::ItemsOfTurns => Some(SourceCause::Return),
+        Leave::Return => match loops {
+            Loops::Program | Loops::Items => None,
+            Loops::Turns | Loops::ItemsOfTurns => Some(SourceCause::Return),
         },
-        Leave::Break => match around {
-            Around::Program => Some(SourceCause::Syntax),
-            Around::Turns => Some(SourceCause::Return),
-            Around::Items | Around::ItemsOfTurns => None,
+        Leave::Break => match loops {
+            Loops::Program => Some(SourceCause::Syntax),
+            Loops::Turns => Some(SourceCause::Return),
+            Loops::Items | Loops::ItemsOfTurns => None,
         },
-        Leave::Continue => match around {
-            Around::Program => Some(SourceCause::Syntax),
-            Around::Items | Around::Turns | Around::ItemsOfTurns => None,
+        Leave::Continue => match loops {
+            Loops::Program => Some(SourceCause::Syntax),
+            Loops::Items | Loops::Turns | Loops::ItemsOfTurns => None,
         },
     }
 }
@@ -126,7 +155,7 @@ fn leave_fault(around: Around, leave: Leave) -> Option<SourceCause>
 pub(crate) fn leaving_part(around: Around, leave: Leave, at: usize) -> Result<Part, SourceError>
     ensures { Returns (λ p. p) result (spec.leaving_part around leave at) }
 {
-    if let Some(cause) = leave_fault(around, leave) {
+    if let Some(cause) = leave_fault(around.loops, leave) {
         return Err(fault(at, cause));
     }
     let node = match leave {

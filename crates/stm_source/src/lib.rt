@@ -12,6 +12,7 @@ mod events;
 mod leaving;
 mod loops;
 mod openings;
+mod places;
 mod programs;
 mod rules;
 mod runners;
@@ -24,6 +25,7 @@ mod txns;
 mod wanted;
 mod words;
 
+pub use places::{MarkedProgram, MarkedStart, read_marked_starts};
 pub use sources::{Source, read_source, read_whole_source};
 pub use stm_terms::{BadSource, Kind, MOST_BRACKETS, Names, SourceCause, SourceError};
 pub use stm_texts::Scenario;

@@ -5,7 +5,7 @@ ghost use Rattle.stm_leaving.specs.PartsView.{sources_of};
 ghost use Rattle.stm_terms.specs.Outcome.{Returns};
 ghost use Rattle.stm_source.specs.Programs as spec;
 
-use crate::leaving::Around;
+use crate::leaving::around_all;
 use crate::statements::statements;
 use std::alloc::{AllocError, Global};
 use std::sync::Arc;
@@ -22,10 +22,12 @@ use stm_terms::{
 use stm_tokens::{Symbol, Token, Word};
 
 /// How a program is looked at while it is read.
-#[derive(Debug, Drop)]
+#[derive(Drop)]
 pub(crate) struct Look {
     /// The place of what is wrong with it as a whole.
     pub program: usize,
+    /// Whether a mark stands before each statement, which says where that begins.
+    pub marks: bool,
     /// Whether kinds are looked at.
     pub at_kinds: bool,
     /// Where a value of another kind than is wanted is blamed, if not where it stands.
@@ -182,6 +184,7 @@ fn first_scope(alloc: Global, arguments: Shared<Arguments>, look: Look, tokens: 
         kinds_at,
         runners,
         constants,
+        ..
     } = look;
     Scope {
         numbered: are_numbered(tokens),
@@ -207,9 +210,10 @@ pub(crate) fn parts<'a>(
     ensures { Returns (λ x. (map string_bytes x.0.items, sources_of x.1.items, x.2.now)) result (spec.parts_at look arguments tokens.now) }
 {
     let inner = expect_symbol(tokens, Symbol::LeftBrace)?;
+    let around = around_all(look.marks);
     let scope = first_scope(alloc, arguments, look, inner);
     let (keys, rest) = list(alloc, &scope, inner)?;
-    let (parts, _, rest) = statements(alloc, &scope, MOST_BRACKETS - 1, Around::Program, rest)?;
+    let (parts, _, rest) = statements(alloc, &scope, MOST_BRACKETS - 1, around, rest)?;
     Ok((keys, parts, rest))
 }
 

@@ -64,6 +64,7 @@ fn rule_look(
     let constants = constants.clone()?;
     Ok(Look {
         program: at,
+        marks: false,
         at_kinds: true,
         kinds_at: None,
         runners,

@@ -1,5 +1,5 @@
 //! Reading sources.
-ghost use Rattle.std.specs.Prelude.{◌≡◌, length};
+ghost use Rattle.std.specs.Prelude.{◌≡◌, length, IfOk};
 ghost use Rattle.stm_terms.specs.Outcome.{Returns};
 ghost use Rattle.stm_terms.specs.Cursor as cursor;
 ghost use Rattle.stm_source.specs.Events as events;
@@ -14,7 +14,7 @@ use crate::starts::start;
 use crate::steps::steps;
 use crate::story::{MOST_BULK, Rule, Story, Wait};
 use crate::words::{EventWord, event_word};
-use std::alloc::Global;
+use std::alloc::{AllocError, Global};
 use stm_history::Sequence;
 use stm_json::MOST_BYTES;
 use stm_terms::{
@@ -103,7 +103,7 @@ fn event_item<'a>(
 }
 
 /// Adds what the next item comes to.
-fn item<'a>(
+pub(crate) fn item<'a>(
     alloc: Global,
     all: &[Token],
     definitions: &mut Definitions,
@@ -129,7 +129,7 @@ fn item<'a>(
 }
 
 /// Whether the source ends here.
-fn at_end(tokens: &[Token]) -> bool
+pub(crate) fn at_end(tokens: &[Token]) -> bool
     ensures { result ≡ spec.at_end tokens.now }
 {
     match tokens.first() {
@@ -175,6 +175,18 @@ pub(crate) fn empty_story(alloc: Global) -> Story
     }
 }
 
+/// What a source defines while nothing of it was read.
+pub(crate) fn empty_definitions(alloc: Global) -> Result<Definitions, AllocError>
+    ensures { IfOk result (λ d. d ≡ spec.no_definitions) }
+{
+    let constants = Shared::new(alloc, Constants::new(alloc))?;
+    Ok(Definitions {
+        names: Names::new(alloc),
+        meanings: Sequence::new(alloc),
+        constants,
+    })
+}
+
 /// What a source is that was read whole.
 fn source_of(story: Story) -> Source
     ensures { result ≡ spec.as_source story }
@@ -203,11 +215,7 @@ fn source_of(story: Story) -> Source
 fn source_at(alloc: Global, tokens: &[Token]) -> Result<Source, SourceError>
     ensures { Returns (λ s. s) result (spec.source_at tokens.now) }
 {
-    let mut definitions = Definitions {
-        names: Names::new(alloc),
-        meanings: Sequence::new(alloc),
-        constants: Shared::new(alloc, Constants::new(alloc))?,
-    };
+    let mut definitions = empty_definitions(alloc)?;
     let mut story = empty_story(alloc);
     items(alloc, &mut definitions, &mut story, tokens)?;
     drop(definitions);

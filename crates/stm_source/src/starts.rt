@@ -27,7 +27,7 @@ use stm_tokens::{Symbol, Token};
 pub(crate) const USUAL_LIMIT: u32 = 2;
 
 /// Behind whose end a runner begins.
-#[derive(Clone, Copy, Debug)]
+#[derive(Clone, Copy)]
 pub(crate) struct After {
     /// The number of that runner.
     pub runner: u64,
@@ -36,7 +36,7 @@ pub(crate) struct After {
 }
 
 /// What a start says besides its program and its names.
-#[derive(Clone, Copy, Debug)]
+#[derive(Clone, Copy)]
 pub(crate) struct Options {
     /// How many names it gives: so many starts it is, one where it gives none.
     pub named: usize,

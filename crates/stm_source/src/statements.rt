@@ -19,6 +19,7 @@ use std::alloc::{AllocError, Global};
 use std::sync::Arc;
 use stm_history::Sequence;
 use stm_leaving::{Copies, Part, PartNode, Parts, closed_parts, is_too_long};
+use stm_marks::mark;
 use stm_program::{Expr, ExprNode, MAX_LEASE, MAX_NODES, Operator, Stmt, StmtNode, Variable};
 use stm_terms::{
     Fronted, FrontedPair, Item, Join, Kind, MOST_BRACKETS, Scope, SharedText, SourceCause,
@@ -32,7 +33,7 @@ use stm_tokens::{Symbol, Token, TokenKind, Word};
 pub(crate) const MOST_STATEMENTS: usize = MAX_NODES + 1;
 
 /// A statement of one value.
-#[derive(Clone, Copy, Debug, PartialEq, Eq)]
+#[derive(Clone, Copy, PartialEq, Eq)]
 pub(crate) enum Simple {
     /// `del`
     Del,
@@ -378,10 +379,36 @@ fn chosen(
     behind(alloc, front, Part { node })
 }
 
-/// How many nodes may follow a copy of a loop's block, of which there may be so many with its own.
-fn copy_room(alloc: Global, copy: &Parts, room: usize) -> Result<usize, AllocError>
-    ensures { IfOk result (λ left. left ≡ spec.copy_room room copy.now) }
+/// A statement that begins at a byte, behind its mark where statements are marked.
+fn with_mark(
+    alloc: Global,
+    around: Around,
+    at: usize,
+    parts: Sequence<Part>,
+) -> Result<Sequence<Part>, AllocError>
+    ensures { IfOk result (λ all. all ≡ spec.with_mark around at parts) }
 {
+    if !around.marks {
+        return Ok(parts);
+    }
+    let mut all = Sequence::new(alloc);
+    all.push(Part {
+        node: PartNode::Plain(mark(alloc, at)?),
+    })?;
+    let mut all = all.into_vec();
+    let mut parts = parts.into_vec();
+    all.append(&mut parts)?;
+    Ok(Sequence::of(all))
+}
+
+/// How many nodes may follow a copy of a loop's block, of which there may be so many with its own. Marks are not counted: all that were read before
+/// without them are read.
+fn copy_room(alloc: Global, around: Around, copy: &Parts, room: usize) -> Result<usize, AllocError>
+    ensures { IfOk result (λ left. left ≡ spec.copy_room around room copy.now) }
+{
+    if around.marks {
+        return Ok(room);
+    }
     if is_too_long(copy, MAX_NODES) {
         return Ok(0);
     }
@@ -412,15 +439,17 @@ fn otherwise<'a>(
     tokens: &'a [Token],
 ) -> Result<(Parts, Ending, &'a [Token]), SourceError>
     requires { more ≤ 127 }
-    ensures { Returns (λ x. (x.0, x.1, x.2.now)) result (spec.else_by (spec.choice_at (spec.block_at levels around) levels scope.now more) (spec.block_at levels around) scope.now tokens.now (cursor.after_word Else tokens.now)) }
+    ensures { Returns (λ x. (x.0, x.1, x.2.now)) result (spec.else_by around (spec.choice_at around (spec.block_at levels around) levels scope.now more) (spec.block_at levels around) scope.now tokens.now (cursor.after_word Else tokens.now)) }
 {
     let Some(rest) = after_word(tokens, Word::Else) else {
         let block = empty_block(alloc)?;
         return Ok((block, Ending::GoesOn, tokens));
     };
+    let at = place(rest);
     match after_word(rest, Word::If) {
         Some(rest) => {
             let (parts, ending, rest) = choice(alloc, scope, levels, around, more, rest)?;
+            let parts = with_mark(alloc, around, at, parts)?;
             let block = block_of_all(alloc, parts)?;
             Ok((block, ending, rest))
         }
@@ -439,7 +468,7 @@ fn choice<'a>(
     tokens: &'a [Token],
 ) -> Result<(Sequence<Part>, Ending, &'a [Token]), SourceError>
     requires { more ≤ 127 }
-    ensures { Returns (λ x. (x.0, x.1, x.2.now)) result (spec.choice_at (spec.block_at levels around) levels scope.now more tokens.now) }
+    ensures { Returns (λ x. (x.0, x.1, x.2.now)) result (spec.choice_at around (spec.block_at levels around) levels scope.now more tokens.now) }
 {
     if more == 0 {
         return Err(fault(scope.program, SourceCause::TooDeep));
@@ -458,7 +487,7 @@ fn choice_between<'a>(
     tokens: &'a [Token],
 ) -> Result<(Sequence<Part>, Ending, &'a [Token]), SourceError>
     requires { more ≤ 127 }
-    ensures { Returns (λ x. (x.0, x.1, x.2.now)) result (spec.choice_by (spec.choice_at (spec.block_at levels around) levels scope.now more) (spec.block_at levels around) levels scope.now tokens.now) }
+    ensures { Returns (λ x. (x.0, x.1, x.2.now)) result (spec.choice_by around (spec.choice_at around (spec.block_at levels around) levels scope.now more) (spec.block_at levels around) levels scope.now tokens.now) }
 {
     let (tested, rest) = condition(alloc, scope, levels, tokens)?;
     let (yes, yes_ending, rest) = block(alloc, scope, levels, around, rest)?;
@@ -520,7 +549,7 @@ fn copies<'a>(
     tokens: &'a [Token],
 ) -> Result<(Vec<Parts>, &'a [Token]), SourceError>
     ensures { Returns (λ x. (x.0.items, x.1.now)) result
-        (spec.copies_from (spec.copy_at (spec.block_at levels (leaving.in_items around)) scope.now name.now) tokens.now MOST_STATEMENTS [] items.now tokens.now) }
+        (spec.copies_from (spec.copy_at (spec.block_at levels (leaving.in_items around)) scope.now name.now) around tokens.now MOST_STATEMENTS [] items.now tokens.now) }
 {
     let mut all = Vec::new(alloc);
     let mut room = MOST_STATEMENTS;
@@ -530,7 +559,7 @@ fn copies<'a>(
             return Ok((all, rest));
         }
         let (parts, behind) = copy(alloc, scope, levels, around, name, item, tokens)?;
-        room = copy_room(alloc, &parts, room)?;
+        room = copy_room(alloc, around, &parts, room)?;
         all.push(parts)?;
         rest = behind;
     }
@@ -548,7 +577,7 @@ fn all_copies<'a>(
     items: &[Item],
     tokens: &'a [Token],
 ) -> Result<(Sequence<Part>, &'a [Token]), SourceError>
-    ensures { Returns (λ x. (x.0, x.1.now)) result (spec.copies_at (spec.block_at levels (leaving.in_items around)) scope.now name.now items.now tokens.now) }
+    ensures { Returns (λ x. (x.0, x.1.now)) result (spec.copies_at around (spec.block_at levels (leaving.in_items around)) scope.now name.now items.now tokens.now) }
 {
     if items.is_empty() {
         let item = unknown_item(alloc)?;
@@ -572,7 +601,7 @@ fn item_loop<'a>(
     name: &str,
     tokens: &'a [Token],
 ) -> Result<(Sequence<Part>, &'a [Token]), SourceError>
-    ensures { Returns (λ x. (x.0, x.1.now)) result (spec.item_loop (spec.block_at levels (leaving.in_items around)) levels scope.now at name.now tokens.now) }
+    ensures { Returns (λ x. (x.0, x.1.now)) result (spec.item_loop around (spec.block_at levels (leaving.in_items around)) levels scope.now at name.now tokens.now) }
 {
     let (items, rest) = items(alloc, scope, at, name, tokens)?;
     let name = shared_name(alloc, name)?;
@@ -709,6 +738,31 @@ fn worded_statement<'a>(
     Ok((all, ending, rest))
 }
 
+/// A statement without its mark, of which the first token has this kind.
+#[cycle(read_statements)]
+fn bare_statement<'a>(
+    alloc: Global,
+    scope: &mut Scope,
+    levels: usize,
+    around: Around,
+    kind: &TokenKind,
+    tokens: &'a [Token],
+    rest: &'a [Token],
+) -> Result<(Sequence<Part>, Ending, &'a [Token]), SourceError>
+    ensures { Returns (λ x. (x.0, x.1, scope.new, x.2.now)) result (spec.statement_kind (spec.block_at levels) levels around scope.old kind.now tokens.now rest.now) }
+{
+    match kind {
+        TokenKind::Word(word) => {
+            worded_statement(alloc, scope, levels, around, *word, tokens, rest)
+        }
+        TokenKind::Name(name) => {
+            let (all, rest) = assignment(alloc, scope, levels, name.as_str(), tokens, rest)?;
+            Ok((all, Ending::GoesOn, rest))
+        }
+        _ => Err(unexpected(tokens)),
+    }
+}
+
 /// A statement.
 #[cycle(read_statements)]
 #[tactic(auto, unfolding(crate::specs::Statements::statement_by))]
@@ -721,19 +775,20 @@ fn statement<'a>(
 ) -> Result<(Sequence<Part>, Ending, &'a [Token]), SourceError>
     ensures { Returns (λ x. (x.0, x.1, scope.new, x.2.now)) result (spec.statement_by (spec.block_at levels) levels around scope.old tokens.now) }
 {
-    let Some((first, rest)) = tokens.split_first() else {
+    let Some((first, behind)) = tokens.split_first() else {
         return Err(unexpected(tokens));
     };
-    match &first.kind {
-        TokenKind::Word(word) => {
-            worded_statement(alloc, scope, levels, around, *word, tokens, rest)
-        }
-        TokenKind::Name(name) => {
-            let (all, rest) = assignment(alloc, scope, levels, name.as_str(), tokens, rest)?;
-            Ok((all, Ending::GoesOn, rest))
-        }
-        _ => Err(unexpected(tokens)),
-    }
+    let (parts, ending, rest) = bare_statement(
+        alloc,
+        scope,
+        levels,
+        around,
+        &first.kind,
+        tokens,
+        behind,
+    )?;
+    let parts = with_mark(alloc, around, first.at, parts)?;
+    Ok((parts, ending, rest))
 }
 
 /// Adds a statement, and what is set in front of it, behind so many, where that many are kept.

@@ -33,7 +33,7 @@ pub struct Wait {
 }
 
 /// A source while it is read.
-#[derive(Debug, Drop)]
+#[derive(Drop)]
 pub(crate) struct Story {
     /// What the store opens with, where that was said.
     pub opening: Option<Opening>,

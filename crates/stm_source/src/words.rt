@@ -7,7 +7,7 @@ use stm_program::Level;
 use stm_tokens::{Symbol, Token, TokenKind};
 
 /// The first word of an event.
-#[derive(Clone, Copy, Debug, PartialEq, Eq)]
+#[derive(Clone, Copy, PartialEq, Eq)]
 pub(crate) enum EventWord {
     /// `begin`
     Begin,
@@ -36,7 +36,7 @@ pub(crate) enum EventWord {
 }
 
 /// What a compare looks at.
-#[derive(Clone, Copy, Debug, PartialEq, Eq)]
+#[derive(Clone, Copy, PartialEq, Eq)]
 pub(crate) enum TargetWord {
     /// `version`
     Version,

@@ -1,5 +1,5 @@
 -- What a crash leaves of a command: of the opening of a file, and of what follows it.
-use Rattle.std.proofs.Common.{◌≡◌, ◌⊎◌, inl, inr, ⊎_elim, ℕ, zero, suc, List, Option, Result, length, refl, sym, ap, ◌∙◌, subst, arith}
+use Rattle.std.proofs.Common.{◌≡◌, ◌⊎◌, inl, inr, ⊎_elim, ℕ, zero, suc, List, [], Option, Result, length, refl, sym, ap, ◌∙◌, subst, arith}
 use Rattle.stm_texts.specs.declared.scenario.Scenario.{Scenario}
 use Rattle.stm_texts.specs.Opens.{setup_of}
 use Rattle.stm_events.specs.declared.reply.Reply.{Reply}
@@ -72,8 +72,8 @@ module _ (mended : List ℕ) (scenario : Scenario) (since : ℕ) (after_it : Wor
     kept = kept_past file kept;
     report = printed.0;
     reported =
-        subst (λ (n : ℕ). IsTextSince n format (world_after scenario.events run.0) scenario.events (replies_to scenario.events run.0) printed.0) run.4
-        (subst (λ (rs : List (Result Reply Denied)). IsTextSince since format (world_after scenario.events run.0) scenario.events rs printed.0) run.3
-        (subst (λ (w : World). IsTextSince since format w scenario.events replies printed.0) run.2 printed.1));
+        subst (λ (n : ℕ). IsTextSince n format [] (world_after scenario.events run.0) scenario.events (replies_to scenario.events run.0) printed.0) run.4
+        (subst (λ (rs : List (Result Reply Denied)). IsTextSince since format [] (world_after scenario.events run.0) scenario.events rs printed.0) run.3
+        (subst (λ (w : World). IsTextSince since format [] w scenario.events replies printed.0) run.2 printed.1));
     printed = printed.2;
   }

@@ -1,8 +1,7 @@
 -- Runs of jobs over the store of a world.
-use Rattle.std.proofs.Common.{◌≡◌, ◌⊎◌, ⊎_elim, ℕ, ◌+◌, ◌<◌, ◌≤◌, sym, ap, ◌∙◌, subst, arith}
+use Rattle.std.proofs.Common.{◌≡◌, ⊎_elim, ℕ, ◌+◌, ◌<◌, ◌≤◌, sym, ap, ◌∙◌, subst, arith}
 use Rattle.std.proofs.lemmas.Bool.{cases_order}
 use Rattle.stm_history.specs.History.{History, now}
-use Rattle.stm_keys.specs.declared.event.Event.{Event}
 use Rattle.stm_keys.specs.Events.{events_of}
 use Rattle.stm_txn.specs.Standing.{Standing}
 use Rattle.stm_storing.specs.Jobs.{AreAlikeSince}

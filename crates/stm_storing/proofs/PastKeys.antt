@@ -1,8 +1,7 @@
 -- The keys that were present at a revision, found one after another.
 use Rattle.std.proofs.Common.{◌≡◌, ◌⊎◌, inl, inr, ⊎_elim, ℕ, zero, suc, ◌+◌, ◌<◌, ◌≤◌, Bool, true, false, cond, List, [], ◌∷◌, length, Option, None, Some}
-use Rattle.std.proofs.Common.{IsSome, is_some, is_eq, nat_cmp, refl, sym, ◌∙◌, ap, subst, arith, eq-eqb, ne_eqb}
+use Rattle.std.proofs.Common.{IsSome, is_eq, nat_cmp, refl, sym, ◌∙◌, ap, subst, arith, eq-eqb, ne_eqb}
 use Rattle.std.specs.Prelude.{bytes_eq, get_or, slice_get, nat_le}
-use Rattle.std.specs.BTreeMap.{is_at}
 use Rattle.std.specs.Cmp.Lexicographic.{slice_cmp, bytes_decides}
 use Rattle.std.specs.List.Sorted.{IsStrictlySortedBy}
 use Rattle.std.specs.Map.{keys_of, lookup}
@@ -12,10 +11,10 @@ use Rattle.std.proofs.lemmas.Map.Text.{is_eq-slice_cmp}
 use Rattle.stm_history.specs.declared.change.Change.{Change}
 use Rattle.stm_history.specs.declared.key_state.KeyState.{KeyState}
 use Rattle.stm_history.specs.Opening.{Opening}
-use Rattle.stm_history.specs.History.{History, now, number_of_last, revisions_up_to, key_at, key_now, key_after, change_of}
+use Rattle.stm_history.specs.History.{History, now, number_of_last, revisions_up_to, key_at, key_now, key_after}
 use Rattle.stm_history.proofs.HistoryLaws.{one_more}
 use Rattle.stm_keys.specs.declared.event.Event.{Event}
-use Rattle.stm_keys.specs.Events.{event_of, events_above, events_numbered, events_of, event_about, after_event, key_of_event}
+use Rattle.stm_keys.specs.Events.{events_above, events_numbered, events_of, event_about, after_event, key_of_event}
 use Rattle.stm_keys.specs.Keys.{ListsPresent}
 use Rattle.stm_keys.proofs.Recorded.{after_about}
 use Rattle.stm_storing.specs.Past.{state_in, HasKey, IsPart, Adds, IsChangedIn, IsPast, StandsBelow}
@@ -32,15 +31,15 @@ module _ (h : History) (r : ℕ) where
 
   -- nothing is added
   pub nothing_added : {A : List ℕ → Type 0} {x : List (List ℕ × KeyState)} → ((q : List ℕ) → A q → ⊥) → Adds h r A x x
-  nothing_added no = record { ordered = λ up. up; part = λ p. p; stays = λ q has. has; has = λ p q a. absurd (no q a) }
+  nothing_added never = record { ordered = λ up. up; part = λ p. p; stays = λ q has. has; has = λ p q a. absurd (never q a) }
 
   -- a key that was absent
   pub absent : (key : List ℕ) (x : List (List ℕ × KeyState)) → key_at h key r ≡ None → Adds h r (λ q. q ≡ key) x x
-  absent key x no = record {
+  absent key x gone = record {
     ordered = λ up. up;
     part = λ p. p;
     stays = λ q has. has;
-    has = λ p q is. ⊎_elim (λ none. none ∙ sym (ap (λ (k : List ℕ). key_at h k r) is ∙ no)) (λ has. has) (p q);
+    has = λ p q is. ⊎_elim (λ none. none ∙ sym (ap (λ (k : List ℕ). key_at h k r) is ∙ gone)) (λ has. has) (p q);
   }
 
   -- a key that was present, in this state
@@ -111,7 +110,7 @@ looked_up (p ∷ present) q s is = by (bytes_eq q p.0) refl (looked_up present q
         → (lookup (bytes_eq q) present ≡ Some s → StandsBelow (λ (p : List ℕ × KeyState). p.0) present (length present) q) → cond b (Some p.1) (lookup (bytes_eq q) present) ≡ Some s
         → StandsBelow (λ (p : List ℕ × KeyState). p.0) (p ∷ present) (length (p ∷ present)) q
     by true same further e = (0, p, omega arith, refl, (bytes_decides q p.0).0 same)
-    by false other further e = let d = further e in (suc d.0, d.1, omega (arith, d.2.0), d.2.1, d.2.2)
+    by false other further e = let d = further e in (suc d.0, d.1, omega (arith, d.2), d.3, d.4)
 
 -- and so does the key of an event
 pub event_stands : (events : List Event) (q : List ℕ) (e : Event) → event_about q events ≡ Some e → StandsBelow key_of_event events (length events) q
@@ -121,7 +120,7 @@ event_stands (x ∷ events) q e is = by (bytes_eq (key_of_event x) q) refl (even
     by : (b : Bool) → bytes_eq (key_of_event x) q ≡ b → (event_about q events ≡ Some e → StandsBelow key_of_event events (length events) q) → cond b (Some x) (event_about q events) ≡ Some e
         → StandsBelow key_of_event (x ∷ events) (length (x ∷ events)) q
     by true same further is_it = (0, x, omega arith, refl, sym ((bytes_decides (key_of_event x) q).0 same))
-    by false other further rest = let d = further rest in (suc d.0, d.1, omega (arith, d.2.0), d.2.1, d.2.2)
+    by false other further rest = let d = further rest in (suc d.0, d.1, omega (arith, d.2), d.3, d.4)
 
 -- ---- a key that no later event is about
 
@@ -242,7 +241,7 @@ revision_added h r at first second = both h r
     by q (n, above, within, some) (inr (inr more)) = absurd (omega (arith, within, more))
 
 pub no_revision : (h : History) (r : ℕ) {x : List (List ℕ × KeyState)} → Adds h r (IsChangedIn h r r) x x
-no_revision h r = nothing_added h r (λ q c. absurd (omega (arith, c.1, c.2.0)))
+no_revision h r = nothing_added h r (λ q c. absurd (omega (arith, c.1, c.2)))
 
 -- ---- all of them
 

@@ -4,7 +4,7 @@
 -- That the calls of a scenario are made before its jobs is `stm_job_texts`'; that a store is kept as what it was asked is our own.
 use Rattle.std.specs.Prelude.{◌≡◌, ◌<◌, ◌≤◌, ℕ, List, map, length, Bool, Option, Ok}
 use Rattle.std.specs.Io.KnownBytes.{Appends}
-use Rattle.stm_history.specs.History.{History, now}
+use Rattle.stm_history.specs.History.{now}
 use Rattle.stm_keys.specs.Events.{events_of}
 use Rattle.stm_txn.specs.Standing.{Standing, kept as kept_of}
 use Rattle.stm_texts.specs.declared.scenario.Scenario.{Scenario}

@@ -70,7 +70,7 @@ pub record HasRunAlone (mended file : List ℕ) (before_it after_it : Option (Li
 -- the report of a world, and of these events since a revision with their replies, was printed
 abbrev pub HasPrinted : Format → ℕ → World → List WorldEvent → List (Result Reply Denied) → Option (List ℕ) → Option (List ℕ) → Type 0
 HasPrinted format since world events replies before_it after_it =
-    (report : List ℕ) × IsTextSince since format world events replies report × Appends before_it after_it report
+    (report : List ℕ) × IsTextSince since format [] world events replies report × Appends before_it after_it report
 
 -- A scenario has run over what was found: the file leads to the world after it, and its report was printed.
 pub record HasGoneOn (format : Format) (found file : List ℕ) (scenario : Scenario) (before_it after_it : Option (List ℕ)) : Type 0 where
@@ -81,7 +81,7 @@ pub record HasGoneOn (format : Format) (found file : List ℕ) (scenario : Scena
   pub ready : IsReady mended before scenario
   pub kept : IsKept file (world_after scenario.events before)
   pub report : List ℕ
-  pub reported : IsTextFrom format before scenario.events report
+  pub reported : IsTextFrom format [] before scenario.events report
   pub printed : Appends before_it after_it report
 
 -- a run of a program has committed over what was found, and lasts
@@ -96,7 +96,7 @@ pub record HasShown (format : Format) (found : List ℕ) (before_it after_it : O
   pub world : World
   pub opens : OpensTo found world
   pub report : List ℕ
-  pub reported : IsTextFrom format world [] report
+  pub reported : IsTextFrom format [] world [] report
   pub printed : Appends before_it after_it report
 
 -- the file opens to some world

@@ -155,7 +155,7 @@ pub(crate) fn print_report<W: Sink>(
     ensures printed { OnOk result (HasPrinted format since world.now events.now replies.now (W.held out.old) (W.held out.new)) }
     ensures silent { IfErr result (λ e. (e ≡ StoreFault.Output → ⊥) → W.held out.new ≡ W.held out.old) }
 {
-    let report = render(alloc, format, since, world, events, replies)?;
+    let report = render(alloc, format, &[], since, world, events, replies)?;
     write_all(out, &report)?;
     Ok(())
 }

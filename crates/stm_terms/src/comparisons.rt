@@ -9,7 +9,7 @@ use stm_program::{Cond, CondNode, Expr, ExprNode};
 use stm_tokens::{Symbol, Token, TokenKind};
 
 /// A comparison of two values.
-#[derive(Clone, Copy, Debug, PartialEq, Eq)]
+#[derive(Clone, Copy, PartialEq, Eq)]
 pub enum Comparison {
     /// `==`
     Equal,

@@ -32,7 +32,7 @@ pub struct Tested {
 }
 
 /// What begins where a condition is wanted, as it turns out.
-#[derive(Debug, Drop)]
+#[derive(Drop)]
 pub enum ValueOrCondition {
     /// A value.
     Value(Valued),
@@ -41,7 +41,7 @@ pub enum ValueOrCondition {
 }
 
 /// What joins two conditions.
-#[derive(Clone, Copy, Debug, PartialEq, Eq)]
+#[derive(Clone, Copy, PartialEq, Eq)]
 pub enum Connective {
     /// `&&`
     And,

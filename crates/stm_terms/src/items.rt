@@ -18,7 +18,7 @@ use stm_program::MAX_TEXT;
 use stm_tokens::{Symbol, Token};
 
 /// The items so far.
-#[derive(Debug, Drop)]
+#[derive(Drop)]
 pub(crate) struct Items {
     /// These, in order.
     pub items: Sequence<Item>,

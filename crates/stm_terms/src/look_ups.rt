@@ -35,7 +35,7 @@ pub struct LookUp {
 }
 
 /// A look-up that is set in front of its statement.
-#[derive(Debug, Drop)]
+#[derive(Drop)]
 pub(crate) struct Lift {
     /// The variable that it is set to.
     pub variable: Variable,
@@ -44,7 +44,7 @@ pub(crate) struct Lift {
 }
 
 /// What is set in front of a statement.
-#[derive(Debug, Drop)]
+#[derive(Drop)]
 pub(crate) struct Fronts {
     /// How many look-ups.
     pub done: usize,

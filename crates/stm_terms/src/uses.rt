@@ -24,7 +24,7 @@ pub struct Defined {
 }
 
 /// How many of the look-ups of a definition were copied, and those of the copy.
-#[derive(Debug, Drop)]
+#[derive(Drop)]
 pub(crate) struct Copying {
     /// How many were.
     pub done: usize,

@@ -27,7 +27,7 @@ use stm_program::{Expr, ExprNode, MAX_TEXT, Operator, Variable};
 use stm_tokens::{Symbol, Token, TokenKind, Word};
 
 /// What is computed of one value.
-#[derive(Clone, Copy, Debug, PartialEq, Eq)]
+#[derive(Clone, Copy, PartialEq, Eq)]
 pub enum Call {
     /// `get`
     Get,

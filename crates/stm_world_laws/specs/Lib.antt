@@ -1,3 +1,11 @@
 pub mod WrongLogs
 pub mod Notifying
 pub mod WrongFailures
+pub mod Reasons
+pub mod Commits
+pub mod Accounts
+pub mod Queues
+pub mod Slots
+pub mod WrongEntries
+pub mod Readers
+pub mod Worlds

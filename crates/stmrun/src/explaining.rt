@@ -3,13 +3,14 @@ ghost use Rattle.std.specs.Prelude.{◌≡◌, false};
 
 use crate::files::{Opened, open};
 use crate::noting::Noting;
-use crate::sources::JsonFile;
+use crate::sources::{Given, JsonFile, say_of_runs};
 use crate::terminals::{Told, close, shown_budget};
 use std::io;
-use std::io::Input;
+use std::io::{Input, Write};
 use std::rt::Files;
 use stm_commands::{
-    Format, KeptSource, Std, check_explained_to, check_whole_explained_to, script_explained_to,
+    Format, KeptSource, RunnerLabel, Std, check_explained_to, check_whole_explained_to,
+    script_explained_to,
 };
 use stm_explain::is_hidden;
 use stm_exploring::{Level, Question, Wait, explore_explained_to, outcomes_explained_to};
@@ -66,14 +67,40 @@ pub(crate) fn say_unwritten(rt: &HostRuntime, failure: Option<io::Error>) {
     }
 }
 
-/// Runs a scenario.
-pub(crate) fn run_script(rt: &HostRuntime, scenario: &JsonFile<'_>, format: Format) -> u8 {
+/// Runs a scenario whose runners have these labels, and says on `err` what is wrong.
+fn script_on<E: Write + Drop>(
+    rt: &HostRuntime,
+    scenario: &JsonFile<'_>,
+    format: Format,
+    labels: &[RunnerLabel],
+    err: &mut Std<E>,
+) -> u8
+    requires { err.old.failed ≡ false }
+{
     let mut input = kept_json(rt, scenario);
     let mut out = Std::new(Noting::new(rt.stdout()));
-    let mut err = Std::new(rt.stderr());
-    let status = script_explained_to(rt.alloc(), format, &mut input, &mut out, &mut err);
+    let status = script_explained_to(rt.alloc(), format, labels, &mut input, &mut out, err);
     say_unread(rt, input.name, input.source.device.failure);
     say_unwritten(rt, out.device.failure);
+    status
+}
+
+/// Runs a scenario. What is said of runs has the places of its source, where it has one, and the names that this gives to runners.
+pub(crate) fn run_script(
+    rt: &HostRuntime,
+    given: &Given<'_>,
+    format: Format,
+    labels: &[RunnerLabel],
+) -> u8 {
+    if given.text.is_none() {
+        let mut err = Std::new(rt.stderr());
+        return script_on(rt, &given.scenario, format, labels, &mut err);
+    }
+    let said: Vec<u8> = Vec::new(rt.alloc());
+    let mut err = Std::new(said);
+    let status = script_on(rt, &given.scenario, format, labels, &mut err);
+    let said = str::from_utf8(err.device.as_slice()).unwrap_or("");
+    say_of_runs(rt, given, said);
     status
 }
 
@@ -131,15 +158,17 @@ pub(crate) fn run_rule(
 }
 
 /// Goes through the interleavings of a scenario.
-pub(crate) fn run_outcomes(
+pub(crate) fn run_outcomes<O: Write + Drop>(
     rt: &HostRuntime,
     question: Question,
     scenario: &JsonFile<'_>,
     level: Option<Level>,
     budget: Told<'_>,
-) -> u8 {
+    out: &mut Std<Noting<O>>,
+) -> u8
+    requires { out.old.failed ≡ false }
+{
     let mut scenario = kept_json(rt, scenario);
-    let mut out = Std::new(Noting::new(rt.stdout()));
     let mut err = Std::new(rt.stderr());
     let mut budget = shown_budget(rt, budget, true);
     let status = outcomes_explained_to(
@@ -148,7 +177,7 @@ pub(crate) fn run_outcomes(
         &mut scenario,
         level,
         &mut budget,
-        &mut out,
+        out,
         &mut err,
     );
     let status = close(&mut budget, status);

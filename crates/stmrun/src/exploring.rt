@@ -1,12 +1,15 @@
 //! The command `explore` on the files of paths.
+ghost use Rattle.std.specs.Prelude.{◌≡◌, false};
 
 use crate::explaining;
-use crate::resuming::run_source;
+use crate::found::{Form, only_level, print_found, run_rules_in, runners_of};
+use crate::noting::Noting;
 use crate::rules::{is_json, named_in, rules_named, rules_of, unnamed_rule};
-use crate::ruling::{Question, run_rules};
-use crate::sources::{JsonFile, SourceText, say_unasked, source_at, text_at};
+use crate::ruling::Question;
+use crate::sources::{Given, JsonFile, SourceText, say_unasked, source_at, source_text};
 use crate::terminals::{Told, close, shown_budget};
 use crate::waits::{read_waits, refuse_beside, refuse_without_rule};
+use std::io::Write;
 use std::slice;
 use stm_arguments::{ExploreWords, Levels};
 use stm_commands::Std;
@@ -32,8 +35,8 @@ pub(crate) struct Search<'a, 'w> {
     pub(crate) told: Told<'a>,
     /// Whether a fault is explained.
     pub(crate) explain: bool,
-    /// The source of the scenario, where it has one.
-    pub(crate) source: Option<&'a SourceText>,
+    /// In what form schedules are printed.
+    pub(crate) form: Form<'a>,
 }
 
 /// Looks through the interleavings of a scenario for one that breaks the rule of a file, at a level, or at each start's own.
@@ -80,14 +83,7 @@ fn ask(
         waits,
         told: search.told,
     };
-    let explain = search.explain;
-    match (search.source, search.levels) {
-        (Some(source), Levels::Own) => run_source(rt, &question, source, None, explain),
-        (Some(source), Levels::One(level)) => {
-            run_source(rt, &question, source, Some(level), explain)
-        }
-        (_, levels) => run_rules(rt, &question, levels, explain),
-    }
+    run_rules_in(rt, &question, search.levels, search.form, search.explain)
 }
 
 /// What is asked of a scenario without a rule.
@@ -104,19 +100,21 @@ fn question_of(search: &Search<'_, '_>) -> Sought {
     }
 }
 
-/// Goes through the interleavings of a scenario, at a level, or at each start's own.
-fn run_outcomes(
+/// Goes through the interleavings of a scenario.
+fn run_outcomes<O: Write + Drop>(
     rt: &HostRuntime,
     search: &Search<'_, '_>,
     scenario: &JsonFile<'_>,
-    level: Option<Level>,
-) -> u8 {
+    out: &mut Std<Noting<O>>,
+) -> u8
+    requires { out.old.failed ≡ false }
+{
     let question = question_of(search);
+    let level = only_level(search.levels);
     if search.explain {
-        return explaining::run_outcomes(rt, question, scenario, level, search.told);
+        return explaining::run_outcomes(rt, question, scenario, level, search.told, out);
     }
     let mut scenario = Std::new(scenario.open(rt));
-    let mut out = Std::new(rt.stdout());
     let mut err = Std::new(rt.stderr());
     let mut budget = shown_budget(rt, search.told, false);
     let status = outcomes_to(
@@ -125,10 +123,29 @@ fn run_outcomes(
         &mut scenario,
         level,
         &mut budget,
-        &mut out,
+        out,
         &mut err,
     );
     close(&mut budget, status)
+}
+
+/// Goes through the interleavings of a scenario, and prints what was found in the form that is asked for.
+fn run_outcomes_in(rt: &HostRuntime, search: &Search<'_, '_>, scenario: &JsonFile<'_>) -> u8 {
+    if let Form::Lines = search.form {
+        let mut out = Std::new(Noting::new(rt.stdout()));
+        return run_outcomes(rt, search, scenario, &mut out);
+    }
+    let mut out = Std::new(Noting::new(Vec::new(rt.alloc())));
+    let status = run_outcomes(rt, search, scenario, &mut out);
+    let printed = out.device.into_device();
+    print_found(
+        rt,
+        search.form,
+        search.levels,
+        printed.as_slice(),
+        status,
+        search.explain,
+    )
 }
 
 /// Goes through the interleavings of a scenario; all levels are refused, unless it is looked for serial orders.
@@ -138,10 +155,8 @@ fn search_outcomes(
     scenario: &JsonFile<'_>,
 ) -> Result<u8, u8> {
     match search.levels {
-        Levels::Own => Ok(run_outcomes(rt, search, scenario, None)),
-        Levels::One(level) => Ok(run_outcomes(rt, search, scenario, Some(level))),
-        Levels::All if search.serial => Ok(run_outcomes(rt, search, scenario, None)),
-        Levels::All => Err(refuse_without_rule(rt, "--level all")),
+        Levels::All if !search.serial => Err(refuse_without_rule(rt, "--level all")),
+        Levels::Own | Levels::One(_) | Levels::All => Ok(run_outcomes_in(rt, search, scenario)),
     }
 }
 
@@ -154,10 +169,12 @@ fn search_rule(
     waits: &[Wait],
 ) -> Result<u8, u8> {
     let rule = JsonFile::Json(path);
-    match search.levels {
-        Levels::Own => Ok(run_rule(rt, search, scenario, &rule, waits, None)),
-        Levels::One(level) => Ok(run_rule(rt, search, scenario, &rule, waits, Some(level))),
-        Levels::All => {
+    match (search.levels, search.form) {
+        (Levels::Own, Form::Lines) => Ok(run_rule(rt, search, scenario, &rule, waits, None)),
+        (Levels::One(level), Form::Lines) => {
+            Ok(run_rule(rt, search, scenario, &rule, waits, Some(level)))
+        }
+        _ => {
             let rule = unnamed_rule(rt, &rule, search.explain)?;
             Ok(ask(rt, search, scenario, slice::from_ref(&rule), waits))
         }
@@ -180,7 +197,7 @@ fn say_others(rt: &HostRuntime, search: &Search<'_, '_>, rules: &[SourceRule]) -
             .iter()
             .any(|word| is_named(word, search.path, rule))
         {
-            say_unasked(rt, slice::from_ref(rule), &[])?;
+            say_unasked(rt, slice::from_ref(rule), &[], &[])?;
         }
     }
     Ok(())
@@ -198,7 +215,7 @@ fn refuse_waiting(
     if waits.is_empty() {
         return Ok(());
     }
-    say_unasked(rt, &[], waits)?;
+    say_unasked(rt, &[], waits, search.told.runners)?;
     let _ = rt.eprintln("stmrun: explore lets runners wait where a rule is asked");
     Err(2)
 }
@@ -228,7 +245,7 @@ fn search_without(
     scenario: &JsonFile<'_>,
     beside: &Beside,
 ) -> Result<u8, u8> {
-    say_unasked(rt, beside.rules.as_slice(), &[])?;
+    say_unasked(rt, beside.rules.as_slice(), &[], &[])?;
     refuse_waiting(rt, search, beside.waits.as_slice())?;
     search_outcomes(rt, search, scenario)
 }
@@ -272,6 +289,24 @@ fn refuse_rules(rt: &HostRuntime, words: &ExploreWords<'_>) -> Result<(), u8> {
     Ok(())
 }
 
+/// The form that is asked for by its name, or that of the source of the scenario, where it has one.
+fn form_of<'a>(format: Option<&str>, source: Option<&'a SourceText>) -> Form<'a> {
+    match (format, source) {
+        (Some("text"), _) => Form::Text(source),
+        (_, Some(source)) => Form::Source(source),
+        (_, None) => Form::Lines,
+    }
+}
+
+/// How many events may be taken, and how runners are named.
+fn told_of<'a>(words: &ExploreWords<'_>, source: Option<&'a SourceText>) -> Told<'a> {
+    Told {
+        events: words.budget,
+        runners: runners_of(source),
+        strict: words.strict,
+    }
+}
+
 /// Looks through the interleavings of a path's scenario for one that breaks a rule, one that words name, or where there are none one of its source, or
 /// where that has none for what they come to. Only one of the scenario and the rules can be standard input.
 pub(crate) fn run_search(
@@ -284,15 +319,12 @@ pub(crate) fn run_search(
         return Err(2);
     }
     refuse_rules(rt, words)?;
-    let (scenario, beside) = source_at(rt, words.scenario, explain)?;
-    let text = match scenario {
-        JsonFile::Compiled(_, _) => text_at(rt, words.scenario, &beside),
-        JsonFile::Json(_) | JsonFile::Held(_) => None,
-    };
-    let runners = match &text {
-        Some(text) => text.runners.as_slice(),
-        None => &[],
-    };
+    let Given {
+        scenario,
+        beside,
+        text,
+    } = source_at(rt, words.scenario, explain)?;
+    let source = source_text(rt, text, &beside);
     let search = Search {
         path: words.scenario,
         keeps: words.keeps.as_slice(),
@@ -300,13 +332,9 @@ pub(crate) fn run_search(
         levels: words.levels,
         witness: words.witness,
         serial: words.serial,
-        told: Told {
-            events: words.budget,
-            runners,
-            strict: words.strict,
-        },
+        told: told_of(words, source.as_ref()),
         explain,
-        source: text.as_ref(),
+        form: form_of(words.format, source.as_ref()),
     };
     if search.keeps.is_empty() {
         search_own(rt, &search, &scenario, beside)

@@ -11,6 +11,7 @@ mod auditing;
 mod explaining;
 mod exploring;
 mod files;
+mod found;
 mod naming;
 mod noting;
 mod resuming;
@@ -27,7 +28,7 @@ use explaining::{name_of, say_unread, say_unwritten};
 use exploring::run_search;
 use files::open;
 use noting::Noting;
-use sources::{JsonFile, run_compile, scenario_at};
+use sources::{Given, JsonFile, given_at, labels_of, run_compile, scenario_at};
 use std::alloc::{AllocError, Global};
 use std::process::ExitCode;
 use std::sync::Wait;
@@ -37,7 +38,7 @@ use stm_arguments::{
     ThreadsWords, asked_of, cut_words, plain_words, print_topic, read_words, topic_of,
 };
 pub use stm_audit::audit_to;
-use stm_commands::{Format, RecipeWords, Shown, Std, no_format_to};
+use stm_commands::{Format, RecipeWords, RunnerLabel, Shown, Std, no_format_to};
 pub use stm_commands::{
     check_explained_to, check_to, check_whole_explained_to, check_whole_to, recipe_to,
     script_as_to, script_explained_to, script_to, show_to,
@@ -54,12 +55,17 @@ fn path_of(named: Option<&str>) -> &str {
     named.unwrap_or("-")
 }
 
-/// Runs a scenario.
-fn run_script(rt: &HostRuntime, scenario: &JsonFile<'_>, format: Format) -> u8 {
+/// Runs a scenario whose runners have these labels.
+fn run_script(
+    rt: &HostRuntime,
+    scenario: &JsonFile<'_>,
+    format: Format,
+    labels: &[RunnerLabel],
+) -> u8 {
     let mut input = Std::new(scenario.open(rt));
     let mut out = Std::new(rt.stdout());
     let mut err = Std::new(rt.stderr());
-    script_as_to(rt.alloc(), format, &mut input, &mut out, &mut err)
+    script_as_to(rt.alloc(), format, labels, &mut input, &mut out, &mut err)
 }
 
 /// The format of this name, or that of lines.
@@ -73,14 +79,33 @@ fn format_of(word: Option<&str>) -> Option<Format>
     }
 }
 
-/// Runs the scenario of a path, or that on standard input, where the word names a format. A fault is explained, or is not.
-fn run_script_in(rt: &HostRuntime, path: Option<&str>, word: Option<&str>, explain: bool) -> u8 {
-    let Some(format) = format_of(word) else {
+/// What a report in a format calls the runners of a scenario: in lines and objects they have their numbers alone.
+fn labels_in(rt: &HostRuntime, given: &Given<'_>, format: Format) -> Result<Vec<RunnerLabel>, u8> {
+    match format {
+        Format::Lines | Format::Json => Ok(Vec::new(rt.alloc())),
+        _ => labels_of(rt, given),
+    }
+}
+
+/// Writes the report of the scenario of a path in a format. A fault is explained, or is not.
+fn report_script(rt: &HostRuntime, path: &str, format: Format, explain: bool) -> Result<u8, u8> {
+    let given = given_at(rt, path, explain)?;
+    let labels = labels_in(rt, &given, format)?;
+    let labels = labels.as_slice();
+    if explain {
+        return Ok(explaining::run_script(rt, &given, format, labels));
+    }
+    Ok(run_script(rt, &given.scenario, format, labels))
+}
+
+/// Runs the scenario of a path, or that on standard input, where its word names a format. A fault is explained, or is not.
+fn run_script_in(rt: &HostRuntime, words: &ScriptWords<'_>, explain: bool) -> u8 {
+    let Some(format) = format_of(words.format) else {
         return no_format_to(&mut Std::new(rt.stderr()));
     };
-    match scenario_at(rt, path_of(path), explain) {
-        Ok(scenario) if explain => explaining::run_script(rt, &scenario, format),
-        Ok(scenario) => run_script(rt, &scenario, format),
+    let format = format.with_width(words.width);
+    match report_script(rt, path_of(words.scenario), format, explain) {
+        Ok(status) => status,
         Err(status) => status,
     }
 }
@@ -162,7 +187,7 @@ fn explains(rt: &HostRuntime, plain: &PlainWords, explain: bool) -> bool {
 fn run_scenario(rt: &HostRuntime, words: &ScriptWords<'_>, explain: bool) -> u8 {
     match words.store {
         Some(store) => run_stored_script(rt, store, words, explain),
-        None => run_script_in(rt, words.scenario, words.format, explain),
+        None => run_script_in(rt, words, explain),
     }
 }
 

@@ -27,18 +27,45 @@ fn name_in<'a>(runners: &'a [NamedRunner], digits: &str) -> Option<&'a str> {
     }
 }
 
-/// A line with the name of the runner that it is about, if its source gives it one. Behind a quote stand words of others, in which nothing is a number of
-/// a runner.
-pub(crate) fn with_name(
+/// Adds a runner, by what stands behind that word: with its name, if its source gives it one.
+fn push_runner(
+    alloc: Global,
+    out: &mut String,
+    runners: &[NamedRunner],
+    behind: &str,
+) -> Result<(), AllocError> {
+    let (digits, rest) = digits_of(behind);
+    match name_in(runners, digits) {
+        Some(name) => {
+            let named = format!(in alloc; "{name} (runner {digits}){rest}")?;
+            out.push_str(named.as_str())
+        }
+        None => {
+            out.push_str(RUNNER)?;
+            out.push_str(behind)
+        }
+    }
+}
+
+/// A line with the names of the runners that it is about, where their source gives them some. Behind a quote stand words of others, in which nothing is
+/// the number of a runner.
+pub(crate) fn with_names(
     alloc: Global,
     runners: &[NamedRunner],
     line: &str,
 ) -> Result<String, AllocError> {
-    if let Some((front, behind)) = line.split_once(RUNNER) {
-        let (digits, rest) = digits_of(behind);
-        if let (false, Some(name)) = (front.contains('"'), name_in(runners, digits)) {
-            return format!(in alloc; "{front}{name} (runner {digits}){rest}");
+    let mut named = String::new(alloc);
+    let mut are_others = false;
+    for (index, part) in line.split(RUNNER).enumerate() {
+        if index == 0 {
+            named.push_str(part)?;
+        } else if are_others {
+            named.push_str(RUNNER)?;
+            named.push_str(part)?;
+        } else {
+            push_runner(alloc, &mut named, runners, part)?;
         }
+        are_others = are_others || part.contains('"');
     }
-    String::from_str(alloc, line)
+    Ok(named)
 }

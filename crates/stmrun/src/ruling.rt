@@ -9,8 +9,8 @@ use std::io::Write;
 use stm_arguments::Levels;
 use stm_commands::Std;
 use stm_exploring::{
-    Level, Rule, Wait, explore_levels_explained_to, explore_levels_to, explore_rules_explained_to,
-    explore_rules_to,
+    Budget, Level, Nobody, Rule, Wait, explore_levels_explained_to, explore_levels_to,
+    explore_rules_explained_to, explore_rules_to,
 };
 
 /// What is searched, and for what.
@@ -55,7 +55,7 @@ fn search_explained<O: Write + Drop>(
 }
 
 /// Looks for rules at a level, or at each start's own. A fault is explained, or is not.
-pub(crate) fn search<O: Write + Drop>(
+fn search<O: Write + Drop>(
     rt: &HostRuntime,
     question: &Question<'_>,
     level: Option<Level>,
@@ -84,9 +84,14 @@ pub(crate) fn search<O: Write + Drop>(
 }
 
 /// Looks for rules at each level, and explains faults.
-fn search_levels_explained(rt: &HostRuntime, question: &Question<'_>) -> u8 {
+fn search_levels_explained<O: Write + Drop>(
+    rt: &HostRuntime,
+    question: &Question<'_>,
+    out: &mut Std<Noting<O>>,
+) -> u8
+    requires { out.old.failed ≡ false }
+{
     let mut scenario = kept_json(rt, question.scenario);
-    let mut out = Std::new(Noting::new(rt.stdout()));
     let mut err = Std::new(rt.stderr());
     let mut budget = shown_budget(rt, question.told, true);
     let status = explore_levels_explained_to(
@@ -95,7 +100,7 @@ fn search_levels_explained(rt: &HostRuntime, question: &Question<'_>) -> u8 {
         question.rules,
         question.waits,
         &mut budget,
-        &mut out,
+        out,
         &mut err,
     );
     let status = close(&mut budget, status);
@@ -105,12 +110,18 @@ fn search_levels_explained(rt: &HostRuntime, question: &Question<'_>) -> u8 {
 }
 
 /// Looks for rules at each level. A fault is explained, or is not.
-fn search_levels(rt: &HostRuntime, question: &Question<'_>, explain: bool) -> u8 {
+fn search_levels<O: Write + Drop>(
+    rt: &HostRuntime,
+    question: &Question<'_>,
+    explain: bool,
+    out: &mut Std<Noting<O>>,
+) -> u8
+    requires { out.old.failed ≡ false }
+{
     if explain {
-        return search_levels_explained(rt, question);
+        return search_levels_explained(rt, question, out);
     }
     let mut scenario = Std::new(question.scenario.open(rt));
-    let mut out = Std::new(rt.stdout());
     let mut err = Std::new(rt.stderr());
     let mut budget = shown_budget(rt, question.told, false);
     let status = explore_levels_to(
@@ -119,23 +130,53 @@ fn search_levels(rt: &HostRuntime, question: &Question<'_>, explain: bool) -> u8
         question.rules,
         question.waits,
         &mut budget,
-        &mut out,
+        out,
         &mut err,
     );
     close(&mut budget, status)
 }
 
 /// Looks through the interleavings of a scenario for one that breaks a rule, for each of these rules. A fault is explained, or is not.
-pub(crate) fn run_rules(
+pub(crate) fn run_rules<O: Write + Drop>(
     rt: &HostRuntime,
     question: &Question<'_>,
     levels: Levels,
     explain: bool,
-) -> u8 {
-    let mut out = Std::new(Noting::new(rt.stdout()));
+    out: &mut Std<Noting<O>>,
+) -> u8
+    requires { out.old.failed ≡ false }
+{
     match levels {
-        Levels::Own => search(rt, question, None, explain, &mut out),
-        Levels::One(level) => search(rt, question, Some(level), explain, &mut out),
-        Levels::All => search_levels(rt, question, explain),
+        Levels::Own => search(rt, question, None, explain, out),
+        Levels::One(level) => search(rt, question, Some(level), explain, out),
+        Levels::All => search_levels(rt, question, explain, out),
     }
+}
+
+/// The same at one level, of which nothing is said on standard error.
+pub(crate) fn search_silently<O: Write + Drop>(
+    rt: &HostRuntime,
+    question: &Question<'_>,
+    level: Level,
+    out: &mut Std<Noting<O>>,
+) -> u8
+    requires { out.old.failed ≡ false }
+{
+    let mut scenario = Std::new(question.scenario.open(rt));
+    let said: Vec<u8> = Vec::new(rt.alloc());
+    let mut err = Std::new(said);
+    let mut budget = Budget {
+        left: question.told.events,
+        observer: Nobody,
+    };
+    explore_rules_to(
+        rt.alloc(),
+        &mut scenario,
+        question.rules,
+        question.waits,
+        Some(level),
+        &mut budget,
+        out,
+        &mut err,
+    )
 }

@@ -3,13 +3,15 @@ ghost use Rattle.std.specs.Prelude.{◌≡◌, false};
 
 use crate::explaining::{name_of, say_unread, say_unwritten};
 use crate::files::{Opened, open, open_beside};
+use crate::naming::with_names;
 use crate::noting::Noting;
+use std::alloc::{AllocError, Global};
 use std::io::Input;
 use std::rt::Files;
-use stm_commands::Std;
+use stm_commands::{RunnerLabel, Std};
 use stm_compiling::{
-    Beside, Compiled, NamedRunner, Part, Rule, Wait, compile_to, compiled, compiled_part,
-    named_runners, notes_of,
+    Beside, CalledRunner, Compiled, NamedRunner, Part, Rule, SourcePlaces, Wait, called_runners,
+    compile_to, compiled, compiled_part, named_runners, notes_of,
 };
 use stm_devices::{ReadFault, read_all};
 use stm_history::{Sequence, Text};
@@ -17,13 +19,16 @@ use stm_history::{Sequence, Text};
 /// What the names of sources end in.
 pub(crate) const ENDING: &str = ".stm";
 
+/// What stands behind the name of a source in that of its line of JSON.
+const COMPILED: &str = ", compiled";
+
 /// The path of standard input.
 const STANDARD: &str = "-";
 
 /// The words and signs with which a source begins, and nothing that is JSON.
-const BEGINNINGS: [&str; 16] = [
-    "program", "rule", "finally", "begin", "start", "step", "txn", "grant", "keep", "revoke",
-    "advance", "watch", "poll", "cancel", "compact", "//",
+const BEGINNINGS: [&str; 17] = [
+    "program", "rule", "let", "finally", "begin", "start", "step", "txn", "grant", "keep",
+    "revoke", "advance", "watch", "poll", "cancel", "compact", "//",
 ];
 
 /// What is read as JSON.
@@ -76,22 +81,34 @@ pub(crate) fn is_source(path: &str) -> bool {
 /// The line of a source of a path, as it is read.
 fn line_of<'a>(rt: &HostRuntime, path: &str, line: Text) -> Result<JsonFile<'a>, u8> {
     let name = name_of(path);
-    match format!(in rt.alloc(); "{name}, compiled") {
+    match format!(in rt.alloc(); "{name}{COMPILED}") {
         Ok(name) => Ok(JsonFile::Compiled(line, name)),
         Err(_) => Err(out_of_memory(rt)),
     }
 }
 
-/// The source of a path, compiled; or the status, once what is wrong with it was said. It is explained, or is not.
-fn compiled_at(rt: &HostRuntime, path: &str, explain: bool) -> Result<Compiled, u8> {
+/// What the file of a path has, or standard input, or the status, once it was said why it cannot be read.
+fn bytes_at(rt: &HostRuntime, path: &str, explain: bool) -> Result<Vec<u8>, u8> {
     let mut input = Std::new(Noting::new(open(rt, path)));
+    let read = read_all(rt.alloc(), &mut input);
+    match read {
+        Ok(bytes) => Ok(bytes),
+        Err(ReadFault::OutOfMemory) => Err(out_of_memory(rt)),
+        Err(ReadFault::Device) => {
+            let _ = rt.eprintln("stmrun: device fault");
+            if explain {
+                say_unread(rt, name_of(path), input.device.failure);
+            }
+            Err(3)
+        }
+    }
+}
+
+/// The source of a path, which has these bytes, compiled; or the status, once what is wrong with it was said. It is explained, or is not.
+fn compiled_of(rt: &HostRuntime, path: &str, bytes: &[u8], explain: bool) -> Result<Compiled, u8> {
     let mut err = Std::new(rt.stderr());
     let name = explained_name(path, explain);
-    let compiled = compiled(rt.alloc(), name, &mut input, &mut err);
-    if explain {
-        say_unread(rt, name_of(path), input.device.failure);
-    }
-    compiled
+    compiled(rt.alloc(), name, &mut Std::new(bytes), &mut err)
 }
 
 /// The text with which bytes begin.
@@ -116,52 +133,57 @@ fn begins_source(text: &str) -> bool {
     false
 }
 
-/// What standard input has, or the status, once it was said why it cannot be read.
-fn standard_bytes(rt: &HostRuntime, explain: bool) -> Result<Vec<u8>, u8> {
-    let mut input = Std::new(Noting::new(open(rt, STANDARD)));
-    let read = read_all(rt.alloc(), &mut input);
-    match read {
-        Ok(bytes) => Ok(bytes),
-        Err(ReadFault::OutOfMemory) => Err(out_of_memory(rt)),
-        Err(ReadFault::Device) => {
-            let _ = rt.eprintln("stmrun: device fault");
-            if explain {
-                say_unread(rt, name_of(STANDARD), input.device.failure);
-            }
-            Err(3)
-        }
+/// A scenario, and what is known of its source.
+#[derive(Drop)]
+pub(crate) struct Given<'a> {
+    /// The scenario.
+    pub(crate) scenario: JsonFile<'a>,
+    /// What its source has beside it: nothing, where it has none.
+    pub(crate) beside: Beside,
+    /// Its source, where it has one.
+    pub(crate) text: Option<String>,
+}
+
+/// The scenario of a source of these bytes.
+fn given_by<'a>(
+    rt: &HostRuntime,
+    path: &str,
+    bytes: Vec<u8>,
+    explain: bool,
+) -> Result<Given<'a>, u8> {
+    let Compiled { line, beside } = compiled_of(rt, path, bytes.as_slice(), explain)?;
+    let scenario = line_of(rt, path, line)?;
+    Ok(Given {
+        scenario,
+        beside,
+        text: String::from_utf8(bytes).ok(),
+    })
+}
+
+/// A scenario that has no source.
+fn given_alone<'a>(rt: &HostRuntime, scenario: JsonFile<'a>) -> Given<'a> {
+    Given {
+        scenario,
+        beside: Beside::nothing(rt.alloc()),
+        text: None,
     }
 }
 
-/// The scenario on standard input, and what its source has beside it, where it begins as a source does.
-fn standard_at<'a>(rt: &HostRuntime, explain: bool) -> Result<(JsonFile<'a>, Beside), u8> {
-    let bytes = standard_bytes(rt, explain)?;
-    if !begins_source(front_of(bytes.as_slice())) {
-        return Ok((JsonFile::Held(bytes), Beside::nothing(rt.alloc())));
-    }
-    let mut err = Std::new(rt.stderr());
-    let name = explained_name(STANDARD, explain);
-    let compiled = compiled(rt.alloc(), name, &mut Std::new(bytes.as_slice()), &mut err);
-    let Compiled { line, beside } = compiled?;
-    let scenario = line_of(rt, STANDARD, line)?;
-    Ok((scenario, beside))
-}
-
-/// The scenario of a path, and what its source has beside it; or the status, once what is wrong with that was said. It is explained, or is not.
+/// The scenario of a path, and what is known of its source; or the status, once what is wrong with that was said. It is explained, or is not.
 pub(crate) fn source_at<'a>(
     rt: &HostRuntime,
     path: &'a str,
     explain: bool,
-) -> Result<(JsonFile<'a>, Beside), u8> {
-    if path == STANDARD {
-        return standard_at(rt, explain);
+) -> Result<Given<'a>, u8> {
+    if path != STANDARD && !is_source(path) {
+        return Ok(given_alone(rt, JsonFile::Json(path)));
     }
-    if !is_source(path) {
-        return Ok((JsonFile::Json(path), Beside::nothing(rt.alloc())));
+    let bytes = bytes_at(rt, path, explain)?;
+    if is_source(path) || begins_source(front_of(bytes.as_slice())) {
+        given_by(rt, path, bytes, explain)
+    } else {
+        Ok(given_alone(rt, JsonFile::Held(bytes)))
     }
-    let Compiled { line, beside } = compiled_at(rt, path, explain)?;
-    let scenario = line_of(rt, path, line)?;
-    Ok((scenario, beside))
 }
 
 /// A source as people read it.
@@ -171,46 +193,164 @@ pub(crate) struct SourceText {
     pub(crate) text: String,
     /// The runners that it names.
     pub(crate) runners: Vec<NamedRunner>,
+    /// What tables call its runners.
+    pub(crate) labels: Vec<RunnerLabel>,
 }
 
-/// The text of the source of a path, which has this beside its scenario; none, where it cannot be read again.
-pub(crate) fn text_at(rt: &HostRuntime, path: &str, beside: &Beside) -> Option<SourceText> {
-    if path == STANDARD {
-        return None;
+/// A source of this text, which has this beside its scenario; none, where an allocation fails.
+pub(crate) fn source_text(
+    rt: &HostRuntime,
+    text: Option<String>,
+    beside: &Beside,
+) -> Option<SourceText> {
+    let text = text?;
+    let runners = named_runners(rt.alloc(), text.as_bytes(), beside).ok()?;
+    let labels = labels_in_source(rt.alloc(), text.as_str()).ok()?;
+    Some(SourceText {
+        text,
+        runners,
+        labels,
+    })
+}
+
+/// The labels of runners that are called so.
+fn labels_of_called(
+    alloc: Global,
+    called: Vec<CalledRunner>,
+) -> Result<Vec<RunnerLabel>, AllocError> {
+    let mut labels = Vec::new(alloc);
+    for runner in called {
+        let CalledRunner { name, program } = runner;
+        labels.push(RunnerLabel { name, program })?;
     }
-    let mut input = Std::new(open(rt, path));
-    let bytes = read_all(rt.alloc(), &mut input).ok()?;
-    let runners = named_runners(rt.alloc(), bytes.as_slice(), beside).ok()?;
-    let text = String::from_utf8(bytes).ok()?;
-    Some(SourceText { text, runners })
+    Ok(labels)
+}
+
+/// What a source calls its runners.
+pub(crate) fn labels_in_source(
+    alloc: Global,
+    source: &str,
+) -> Result<Vec<RunnerLabel>, AllocError> {
+    let called = called_runners(alloc, source)?;
+    labels_of_called(alloc, called)
+}
+
+/// What a scenario's source calls the runners: nothing, where it has none; or the status, once it was said that memory ran out.
+pub(crate) fn labels_of(rt: &HostRuntime, given: &Given<'_>) -> Result<Vec<RunnerLabel>, u8> {
+    let Some(text) = &given.text else {
+        return Ok(Vec::new(rt.alloc()));
+    };
+    match labels_in_source(rt.alloc(), text.as_str()) {
+        Ok(labels) => Ok(labels),
+        Err(_) => Err(out_of_memory(rt)),
+    }
 }
 
 /// The rules of the source of a path; or the status, once what is wrong with it was said. It is explained, or is not.
 pub(crate) fn rules_at(rt: &HostRuntime, path: &str, explain: bool) -> Result<Sequence<Rule>, u8> {
-    let Compiled { beside, .. } = compiled_at(rt, path, explain)?;
+    let bytes = bytes_at(rt, path, explain)?;
+    let Compiled { beside, .. } = compiled_of(rt, path, bytes.as_slice(), explain)?;
     let Beside { rules, .. } = beside;
     Ok(rules)
 }
 
-/// Says which rules are not asked, and which runners do not wait.
-pub(crate) fn say_unasked(rt: &HostRuntime, rules: &[Rule], waits: &[Wait]) -> Result<(), u8> {
+/// Says lines about a source, with the names that it gives to runners.
+pub(crate) fn say_named(rt: &HostRuntime, lines: &str, runners: &[NamedRunner]) {
+    for line in lines.lines() {
+        if let Ok(line) = with_names(rt.alloc(), runners, line) {
+            let _ = rt.eprintln(line.as_str());
+        }
+    }
+}
+
+/// Says a line that explains a run, with its place in the source, if it has one there, and the line of the source.
+fn say_placed(rt: &HostRuntime, line: &str, places: &SourcePlaces<'_>, runners: &[NamedRunner]) {
+    match places.placed(rt.alloc(), line) {
+        Ok(Some(placed)) => {
+            say_named(rt, placed.words.as_str(), runners);
+            let source = placed.source;
+            let _ = eprintln!(rt; "    {source}");
+        }
+        _ => say_named(rt, line, runners),
+    }
+}
+
+/// Says lines that explain the runs of a scenario: with the places of its source, where it has one, and with the names that this gives to runners.
+pub(crate) fn say_of_runs(rt: &HostRuntime, given: &Given<'_>, lines: &str) {
+    let runners = runners_of(rt, given);
+    let name = given.scenario.name();
+    let name = name.strip_suffix(COMPILED).unwrap_or(name);
+    let text = match &given.text {
+        Some(text) => text.as_str(),
+        None => "",
+    };
+    match SourcePlaces::of(rt.alloc(), name, text) {
+        Ok(places) => {
+            for line in lines.lines() {
+                say_placed(rt, line, &places, runners.as_slice());
+            }
+        }
+        Err(_) => say_named(rt, lines, runners.as_slice()),
+    }
+}
+
+/// Says which rules are not asked, and which runners do not wait, with the names of runners.
+pub(crate) fn say_unasked(
+    rt: &HostRuntime,
+    rules: &[Rule],
+    waits: &[Wait],
+    runners: &[NamedRunner],
+) -> Result<(), u8> {
     match notes_of(rt.alloc(), rules, waits) {
         Ok(notes) => {
-            let _ = rt.eprint(notes.as_str());
+            say_named(rt, notes.as_str(), runners);
             Ok(())
         }
         Err(_) => Err(out_of_memory(rt)),
     }
 }
 
+/// The runners that a scenario's source names; none, where it has no source, or where an allocation fails.
+pub(crate) fn runners_of(rt: &HostRuntime, given: &Given<'_>) -> Vec<NamedRunner> {
+    let Some(text) = &given.text else {
+        return Vec::new(rt.alloc());
+    };
+    match named_runners(rt.alloc(), text.as_bytes(), &given.beside) {
+        Ok(runners) => runners,
+        Err(_) => Vec::new(rt.alloc()),
+    }
+}
+
+/// Says which rules of a scenario's source are not asked, and which runners do not wait.
+fn say_left_out(rt: &HostRuntime, given: &Given<'_>) -> Result<(), u8> {
+    let rules = given.beside.rules.as_slice();
+    let waits = given.beside.waits.as_slice();
+    if waits.is_empty() {
+        return say_unasked(rt, rules, waits, &[]);
+    }
+    let runners = runners_of(rt, given);
+    say_unasked(rt, rules, waits, runners.as_slice())
+}
+
 /// The scenario of a path alone: it is said which rules of its source are not asked, and which runners do not wait. Else all is as with `source_at`.
+pub(crate) fn given_at<'a>(
+    rt: &HostRuntime,
+    path: &'a str,
+    explain: bool,
+) -> Result<Given<'a>, u8> {
+    let given = source_at(rt, path, explain)?;
+    say_left_out(rt, &given)?;
+    Ok(given)
+}
+
+/// The scenario that `given_at` answers.
 pub(crate) fn scenario_at<'a>(
     rt: &HostRuntime,
     path: &'a str,
     explain: bool,
 ) -> Result<JsonFile<'a>, u8> {
-    let (scenario, beside) = source_at(rt, path, explain)?;
-    say_unasked(rt, beside.rules.as_slice(), beside.waits.as_slice())?;
+    let given = given_at(rt, path, explain)?;
+    let Given { scenario, .. } = given;
     Ok(scenario)
 }
 

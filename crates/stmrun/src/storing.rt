@@ -307,7 +307,7 @@ fn shown_format(rt: &HostRuntime, word: Option<&str>) -> Result<Format, u8> {
     match word {
         None | Some("lines") => Ok(Format::Lines),
         Some("json") => Ok(Format::Json),
-        Some("text") => Ok(Format::Text),
+        Some("text") => Ok(Format::Text { width: None }),
         Some(_) => {
             let _ = rt.eprintln(
                 "error: unknown format for '--format <FORMAT>'\n  [possible values: lines, json, text]",

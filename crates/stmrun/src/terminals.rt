@@ -1,7 +1,7 @@
 //! What is shown on a terminal, and said on standard error, of a search.
 ghost use Rattle.std.specs.Prelude.{◌≡◌};
 
-use crate::naming::with_name;
+use crate::naming::with_names;
 use std::io::{IsTerminal, Stderr};
 use std::time::Clock;
 use stm_compiling::NamedRunner;
@@ -76,7 +76,7 @@ pub(crate) struct SearchLines<'a> {
 impl SearchLines<'_> {
     /// Says a line on standard error.
     fn say(&self, line: &str) {
-        if let Ok(line) = with_name(self.rt.alloc(), self.runners, line) {
+        if let Ok(line) = with_names(self.rt.alloc(), self.runners, line) {
             let _ = eprintln!(self.rt; "stmrun: {line}");
         }
     }

@@ -1,14 +1,13 @@
 use Rattle.std.proofs.Common.{◌≡◌, ◌+◌, ◌≤◌, ℕ, suc, sym, ap, ◌∙◌, subst, true, List, inl, inr, arith}
 use Rattle.stm_schedules.specs.declared.moves.Move.{Move}
-use Rattle.stm_schedules.specs.Keeping.{goes_on}
 use Rattle.stm_schedules.specs.declared.outcome.Outcome.{Outcome}
 use Rattle.stm_visited.specs.Layers.{Reached, StandFor, on_among, moved_from_each, shown_among, count_among}
 use Rattle.stm_explore.specs.declared.places.ReportedPlace.{ReportedPlace}
 use Rattle.stm_explore.specs.Gathering.{Gathers}
-use Rattle.stm_explore.specs.Explored.{count_up_to}
+use Rattle.stm_explore.specs.Explored.{AreOutcomesUpTo, count_up_to}
 use Rattle.stm_explore.specs.Witnesses.{AreOrdered, AreUpTo, HaveWitnesses, KeepOrder}
 use Rattle.stm_explore.specs.Spots.{place_of, outcome_steps}
-use Rattle.stm_explore.proofs.LayerOutcomes.{first_layer, first_end, next_gathered, next_end, none_on, far_gathered, far_open, far_without}
+use Rattle.stm_explore.proofs.LayerOutcomes.{first_layer, first_end, next_gathered, next_end, none_on, open_at, far_gathered, far_open, far_without}
 use Rattle.stm_explore.proofs.Ordering.{order_first, order_next}
 use Rattle.stm_explore.proofs.Witnessing.{first_witnesses, next_witnesses}
 use Rattle.stm_explore.proofs.finding.collect_layers.Goals as goal
@@ -91,12 +90,16 @@ loop-gone_through-preserved g c =
     }
 
 pub returns-in-Err-Spent-clause-collected : goal.returns-in-Err-Spent-clause-collected
-returns-in-Err-Spent-clause-collected g c = c.loop-gone_through.invariant.come.more
+returns-in-Err-Spent-clause-collected g c =
+    open_at c.args.gathered.now.others.now c.args.start c.loop-gone_through.gone_through c.loop-gone_through.layer.items c.loop-gone_through.found.items
+    c.loop-gone_through.invariant.come
 
 pub returns-clause-collected : goal.returns-clause-collected
 returns-clause-collected g c =
     let all : c.loop-gone_through.gone_through ≡ c.args.budget.now.left = omega arith in
-    subst (λ (n : ℕ). goes_on (suc n) (place_of c.args.gathered.now.others.now c.args.start.at) ≡ true) all c.loop-gone_through.invariant.come.more
+    subst (λ (n : ℕ). AreOutcomesUpTo n (place_of c.args.gathered.now.others.now c.args.start.at) c.args.start.ends c.loop-gone_through.found.items) all
+    (open_at c.args.gathered.now.others.now c.args.start c.loop-gone_through.gone_through c.loop-gone_through.layer.items c.loop-gone_through.found.items
+    c.loop-gone_through.invariant.come)
 
 -- ---- the budget
 

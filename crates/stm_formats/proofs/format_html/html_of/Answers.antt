@@ -24,6 +24,6 @@ returns c =
       c.as_bytes.ensures.value,
       c.page_head.ensures,
       c.new-out.ensures.items,
-    ) (parts page_head (titles_html (last_column rows + 1)) (codes "</tr></thead>\n<tbody>\n")
+    ) (parts page_head (titles_html c.args.labels.now (last_column rows + 1)) (codes "</tr></thead>\n<tbody>\n")
     (rows_html c.args.keys.now.history c.args.counters.now rows) (codes "</tbody></table></main>\n<ul>\n") (notes_html c.args.notes.now)
-    (reasons_html c.args.reasons.now) page_foot)
+    (reasons_html c.args.labels.now c.args.reasons.now) page_foot)

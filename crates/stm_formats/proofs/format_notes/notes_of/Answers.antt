@@ -17,11 +17,11 @@ returns c =
     let reached : number ≤ now h = omega (arith, c.store.ensures.reached) in
     let kept : History = cut number h in
     let entries : ℕ = length w.entries in
-    let unfinished : List (List ℕ) = unfinished_notes 1 (ended_after [] c.args.replies.now) in
+    let unfinished : List (List ℕ) = unfinished_notes c.args.labels.now 1 (ended_after [] c.args.replies.now) in
     let listed : List (List ℕ) = map string_bytes c.in_ok-present.present.items in
     let same : c.keys.result.now.history ≡ kept = c.keys.ensures.history ∙ ap (λ (s : Standing). s.history) c.store.ensures.standing in
     let present : listed ≡ keys_present h = c.in_ok-present.ensures.computed ∙ ap keys_present same ∙ present_in_cut h number reached in
-    let notes : c.push_unfinished.new.notes.items ≡ (key_notes kept listed ++ end_note (now kept) entries ∷ []) ++ unfinished =
+    let notes : c.push_unfinished.new.notes.items ≡ (key_notes c.args.most kept listed ++ end_note (now kept) entries ∷ []) ++ unfinished =
     rw (
       c.in_ok-push_unfinished.ensures,
       c.as_slice-2.ensures.value,
@@ -38,7 +38,7 @@ returns c =
       c.history.ensures.entries,
     ) refl in
     notes
-    ∙ ap (λ (ks : List (List ℕ)). (ks ++ end_note (now kept) entries ∷ []) ++ unfinished) (same_notes h number reached listed)
-    ∙ ap (λ (n : ℕ). (key_notes h listed ++ end_note n entries ∷ []) ++ unfinished) (cut_keeps_now h number reached)
-    ∙ ap (λ (keys : List (List ℕ)). (key_notes h keys ++ end_note (now h) entries ∷ []) ++ unfinished) present
-    ∙ append_assoc (key_notes h (keys_present h)) (end_note (now h) entries ∷ []) unfinished
+    ∙ ap (λ (ks : List (List ℕ)). (ks ++ end_note (now kept) entries ∷ []) ++ unfinished) (same_notes c.args.most h number reached listed)
+    ∙ ap (λ (n : ℕ). (key_notes c.args.most h listed ++ end_note n entries ∷ []) ++ unfinished) (cut_keeps_now h number reached)
+    ∙ ap (λ (keys : List (List ℕ)). (key_notes c.args.most h keys ++ end_note (now h) entries ∷ []) ++ unfinished) present
+    ∙ append_assoc (key_notes c.args.most h (keys_present h)) (end_note (now h) entries ∷ []) unfinished

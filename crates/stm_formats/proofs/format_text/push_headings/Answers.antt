@@ -9,7 +9,7 @@ loop-before-preserved c =
     let k = c.loop-before.before in
     let step : k + 1 ≡ suc k = omega arith in
     c.in_ok-push_heading.ensures
-    ∙ ap (λ (text : List ℕ). text ++ heading places (k + 1)) c.loop-before.invariant
-    ∙ append_assoc out (headings places k) (heading places (k + 1))
-    ∙ ap (λ (n : ℕ). out ++ (headings places k ++ heading places n)) step
-    ∙ ap (λ (n : ℕ). out ++ headings places n) (sym step)
+    ∙ ap (λ (text : List ℕ). text ++ heading c.args.labels.now places (k + 1)) c.loop-before.invariant
+    ∙ append_assoc out (headings c.args.labels.now places k) (heading c.args.labels.now places (k + 1))
+    ∙ ap (λ (n : ℕ). out ++ (headings c.args.labels.now places k ++ heading c.args.labels.now places n)) step
+    ∙ ap (λ (n : ℕ). out ++ headings c.args.labels.now places n) (sym step)

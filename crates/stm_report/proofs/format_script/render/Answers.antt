@@ -8,6 +8,6 @@ use Rattle.stm_report.proofs.format_script.render.Goals as goal
 pub returns-in_ok-report-in-Lines : goal.returns-in_ok-report-in-Lines
 returns-in_ok-report-in-Lines c =
     let bytes : c.into_bytes.result.items ≡ string_bytes c.in_ok-report-in-Lines.field-0 = ap (λ v. v.items) c.into_bytes.ensures.value in
-    subst (λ (format : Format). IsTextSince c.args.since format c.args.world.now c.args.events.now c.args.replies.now c.into_bytes.result.items) (sym c.in-Lines.is)
+    subst (λ (format : Format). IsTextSince c.args.since format c.args.labels.now c.args.world.now c.args.events.now c.args.replies.now c.into_bytes.result.items) (sym c.in-Lines.is)
     (subst (λ (text : List ℕ). IsReport c.args.world.now c.args.replies.now text × IsUtf8 text) (sym bytes)
     (c.in_ok-report-in-Lines.ensures, IsUtf8-string_bytes c.in_ok-report-in-Lines.field-0))

@@ -10,9 +10,10 @@ unfolding IsRunText
 returns c =
     let s = c.args.scenario.now in
     let format = c.args.format in
+    let labels = c.args.labels.now in
     let begun : World = opened (setup_of s.opening) in
     let opens : c.in_ok-world.world ≡ begun = c.in_ok-world.ensures
     ∙ ap opened (ap (λ r. setup_at r c.operations.result) c.revision.ensures.same ∙ c.operations.ensures.whole ∙ c.opens_with-opening.ensures.setup) in
-    subst (λ (w : World). IfOk c.report_from-text.result (λ text. IsTextFrom format w s.events text.items)) opens
-    (subst (λ (events : List WorldEvent). IfOk c.report_from-text.result (λ text. IsTextFrom format c.in_ok-world.world events text.items))
+    subst (λ (w : World). IfOk c.report_from-text.result (λ text. IsTextFrom format labels w s.events text.items)) opens
+    (subst (λ (events : List WorldEvent). IfOk c.report_from-text.result (λ text. IsTextFrom format labels c.in_ok-world.world events text.items))
     c.as_slice.ensures c.report_from-text.ensures)

@@ -16,12 +16,12 @@ block-returns t c =
     rw (block_some c.args.levels c.args.around c.args.scope.now c.args.tokens.now some) c.block_between.ensures
 
 pub choice-returns-then-more-eq0 : goal.choice-returns-then-more-eq0
-choice-returns-then-more-eq0 t c = choice_none _ _ _ _ _ _ c.if-more-eq0.true c.fault.ensures
+choice-returns-then-more-eq0 t c = choice_none _ _ _ _ _ _ _ c.if-more-eq0.true c.fault.ensures
 
 pub choice-returns : goal.choice-returns
 choice-returns t c =
     let some : 0 < c.args.more = omega arith in
-    rw (choice_some (block_at c.args.levels c.args.around) c.args.levels c.args.scope.now c.args.more c.args.tokens.now some) c.choice_between.ensures
+    rw (choice_some c.args.around (block_at c.args.levels c.args.around) c.args.levels c.args.scope.now c.args.more c.args.tokens.now some) c.choice_between.ensures
 
 -- ---- the statements of a block
 

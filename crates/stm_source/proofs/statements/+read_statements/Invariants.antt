@@ -50,11 +50,14 @@ decreases-plain_statement l = 500 * l.levels + 400
 abbrev pub decreases-worded_statement : goal.decreases-worded_statement
 decreases-worded_statement l = 500 * l.levels + 401
 
+abbrev pub decreases-bare_statement : goal.decreases-bare_statement
+decreases-bare_statement l = 500 * l.levels + 402
+
 abbrev pub decreases-statement : goal.decreases-statement
-decreases-statement l = 500 * l.levels + 402
+decreases-statement l = 500 * l.levels + 403
 
 abbrev pub decreases-statements : goal.decreases-statements
-decreases-statements l = 500 * l.levels + 403
+decreases-statements l = 500 * l.levels + 404
 
 -- the statements so far, and then what is read of the rest
 abbrev pub invariant-statements-loop-done : goal.invariant-statements-loop-done
@@ -65,5 +68,5 @@ invariant-statements-loop-done l =
 -- the items that are left lead to all
 abbrev pub invariant-copies-loop-item : goal.invariant-copies-loop-item
 invariant-copies-loop-item l =
-    copies_from (copy_at (block_at l.fn.levels (in_items l.fn.around)) l.fn.scope l.fn.name) l.fn.tokens l.room l.all.items (drop l.item-index l.fn.items) l.rest
-    ≡ copies_from (copy_at (block_at l.fn.levels (in_items l.fn.around)) l.fn.scope l.fn.name) l.fn.tokens MOST_STATEMENTS [] l.fn.items l.fn.tokens
+    copies_from (copy_at (block_at l.fn.levels (in_items l.fn.around)) l.fn.scope l.fn.name) l.fn.around l.fn.tokens l.room l.all.items (drop l.item-index l.fn.items) l.rest
+    ≡ copies_from (copy_at (block_at l.fn.levels (in_items l.fn.around)) l.fn.scope l.fn.name) l.fn.around l.fn.tokens MOST_STATEMENTS [] l.fn.items l.fn.tokens

@@ -9,6 +9,6 @@ returns-in-None c =
 
 pub returns-in_ok-insert-in-Some : goal.returns-in_ok-insert-in-Some
 returns-in_ok-insert-in-Some c =
-    put_copy c.args.keys.now.history c.args.revision c.args.key.now c.in-Some.state.now c.in_ok-key.key c.in_ok-state.state c.args.past.now.entries
-    c.insert.new.self.entries (sym c.look_back.ensures ∙ ap option_copied c.in-Some.is) c.in_ok-key.ensures c.in_ok-state.ensures
-    c.in_ok-insert.ensures.updates.0 (λ up. c.in_ok-insert.ensures.ordered)
+    put_copy c.args.keys.now.history c.args.revision c.args.key.now c.in-Some.state.now c.in_ok-key-in-Some.key c.in_ok-state-in-Some.state c.args.past.now.entries
+    c.insert.new.self.entries (sym c.look_back.ensures ∙ ap option_copied c.in-Some.is) c.in_ok-key-in-Some.ensures c.in_ok-state-in-Some.ensures
+    c.in_ok-insert-in-Some.ensures.updates.0 (λ up. c.in_ok-insert-in-Some.ensures.ordered)

@@ -15,6 +15,6 @@ pub returns : goal.returns
 returns c =
     narrowed c.args.keys.now.history c.args.revision
     (λ q some.
-    let d = present_stand c.args.keys.now.history c.args.keys.now.present c.len.ensures.listed q some in
-    (d.0, d.1, omega (arith, d.2.0, c.len.ensures.count, c.loop-index-test.false), d.2.1, d.2.2))
+    let d = present_stand c.args.keys.now.history c.args.keys.now.present c.len-index-end.ensures.listed q some in
+    (d.0, d.1, omega (arith, d.2, c.len-index-end.ensures.count, c.loop-index-test.false), d.3, d.4))
     c.loop-index.invariant

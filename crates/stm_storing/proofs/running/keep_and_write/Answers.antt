@@ -10,5 +10,5 @@ returns-clause-ran g c = record {
   past = c.in_ok-replies.ensures.past;
   printed =
       subst (λ (replies : List (Result Reply Denied)). HasPrintedLast replies (g.W.Sink.held c.args.out.now) (g.W.Sink.held c.write_last.new.out))
-      c.as_slice.ensures c.in_ok-write_last.ensures.printed;
+      c.as_slice.ensures.value c.in_ok-write_last.ensures.printed;
 }

@@ -10,6 +10,6 @@ returns-clause-shown g c =
       world = world;
       opens = c.in_ok-kept.ensures.opens.opens;
       report = printed.0;
-      reported = subst (λ (n : ℕ). IsTextSince n c.args.format world [] [] printed.0) c.revision_of-since.ensures printed.1;
+      reported = subst (λ (n : ℕ). IsTextSince n c.args.format [] world [] [] printed.0) c.revision_of-since.ensures printed.1;
       printed = printed.2;
     }

@@ -1,0 +1,129 @@
+//! The lines of a search in words.
+
+use crate::outcomes::outcome_words;
+use crate::parts::{list_at, moves, number_at, text_at};
+use crate::rules::{always_words, broken_words, open_words};
+use serde_json::Value as Json;
+use std::alloc::{AllocError, Global};
+use stm_compiling::NamedRunner;
+
+/// Which level is enough.
+fn enough_words(alloc: Global, parts: &[Json]) -> Result<String, AllocError> {
+    match text_at(parts, 1) {
+        Some(level) => format!(in alloc; "enough: {level}"),
+        None => String::from_str(alloc, "enough: no level"),
+    }
+}
+
+/// What stands before an answer about a level, which stands at a place of its line, if it is about one.
+fn at_level(alloc: Global, parts: &[Json], place: usize) -> Result<String, AllocError> {
+    match text_at(parts, place) {
+        Some(level) => format!(in alloc; "{level}: "),
+        None => Ok(String::new(alloc)),
+    }
+}
+
+/// That serial orders come to each outcome.
+fn serial_words(alloc: Global, parts: &[Json]) -> Result<String, AllocError> {
+    let at = at_level(alloc, parts, 2)?;
+    let count = number_at(parts, 1).unwrap_or(0);
+    format!(in alloc; "{at}no anomaly: some serial order comes to each outcome (outcomes: {count})")
+}
+
+/// That no serial order comes to an outcome.
+fn anomaly_words(
+    alloc: Global,
+    parts: &[Json],
+    runners: &[NamedRunner],
+) -> Result<String, AllocError> {
+    let at = at_level(alloc, parts, 4)?;
+    let moves = moves(alloc, number_at(parts, 1).unwrap_or(0))?;
+    let outcome = outcome_words(alloc, runners, list_at(parts, 2), list_at(parts, 3))?;
+    format!(in alloc; "{at}anomaly after {moves}, to which no serial order comes: {outcome}")
+}
+
+/// An outcome.
+fn outcome_line(
+    alloc: Global,
+    parts: &[Json],
+    runners: &[NamedRunner],
+) -> Result<String, AllocError> {
+    let outcome = outcome_words(alloc, runners, list_at(parts, 1), list_at(parts, 2))?;
+    format!(in alloc; "outcome: {outcome}")
+}
+
+/// How many outcomes there are.
+fn count_line(alloc: Global, parts: &[Json]) -> Result<String, AllocError> {
+    let count = number_at(parts, 1).unwrap_or(0);
+    format!(in alloc; "outcomes: {count}")
+}
+
+/// Words that there are, unless an allocation failed for them.
+fn some(words: Result<String, AllocError>) -> Result<Option<String>, AllocError> {
+    match words {
+        Ok(words) => Ok(Some(words)),
+        Err(error) => Err(error),
+    }
+}
+
+/// A line about outcomes in words, by the word with which it begins and its elements; none of another line.
+fn found_words(
+    alloc: Global,
+    word: &str,
+    parts: &[Json],
+    runners: &[NamedRunner],
+) -> Result<Option<String>, AllocError> {
+    if word == "serial" {
+        return some(serial_words(alloc, parts));
+    }
+    if word == "anomaly" {
+        return some(anomaly_words(alloc, parts, runners));
+    }
+    if word == "outcome" {
+        return some(outcome_line(alloc, parts, runners));
+    }
+    if word == "outcomes" {
+        return some(count_line(alloc, parts));
+    }
+    Ok(None)
+}
+
+/// A line in words, by its elements; none of one that is no answer.
+fn words_of(
+    alloc: Global,
+    parts: &[Json],
+    has_level: bool,
+    runners: &[NamedRunner],
+) -> Result<Option<String>, AllocError> {
+    let word = text_at(parts, 0).unwrap_or("");
+    if word == "always" {
+        return some(always_words(alloc, parts, has_level));
+    }
+    if word == "broken" {
+        return some(broken_words(alloc, parts, has_level));
+    }
+    if word == "open" {
+        return some(open_words(alloc, parts, has_level));
+    }
+    if word == "enough" {
+        return some(enough_words(alloc, parts));
+    }
+    found_words(alloc, word, parts, runners)
+}
+
+/// A line that a search printed, in words without a line feed, with the names of these runners; `has_level` says that the search was at all levels, so that
+/// the line ends with one. None of a line that is no answer, as a scenario. It fails only when out of memory.
+pub fn in_words(
+    alloc: Global,
+    line: &str,
+    has_level: bool,
+    runners: &[NamedRunner],
+) -> Result<Option<String>, AllocError> {
+    let Ok(json) = Json::from_str(alloc, line) else {
+        return Ok(None);
+    };
+    match json.as_array() {
+        Some(parts) => words_of(alloc, parts.as_slice(), has_level, runners),
+        None => Ok(None),
+    }
+}

@@ -1,0 +1,97 @@
+//! What is said of a value that is of another kind than is wanted.
+
+use crate::spots::{Call, Spot};
+use std::alloc::{AllocError, Global};
+use stm_tokens::{Symbol, TokenKind, Word};
+
+/// Whether a value that begins with this token is a number, and not a text; nothing where the token does not tell.
+fn is_number(kind: Option<&TokenKind>) -> Option<bool> {
+    match kind {
+        Some(
+            TokenKind::Number(_)
+            | TokenKind::Symbol(Symbol::Subtract)
+            | TokenKind::Word(Word::NumOf | Word::Rev),
+        ) => Some(true),
+        Some(TokenKind::Text(_) | TokenKind::Word(Word::Get | Word::TextOf)) => Some(false),
+        _ => None,
+    }
+}
+
+/// Whether a number is wanted beside this token, and not a text; nothing where the token does not tell.
+fn wants_number_beside(kind: Option<&TokenKind>) -> Option<bool> {
+    match kind {
+        Some(
+            TokenKind::Symbol(
+                Symbol::Add
+                | Symbol::Subtract
+                | Symbol::Multiply
+                | Symbol::Divide
+                | Symbol::Remainder
+                | Symbol::AddAssign
+                | Symbol::SubtractAssign
+                | Symbol::Dots,
+            ),
+        ) => Some(true),
+        Some(TokenKind::Symbol(Symbol::Concatenate | Symbol::ConcatenateAssign)) => Some(false),
+        _ => None,
+    }
+}
+
+/// Whether a number is wanted in the parentheses of a call, and not a text; nothing where the call does not tell.
+fn wants_number_in(call: Option<Call<'_>>) -> Option<bool> {
+    match call {
+        Some(call) => match call.word {
+            TokenKind::Word(Word::TextOf) => Some(true),
+            TokenKind::Word(
+                Word::Get | Word::Rev | Word::Put | Word::Del | Word::Abort | Word::NumOf,
+            ) => Some(false),
+            _ => None,
+        },
+        None => None,
+    }
+}
+
+/// Whether a number is wanted in a place where the other kind stands, and not a text; nothing where what stands there does not tell.
+fn wants_number(spot: Spot<'_>) -> Option<bool> {
+    if let Some(is) = is_number(spot.kind()) {
+        return Some(!is);
+    }
+    if let Some(wants) = wants_number_beside(spot.next()) {
+        return Some(wants);
+    }
+    match wants_number_beside(spot.back(0)) {
+        Some(wants) => Some(wants),
+        None => wants_number_in(spot.call()),
+    }
+}
+
+/// Whether a `+` stands beside a value of one token.
+fn is_beside_add(spot: Spot<'_>) -> bool {
+    let is_next = match spot.next() {
+        Some(kind) => kind.is_symbol(Symbol::Add),
+        None => false,
+    };
+    is_next || spot.is_behind_symbol(0, Symbol::Add)
+}
+
+/// What is said of a value that is of another kind than is wanted.
+pub(crate) fn said_of_value(
+    alloc: Global,
+    found: &str,
+    spot: Spot<'_>,
+) -> Result<String, AllocError> {
+    match wants_number(spot) {
+        Some(true) if is_beside_add(spot) => format!(in alloc;
+            "found {found}, where a number is wanted: texts are joined by ++, and num_of(TEXT) makes a number of one"
+        ),
+        Some(true) => format!(in alloc;
+            "found {found}, where a number is wanted: num_of(TEXT) makes one of a text"
+        ),
+        Some(false) => format!(in alloc;
+            "found {found}, where a text is wanted: text_of(NUMBER) makes one of a number"
+        ),
+        None => format!(in alloc;
+            "{found} is of the other kind: a text where a number is wanted, or a number where a text is"
+        ),
+    }
+}

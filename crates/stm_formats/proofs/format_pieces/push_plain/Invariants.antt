@@ -1,7 +1,0 @@
-use Rattle.std.proofs.Common.{◌≡◌, ◌++◌, drop}
-use Rattle.stm_formats.specs.FormatShown.{plain, plain_after}
-use Rattle.stm_formats.proofs.format_pieces.push_plain.Given as goal
-
--- what was added, and what the bytes that are left are shown as, is what all are shown as
-abbrev pub invariant-loop-index : goal.invariant-loop-index
-invariant-loop-index l = l.out.items ++ plain_after l.left (drop l.index l.bytes) ≡ l.fn.out.items ++ plain l.bytes

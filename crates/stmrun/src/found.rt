@@ -1,0 +1,222 @@
+//! What a search prints, in the form that is asked for.
+
+use crate::explaining::say_unwritten;
+use crate::noting::Noting;
+use crate::resuming::resumed;
+use crate::ruling::{Question, run_rules, search_silently};
+use crate::sources::SourceText;
+use std::alloc::{AllocError, Global};
+use stm_answers::{NamedRunner, in_words};
+use stm_arguments::{Level, Levels};
+use stm_commands::{Format, Std, script_as_to};
+use stm_devices::write_all;
+
+/// In what form a search prints what it finds: a schedule, and the lines around it.
+#[derive(Clone, Copy)]
+pub(crate) enum Form<'a> {
+    /// As the line of the scenario with the schedule.
+    Lines,
+    /// As the source with the schedule.
+    Source(&'a SourceText),
+    /// As the table of a run of the schedule, with all else in words, and with the names that a source gives to runners.
+    Text(Option<&'a SourceText>),
+}
+
+/// With this begins a scenario that has an event, and nothing else that a search prints.
+const SCENARIO: &str = "[[";
+
+/// With this begins the line of a broken rule.
+const BROKEN: &str = "[\"broken\"";
+
+/// The table of a run of a scenario, behind an empty line; none, where an allocation fails for it.
+fn table_of(alloc: Global, source: Option<&SourceText>, line: &str) -> Option<String> {
+    let labels = match source {
+        Some(source) => source.labels.as_slice(),
+        None => &[],
+    };
+    let printed: Vec<u8> = Vec::new(alloc);
+    let said: Vec<u8> = Vec::new(alloc);
+    let mut out = Std::new(printed);
+    let mut err = Std::new(said);
+    let mut input = Std::new(line.as_bytes());
+    let format = Format::Text { width: None };
+    let status = script_as_to(alloc, format, labels, &mut input, &mut out, &mut err);
+    if status != 0 {
+        return None;
+    }
+    let table = String::from_utf8(out.device).ok()?;
+    format!(in alloc; "\n{table}").ok()
+}
+
+/// A scenario with a schedule, of whose starts this is the level, in a form; none, where it stays a line.
+fn schedule_in(
+    alloc: Global,
+    form: Form<'_>,
+    level: Option<Level>,
+    line: &str,
+) -> Result<Option<String>, AllocError> {
+    match form {
+        Form::Lines => Ok(None),
+        Form::Source(source) => resumed(alloc, source, level, line),
+        Form::Text(source) => Ok(table_of(alloc, source, line)),
+    }
+}
+
+/// The runners that the source of a scenario names, where it has one.
+pub(crate) fn runners_of(source: Option<&SourceText>) -> &[NamedRunner] {
+    match source {
+        Some(source) => source.runners.as_slice(),
+        None => &[],
+    }
+}
+
+/// Adds a line that a search printed, with a line feed: in words, where it is an answer of a search at these levels and that is the form.
+fn push_answer(
+    alloc: Global,
+    out: &mut String,
+    form: Form<'_>,
+    levels: Levels,
+    line: &str,
+) -> Result<(), AllocError> {
+    let has_level = matches!(levels, Levels::All);
+    let words = match form {
+        Form::Text(source) => in_words(alloc, line, has_level, runners_of(source))?,
+        Form::Lines | Form::Source(_) => None,
+    };
+    match words {
+        Some(words) => out.push_str(words.as_str())?,
+        None => out.push_str(line)?,
+    }
+    out.push('\n')
+}
+
+/// Adds a line that a search at these levels printed, in this form, and answers whether that is a table.
+fn push_found(
+    alloc: Global,
+    out: &mut String,
+    form: Form<'_>,
+    levels: Levels,
+    line: &str,
+) -> Result<bool, AllocError> {
+    if line.starts_with(SCENARIO) {
+        if let Some(schedule) = schedule_in(alloc, form, only_level(levels), line)? {
+            out.push_str(schedule.as_str())?;
+            return Ok(matches!(form, Form::Text(_)));
+        }
+    }
+    push_answer(alloc, out, form, levels, line)?;
+    Ok(false)
+}
+
+/// What a search at these levels printed, in this form, with an empty line behind a table.
+fn found_in(
+    alloc: Global,
+    form: Form<'_>,
+    levels: Levels,
+    printed: &str,
+) -> Result<String, AllocError> {
+    let mut out = String::new(alloc);
+    let mut is_behind_table = false;
+    for line in printed.lines() {
+        if is_behind_table {
+            out.push('\n')?;
+        }
+        is_behind_table = push_found(alloc, &mut out, form, levels, line)?;
+    }
+    Ok(out)
+}
+
+/// Prints bytes, and gives a status, or that of a failed output.
+fn print(rt: &HostRuntime, bytes: &[u8], status: u8, explain: bool) -> u8 {
+    let mut out = Std::new(Noting::new(rt.stdout()));
+    match write_all(&mut out, bytes) {
+        Ok(()) => status,
+        Err(_) => {
+            let _ = rt.eprintln("stmrun: device fault");
+            if explain {
+                say_unwritten(rt, out.device.failure);
+            }
+            3
+        }
+    }
+}
+
+/// Prints what a search at these levels printed, in this form, or as it is where an allocation fails for that; and gives its status.
+pub(crate) fn print_found(
+    rt: &HostRuntime,
+    form: Form<'_>,
+    levels: Levels,
+    printed: &[u8],
+    status: u8,
+    explain: bool,
+) -> u8 {
+    let text = str::from_utf8(printed).unwrap_or("");
+    match found_in(rt.alloc(), form, levels, text) {
+        Ok(found) => print(rt, found.as_str().as_bytes(), status, explain),
+        Err(_) => print(rt, printed, status, explain),
+    }
+}
+
+/// The level of a word.
+fn level_of(word: &str) -> Option<Level> {
+    match word {
+        "SerializableSnapshot" => Some(Level::SerializableSnapshot),
+        "Serializable" => Some(Level::Serializable),
+        "RepeatableReads" => Some(Level::RepeatableReads),
+        "ReadCommitted" => Some(Level::ReadCommitted),
+        _ => None,
+    }
+}
+
+/// The level of the first rule that is broken, as the lines of a search at all levels tell it.
+fn broken_level(printed: &str) -> Option<Level> {
+    let line = printed.lines().find(|line| line.starts_with(BROKEN))?;
+    let (_, word) = line.strip_suffix("\"]")?.rsplit_once('"')?;
+    level_of(word)
+}
+
+/// Adds the scenario that breaks a rule at the weakest level at which one is broken.
+fn push_worst(rt: &HostRuntime, question: &Question<'_>, printed: &mut Vec<u8>) {
+    let text = str::from_utf8(printed.as_slice()).unwrap_or("");
+    let Some(level) = broken_level(text) else {
+        return;
+    };
+    let mut out = Std::new(Noting::new(Vec::new(rt.alloc())));
+    if search_silently(rt, question, level, &mut out) != 1 {
+        return;
+    }
+    let again = out.device.into_device();
+    let again = str::from_utf8(again.as_slice()).unwrap_or("");
+    if let Some(line) = again.lines().find(|line| line.starts_with(SCENARIO)) {
+        let _ = printed.extend_from_slice(line.as_bytes());
+    }
+}
+
+/// The level at which all starts are taken, where they are taken at one.
+pub(crate) fn only_level(levels: Levels) -> Option<Level> {
+    match levels {
+        Levels::One(level) => Some(level),
+        Levels::Own | Levels::All => None,
+    }
+}
+
+/// Looks for rules, and prints what was found in this form. A table of a search at all levels is that of the weakest at which a rule is broken.
+pub(crate) fn run_rules_in(
+    rt: &HostRuntime,
+    question: &Question<'_>,
+    levels: Levels,
+    form: Form<'_>,
+    explain: bool,
+) -> u8 {
+    if let Form::Lines = form {
+        let mut out = Std::new(Noting::new(rt.stdout()));
+        return run_rules(rt, question, levels, explain, &mut out);
+    }
+    let mut out = Std::new(Noting::new(Vec::new(rt.alloc())));
+    let status = run_rules(rt, question, levels, explain, &mut out);
+    let mut printed = out.device.into_device();
+    if let (Form::Text(_), Levels::All, 1) = (form, levels, status) {
+        push_worst(rt, question, &mut printed);
+    }
+    print_found(rt, form, levels, printed.as_slice(), status, explain)
+}

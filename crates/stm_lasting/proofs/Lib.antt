@@ -1,3 +1,4 @@
 pub mod Leading
 pub mod Moments
 pub mod Restarts
+pub mod LineCuts

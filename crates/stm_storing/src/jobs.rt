@@ -172,8 +172,7 @@ fn run_over<R: Threads + Wait + Sync>(
 fn have_same_leases(left: &World, right: &World) -> bool
     ensures { result ≡ true → left.now.standing.live ≡ right.now.standing.live }
 {
-    let opened = left.opened_at();
-    if opened != right.opened_at() {
+    if !left.opens_alike(right) {
         return false;
     }
     leave_same_leases(left.history(), right.history())

@@ -31,7 +31,7 @@ pub use kept::{kept_text, spells};
 pub use labels::{CalledRunner, called_runners};
 pub use notes::notes_of;
 pub use part::{Part, Printed};
-pub use placing::{PlacedLine, SourcePlaces};
+pub use placing::{PlacedLine, SourcePlaces, placed_rule};
 pub use runners::{NamedRunner, name_of_runner, named_runners};
 pub use stm_devices::{Sink, Source};
 pub use stm_source::{Names, Rule, Wait};

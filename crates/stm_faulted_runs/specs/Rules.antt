@@ -56,10 +56,11 @@ abbrev pub ExplainsRule : List ℕ → List ℕ → Outcome Scenario → List �
 ExplainsRule name text (Ok s) said = (state : List StateEntry) × IsStateOf (left_by s) state × ExplainsOver name text (state_answers state) said
 ExplainsRule name text (Err bad) said = said ≡ []
 
--- the fault that was found and why, in words; nothing where none was
+-- the fault that was found, with its place in a program's JSON, whose first statement is the element with some index, and why; nothing where none was
 abbrev pub IsReasonSaid : Option FoundFault → List ℕ → Type 0
 IsReasonSaid None said = said ≡ []
-IsReasonSaid (Some found) said = (reason : List ℕ) × (said ≡ fault_name found.fault ++ codes ": " ++ reason)
+IsReasonSaid (Some found) said =
+    (first : ℕ) × (more : List ℕ) × ReturnsPlace (counted_from first found.site.place) more × (said ≡ fault_name found.fault ++ more)
 
 -- what is said of a rule's program that comes to a fault on the state that a scenario leaves; nothing where there is no scenario
 abbrev pub SaysReason : ProgramTree → Outcome Scenario → List ℕ → Type 0

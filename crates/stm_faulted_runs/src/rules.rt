@@ -12,7 +12,7 @@ ghost use Rattle.stm_faulted_runs.specs.Places.{BeginsBelow};
 ghost use Rattle.stm_faulted_runs.specs.Rules.{IsRuleLine, ExplainsProgram, ExplainsOver, ExplainsRule, IsReasonSaid, SaysReason, rule_head, left_by};
 
 use crate::lines::words_of;
-use crate::places::{fault_in_program, place_of_fault, reason_in};
+use crate::places::{Place, fault_in_program, place_of_fault};
 use crate::scripts::Named;
 use serde_json::Value as Json;
 use std::alloc::{AllocError, Global};
@@ -182,11 +182,12 @@ fn fault_and_reason(
 {
     let json = write_program(alloc, program)?;
     let first = first_statement(&json);
-    let reason = reason_in(alloc, &json, first, found);
+    let place = place_of_fault(alloc, &json, Vec::new(alloc), first, found);
     drop(json);
-    let reason = reason?;
+    let Place { more, .. } = place?;
     let fault = found.fault;
-    format!(in alloc; "{fault}: {reason}")
+    let more = more.as_str();
+    format!(in alloc; "{fault}{more}")
 }
 
 /// What is said of a rule's program that comes to a fault on a state.
@@ -210,8 +211,8 @@ fn reason_after(alloc: Global, program: &Program, scenario: Scenario) -> Result<
     reason_on(alloc, program, &state)
 }
 
-/// The fault to which a rule's program comes on the state after the scenario that this text spells, and why: `FAULT: REASON`; nothing where it comes to
-/// none.
+/// The fault to which a rule's program comes on the state after the scenario that this text spells, where in its JSON, and why: `FAULT at PLACE: REASON`;
+/// nothing where it comes to none.
 ///
 /// It fails where an allocation failed.
 pub fn rule_reason(alloc: Global, program: &Program, scenario: &str) -> Result<String, AllocError>

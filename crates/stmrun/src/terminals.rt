@@ -1,10 +1,11 @@
 //! What is shown on a terminal, and said on standard error, of a search.
 ghost use Rattle.std.specs.Prelude.{◌≡◌};
 
-use crate::naming::with_names;
+use crate::naming::{RUNNERS, with_names};
+use crate::sources::{NamedSource, say_line};
 use std::io::{IsTerminal, Stderr};
 use std::time::Clock;
-use stm_compiling::NamedRunner;
+use stm_compiling::{NamedRunner, placed_rule};
 use stm_exploring::{Audience, Budget, Observer, ProgressLine, ProgressNotes};
 
 /// Standard error, if it is a terminal.
@@ -50,11 +51,13 @@ impl<C: Clock> Observer for Progress<'_, C> {
     }
 }
 
-/// How many events a search may take, the runners that its scenario names, and whether an answer that is worth little has status 1.
+/// How many events a search may take, what its source names, and whether an answer that is worth little has status 1.
 #[derive(Clone, Copy)]
 pub(crate) struct Told<'a> {
     pub(crate) events: u64,
     pub(crate) runners: &'a [NamedRunner],
+    /// The source that has the rules.
+    pub(crate) source: Option<NamedSource<'a>>,
     pub(crate) strict: bool,
 }
 
@@ -67,6 +70,8 @@ pub(crate) struct SearchLines<'a> {
     explain: bool,
     /// The runners that the scenario names.
     runners: &'a [NamedRunner],
+    /// The source that has the rules.
+    source: Option<NamedSource<'a>>,
     /// Whether an answer that is worth little has status 1.
     is_strict: bool,
     /// Whether something was said that makes the answer worth little.
@@ -76,8 +81,22 @@ pub(crate) struct SearchLines<'a> {
 impl SearchLines<'_> {
     /// Says a line on standard error.
     fn say(&self, line: &str) {
-        if let Ok(line) = with_names(self.rt.alloc(), self.runners, line) {
+        if let Ok(line) = with_names(self.rt.alloc(), RUNNERS, self.runners, line) {
             let _ = eprintln!(self.rt; "stmrun: {line}");
+        }
+    }
+
+    /// Says a line about a rule that comes to a fault with its place in the source, where it has one there: whether that was done.
+    fn say_placed(&self, line: &str) -> bool {
+        let Some(source) = self.source else {
+            return false;
+        };
+        match placed_rule(self.rt.alloc(), source.name, source.text, line) {
+            Ok(Some(placed)) => {
+                say_line(self.rt, &placed, RUNNERS, self.runners);
+                true
+            }
+            _ => false,
         }
     }
 }
@@ -102,7 +121,9 @@ impl Audience for SearchLines<'_> {
     }
 
     fn hear(&mut self, line: &str) {
-        self.say(line);
+        if !self.say_placed(line) {
+            self.say(line);
+        }
     }
 
     fn doubt(&mut self, line: &str) {
@@ -131,6 +152,7 @@ pub(crate) fn shown_budget<'a>(
     let Told {
         events,
         runners,
+        source,
         strict,
     } = told;
     Budget {
@@ -140,6 +162,7 @@ pub(crate) fn shown_budget<'a>(
             progress: progress_of(rt, events),
             explain,
             runners,
+            source,
             is_strict: strict,
             is_doubtful: false,
         },

@@ -7,6 +7,7 @@
 
 mod calls;
 mod command;
+mod event_lines;
 mod explaining;
 mod fault;
 mod kept;
@@ -26,6 +27,7 @@ mod wanted;
 mod whole;
 
 pub use command::{compile_to, compiled, compiled_part};
+pub use event_lines::event_lines;
 pub use kept::{kept_text, spells};
 pub use labels::{CalledRunner, called_runners};
 pub use notes::notes_of;

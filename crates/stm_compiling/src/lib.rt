@@ -33,7 +33,7 @@ pub use labels::{CalledRunner, called_runners};
 pub use notes::notes_of;
 pub use part::{Part, Printed};
 pub use placing::{PlacedLine, SourcePlaces};
-pub use runners::{NamedRunner, name_of_runner, named_runners};
+pub use runners::{NamedRunner, name_of_runner, named_runners, runners_named};
 pub use stm_devices::{Sink, Source};
 pub use stm_source::{Names, Rule, Wait};
 pub use titles::unknown_in;

@@ -2,6 +2,8 @@
 ghost use Rattle.std.specs.Prelude.{◌≡◌, false};
 
 use crate::explaining;
+use crate::explaining::name_of;
+use crate::files::is_missing;
 use crate::found::{Form, only_level, print_found, run_rules_in, runners_of};
 use crate::noting::Noting;
 use crate::rules::{is_json, named_in, rules_named, rules_of, unnamed_rule};
@@ -203,6 +205,25 @@ fn say_others(rt: &HostRuntime, search: &Search<'_, '_>, rules: &[SourceRule]) -
     Ok(())
 }
 
+/// Refuses words that are names of the scenario's own rules, and of no files.
+fn refuse_titles(
+    rt: &HostRuntime,
+    search: &Search<'_, '_>,
+    rules: &[SourceRule],
+) -> Result<(), u8> {
+    for rule in rules {
+        let name = rule.name.as_str();
+        if search.keeps.iter().any(|word| *word == name) && is_missing(rt, name) {
+            let path = name_of(search.path);
+            let _ = eprintln!(rt;
+                "error: invalid value '{name}' for '--keeps <PROGRAM>': no file has this name; a rule of {path} has it: --keeps {path}:{name}"
+            );
+            return Err(2);
+        }
+    }
+    Ok(())
+}
+
 /// Refuses runners that wait where no rule is asked, after it was said which do not.
 fn refuse_waiting(
     rt: &HostRuntime,
@@ -227,7 +248,8 @@ fn search_named(
     scenario: &JsonFile<'_>,
     beside: &Beside,
 ) -> Result<u8, u8> {
-    let waits = read_waits(rt, search.after, beside)?;
+    let waits = read_waits(rt, search.after, beside, search.told.runners)?;
+    refuse_titles(rt, search, beside.rules.as_slice())?;
     say_others(rt, search, beside.rules.as_slice())?;
     match search.keeps {
         [word] if is_json(word) => search_rule(rt, search, scenario, word, waits.as_slice()),
@@ -260,7 +282,7 @@ fn search_own(
     if search.witness || search.serial || beside.rules.as_slice().is_empty() {
         return search_without(rt, search, scenario, &beside);
     }
-    let waits = read_waits(rt, search.after, &beside)?;
+    let waits = read_waits(rt, search.after, &beside, search.told.runners)?;
     let Beside { rules, .. } = beside;
     let rules = rules_of(rt, rules)?;
     Ok(ask(rt, search, scenario, rules.as_slice(), waits.as_slice()))

@@ -4,6 +4,7 @@ ghost use Rattle.stm_explain.specs.Explaining.{explanation};
 ghost use Rattle.stm_compiling.specs.Faults.{IsExplanation, place_of};
 
 use crate::calls::{listed_behind, parameters_of, takes_list};
+use crate::elses::said_of_else;
 use crate::fault::position_in;
 use crate::misfits::said_of_start;
 use crate::naming::{is_called, said_of_function, said_of_place};
@@ -145,16 +146,6 @@ fn is_comparison(symbol: Symbol) -> bool {
     )
 }
 
-/// Whether an `else` stands where it would be that of a look-up.
-fn is_else_of_look_up(spot: Spot<'_>) -> bool {
-    match spot.kind() {
-        Some(kind) => {
-            kind.is_word(Word::Else) && spot.is_behind_symbol(0, Symbol::RightParenthesis)
-        }
-        None => false,
-    }
-}
-
 /// What is said of a token behind a statement that leaves its block, where only a `}` may stand; nothing of others.
 fn said_behind_a_way_out(spot: Spot<'_>) -> &'static str {
     let behind = if spot.is_behind_symbol(0, Symbol::Semicolon) {
@@ -182,8 +173,9 @@ fn said_behind_a_way_out(spot: Spot<'_>) -> &'static str {
 
 /// What is said of a symbol or a word that has its place elsewhere; nothing of others.
 fn said_of_symbol(spot: Spot<'_>) -> &'static str {
-    if is_else_of_look_up(spot) {
-        return "an else of a look-up stands behind the ) of its get; not behind && or ||, and not beside v0 to v15";
+    let said = said_of_else(spot);
+    if !said.is_empty() {
+        return said;
     }
     if spot.is_before_a_block() {
         return "";
@@ -233,7 +225,7 @@ fn syntax_words(
     spot: Spot<'_>,
 ) -> Result<String, AllocError> {
     let said = said_of_sign(source, spot);
-    if !said.is_empty() {
+    if !said.is_empty() && said_of_else(spot).is_empty() {
         return format!(in alloc; "{found} is no statement: {said}");
     }
     let said = said_of(spot);

@@ -7,6 +7,7 @@
 
 mod calls;
 mod command;
+mod elses;
 mod event_lines;
 mod explaining;
 mod fault;
@@ -32,7 +33,7 @@ pub use kept::{kept_text, spells};
 pub use labels::{CalledRunner, called_runners};
 pub use notes::notes_of;
 pub use part::{Part, Printed};
-pub use placing::{PlacedLine, SourcePlaces};
+pub use placing::{PlacedLine, SourcePlaces, placed_rule, placed_runner};
 pub use runners::{NamedRunner, name_of_runner, named_runners, runners_named};
 pub use stm_devices::{Sink, Source};
 pub use stm_source::{Names, Rule, Wait};

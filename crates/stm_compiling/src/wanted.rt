@@ -23,7 +23,7 @@ const OPTIONS: [&str; 16] = [
 
 const ORDERS: [&str; 4] = ["==", "!=", "<", ">"];
 
-const STATEMENTS: [&str; 7] = ["put", "del", "emit", "abort", "let", "if", "for"];
+const STATEMENTS: [&str; 8] = ["put", "del", "emit", "abort", "let", "if", "for", "return"];
 
 const OPERATIONS: [&str; 3] = ["put", "get", "del"];
 
@@ -131,7 +131,7 @@ fn in_event(spot: Spot<'_>) -> Wanted {
 }
 
 /// Whether a value is wanted behind what stands before a place: an operator, a comma, an opened parenthesis or a sign of assignment.
-fn is_behind_operator(spot: Spot<'_>) -> bool {
+pub(crate) fn is_behind_operator(spot: Spot<'_>) -> bool {
     match spot.back(0) {
         Some(TokenKind::Symbol(symbol)) => matches!(
             symbol,

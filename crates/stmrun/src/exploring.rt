@@ -8,7 +8,9 @@ use crate::found::{Form, only_level, print_found, run_rules_in, runners_of};
 use crate::noting::Noting;
 use crate::rules::{is_json, named_in, rules_named, rules_of, unnamed_rule};
 use crate::ruling::Question;
-use crate::sources::{Given, JsonFile, SourceText, say_unasked, source_at, source_text};
+use crate::sources::{
+    Given, JsonFile, NamedSource, SourceText, say_unasked, source_at, source_text,
+};
 use crate::terminals::{Told, close, shown_budget};
 use crate::waits::{read_waits, refuse_beside, refuse_without_rule};
 use std::io::Write;
@@ -320,11 +322,27 @@ fn form_of<'a>(format: Option<&str>, source: Option<&'a SourceText>) -> Form<'a>
     }
 }
 
+/// The source of the scenario, where it has one, under its name.
+fn source_of<'a>(
+    words: &ExploreWords<'a>,
+    source: Option<&'a SourceText>,
+) -> Option<NamedSource<'a>> {
+    match source {
+        Some(source) => Some(NamedSource {
+            name: name_of(words.scenario),
+            text: source.text.as_str(),
+            has_rules: words.keeps.as_slice().is_empty(),
+        }),
+        None => None,
+    }
+}
+
 /// How many events may be taken, and how runners are named.
-fn told_of<'a>(words: &ExploreWords<'_>, source: Option<&'a SourceText>) -> Told<'a> {
+fn told_of<'a>(words: &ExploreWords<'a>, source: Option<&'a SourceText>) -> Told<'a> {
     Told {
         events: words.budget,
         runners: runners_of(source),
+        source: source_of(words, source),
         strict: words.strict,
     }
 }

@@ -2,10 +2,12 @@
 
 use crate::fault::position_in;
 use std::alloc::{AllocError, Global};
+use stm_events::WorldEvent;
 use stm_history::Sequence;
 use stm_marks::place_of;
 use stm_source::{
-    MarkedProgram, MarkedPrograms, MarkedRule, MarkedStart, SourceError, read_marked_programs,
+    MarkedProgram, MarkedPrograms, MarkedRule, MarkedStart, Scenario, SourceError,
+    read_marked_programs, read_source,
 };
 
 /// What stands before the place of a node in a line that explains a run.
@@ -16,6 +18,9 @@ const BEHIND: &str = ": ";
 
 /// What stands before the name of a rule, and of a final, that comes to a fault.
 const RULES: [&str; 2] = ["the rule ", "the final "];
+
+/// What stands before the number of a runner whose program comes to a fault.
+const RUNNER: &str = "the program of runner ";
 
 /// A source under its name, and where the statements of its programs begin.
 #[derive(Drop)]
@@ -67,6 +72,49 @@ fn rule_in(line: &str) -> Option<&str> {
         }
     }
     None
+}
+
+/// The number of the runner that a line is about.
+fn runner_in(line: &str) -> Option<u64> {
+    let (number, _) = line.strip_prefix(RUNNER)?.split_once(' ')?;
+    number.parse::<u64>().ok()
+}
+
+/// Whether an event begins a run.
+fn begins_run(event: &WorldEvent) -> bool {
+    match event {
+        WorldEvent::Start { limit, .. } => *limit != 0,
+        _ => false,
+    }
+}
+
+/// The index of a runner's start among the elements of a scenario's JSON.
+fn element_of(scenario: &Scenario, runner: u64) -> Option<usize> {
+    let mut element = if scenario.opening.is_some() {
+        1usize
+    } else {
+        0
+    };
+    let mut begun = 0u64;
+    for event in scenario.events.as_slice() {
+        if begins_run(event) {
+            begun = begun.saturating_add(1);
+            if begun == runner {
+                return Some(element);
+            }
+        }
+        element = element.saturating_add(1);
+    }
+    None
+}
+
+/// The same of the scenario of a source.
+fn start_of(alloc: Global, text: &str, runner: u64) -> Result<Option<usize>, AllocError> {
+    match read_source(alloc, text.as_bytes()) {
+        Ok(scenario) => Ok(element_of(&scenario, runner)),
+        Err(SourceError::Bad(_)) => Ok(None),
+        Err(SourceError::OutOfMemory) => Err(AllocError),
+    }
 }
 
 /// The indices of a JSON Pointer; none, where it is no pointer to a node.
@@ -133,8 +181,18 @@ impl<'a> SourcePlaces<'a> {
         let [element, 3, inner @ ..] = indices else {
             return Ok(None);
         };
-        match program_of(self.programs.starts.as_slice(), *element) {
-            Some(program) => place_in(alloc, program, inner),
+        self.place_in_start(alloc, *element, inner)
+    }
+
+    /// Where in the source the node begins to which these indices lead in the program's JSON of a start, which is an element of the scenario's.
+    fn place_in_start(
+        &self,
+        alloc: Global,
+        element: usize,
+        indices: &[usize],
+    ) -> Result<Option<usize>, AllocError> {
+        match program_of(self.programs.starts.as_slice(), element) {
+            Some(program) => place_in(alloc, program, indices),
             None => Ok(None),
         }
     }
@@ -198,5 +256,24 @@ pub fn placed_rule<'a>(
     let places = SourcePlaces::of(alloc, name, text)?;
     let indices = indices_of(alloc, pointer)?;
     let at = places.place_in_rule(alloc, rule, indices.as_slice())?;
+    places.placed_at(alloc, at, head, reason)
+}
+
+/// The same of a line `the program of runner NUMBER WORDS at POINTER: REASON`.
+pub fn placed_runner<'a>(
+    alloc: Global,
+    name: &'a str,
+    text: &'a str,
+    line: &str,
+) -> Result<Option<PlacedLine<'a>>, AllocError> {
+    let (Some(runner), Some((head, pointer, reason))) = (runner_in(line), parts_of(line)) else {
+        return Ok(None);
+    };
+    let Some(element) = start_of(alloc, text, runner)? else {
+        return Ok(None);
+    };
+    let places = SourcePlaces::of(alloc, name, text)?;
+    let indices = indices_of(alloc, pointer)?;
+    let at = places.place_in_start(alloc, element, indices.as_slice())?;
     places.placed_at(alloc, at, head, reason)
 }

@@ -63,7 +63,7 @@ fn tell_fault<O: Audience>(
     }
     if let Some(moves) = schedule_to_fault(&a.answer) {
         let line = line_of(alloc, scenario, name, a, moves)?;
-        audience.hear(line.as_str());
+        audience.hear_fault(line.as_str());
     }
     Ok(())
 }

@@ -193,6 +193,8 @@ pub(crate) struct NamedSource<'a> {
     pub(crate) name: &'a str,
     /// Its text.
     pub(crate) text: &'a str,
+    /// Whether the rules that are asked are its own.
+    pub(crate) has_rules: bool,
 }
 
 /// A source as people read it.

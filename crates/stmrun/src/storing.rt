@@ -7,6 +7,7 @@ ghost use Rattle.stm_texts.specs.Reading.{scenario_in};
 ghost use Rattle.stm_workers.specs.declared.run.TheConstants.{MOST_WORKERS};
 
 use crate::explaining::{kept_json, name_of, say_unread, say_unwritten};
+use crate::files::is_missing;
 use crate::naming::JOBS;
 use crate::noting::Noting;
 use crate::sources::{
@@ -240,11 +241,6 @@ fn run_jobs<T: Threads + Wait + Sync>(
         }
         Err(fault) => Err(say_fault(rt, store, &fault)),
     }
-}
-
-/// Whether no file has this path.
-fn is_missing(rt: &HostRuntime, path: &str) -> bool {
-    matches!(fs::exists(rt, path), Ok(false))
 }
 
 /// Runs a program over the store of a file that is not there, which is not made: whether it would commit. Where it would not, its line was printed.

@@ -3,9 +3,10 @@ ghost use Rattle.std.specs.Prelude.{◌≡◌};
 
 use crate::naming::{RUNNERS, with_names};
 use crate::sources::{NamedSource, say_line};
+use std::alloc::{AllocError, Global};
 use std::io::{IsTerminal, Stderr};
 use std::time::Clock;
-use stm_compiling::{NamedRunner, placed_rule};
+use stm_compiling::{NamedRunner, PlacedLine, event_lines, placed_rule, placed_runner};
 use stm_exploring::{Audience, Budget, Observer, ProgressLine, ProgressNotes};
 
 /// Standard error, if it is a terminal.
@@ -56,7 +57,7 @@ impl<C: Clock> Observer for Progress<'_, C> {
 pub(crate) struct Told<'a> {
     pub(crate) events: u64,
     pub(crate) runners: &'a [NamedRunner],
-    /// The source that has the rules.
+    /// The source of the scenario, where it has one.
     pub(crate) source: Option<NamedSource<'a>>,
     pub(crate) strict: bool,
 }
@@ -70,7 +71,7 @@ pub(crate) struct SearchLines<'a> {
     explain: bool,
     /// The runners that the scenario names.
     runners: &'a [NamedRunner],
-    /// The source that has the rules.
+    /// The source of the scenario, where it has one.
     source: Option<NamedSource<'a>>,
     /// Whether an answer that is worth little has status 1.
     is_strict: bool,
@@ -86,12 +87,12 @@ impl SearchLines<'_> {
         }
     }
 
-    /// Says a line about a rule that comes to a fault with its place in the source, where it has one there: whether that was done.
+    /// Says a line about a program that comes to a fault with its place in the source, where it has one there: whether that was done.
     fn say_placed(&self, line: &str) -> bool {
         let Some(source) = self.source else {
             return false;
         };
-        match placed_rule(self.rt.alloc(), source.name, source.text, line) {
+        match placed_in(self.rt.alloc(), source, line) {
             Ok(Some(placed)) => {
                 say_line(self.rt, &placed, RUNNERS, self.runners);
                 true
@@ -99,6 +100,34 @@ impl SearchLines<'_> {
             _ => false,
         }
     }
+
+    /// Says which lines of the source have the events of the set-up, and which the others': whether that was done.
+    fn say_event_lines(&self) -> bool {
+        let Some(source) = self.source else {
+            return false;
+        };
+        match event_lines(self.rt.alloc(), source.name, source.text) {
+            Ok(line) => {
+                let _ = eprintln!(self.rt; "stmrun: {line}");
+                true
+            }
+            Err(_) => false,
+        }
+    }
+}
+
+/// A line about a program that comes to a fault, with its place in a source: that of a runner, or of a rule, if the rules are the source's own.
+fn placed_in<'a>(
+    alloc: Global,
+    source: NamedSource<'a>,
+    line: &str,
+) -> Result<Option<PlacedLine<'a>>, AllocError> {
+    if source.has_rules {
+        if let Some(placed) = placed_rule(alloc, source.name, source.text, line)? {
+            return Ok(Some(placed));
+        }
+    }
+    placed_runner(alloc, source.name, source.text, line)
 }
 
 impl Observer for SearchLines<'_> {
@@ -121,7 +150,17 @@ impl Audience for SearchLines<'_> {
     }
 
     fn hear(&mut self, line: &str) {
+        self.say(line);
+    }
+
+    fn hear_fault(&mut self, line: &str) {
         if !self.say_placed(line) {
+            self.say(line);
+        }
+    }
+
+    fn hear_parts(&mut self, line: &str) {
+        if !self.say_event_lines() {
             self.say(line);
         }
     }

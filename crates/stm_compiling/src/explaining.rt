@@ -83,7 +83,7 @@ fn said_of_word(word: &str) -> &'static str {
         "var" | "const" => "a new variable is let NAME = VALUE",
         "func" | "fn" | "def" => "a program is program NAME(PARAMETER, ..) { .. }",
         "switch" | "case" | "match" => "choices are if, else if and else",
-        "while" | "loop" =>
+        "while" | "loop" | "range" =>
             "a loop is for NAME in 0..COUNT { .. }, or for NAME in ITEM, ITEM { .. }",
         "nil" | "null" | "none" | "None" => "an absent key has the value \"\"",
         "true" | "false" => "no value is true or false: a condition compares two values",
@@ -134,7 +134,7 @@ fn said_of_sign(source: &[u8], spot: Spot<'_>) -> &'static str {
 }
 
 /// Whether a symbol compares two values.
-fn is_comparison(symbol: Symbol) -> bool {
+pub(crate) fn is_comparison(symbol: Symbol) -> bool {
     matches!(
         symbol,
         Symbol::Equal
@@ -171,11 +171,22 @@ fn said_behind_a_way_out(spot: Spot<'_>) -> &'static str {
     }
 }
 
+/// Whether the `..` of a loop stands behind a number.
+fn is_count_from_a_number(spot: Spot<'_>) -> bool {
+    match spot.kind() {
+        Some(kind) => kind.is_symbol(Symbol::Dots) && spot.is_behind_word(1, Word::In),
+        None => false,
+    }
+}
+
 /// What is said of a symbol or a word that has its place elsewhere; nothing of others.
 fn said_of_symbol(spot: Spot<'_>) -> &'static str {
     let said = said_of_else(spot);
     if !said.is_empty() {
         return said;
+    }
+    if is_count_from_a_number(spot) {
+        return "a loop that counts begins at 0: for NAME in 0..COUNT";
     }
     if spot.is_before_a_block() {
         return "";

@@ -1,5 +1,6 @@
 //! What is said of a value that is of another kind than is wanted.
 
+use crate::explaining::is_comparison;
 use crate::spots::{Call, Spot};
 use std::alloc::{AllocError, Global};
 use stm_tokens::{Symbol, TokenKind, Word};
@@ -74,12 +75,42 @@ fn is_beside_add(spot: Spot<'_>) -> bool {
     is_next || spot.is_behind_symbol(0, Symbol::Add)
 }
 
+/// Whether a comparison stands before a value.
+fn is_compared(spot: Spot<'_>) -> bool {
+    match spot.back(0) {
+        Some(TokenKind::Symbol(symbol)) => is_comparison(*symbol),
+        _ => false,
+    }
+}
+
+/// What is said of a value that is compared with one of the other kind.
+fn said_of_compared(
+    alloc: Global,
+    found: &str,
+    wants_number: Option<bool>,
+) -> Result<String, AllocError> {
+    match wants_number {
+        Some(true) => format!(in alloc;
+            "found {found}, where a number is wanted as on the left: a number stands without quotes, and text_of(NUMBER) makes a text of one"
+        ),
+        Some(false) => format!(in alloc;
+            "found {found}, where a text is wanted as on the left: a text stands in quotes, and num_of(TEXT) makes a number of one"
+        ),
+        None => format!(in alloc;
+            "{found} is of another kind than the left side: num_of(TEXT) makes a number of a text, text_of(NUMBER) a text of a number"
+        ),
+    }
+}
+
 /// What is said of a value that is of another kind than is wanted.
 pub(crate) fn said_of_value(
     alloc: Global,
     found: &str,
     spot: Spot<'_>,
 ) -> Result<String, AllocError> {
+    if is_compared(spot) {
+        return said_of_compared(alloc, found, wants_number(spot));
+    }
     match wants_number(spot) {
         Some(true) if is_beside_add(spot) => format!(in alloc;
             "found {found}, where a number is wanted: texts are joined by ++, and num_of(TEXT) makes a number of one"

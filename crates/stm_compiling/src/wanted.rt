@@ -229,7 +229,7 @@ fn in_program(spot: Spot<'_>) -> Wanted {
         return Wanted::Said("=");
     }
     if spot.is_behind_word(1, Word::For) {
-        return Wanted::Said("in");
+        return Wanted::Said("in, and 0..COUNT or ITEM, ITEM behind it,");
     }
     if spot.is_behind_word(0, Word::In) {
         return Wanted::Said("0..COUNT, or texts or numbers with commas between them,");

@@ -112,6 +112,9 @@ fn behind_dot<'a>(source: &'a [u8], spot: Spot<'_>) -> Option<&'a str> {
     let next = spot.from.get(1)?;
     let to = next.at.saturating_add(MOST_SHOWN).min(source.len());
     let text = between(source, next.at, to).strip_prefix('.')?;
+    if text.starts_with('.') {
+        return None;
+    }
     match text.split_once(is_sign) {
         Some((name, _)) => Some(name),
         None => Some(text),
@@ -357,7 +360,7 @@ fn kind_words(
 ) -> Result<String, AllocError> {
     match said_of_start(alloc, source, spot)? {
         Some(said) => Ok(said),
-        None => said_of_value(alloc, found, spot),
+        None => said_of_value(alloc, source, found, spot),
     }
 }
 

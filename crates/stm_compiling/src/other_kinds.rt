@@ -1,9 +1,13 @@
 //! What is said of a value that is of another kind than is wanted.
 
+use crate::calls::given_at;
 use crate::explaining::is_comparison;
 use crate::spots::{Call, Spot};
 use std::alloc::{AllocError, Global};
 use stm_tokens::{Symbol, TokenKind, Word};
+
+/// A line of more bytes than this is not shown.
+const MOST_SHOWN: usize = 100;
 
 /// Whether a value that begins with this token is a number, and not a text; nothing where the token does not tell.
 fn is_number(kind: Option<&TokenKind>) -> Option<bool> {
@@ -102,12 +106,45 @@ fn said_of_compared(
     }
 }
 
+/// The line of a source that begins at a byte; nothing where it is long.
+fn line_from(source: &[u8], at: usize) -> &str {
+    let text = str::from_utf8(source).unwrap_or("");
+    match text.get(at..) {
+        Some(text) => match text.lines().next() {
+            Some(line) if line.len() <= MOST_SHOWN => line.trim(),
+            _ => "",
+        },
+        None => "",
+    }
+}
+
+/// The line in which a value with parameters is defined that is named there; nothing where none is.
+fn definition_of<'a>(source: &'a [u8], spot: Spot<'_>) -> &'a str {
+    let Some(TokenKind::Name(name)) = spot.kind() else {
+        return "";
+    };
+    let Some(index) = given_at(spot.before, name.as_str()) else {
+        return "";
+    };
+    match spot.before.get(index) {
+        Some(token) => line_from(source, token.at),
+        None => "",
+    }
+}
+
 /// What is said of a value that is of another kind than is wanted.
 pub(crate) fn said_of_value(
     alloc: Global,
+    source: &[u8],
     found: &str,
     spot: Spot<'_>,
 ) -> Result<String, AllocError> {
+    let definition = definition_of(source, spot);
+    if !definition.is_empty() {
+        return format!(in alloc;
+            "{found} is of another kind than is wanted here, or an argument of another than it takes: {definition}"
+        );
+    }
     if is_compared(spot) {
         return said_of_compared(alloc, found, wants_number(spot));
     }

@@ -259,6 +259,9 @@ fn in_parentheses(spot: Spot<'_>) -> Wanted {
     if is_behind_call(spot) {
         return Wanted::Said("(");
     }
+    if is_behind_opening(spot) && is_parameter(spot) {
+        return Wanted::Said("the name of a parameter");
+    }
     if is_behind_opening(spot) {
         return Wanted::Said(value_in(spot));
     }
@@ -281,8 +284,21 @@ fn is_behind_else_of_look_up(spot: Spot<'_>) -> bool {
     spot.is_behind_word(0, Word::Else) && spot.is_behind_symbol(1, Symbol::RightParenthesis)
 }
 
+/// Whether the sign of a number stands before a place: a `-` where a value may begin.
+fn is_behind_sign(spot: Spot<'_>) -> bool {
+    match spot.back(1) {
+        Some(TokenKind::Symbol(symbol)) => {
+            *symbol != Symbol::RightParenthesis && spot.is_behind_symbol(0, Symbol::Subtract)
+        }
+        _ => false,
+    }
+}
+
 /// What is wanted in a place.
 pub(crate) fn wanted_at(spot: Spot<'_>) -> Wanted {
+    if is_behind_sign(spot) {
+        return Wanted::Said("a number as it stands, and else 0 - VALUE,");
+    }
     if is_behind_else_of_look_up(spot) {
         return Wanted::Said("a text: as it stands, a name, get(..), or a value in parentheses,");
     }

@@ -33,7 +33,7 @@ pub(crate) fn name_of(path: &str) -> &str {
 }
 
 /// The file of a path, or standard input, to be read and kept.
-fn kept<'a, R: Files + Input + AllocGlobal>(
+pub(crate) fn kept<'a, R: Files + Input + AllocGlobal>(
     rt: &R,
     path: &'a str,
 ) -> KeptSource<'a, Std<Noting<Opened<R::File, R::Reader, &'static [u8]>>>>

@@ -1,7 +1,7 @@
 //! Inputs that are read as JSON: files of it, and sources, which are compiled first.
 ghost use Rattle.std.specs.Prelude.{◌≡◌, false};
 
-use crate::explaining::{name_of, say_unread, say_unwritten};
+use crate::explaining::{kept, name_of, say_unread, say_unwritten};
 use crate::files::{Opened, open, open_beside};
 use crate::naming::{Called, RUNNERS, with_names};
 use crate::noting::Noting;
@@ -399,11 +399,37 @@ pub(crate) fn program_at<'a>(
     line_of(rt, path, printed?.line)
 }
 
+/// The runners that a source of this text names.
+fn runners_in(alloc: Global, text: &str) -> Result<Vec<NamedRunner>, AllocError> {
+    let called = called_runners(alloc, text)?;
+    let mut runners = Vec::new(alloc);
+    for (index, runner) in called.into_iter().enumerate() {
+        if let Some(name) = runner.name {
+            let number = (index as u64).saturating_add(1);
+            runners.push(NamedRunner { number, name })?;
+        }
+    }
+    Ok(runners)
+}
+
+/// Says what was said of a source that was compiled, with the names that its text gives to runners, where it was kept.
+fn say_compiled(rt: &HostRuntime, said: &[u8], text: Option<&str>) {
+    let runners = runners_in(rt.alloc(), text.unwrap_or(""));
+    let lines = str::from_utf8(said).unwrap_or("");
+    match runners {
+        Ok(runners) => say_named(rt, lines, RUNNERS, runners.as_slice()),
+        Err(_) => {
+            let _ = rt.eprint(lines);
+        }
+    }
+}
+
 /// Prints a part of a path's source. A fault is explained, or is not.
 pub(crate) fn run_compile(rt: &HostRuntime, path: &str, part: Part<'_>, explain: bool) -> u8 {
-    let mut input = Std::new(Noting::new(open(rt, path)));
+    let mut input = kept(rt, path);
     let mut out = Std::new(Noting::new(rt.stdout()));
-    let mut err = Std::new(rt.stderr());
+    let said: Vec<u8> = Vec::new(rt.alloc());
+    let mut err = Std::new(said);
     let status = compile_to(
         rt.alloc(),
         part,
@@ -412,8 +438,12 @@ pub(crate) fn run_compile(rt: &HostRuntime, path: &str, part: Part<'_>, explain:
         &mut out,
         &mut err,
     );
+    if err.failed && status == 3 {
+        return out_of_memory(rt);
+    }
+    say_compiled(rt, err.device.as_slice(), input.text());
     if explain {
-        say_unread(rt, name_of(path), input.device.failure);
+        say_unread(rt, name_of(path), input.source.device.failure);
         say_unwritten(rt, out.device.failure);
     }
     status

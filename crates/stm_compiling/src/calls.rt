@@ -1,5 +1,6 @@
 //! What is wanted in the parentheses of a call.
 
+use crate::kept::open_behind;
 use crate::spots::{Call, Event, Spot};
 use stm_tokens::{Symbol, Token, TokenKind, Word};
 
@@ -54,15 +55,6 @@ fn is_opened_behind(tokens: &[Token]) -> bool {
     }
 }
 
-/// How many brackets are open behind a token, where so many are before it.
-fn open_behind(kind: &TokenKind, open: usize) -> usize {
-    match kind {
-        TokenKind::Symbol(Symbol::LeftParenthesis) => open.saturating_add(1),
-        TokenKind::Symbol(Symbol::RightParenthesis) => open.saturating_sub(1),
-        _ => open,
-    }
-}
-
 /// How many names or values stand in the parentheses behind the first of these tokens, with commas between them; none where there are no parentheses.
 pub(crate) fn listed_behind(tokens: &[Token]) -> usize {
     if !is_opened_behind(tokens) {
@@ -71,8 +63,11 @@ pub(crate) fn listed_behind(tokens: &[Token]) -> usize {
     let mut count = 0usize;
     let mut open = 1usize;
     for token in tokens.iter().skip(2) {
-        open = open_behind(&token.kind, open);
-        if open == 0 || token.kind.is_symbol(Symbol::LeftBrace) {
+        if token.kind.is_symbol(Symbol::LeftBrace) {
+            break;
+        }
+        open = open_behind(open, &token.kind);
+        if open == 0 {
             break;
         }
         if count == 0 {

@@ -7,11 +7,14 @@ use crate::calls::{listed_behind, parameters_of, takes_list};
 use crate::elses::said_of_else;
 use crate::fault::position_in;
 use crate::misfits::said_of_start;
+use crate::more_faults::{MOST_MORE, Rest};
 use crate::naming::{is_called, said_of_function, said_of_place};
 use crate::other_kinds::said_of_value;
 use crate::spots::{Event, Place, Spot, spot_at};
 use crate::titles::said_of_names;
-use crate::wanted::{Wanted, allowed, is_behind_condition_word, nearest, numbers_at, wanted_at};
+use crate::wanted::{
+    EVENTS, STATEMENT, Wanted, allowed, is_behind_condition_word, nearest, numbers_at, wanted_at,
+};
 use serde_json::Value as Json;
 use std::alloc::{AllocError, Global};
 use stm_explain::shown;
@@ -231,6 +234,15 @@ fn said_of(spot: Spot<'_>) -> &'static str {
     }
 }
 
+/// Whether a token is a word with which a program, a rule or an event begins.
+fn begins_at_the_top(spot: Spot<'_>) -> bool {
+    match spot.kind() {
+        Some(TokenKind::Word(word)) => matches!(word, Word::Program | Word::Rule | Word::Finally),
+        Some(TokenKind::Name(name)) => EVENTS.iter().any(|word| *word == name.as_str()),
+        _ => false,
+    }
+}
+
 /// What is said of a token in whose place another one is wanted.
 fn syntax_words(
     alloc: Global,
@@ -252,6 +264,11 @@ fn syntax_words(
             if is_called(spot) && nearest(alloc, words, name)?.is_empty() {
                 return format!(in alloc;
                     "{found} is no {noun}: a program is called by start alone"
+                );
+            }
+            if noun == STATEMENT && begins_at_the_top(spot) {
+                return format!(in alloc;
+                    "{found} is no statement, and stands outside of blocks alone: a }} is missing before it"
                 );
             }
             let list = allowed(alloc, words, beside, name)?;
@@ -417,12 +434,40 @@ fn words_at(
     }
 }
 
-/// The explanation of the first fault of a source, as a line.
+/// Adds a line for each of up to so many faults behind this one, in what is left of a source without the parts that have one.
+fn push_more(
+    alloc: Global,
+    name: &str,
+    source: &str,
+    bad: BadSource,
+    words: &mut String,
+) -> Result<(), AllocError> {
+    let mut rest = Rest::new(alloc, source)?;
+    let mut last = bad;
+    for _turn in 0..MOST_MORE {
+        let Some(next) = rest.next_behind(alloc, last)? else {
+            return Ok(());
+        };
+        let left = rest.text.as_bytes();
+        let tokens = tokens_of(alloc, left)?;
+        let said = words_at(alloc, left, spot_at(tokens.as_slice(), next.at), next)?;
+        let Position { line, column } = position_in(source.as_bytes(), next.at);
+        let more = format!(in alloc; "\n{name}:{line}:{column}: {said}")?;
+        words.push_str(more.as_str())?;
+        last = next;
+    }
+    Ok(())
+}
+
+/// The explanation of the first fault of a source, as a line, and behind it lines for others.
 fn explained(alloc: Global, name: &str, source: &[u8], bad: BadSource) -> Result<String, AllocError>
     ensures { IfOk result (λ line. (words : List ℕ) × (string_bytes line ≡ explanation name.now (place_of source.now bad.at).0 (place_of source.now bad.at).1 words)) }
 {
     let tokens = tokens_of(alloc, source)?;
-    let words = words_at(alloc, source, spot_at(tokens.as_slice(), bad.at), bad)?;
+    let mut words = words_at(alloc, source, spot_at(tokens.as_slice(), bad.at), bad)?;
+    if let Ok(text) = str::from_utf8(source) {
+        push_more(alloc, name, text, bad, &mut words)?;
+    }
     line_at(alloc, name, position_in(source, bad.at), words.as_str())
 }
 

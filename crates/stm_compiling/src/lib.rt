@@ -15,6 +15,7 @@ mod kept;
 mod labels;
 mod line;
 mod misfits;
+mod more_faults;
 mod naming;
 mod notes;
 mod other_kinds;

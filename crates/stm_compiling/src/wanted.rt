@@ -10,7 +10,7 @@ use strsim::levenshtein;
 const MOST_NEAR: usize = 60;
 
 /// The words that begin an event, or what stands beside events.
-const EVENTS: [&str; 16] = [
+pub(crate) const EVENTS: [&str; 16] = [
     "program", "start", "step", "txn", "grant", "keep", "revoke", "advance", "watch", "poll",
     "cancel", "compact", "begin", "rule", "finally", "let",
 ];
@@ -22,6 +22,9 @@ const OPTIONS: [&str; 16] = [
 ];
 
 const ORDERS: [&str; 4] = ["==", "!=", "<", ">"];
+
+/// What is wanted where one of these words may begin it.
+pub(crate) const STATEMENT: &str = "statement";
 
 const STATEMENTS: [&str; 8] = ["put", "del", "emit", "abort", "let", "if", "for", "return"];
 
@@ -215,7 +218,7 @@ fn statement_or_more(spot: Spot<'_>) -> Wanted {
         return Wanted::Said("an operator, or the { of the block,");
     }
     if is_worded(spot.kind()) {
-        return Wanted::Words("statement", &STATEMENTS, ", or a variable and =");
+        return Wanted::Words(STATEMENT, &STATEMENTS, ", or a variable and =");
     }
     Wanted::Said("an operator, a statement, or the } that ends the block")
 }

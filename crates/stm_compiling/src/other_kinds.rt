@@ -87,17 +87,26 @@ fn is_compared(spot: Spot<'_>) -> bool {
     }
 }
 
-/// What is said of a value that is compared with one of the other kind.
+/// Whether a name, or parentheses, with an operator of numbers behind it begins what a call wants as a text.
+fn begins_text_of_numbers(spot: Spot<'_>) -> bool {
+    is_number(spot.kind()).is_none()
+        && wants_number_beside(spot.next()) == Some(true)
+        && (spot.is_behind_symbol(0, Symbol::LeftParenthesis)
+            || spot.is_behind_symbol(0, Symbol::Comma))
+        && wants_number_in(spot.call()) == Some(false)
+}
+
+/// What is said of a value that is compared with one of the other kind, and is a number or a text, where its first token tells.
 fn said_of_compared(
     alloc: Global,
     found: &str,
-    wants_number: Option<bool>,
+    is_number: Option<bool>,
 ) -> Result<String, AllocError> {
-    match wants_number {
-        Some(true) => format!(in alloc;
+    match is_number {
+        Some(false) => format!(in alloc;
             "found {found}, where a number is wanted as on the left: a number stands without quotes, and text_of(NUMBER) makes a text of one"
         ),
-        Some(false) => format!(in alloc;
+        Some(true) => format!(in alloc;
             "found {found}, where a text is wanted as on the left: a text stands in quotes, and num_of(TEXT) makes a number of one"
         ),
         None => format!(in alloc;
@@ -146,7 +155,12 @@ pub(crate) fn said_of_value(
         );
     }
     if is_compared(spot) {
-        return said_of_compared(alloc, found, wants_number(spot));
+        return said_of_compared(alloc, found, is_number(spot.kind()));
+    }
+    if begins_text_of_numbers(spot) {
+        return format!(in alloc;
+            "{found} begins a number, where a text is wanted: text_of(NUMBER) makes one of it, and ++ joins texts"
+        );
     }
     match wants_number(spot) {
         Some(true) if is_beside_add(spot) => format!(in alloc;
